@@ -1,0 +1,205 @@
+-- There is one cut, and `cut` computes it.
+use Rattle.std.proofs.Common.{◌≡◌, ℕ, zero, suc, ◌+◌, ◌*◌, ◌/◌, ◌%◌, ◌<◌, ◌≤◌, Bool, true, false, cond, ltb, List, [], ◌∷◌, ◌++◌, length, take, drop, get_or, ◌⊎◌, Option, Some, None, refl, sym, ap, subst, ◌∙◌, append_assoc, arith, inl, inr}
+use Rattle.std.specs.List.{AllByRecursion}
+use Rattle.std.proofs.lemmas.Bool.{ltb-false, le-ltb}
+use Rattle.std.proofs.lemmas.List.{take_at, drop_at, take-append-drop, length-append, length-take, length-drop, append-nil}
+use Rattle.lldp_pdu.specs.Tlv.{TlvUnit, IsTlv, spelling, spellings, BeginsTlv, AreOctets}
+use Rattle.lldp_pdu.specs.Cut.{Cut, IsCut, first_tlv, cut_after, cut_within, cut}
+
+-- ---- octets
+
+pub AreOctets-append : (xs ys : List ℕ) → AreOctets xs → AreOctets ys → AreOctets (xs ++ ys)
+AreOctets-append [] ys p q = q
+AreOctets-append (x ∷ xs) ys p q = (p.0, AreOctets-append xs ys p.1 q)
+
+pub AreOctets-left : (xs ys : List ℕ) → AreOctets (xs ++ ys) → AreOctets xs
+AreOctets-left [] ys p = tt
+AreOctets-left (x ∷ xs) ys p = (p.0, AreOctets-left xs ys p.1)
+
+pub AreOctets-right : (xs ys : List ℕ) → AreOctets (xs ++ ys) → AreOctets ys
+AreOctets-right [] ys p = p
+AreOctets-right (x ∷ xs) ys p = AreOctets-right xs ys p.1
+
+-- from what is known of a slice
+pub AreOctets-from_index : (xs : List ℕ) → ((i : ℕ) → get_or xs i 0 < 256) → AreOctets xs
+AreOctets-from_index [] h = tt
+AreOctets-from_index (x ∷ xs) h = (h 0, AreOctets-from_index xs (λ i. h (suc i)))
+
+-- ---- the first TLV
+
+-- the TLV that a header announces
+announced : ℕ → List ℕ → Option (TlvUnit × List ℕ)
+announced header octets = cond (ltb (length octets) (header % 512)) None (Some (record { kind = header / 512; body = take (header % 512) octets }, drop (header % 512) octets))
+
+header_back : (kind n : ℕ) → kind < 128 → n < 512 → 256 * ((512 * kind + n) / 256 % 256) + (512 * kind + n) % 256 ≡ 512 * kind + n
+header_back kind n h k = omega arith
+
+pub first_tlv-spelling : (u : TlvUnit) (others : List ℕ) → IsTlv u → first_tlv (spelling u ++ others) ≡ Some (u, others)
+unfolding announced
+first_tlv-spelling u others h =
+    let n = length u.body in
+    let len : (512 * u.kind + n) % 512 ≡ n = omega (arith, h.body) in
+    let kind : (512 * u.kind + n) / 512 ≡ u.kind = omega (arith, h.body) in
+    let long : ltb (length (u.body ++ others)) n ≡ false = le-ltb _ _ (omega (arith, length-append u.body others)) in
+    let one : first_tlv (spelling u ++ others) ≡ announced (512 * u.kind + n) (u.body ++ others) = ap (λ (header : ℕ). announced header (u.body ++ others)) (header_back u.kind n h.kind h.body) in
+    let two : announced (512 * u.kind + n) (u.body ++ others) ≡ Some (u, others) = rw (len, kind, long, take_at u.body others n refl, drop_at u.body others n refl) refl in
+    one ∙ two
+
+-- what is read at the front is spelled there
+pub record Takes (octets : List ℕ) (u : TlvUnit) (others : List ℕ) : Type 0 where
+  pub parts : octets ≡ spelling u ++ others
+  pub tlv : IsTlv u
+  pub octets_left : AreOctets others
+
+header_octets : (high low n header : ℕ) → high < 256 → low < 256 → header ≡ 256 * high + low → n ≡ header % 512 → ((512 * (header / 512) + n) / 256 % 256 ≡ high) × ((512 * (header / 512) + n) % 256 ≡ low) × (header / 512 < 128)
+header_octets high low n header h l e k = (omega arith, omega arith, omega arith)
+
+cond_none : {A : Type 0} (b : Bool) (x y : A) → cond b None (Some x) ≡ Some y → (b ≡ false) × (x ≡ y)
+cond_none true x y e = absurd cc
+cond_none false x y e = (refl, cc)
+
+announced_takes : (high low header : ℕ) (octets : List ℕ) (u : TlvUnit) (others : List ℕ) → header ≡ 256 * high + low → AreOctets (high ∷ low ∷ octets) → announced header octets ≡ Some (u, others) → Takes (high ∷ low ∷ octets) u others
+unfolding announced
+announced_takes high low header octets u others e fits h =
+    let n = header % 512 in
+    let g = cond_none (ltb (length octets) n) (record { kind = header / 512; body = take n octets }, drop n octets) (u, others) h in
+    let long : n ≤ length octets = ltb-false _ _ g.0 in
+    let len : n ≡ length (take n octets) = omega (arith, length-take n octets) in
+    let back = header_octets high low (length (take n octets)) header fits.0 fits.1.0 e (sym len) in
+    let parts : high ∷ low ∷ octets ≡ spelling (record { kind = header / 512; body = take n octets }) ++ drop n octets = ap2 (sym back.0) (sym back.1) (sym (take-append-drop n octets)) in
+    let left : AreOctets (drop n octets) = AreOctets-right (take n octets) (drop n octets) (subst AreOctets (sym (take-append-drop n octets)) fits.1.1) in
+    let short : length (take n octets) < 512 = omega (arith, len) in
+    let made : Takes (high ∷ low ∷ octets) (record { kind = header / 512; body = take n octets }) (drop n octets) = record { parts = parts; tlv = record { kind = back.2; body = short }; octets_left = left } in
+    subst (λ (p : TlvUnit × List ℕ). Takes (high ∷ low ∷ octets) p.0 p.1) g.1 made
+  where
+    ap2 : {a b c d : ℕ} {xs ys : List ℕ} → a ≡ b → c ≡ d → xs ≡ ys → a ∷ c ∷ xs ≡ b ∷ d ∷ ys
+    ap2 p q r = cc
+
+pub first_takes : (octets : List ℕ) (u : TlvUnit) (others : List ℕ) → AreOctets octets → first_tlv octets ≡ Some (u, others) → Takes octets u others
+unfolding announced
+first_takes [] u others fits h = absurd cc
+first_takes (high ∷ []) u others fits h = absurd cc
+first_takes (high ∷ low ∷ octets) u others fits h = announced_takes high low (256 * high + low) octets u others refl fits h
+
+-- a list that begins with a TLV shows one at its front, and the other way round
+pub begins_none : (octets : List ℕ) → first_tlv octets ≡ None → ¬ (BeginsTlv octets)
+begins_none octets h b = let e : first_tlv octets ≡ Some (b.0, b.1) = ap first_tlv b.3 ∙ first_tlv-spelling b.0 b.1 b.2 in absurd (cc (h, e))
+
+cases_Option : {A : Type 0} (o : Option A) → (o ≡ None) ⊎ ((x : A) × (o ≡ Some x))
+cases_Option None = inl refl
+cases_Option (Some x) = inr (x, refl)
+
+pub none_begins : (octets : List ℕ) → AreOctets octets → ¬ (BeginsTlv octets) → first_tlv octets ≡ None
+none_begins octets fits h =
+    elim (cases_Option (first_tlv octets)) [
+      | inl e ↦ e
+      | inr (x, e) ↦ let t = first_takes octets x.0 x.1 fits e in absurd (h (x.0, x.1, t.tlv, t.parts))
+    ]
+
+-- what follows the first TLV is shorter
+announced_shorter : (header : ℕ) (octets : List ℕ) (u : TlvUnit) (others : List ℕ) → announced header octets ≡ Some (u, others) → length others ≤ length octets
+unfolding announced
+announced_shorter header octets u others h =
+    let g = cond_none (ltb (length octets) (header % 512)) (record { kind = header / 512; body = take (header % 512) octets }, drop (header % 512) octets) (u, others) h in
+    omega (arith, length-drop (header % 512) octets, ap (λ (p : TlvUnit × List ℕ). length p.1) g.1)
+
+announced_left : (header : ℕ) (octets : List ℕ) (u : TlvUnit) (others : List ℕ) → announced header octets ≡ Some (u, others) → others ≡ drop (length u.body) octets
+unfolding announced
+announced_left header octets u others h =
+    let g = cond_none (ltb (length octets) (header % 512)) (record { kind = header / 512; body = take (header % 512) octets }, drop (header % 512) octets) (u, others) h in
+    let long : header % 512 ≤ length octets = ltb-false _ _ g.0 in
+    let len : header % 512 ≡ length u.body = omega (arith, length-take (header % 512) octets, ap (λ (p : TlvUnit × List ℕ). length p.0.body) g.1) in
+    sym (ap (λ (p : TlvUnit × List ℕ). p.1) g.1) ∙ ap (λ (n : ℕ). drop n octets) len
+
+-- what follows the first TLV stands behind it
+pub first_left : (octets : List ℕ) (u : TlvUnit) (others : List ℕ) → first_tlv octets ≡ Some (u, others) → others ≡ drop (2 + length u.body) octets
+unfolding announced
+first_left [] u others h = absurd cc
+first_left (high ∷ []) u others h = absurd cc
+first_left (high ∷ low ∷ octets) u others h = announced_left (256 * high + low) octets u others h ∙ two_more (length u.body) high low octets
+  where
+    two_more : (n high low : ℕ) (octets : List ℕ) → drop n octets ≡ drop (2 + n) (high ∷ low ∷ octets)
+    two_more n high low octets = let e : 2 + n ≡ suc (suc n) = omega arith in rw e refl
+
+pub first_shorter : (octets : List ℕ) (u : TlvUnit) (others : List ℕ) → first_tlv octets ≡ Some (u, others) → length others + 2 ≤ length octets
+unfolding announced
+first_shorter [] u others h = absurd cc
+first_shorter (high ∷ []) u others h = absurd cc
+first_shorter (high ∷ low ∷ octets) u others h = omega (arith, announced_shorter (256 * high + low) octets u others h)
+
+-- ---- the cut
+
+-- any number that is no less than the list's length gives the same cut
+enough : (n m : ℕ) (octets : List ℕ) → length octets ≤ n → length octets ≤ m → cut_within n octets ≡ cut_within m octets
+unfolding cut_within
+enough zero zero octets h k = refl
+enough zero (suc m) [] h k = refl
+enough zero (suc m) (x ∷ octets) h k = absurd (omega arith)
+enough (suc n) zero [] h k = refl
+enough (suc n) zero (x ∷ octets) h k = absurd (omega arith)
+enough (suc n) (suc m) octets h k = after_same (first_tlv octets) (λ u others e. enough n m others (omega (arith, first_shorter octets u others e)) (omega (arith, first_shorter octets u others e)))
+  where
+    after_same : (o : Option (TlvUnit × List ℕ)) → ((u : TlvUnit) (others : List ℕ) → o ≡ Some (u, others) → cut_within n others ≡ cut_within m others) → cut_after o (cut_within n) octets ≡ cut_after o (cut_within m) octets
+    after_same None same = refl
+    after_same (Some x) same = ap (λ (c : Cut). record { tlvs = x.0 ∷ c.tlvs; rest = c.rest }) (same x.0 x.1 refl)
+
+-- the cut is the first TLV, and the cut of what follows it
+pub cut_none : (octets : List ℕ) → first_tlv octets ≡ None → cut octets ≡ record { tlvs = []; rest = octets }
+unfolding cut cut_within
+cut_none [] h = refl
+cut_none (x ∷ octets) h = ap (λ (o : Option (TlvUnit × List ℕ)). cut_after o (cut_within (length octets)) (x ∷ octets)) h
+
+pub cut_some : (octets : List ℕ) (u : TlvUnit) (others : List ℕ) → first_tlv octets ≡ Some (u, others) → cut octets ≡ record { tlvs = u ∷ (cut others).tlvs; rest = (cut others).rest }
+unfolding cut cut_within
+cut_some [] u others h = absurd cc
+cut_some (x ∷ octets) u others h =
+    ap (λ (o : Option (TlvUnit × List ℕ)). cut_after o (cut_within (length octets)) (x ∷ octets)) h
+    ∙ ap (λ (c : Cut). record { tlvs = u ∷ c.tlvs; rest = c.rest }) (enough (length octets) (length others) others (omega (arith, first_shorter (x ∷ octets) u others h)) (omega arith))
+
+-- TLVs in front of octets are TLVs in front of their cut
+pub cut-spellings : (us : List TlvUnit) (octets : List ℕ) → AllByRecursion IsTlv us → cut (spellings us ++ octets) ≡ record { tlvs = us ++ (cut octets).tlvs; rest = (cut octets).rest }
+cut-spellings [] octets h = refl
+cut-spellings (u ∷ us) octets h =
+    let regrouped : spellings (u ∷ us) ++ octets ≡ spelling u ++ (spellings us ++ octets) = append_assoc (spelling u) (spellings us) octets in
+    ap cut regrouped
+    ∙ cut_some (spelling u ++ (spellings us ++ octets)) u (spellings us ++ octets) (first_tlv-spelling u (spellings us ++ octets) h.0)
+    ∙ ap (λ (c : Cut). record { tlvs = u ∷ c.tlvs; rest = c.rest }) (cut-spellings us octets h.1)
+
+-- Each list of octets has a cut, which `cut` computes, and no other.
+is_cut_within : (n : ℕ) (octets : List ℕ) → length octets ≤ n → AreOctets octets → IsCut octets (cut octets)
+is_cut_within n octets h fits = at_first n octets h fits (first_tlv octets) refl
+  where
+    at_first : (n : ℕ) (octets : List ℕ) → length octets ≤ n → AreOctets octets → (o : Option (TlvUnit × List ℕ)) → first_tlv octets ≡ o → IsCut octets (cut octets)
+    at_first n octets h fits None e = rw (cut_none octets e) (record { joined = refl; complete = tt; ended = begins_none octets e })
+    at_first zero octets h fits (Some x) e = absurd (omega (arith, first_shorter octets x.0 x.1 e))
+    at_first (suc n) octets h fits (Some x) e =
+        let t = first_takes octets x.0 x.1 fits e in
+        let short : length x.1 ≤ n = omega (arith, first_shorter octets x.0 x.1 e) in
+        let below : IsCut x.1 (cut x.1) = at_first n x.1 short t.octets_left (first_tlv x.1) refl in
+        rw (cut_some octets x.0 x.1 e) (record {
+          joined = t.parts ∙ ap (λ (ys : List ℕ). spelling x.0 ++ ys) below.joined ∙ sym (append_assoc (spelling x.0) (spellings (cut x.1).tlvs) (cut x.1).rest);
+          complete = (t.tlv, below.complete);
+          ended = below.ended;
+        })
+
+pub cut_is_cut : (octets : List ℕ) → AreOctets octets → IsCut octets (cut octets)
+cut_is_cut octets fits = is_cut_within (length octets) octets (omega arith) fits
+
+pub only_cut : (octets : List ℕ) (c : Cut) → AreOctets octets → IsCut octets c → c ≡ cut octets
+only_cut octets c fits h =
+    let rest_octets : AreOctets c.rest = AreOctets-right (spellings c.tlvs) c.rest (subst AreOctets h.joined fits) in
+    let alone : cut c.rest ≡ record { tlvs = []; rest = c.rest } = cut_none c.rest (none_begins c.rest rest_octets h.ended) in
+    let whole : cut octets ≡ record { tlvs = c.tlvs ++ (cut c.rest).tlvs; rest = (cut c.rest).rest } = ap cut h.joined ∙ cut-spellings c.tlvs c.rest h.complete in
+    sym (whole ∙ ap (λ (d : Cut). record { tlvs = c.tlvs ++ d.tlvs; rest = d.rest }) alone ∙ ap (λ (us : List TlvUnit). record { tlvs = us; rest = c.rest }) (append-nil c.tlvs))
+
+-- ---- one call of `next`
+
+pub gives_none : (octets left : List ℕ) → left ≡ octets → None ≡ first_tlv left → (cut octets ≡ record { tlvs = []; rest = octets }) × (octets ≡ octets)
+gives_none octets left same h = (cut_none octets (ap first_tlv (sym same) ∙ sym h), refl)
+
+pub gives_some : (octets left : List ℕ) (u : TlvUnit) (others : List ℕ) → left ≡ octets → Some (u, others) ≡ first_tlv left
+    → (cut octets ≡ record { tlvs = u ∷ (cut others).tlvs; rest = (cut others).rest }) × (others ≡ drop (2 + length u.body) octets)
+gives_some octets left u others same h = (cut_some octets u others (ap first_tlv (sym same) ∙ sym h), first_left octets u others (ap first_tlv (sym same) ∙ sym h))
+
+pub fewer_tlvs : (octets others : List ℕ) (u : TlvUnit) → cut octets ≡ record { tlvs = u ∷ (cut others).tlvs; rest = (cut others).rest } → length (cut others).tlvs < length (cut octets).tlvs
+fewer_tlvs octets others u h = omega (arith, ap (λ (c : Cut). length c.tlvs) h)

@@ -1,0 +1,312 @@
+-- Drafts: what is built is sound, and tells what was begun and put.
+use Rattle.std.proofs.Common.{◌≡◌, ℕ, zero, suc, ◌+◌, ◌-◌, ◌^◌, ◌<◌, ◌≤◌, Bool, true, false, cond, not, ◌&&◌, ◌||◌, ltb, leb, eqb, List, [], ◌∷◌, ◌++◌, length, drop, get_or, set, Option, Some, None, refl, sym, ap, subst, ◌∙◌, append_assoc, arith, inl, inr}
+use Rattle.std.specs.List.{list_any, AllByRecursion}
+use Rattle.std.specs.Int.{w16, to_be_bytes}
+use Rattle.std.proofs.lemmas.Bool.{le-leb, le-ltb, cases_eq, and_parts, leb-true, eq-eqb, ne_eqb, and_right, and_left, or_right, lt-leb, ltb-false, true≢false}
+use Rattle.std.proofs.lemmas.List.{length-append, append-nil, length-set, get_or-set_other}
+use Rattle.lldp_pdu.specs.declared.fault.PduFault.TheVariants.{Repeated}
+use Rattle.lldp_pdu.specs.declared.fault.BuildFault.{BuildFault}
+use Rattle.lldp_pdu.specs.declared.fault.BuildFault.TheVariants.{Full, Kind, Body}
+use Rattle.lldp_pdu.specs.Tlv.{TlvUnit, IsTlv, spelling, spellings}
+use Rattle.lldp_pdu.specs.Cut.{Cut, cut, cut_within}
+use Rattle.lldp_pdu.specs.Range.{is_between}
+use Rattle.lldp_pdu.specs.WellFormed.{is_well_formed}
+use Rattle.lldp_pdu.specs.Lldpdu.{is_end, before_end, extent, ended_incomplete, tlv_at, seconds, ttl_of, msap_of, later_tlvs}
+use Rattle.lldp_pdu.specs.Msap.{MsapId, IsIdentifier}
+use Rattle.lldp_pdu.specs.Fault.{is_mandatory, fault_of}
+use Rattle.lldp_pdu.specs.Kept.{is_single, has_well_formed, kept_after, others_after, kept_of, discarded_of, count_unrecognized}
+use Rattle.lldp_pdu.specs.Info.{LldpInfo, info_of}
+use Rattle.lldp_pdu.specs.Code.Seen.{none_seen, has_flag, with_flag}
+use Rattle.lldp_pdu.specs.Draft.{Draft, all_tlvs, end_of_lldpdu, lldpdu_octets, with_tlv, was_put, put_fault, told_by, CanPut}
+use Rattle.lldp_pdu.specs.Code.BuilderView.{draft_of, AllKept, IsOptional, AllOptional, IsDraft, Flags, Builds}
+use Rattle.lldp_pdu.proofs.Cuts.{cut-spellings}
+use Rattle.lldp_pdu.proofs.Opening.{fault_from, sound_checks}
+use Rattle.lldp_pdu.proofs.Surveying.{spellings-append}
+use Rattle.lldp_pdu.proofs.Keeping.{single_range, between, set_at}
+use Rattle.lldp_pdu.proofs.Telling.{cut_alone, ttl_tlvs, msap_tlvs}
+use Rattle.lldp_pdu.proofs.Whole.{kept_is, discarded_is, info_is}
+
+-- ---- the TLVs of a draft
+
+optional_tlvs : (us : List TlvUnit) → AllOptional us → AllByRecursion IsTlv us
+optional_tlvs [] h = tt
+optional_tlvs (u ∷ us) h = (record { kind = omega (arith, h.0.greatest); body = h.0.body }, optional_tlvs us h.1)
+
+draft_tlvs : (d : Draft) → IsDraft d → AllByRecursion IsTlv (all_tlvs d)
+draft_tlvs d h =
+    (record { kind = omega arith; body = omega (arith, h.chassis.greatest) }, (record { kind = omega arith; body = omega (arith, h.port.greatest) }, (record { kind = omega arith; body = omega arith }, optional_tlvs d.tlvs h.tlvs)))
+
+seconds_back : (ttl : ℕ) → ttl < 2 ^ 16 → seconds (to_be_bytes w16 ttl) ≡ ttl
+seconds_back ttl h = omega (arith, h)
+
+cut_draft : (d : Draft) → IsDraft d → cut (spellings (all_tlvs d)) ≡ record { tlvs = all_tlvs d; rest = [] }
+cut_draft d h = cut_alone (all_tlvs d) (draft_tlvs d h)
+
+-- the draft is what its octets spell
+draft_back : (d : Draft) (octets : List ℕ) → octets ≡ spellings (all_tlvs d) → IsDraft d → draft_of octets ≡ d
+unfolding draft_of
+draft_back d octets e h =
+    let c : cut octets ≡ record { tlvs = all_tlvs d; rest = [] } = ap cut e ∙ cut_draft d h in
+    let us : (cut octets).tlvs ≡ all_tlvs d = ap (λ (c : Cut). c.tlvs) c in
+    let t : ttl_of octets ≡ d.ttl = ttl_tlvs octets ∙ ap (λ (us : List TlvUnit). seconds (tlv_at us 2).body) us ∙ seconds_back d.ttl h.ttl in
+    let m : msap_of octets ≡ d.msap = msap_tlvs octets ∙ ap (λ (us : List TlvUnit). record { chassis = (tlv_at us 0).body; port = (tlv_at us 1).body }) us in
+    same m t (ap (drop 3) us)
+  where
+    same : {m m' : MsapId} {t t' : ℕ} {us us' : List TlvUnit} → m ≡ m' → t ≡ t' → us ≡ us' → ◌≡◌ {A = Draft} (record { msap = m; ttl = t; tlvs = us }) (record { msap = m'; ttl = t'; tlvs = us' })
+    same p q r = cc
+
+pub builds : (d : Draft) (octets : List ℕ) (met : List Bool) (lives : Bool) → octets ≡ spellings (all_tlvs d) → IsDraft d → length octets + 2 ≤ 1500 → Flags met d.tlvs → lives ≡ ltb 0 d.ttl → Builds octets met lives × (draft_of octets ≡ d)
+builds d octets met lives e h room flags l =
+    let b = draft_back d octets e h in (
+      record {
+        spelled = e ∙ ap (λ (d : Draft). spellings (all_tlvs d)) (sym b);
+        draft = rw b h;
+        room = room;
+        flags = rw b flags;
+        lives_is = l ∙ ap (λ (d : Draft). ltb 0 d.ttl) (sym b);
+      },
+      b,
+    )
+
+-- ---- begun
+
+flags_none : Flags none_seen []
+flags_none = record { four = refl; set = λ kind low high. at (kind - 4) }
+  where
+    at : (i : ℕ) → get_or none_seen i false ≡ false
+    at zero = refl
+    at (suc zero) = refl
+    at (suc (suc zero)) = refl
+    at (suc (suc (suc zero))) = refl
+    at (suc (suc (suc (suc i)))) = refl
+
+abbrev pub begun : List ℕ → List ℕ → ℕ → Draft
+begun chassis port ttl = record { msap = record { chassis = chassis; port = port }; ttl = ttl; tlvs = [] }
+
+pub begins : (chassis port octets : List ℕ) (ttl : ℕ) → IsIdentifier chassis → IsIdentifier port → ttl < 2 ^ 16
+    → octets ≡ spelling (record { kind = 1; body = chassis }) ++ spelling (record { kind = 2; body = port }) ++ spelling (record { kind = 3; body = to_be_bytes w16 ttl })
+    → Builds octets none_seen (ltb 0 ttl) × (draft_of octets ≡ begun chassis port ttl)
+begins chassis port octets ttl h k l e =
+    let a = spelling (record { kind = 1; body = chassis }) in
+    let b = spelling (record { kind = 2; body = port }) in
+    let c = spelling (record { kind = 3; body = to_be_bytes w16 ttl }) in
+    let spelled : octets ≡ spellings (all_tlvs (begun chassis port ttl)) = e ∙ append_assoc a b c ∙ ap (λ (x : List ℕ). a ++ (b ++ x)) (sym (append-nil c)) in
+    let len : length octets ≡ length a + length b + length c = ap length e ∙ (length-append (a ++ b) c ∙ ap (λ (n : ℕ). n + length c) (length-append a b)) in
+    builds (begun chassis port ttl) octets none_seen (ltb 0 ttl) spelled (record { chassis = h; port = k; ttl = l; tlvs = tt; kept = tt }) (omega (arith, len, h.greatest, k.greatest)) flags_none refl
+
+-- ---- put
+
+put_spells : (d : Draft) (u : TlvUnit) → spellings (all_tlvs d) ++ spelling u ≡ spellings (all_tlvs (with_tlv d u))
+put_spells d u = ap (λ (x : List ℕ). spellings (all_tlvs d) ++ x) (sym (append-nil (spelling u))) ∙ sym (spellings-append (all_tlvs d) (u ∷ []))
+
+pub put_length : (d : Draft) (u : TlvUnit) → length (lldpdu_octets (with_tlv d u)) ≡ length (spellings (all_tlvs d)) + length u.body + 4
+put_length d u =
+    let a = length-append (spellings (all_tlvs (with_tlv d u))) (spelling end_of_lldpdu) in
+    let b = ap length (put_spells d u) in
+    omega (arith, a, b, length-append (spellings (all_tlvs d)) (spelling u))
+
+-- the checks, each with its outcome
+abbrev decided : Bool → Bool → Bool → Bool → Bool → Bool → Option BuildFault
+decided a b c d e f = cond (not a || b || c) (Some Kind) (cond (d || not e) (Some Body) (cond f (Some Full) None))
+
+pub put_fault_is : (d : Draft) (u : TlvUnit) (a b c e f g : Bool) → is_between 4 u.kind 127 ≡ a → eqb d.ttl 0 ≡ b → (is_single u && was_put u.kind d.tlvs) ≡ c → ltb 511 (length u.body) ≡ e → is_well_formed u ≡ f → ltb 1500 (length (lldpdu_octets (with_tlv d u))) ≡ g
+    → put_fault d u ≡ decided a b c e f g
+unfolding put_fault
+put_fault_is d u a b c e f g p q r s t v = six p q r s t v
+  where
+    six : {a b c e f g a' b' c' e' f' g' : Bool} → a ≡ a' → b ≡ b' → c ≡ c' → e ≡ e' → f ≡ f' → g ≡ g' → decided a b c e f g ≡ decided a' b' c' e' f' g'
+    six p q r s t v = cc
+
+-- what passes the checks
+pub record Passes (d : Draft) (u : TlvUnit) : Type 0 where
+  pub least : 4 ≤ u.kind
+  pub greatest : u.kind ≤ 127
+  pub new : (is_single u && was_put u.kind d.tlvs) ≡ false
+  pub short : length u.body ≤ 511
+  pub well_formed : is_well_formed u ≡ true
+  pub room : length (lldpdu_octets (with_tlv d u)) ≤ 1500
+
+decided_none : (a b c d e f : Bool) → decided a b c d e f ≡ None → (a ≡ true) × (c ≡ false) × (d ≡ false) × (e ≡ true) × (f ≡ false)
+decided_none true false false false true false h = (refl, refl, refl, refl, refl)
+decided_none false b c d e f h = absurd cc
+decided_none true true c d e f h = absurd cc
+decided_none true false true d e f h = absurd cc
+decided_none true false false true e f h = absurd cc
+decided_none true false false false false f h = absurd cc
+decided_none true false false false true true h = absurd cc
+
+pub passes : (d : Draft) (u : TlvUnit) → put_fault d u ≡ None → Passes d u
+passes d u h =
+    let n = length (lldpdu_octets (with_tlv d u)) in
+    let p = decided_none (is_between 4 u.kind 127) (eqb d.ttl 0) (is_single u && was_put u.kind d.tlvs) (ltb 511 (length u.body)) (is_well_formed u) (ltb 1500 n) (sym (put_fault_is d u _ _ _ _ _ _ refl refl refl refl refl refl) ∙ h) in
+    let k = and_parts (leb 4 u.kind) (leb u.kind 127) p.0 in
+    record {
+      least = leb-true 4 u.kind k.0;
+      greatest = leb-true u.kind 127 k.1;
+      new = p.1;
+      short = ltb-false 511 (length u.body) p.2;
+      well_formed = p.3;
+      room = ltb-false 1500 n p.4;
+    }
+
+pub can_put : (d : Draft) (u : TlvUnit) → CanPut d u → put_fault d u ≡ None
+can_put d u h =
+    put_fault_is d u true false false false true false (between_all u.kind h.least h.greatest) (ne_eqb d.ttl 0 (λ z. omega (arith, z, h.lives))) h.new (le-ltb 511 (length u.body) h.short) h.well_formed (le-ltb 1500 _ (omega (arith, put_length d u, h.room)))
+  where
+    between_all : (kind : ℕ) → 4 ≤ kind → kind ≤ 127 → (leb 4 kind && leb kind 127) ≡ true
+    between_all kind low high = rw (le-leb 4 kind low, le-leb kind 127 high) refl
+
+-- the length of the LLDPDU with one more TLV, by the builder's octets
+pub long : (d : Draft) (u : TlvUnit) (octets : List ℕ) (met : List Bool) (lives : Bool) → draft_of octets ≡ d → Builds octets met lives → length (lldpdu_octets (with_tlv d u)) ≡ length octets + length u.body + 4
+long d u octets met lives v b = put_length d u ∙ ap (λ (n : ℕ). n + length u.body + 4) (sym (ap length (b.spelled ∙ ap (λ (d : Draft). spellings (all_tlvs d)) v)))
+
+-- ---- one more TLV
+
+optional_more : (us : List TlvUnit) (u : TlvUnit) → AllOptional us → IsOptional u → AllOptional (us ++ u ∷ [])
+optional_more [] u h k = (k, tt)
+optional_more (v ∷ us) u h k = (h.0, optional_more us u h.1 k)
+
+earlier_more : (s a w f h : Bool) → (s && ((a || w) || h)) ≡ false → (s && (w || ((a && f) || h))) ≡ false
+earlier_more false a w f h e = refl
+earlier_more true false true f h e = absurd (true≢false e)
+earlier_more true false false f h e = e
+earlier_more true true w f h e = absurd (true≢false e)
+
+kept_more : (earlier us : List TlvUnit) (u : TlvUnit) → AllKept earlier us → is_well_formed u ≡ true → (is_single u && (was_put u.kind us || has_well_formed u.kind earlier)) ≡ false → AllKept earlier (us ++ u ∷ [])
+kept_more earlier [] u h w e = (rw (w, e) refl, tt)
+kept_more earlier (v ∷ us) u h w e = (h.0, kept_more (v ∷ earlier) us u h.1 w (earlier_more (is_single u) (eqb v.kind u.kind) (was_put u.kind us) (is_well_formed v) (has_well_formed u.kind earlier) e))
+
+or_false : (b : Bool) → (b || false) ≡ b
+or_false true = refl
+or_false false = refl
+
+or_swap : (a b c : Bool) → (a || (b || c)) ≡ ((a || b) || c)
+or_swap true b c = refl
+or_swap false b c = refl
+
+any-append : (p : TlvUnit → Bool) (us vs : List TlvUnit) → list_any p (us ++ vs) ≡ (list_any p us || list_any p vs)
+any-append p [] vs = refl
+any-append p (u ∷ us) vs = ap (λ (b : Bool). p u || b) (any-append p us vs) ∙ or_swap (p u) (list_any p us) (list_any p vs)
+
+was_put_more : (kind : ℕ) (us : List TlvUnit) (u : TlvUnit) → was_put kind (us ++ u ∷ []) ≡ (was_put kind us || eqb u.kind kind)
+was_put_more kind us u = any-append (λ v. eqb v.kind kind) us (u ∷ []) ∙ ap (λ (b : Bool). was_put kind us || b) (or_false (eqb u.kind kind))
+
+flags_more : (met : List Bool) (us : List TlvUnit) (u : TlvUnit) → Flags met us → Flags (with_flag met u.kind) (us ++ u ∷ [])
+unfolding with_flag
+flags_more met us u t = go (is_single u) refl
+  where
+    go : (s : Bool) → is_single u ≡ s → Flags (cond s (set met (u.kind - 4) true) met) (us ++ u ∷ [])
+    go false f =
+        record {
+          four = t.four;
+          set = λ kind low high. t.set kind low high ∙ sym (or_false (was_put kind us)) ∙ ap (λ (b : Bool). was_put kind us || b) (sym (ne_eqb u.kind kind (λ same. true≢false (sym (between u.kind (omega (arith, same)) (omega (arith, same))) ∙ f)))) ∙ sym (was_put_more kind us u);
+        }
+    go true f =
+        let r = single_range u.kind f in
+        record {
+          four = length-set met (u.kind - 4) true ∙ t.four;
+          set = λ kind low high. elim (cases_eq u.kind kind) [
+            | inl same ↦ set_at met kind (u.kind - 4) (omega (arith, same)) (omega (arith, r.1, t.four)) ∙ sym (was_put_more kind us u ∙ or_right (was_put kind us) (eqb u.kind kind) (eq-eqb u.kind kind same))
+            | inr other ↦ get_or-set_other met (u.kind - 4) (kind - 4) true false (λ h. other (omega (arith, h, r.0, low)))
+                ∙ t.set kind low high ∙ sym (or_false (was_put kind us)) ∙ ap (λ (b : Bool). was_put kind us || b) (sym (ne_eqb u.kind kind other)) ∙ sym (was_put_more kind us u)
+          ];
+        }
+
+-- the flags tell what was put
+pub flag_is : (met : List Bool) (us : List TlvUnit) (u : TlvUnit) → Flags met us → has_flag met u.kind ≡ (is_single u && was_put u.kind us)
+unfolding has_flag
+flag_is met us u t = go (is_single u) refl
+  where
+    go : (s : Bool) → is_single u ≡ s → (is_single u && get_or met (u.kind - 4) false) ≡ (is_single u && was_put u.kind us)
+    go true f = let r = single_range u.kind f in ap (λ (b : Bool). is_single u && b) (t.set u.kind r.0 r.1)
+    go false f = and_left (is_single u) (get_or met (u.kind - 4) false) f ∙ sym (and_left (is_single u) (was_put u.kind us) f)
+
+pub puts : (d : Draft) (u : TlvUnit) (old octets : List ℕ) (met : List Bool) (lives : Bool) → draft_of old ≡ d → Builds old met lives → put_fault d u ≡ None → octets ≡ old ++ spelling u
+    → Builds octets (with_flag met u.kind) lives × (draft_of octets ≡ with_tlv d u)
+puts d u old octets met lives v b h e =
+    let p = passes d u h in
+    let draft : IsDraft d = subst IsDraft v b.draft in
+    let flags : Flags met d.tlvs = subst (λ (d : Draft). Flags met d.tlvs) v b.flags in
+    let spelled : octets ≡ spellings (all_tlvs (with_tlv d u)) = e ∙ ap (λ (x : List ℕ). x ++ spelling u) (b.spelled ∙ ap (λ (d : Draft). spellings (all_tlvs d)) v) ∙ put_spells d u in
+    let len : length octets + 2 ≡ length (lldpdu_octets (with_tlv d u)) = ap (λ (n : ℕ). n + 2) (ap length spelled) ∙ sym (length-append (spellings (all_tlvs (with_tlv d u))) (spelling end_of_lldpdu)) in
+    builds (with_tlv d u) octets (with_flag met u.kind) lives spelled
+    (record {
+      chassis = draft.chassis;
+      port = draft.port;
+      ttl = draft.ttl;
+      tlvs = optional_more d.tlvs u draft.tlvs (record { least = p.least; greatest = p.greatest; body = omega (arith, p.short) });
+      kept = kept_more [] d.tlvs u draft.kept p.well_formed (ap (λ (b : Bool). is_single u && b) (or_false (was_put u.kind d.tlvs)) ∙ p.new);
+    })
+    (omega (arith, len, p.room)) (flags_more met d.tlvs u flags) (b.lives_is ∙ ap (λ (d : Draft). ltb 0 d.ttl) v)
+
+-- ---- finished
+
+no_mandatory : (us : List TlvUnit) → AllOptional us → list_any is_mandatory us ≡ false
+no_mandatory [] h = refl
+no_mandatory (u ∷ us) h = rw (lt-leb u.kind 3 (omega (arith, h.0.least)), no_mandatory us h.1) (ap (λ (b : Bool). b || false) (and_right (leb 1 u.kind) false refl))
+
+before_end_more : (us : List TlvUnit) → AllOptional us → before_end (us ++ end_of_lldpdu ∷ []) ≡ us
+before_end_more [] h = refl
+before_end_more (u ∷ us) h = rw (ne_eqb u.kind 0 (λ z. omega (arith, z, h.0.least)), before_end_more us h.1) refl
+
+end_there : (us : List TlvUnit) → list_any is_end (us ++ end_of_lldpdu ∷ []) ≡ true
+end_there us = any-append is_end us (end_of_lldpdu ∷ []) ∙ or_right (list_any is_end us) true refl
+
+kept_same : (earlier us : List TlvUnit) → AllKept earlier us → kept_after earlier us ≡ us
+kept_same earlier [] h = refl
+kept_same earlier (u ∷ us) h = rw h.0 (ap (λ (vs : List TlvUnit). u ∷ vs) (kept_same (u ∷ earlier) us h.1))
+
+others_none : (earlier us : List TlvUnit) → AllKept earlier us → others_after earlier us ≡ []
+others_none earlier [] h = refl
+others_none earlier (u ∷ us) h = rw h.0 (others_none (u ∷ earlier) us h.1)
+
+cut_end : cut (spelling end_of_lldpdu) ≡ record { tlvs = end_of_lldpdu ∷ []; rest = [] }
+unfolding cut cut_within
+cut_end = refl
+
+-- what the finished octets are
+pub record Finished (d : Draft) (octets : List ℕ) : Type 0 where
+  pub sound : fault_of octets ≡ None
+  pub msap : msap_of octets ≡ d.msap
+  pub ttl : ttl_of octets ≡ d.ttl
+  pub told : info_of octets ≡ told_by d
+
+later_from : (octets : List ℕ) (us : List TlvUnit) → (cut octets).tlvs ≡ us → later_tlvs octets ≡ drop 3 (before_end us)
+unfolding later_tlvs
+later_from octets us e = ap (λ (us : List TlvUnit). drop 3 (before_end us)) e
+
+extent_from : (octets : List ℕ) (us : List TlvUnit) → (cut octets).tlvs ≡ us → extent octets ≡ spellings (before_end us)
+unfolding extent
+extent_from octets us e = ap (λ (us : List TlvUnit). spellings (before_end us)) e
+
+complete_from : (octets : List ℕ) (us : List TlvUnit) → (cut octets).tlvs ≡ us → list_any is_end us ≡ true → ended_incomplete octets ≡ false
+unfolding ended_incomplete
+complete_from octets us e h = let k : list_any is_end (cut octets).tlvs ≡ true = ap (list_any is_end) e ∙ h in rw k refl
+
+pub finished : (d : Draft) (octets : List ℕ) → IsDraft d → octets ≡ lldpdu_octets d → Finished d octets
+finished d octets h e =
+    let c : cut octets ≡ record { tlvs = all_tlvs d ++ end_of_lldpdu ∷ []; rest = [] } =
+    ap cut e ∙ cut-spellings (all_tlvs d) (spelling end_of_lldpdu) (draft_tlvs d h) ∙ ap (λ (c : Cut). record { tlvs = all_tlvs d ++ c.tlvs; rest = c.rest }) cut_end in
+    let us : (cut octets).tlvs ≡ all_tlvs d ++ end_of_lldpdu ∷ [] = ap (λ (c : Cut). c.tlvs) c in
+    let t : ttl_of octets ≡ d.ttl = ttl_tlvs octets ∙ ap (λ (us : List TlvUnit). seconds (tlv_at us 2).body) us ∙ seconds_back d.ttl h.ttl in
+    let m : msap_of octets ≡ d.msap = msap_tlvs octets ∙ ap (λ (us : List TlvUnit). record { chassis = (tlv_at us 0).body; port = (tlv_at us 1).body }) us in
+    let later : later_tlvs octets ≡ d.tlvs = later_from octets (all_tlvs d ++ end_of_lldpdu ∷ []) us ∙ before_end_more d.tlvs h.tlvs in
+    let kept : kept_of octets ≡ d.tlvs = kept_is octets ∙ ap (kept_after []) later ∙ kept_same [] d.tlvs h.kept in
+    let extent_is : extent octets ≡ spellings (all_tlvs d) = extent_from octets (all_tlvs d ++ end_of_lldpdu ∷ []) us ∙ front (before_end_more d.tlvs h.tlvs) in
+    let complete : ended_incomplete octets ≡ false = complete_from octets (all_tlvs d ++ end_of_lldpdu ∷ []) us (end_there (all_tlvs d)) in
+    let lost : discarded_of octets ≡ 0 = discarded_is octets ∙ rw (complete, later, others_none [] d.tlvs h.kept) refl in
+    record {
+      sound = fault_from octets (all_tlvs d ++ end_of_lldpdu ∷ []) d.ttl us t
+          ∙ sound_checks d.msap.chassis d.msap.port (to_be_bytes w16 d.ttl) (d.tlvs ++ end_of_lldpdu ∷ []) d.ttl (later_tlvs octets) h.chassis.least h.chassis.greatest h.port.least h.port.greatest (omega arith)
+          ∙ rw (later, no_mandatory d.tlvs h.tlvs) (ap (λ (b : Bool). cond b (Some Repeated) None) (and_right (ltb 0 d.ttl) false refl));
+      msap = m;
+      ttl = t;
+      told = info_is octets ∙ same m t extent_is kept lost (ap count_unrecognized kept);
+    }
+  where
+    front : before_end (d.tlvs ++ end_of_lldpdu ∷ []) ≡ d.tlvs → spellings (before_end (all_tlvs d ++ end_of_lldpdu ∷ [])) ≡ spellings (all_tlvs d)
+    front h = ap (λ (us : List TlvUnit). spellings (record { kind = 1; body = d.msap.chassis } ∷ record { kind = 2; body = d.msap.port } ∷ record { kind = 3; body = to_be_bytes w16 d.ttl } ∷ us)) h
+
+    same : {m m' : MsapId} {t t' : ℕ} {x x' : List ℕ} {k k' : List TlvUnit} {l l' u u' : ℕ} → m ≡ m' → t ≡ t' → x ≡ x' → k ≡ k' → l ≡ l' → u ≡ u'
+        → ◌≡◌ {A = LldpInfo} (record { msap = m; ttl = t; octets = x; kept = k; discarded = l; unrecognized = u }) (record { msap = m'; ttl = t'; octets = x'; kept = k'; discarded = l'; unrecognized = u' })
+    same p q r s t u = cc

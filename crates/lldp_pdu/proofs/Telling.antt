@@ -1,0 +1,316 @@
+-- What the extent of a sound LLDPDU tells again.
+use Rattle.std.proofs.Common.{◌≡◌, ℕ, zero, suc, ◌+◌, ◌*◌, ◌<◌, ◌≤◌, Bool, true, false, cond, not, ◌&&◌, ltb, leb, eqb, List, [], ◌∷◌, ◌++◌, length, drop, get_or, Some, None, refl, sym, ap, subst, ◌∙◌, arith}
+use Rattle.std.specs.List.{list_any, AllByRecursion}
+use Rattle.std.proofs.lemmas.Bool.{not-false, eqb-true, lt-leb, true≢false, ltb-false, and_right, and_parts, leb-true, lt-ltb, or_parts}
+use Rattle.std.proofs.lemmas.List.{append-nil, length-append, length-drop}
+use Rattle.lldp_pdu.specs.declared.fault.PduFault.{PduFault}
+use Rattle.lldp_pdu.specs.declared.fault.PduFault.TheVariants.{Truncated}
+use Rattle.lldp_pdu.specs.Tlv.{TlvUnit, IsTlv, spelling, spellings, AreOctets}
+use Rattle.lldp_pdu.specs.Cut.{Cut, cut, cut_within}
+use Rattle.lldp_pdu.specs.Check.{Check, first_fault}
+use Rattle.lldp_pdu.specs.Lldpdu.{is_end, before_end, extent_tlvs, extent, ended_incomplete, tlv_at, seconds, ttl_of, msap_of, later_tlvs}
+use Rattle.lldp_pdu.specs.Msap.{MsapId, IsIdentifier}
+use Rattle.lldp_pdu.specs.Fault.{checks, fault_of, is_mandatory}
+use Rattle.lldp_pdu.specs.Kept.{count_unrecognized, kept_after, others_after, kept_of, discarded_of, IsKeptTlv, is_single, has_well_formed, is_kept}
+use Rattle.lldp_pdu.specs.Info.{info_of, IsInfo, TellsItself}
+use Rattle.lldp_pdu.specs.WellFormed.{is_well_formed}
+use Rattle.lldp_pdu.proofs.Surveying.{extent_is_front}
+use Rattle.lldp_pdu.proofs.Cuts.{AreOctets-left, cut_is_cut, cut-spellings}
+use Rattle.lldp_pdu.proofs.Opening.{fault_from}
+use Rattle.lldp_pdu.proofs.Keeping.{kept_and_others}
+
+-- ---- an LLDPDU with no fault begins with the mandatory TLVs
+
+abbrev no_check : Check PduFault
+no_check = record { fails = false; fault = Truncated }
+
+-- with no fault each check passes
+all_pass : (cs : List (Check PduFault)) → first_fault cs ≡ None → (i : ℕ) → (get_or cs i no_check).fails ≡ false
+all_pass [] h i = refl
+all_pass (c ∷ cs) h i = go c.fails refl i h (all_pass cs)
+  where
+    go : (b : Bool) → c.fails ≡ b → (i : ℕ) → cond b (Some c.fault) (first_fault cs) ≡ None → (first_fault cs ≡ None → (i : ℕ) → (get_or cs i no_check).fails ≡ false) → (get_or (c ∷ cs) i no_check).fails ≡ false
+    go true e i h below = absurd cc
+    go false e zero h below = e
+    go false e (suc i) h below = below h i
+
+pub record Opened (us : List TlvUnit) : Type 0 where
+  pub chassis : TlvUnit
+  pub port : TlvUnit
+  pub ttl : TlvUnit
+  pub others : List TlvUnit
+  pub parts : us ≡ chassis ∷ port ∷ ttl ∷ others
+  pub chassis_kind : chassis.kind ≡ 1
+  pub port_kind : port.kind ≡ 2
+  pub ttl_kind : ttl.kind ≡ 3
+  pub chassis_fits : IsIdentifier chassis.body
+  pub port_fits : IsIdentifier port.body
+  pub ttl_fits : 2 ≤ length ttl.body
+
+identifier : (body : List ℕ) → (leb 2 (length body) && leb (length body) 256) ≡ true → IsIdentifier body
+identifier body h = let p = and_parts (leb 2 (length body)) (leb (length body) 256) h in record { least = leb-true 2 (length body) p.0; greatest = leb-true (length body) 256 p.1 }
+
+pub sound_opens : (us : List TlvUnit) (ttl : ℕ) (later : List TlvUnit) → first_fault (checks us ttl later) ≡ None → Opened us
+sound_opens [] ttl later h = let p = all_pass (checks [] ttl later) h 0 in absurd (true≢false p)
+sound_opens (a ∷ []) ttl later h = let p = all_pass (checks (a ∷ []) ttl later) h 3 in absurd (true≢false p)
+sound_opens (a ∷ b ∷ []) ttl later h = let p = all_pass (checks (a ∷ b ∷ []) ttl later) h 6 in absurd (true≢false p)
+sound_opens (a ∷ b ∷ d ∷ us) ttl later h =
+    let p = all_pass (checks (a ∷ b ∷ d ∷ us) ttl later) h in
+    record {
+      chassis = a;
+      port = b;
+      ttl = d;
+      others = us;
+      parts = refl;
+      chassis_kind = eqb-true a.kind 1 (not-false _ (p 1));
+      port_kind = eqb-true b.kind 2 (not-false _ (p 4));
+      ttl_kind = eqb-true d.kind 3 (not-false _ (p 7));
+      chassis_fits = identifier a.body (not-false _ (p 2));
+      port_fits = identifier b.body (not-false _ (p 5));
+      ttl_fits = ltb-false (length d.body) 2 (p 8);
+    }
+
+-- ---- the cut of the extent
+
+before_end-again : (us : List TlvUnit) → before_end (before_end us) ≡ before_end us
+before_end-again [] = refl
+before_end-again (u ∷ us) = go (is_end u) refl (before_end-again us)
+  where
+    go : (b : Bool) → is_end u ≡ b → before_end (before_end us) ≡ before_end us → before_end (cond b [] (u ∷ before_end us)) ≡ cond b [] (u ∷ before_end us)
+    go true e h = refl
+    go false e h = rw (e, h) refl
+
+no_end : (us : List TlvUnit) → list_any is_end (before_end us) ≡ false
+no_end [] = refl
+no_end (u ∷ us) = go (is_end u) refl (no_end us)
+  where
+    go : (b : Bool) → is_end u ≡ b → list_any is_end (before_end us) ≡ false → list_any is_end (cond b [] (u ∷ before_end us)) ≡ false
+    go true e h = refl
+    go false e h = rw (e, h) refl
+
+pub tlvs_before_end : (us : List TlvUnit) → AllByRecursion IsTlv us → AllByRecursion IsTlv (before_end us)
+tlvs_before_end [] h = tt
+tlvs_before_end (u ∷ us) h = go (is_end u) (tlvs_before_end us h.1)
+  where
+    go : (b : Bool) → AllByRecursion IsTlv (before_end us) → AllByRecursion IsTlv (cond b [] (u ∷ before_end us))
+    go true k = tt
+    go false k = (h.0, k)
+
+-- TLVs alone are their own cut
+pub cut_alone : (us : List TlvUnit) → AllByRecursion IsTlv us → cut (spellings us) ≡ record { tlvs = us; rest = [] }
+unfolding cut cut_within
+cut_alone us h =
+    ap cut (sym (append-nil (spellings us))) ∙ cut-spellings us [] h ∙ ap (λ (vs : List TlvUnit). record { tlvs = vs; rest = [] }) (append-nil us)
+
+pub cut_extent : (octets : List ℕ) → AreOctets octets → cut (extent octets) ≡ record { tlvs = extent_tlvs octets; rest = [] }
+unfolding extent
+cut_extent octets fits = cut_alone (extent_tlvs octets) (tlvs_before_end (cut octets).tlvs (cut_is_cut octets fits).complete)
+
+-- ---- what the extent tells
+
+pub extent-again : (octets : List ℕ) → AreOctets octets → extent (extent octets) ≡ extent octets
+unfolding extent
+extent-again octets fits = ap (λ (c : Cut). spellings (before_end c.tlvs)) (cut_extent octets fits) ∙ ap spellings (before_end-again (cut octets).tlvs)
+
+pub later-again : (octets : List ℕ) → AreOctets octets → later_tlvs (extent octets) ≡ later_tlvs octets
+unfolding later_tlvs
+later-again octets fits = ap (λ (c : Cut). drop 3 (before_end c.tlvs)) (cut_extent octets fits) ∙ ap (drop 3) (before_end-again (cut octets).tlvs)
+
+pub kept-again : (octets : List ℕ) → AreOctets octets → kept_of (extent octets) ≡ kept_of octets
+unfolding kept_of
+kept-again octets fits = ap (kept_after []) (later-again octets fits)
+
+pub complete-again : (octets : List ℕ) → AreOctets octets → ended_incomplete (extent octets) ≡ false
+unfolding ended_incomplete
+complete-again octets fits = ap (λ (c : Cut). not (list_any is_end c.tlvs) && ltb 0 (length c.rest)) (cut_extent octets fits) ∙ and_right (not (list_any is_end (extent_tlvs octets))) false refl
+
+-- the mandatory TLVs stand in the extent
+opened_extent : (octets : List ℕ) (o : Opened (cut octets).tlvs) → extent_tlvs octets ≡ o.chassis ∷ o.port ∷ o.ttl ∷ before_end o.others
+opened_extent octets o = ap before_end o.parts ∙ rw (o.chassis_kind, o.port_kind, o.ttl_kind) refl
+
+-- the checks read nothing else of the TLVs after the third
+same_checks : (a b d : TlvUnit) (us vs : List TlvUnit) (ttl : ℕ) (later : List TlvUnit) → first_fault (checks (a ∷ b ∷ d ∷ us) ttl later) ≡ first_fault (checks (a ∷ b ∷ d ∷ vs) ttl later)
+same_checks a b d us vs ttl later =
+    let n = suc (suc (suc (length us))) in
+    let m = suc (suc (suc (length vs))) in
+    rw (lt-leb n 0 (omega arith), lt-leb n 1 (omega arith), lt-leb n 2 (omega arith), lt-leb m 0 (omega arith), lt-leb m 1 (omega arith), lt-leb m 2 (omega arith)) refl
+
+-- the definitions, opened
+pub ttl_tlvs : (octets : List ℕ) → ttl_of octets ≡ seconds (tlv_at (cut octets).tlvs 2).body
+unfolding ttl_of
+ttl_tlvs octets = refl
+
+pub msap_tlvs : (octets : List ℕ) → msap_of octets ≡ record { chassis = (tlv_at (cut octets).tlvs 0).body; port = (tlv_at (cut octets).tlvs 1).body }
+unfolding msap_of
+msap_tlvs octets = refl
+
+fault_tlvs : (octets : List ℕ) → first_fault (checks (cut octets).tlvs (ttl_of octets) (later_tlvs octets)) ≡ fault_of octets
+unfolding fault_of
+fault_tlvs octets = refl
+
+fewer_discarded : (octets : List ℕ) → AreOctets octets → discarded_of (extent octets) ≤ discarded_of octets
+unfolding discarded_of
+fewer_discarded octets fits =
+    rw (later-again octets fits, complete-again octets fits) (omega arith)
+
+-- what a sound LLDPDU tells, and its extent again
+record Again (octets : List ℕ) : Type 0 where
+  pub ttl : ttl_of (extent octets) ≡ ttl_of octets
+  pub msap : msap_of (extent octets) ≡ msap_of octets
+  pub fault : fault_of (extent octets) ≡ fault_of octets
+
+again : (octets : List ℕ) → AreOctets octets → Opened (cut octets).tlvs → Again octets
+again octets fits o =
+    let us : extent_tlvs octets ≡ o.chassis ∷ o.port ∷ o.ttl ∷ before_end o.others = opened_extent octets o in
+    let c : cut (extent octets) ≡ record { tlvs = o.chassis ∷ o.port ∷ o.ttl ∷ before_end o.others; rest = [] } = cut_extent octets fits ∙ ap (λ (vs : List TlvUnit). record { tlvs = vs; rest = [] }) us in
+    let ttl_here : ttl_of octets ≡ seconds o.ttl.body = ttl_is octets o.chassis o.port o.ttl o.others o.parts in
+    let ttl_there : ttl_of (extent octets) ≡ seconds o.ttl.body = ttl_is (extent octets) o.chassis o.port o.ttl (before_end o.others) (ap (λ (c : Cut). c.tlvs) c) in
+    let same_ttl : ttl_of (extent octets) ≡ ttl_of octets = ttl_there ∙ sym ttl_here in
+    record {
+      ttl = same_ttl;
+      msap = msap_is (extent octets) o.chassis o.port o.ttl (before_end o.others) (ap (λ (c : Cut). c.tlvs) c) ∙ sym (msap_is octets o.chassis o.port o.ttl o.others o.parts);
+      fault =
+          fault_from (extent octets) (o.chassis ∷ o.port ∷ o.ttl ∷ before_end o.others) (ttl_of octets) (ap (λ (c : Cut). c.tlvs) c) same_ttl
+          ∙ ap (λ (later : List TlvUnit). first_fault (checks (o.chassis ∷ o.port ∷ o.ttl ∷ before_end o.others) (ttl_of octets) later)) (later-again octets fits)
+          ∙ same_checks o.chassis o.port o.ttl (before_end o.others) o.others (ttl_of octets) (later_tlvs octets)
+          ∙ sym (fault_from octets (o.chassis ∷ o.port ∷ o.ttl ∷ o.others) (ttl_of octets) o.parts refl);
+    }
+  where
+    ttl_is : (octets : List ℕ) (a b d : TlvUnit) (us : List TlvUnit) → (cut octets).tlvs ≡ a ∷ b ∷ d ∷ us → ttl_of octets ≡ seconds d.body
+    ttl_is octets a b d us e = ttl_tlvs octets ∙ ap (λ (vs : List TlvUnit). seconds (tlv_at vs 2).body) e
+
+    msap_is : (octets : List ℕ) (a b d : TlvUnit) (us : List TlvUnit) → (cut octets).tlvs ≡ a ∷ b ∷ d ∷ us → msap_of octets ≡ record { chassis = a.body; port = b.body }
+    msap_is octets a b d us e = msap_tlvs octets ∙ ap (λ (vs : List TlvUnit). record { chassis = (tlv_at vs 0).body; port = (tlv_at vs 1).body }) e
+
+-- ---- what is kept
+
+-- neither the end nor a mandatory TLV
+record IsLater (u : TlvUnit) : Type 0 where
+  pub tlv : IsTlv u
+  pub not_end : is_end u ≡ false
+  pub not_mandatory : is_mandatory u ≡ false
+
+later_kind : (kind : ℕ) → eqb kind 0 ≡ false → (leb 1 kind && leb kind 3) ≡ false → 4 ≤ kind
+later_kind zero h k = absurd (true≢false h)
+later_kind (suc zero) h k = absurd (true≢false k)
+later_kind (suc (suc zero)) h k = absurd (true≢false k)
+later_kind (suc (suc (suc zero))) h k = absurd (true≢false k)
+later_kind (suc (suc (suc (suc n)))) h k = omega arith
+
+all_later : (us : List TlvUnit) → AllByRecursion IsTlv us → list_any is_mandatory (before_end us) ≡ false → AllByRecursion IsLater (before_end us)
+all_later [] h m = tt
+all_later (u ∷ us) h m = go (is_end u) refl m (all_later us h.1)
+  where
+    go : (b : Bool) → is_end u ≡ b → list_any is_mandatory (cond b [] (u ∷ before_end us)) ≡ false → (list_any is_mandatory (before_end us) ≡ false → AllByRecursion IsLater (before_end us)) → AllByRecursion IsLater (cond b [] (u ∷ before_end us))
+    go true e m below = tt
+    go false e m below = let p = or_parts (is_mandatory u) (list_any is_mandatory (before_end us)) m in (record { tlv = h.0; not_end = e; not_mandatory = p.0 }, below p.1)
+
+kept_tlvs : (earlier us : List TlvUnit) → AllByRecursion IsLater us → AllByRecursion IsKeptTlv (kept_after earlier us)
+kept_tlvs earlier [] h = tt
+kept_tlvs earlier (u ∷ us) h = go (is_kept earlier u) refl (kept_tlvs (u ∷ earlier) us h.1)
+  where
+    go : (b : Bool) → is_kept earlier u ≡ b → AllByRecursion IsKeptTlv (kept_after (u ∷ earlier) us) → AllByRecursion IsKeptTlv (cond b (u ∷ kept_after (u ∷ earlier) us) (kept_after (u ∷ earlier) us))
+    go false e below = below
+    go true e below = (
+      record {
+        least = later_kind u.kind h.0.not_end h.0.not_mandatory;
+        greatest = omega (arith, h.0.tlv.kind);
+        short = h.0.tlv.body;
+        well_formed = (and_parts (is_well_formed u) (not (is_single u && has_well_formed u.kind earlier)) e).0;
+      },
+      below,
+    )
+
+kept_tlvs_of : (octets : List ℕ) → kept_of octets ≡ kept_after [] (later_tlvs octets)
+unfolding kept_of
+kept_tlvs_of octets = refl
+
+later_of : (octets : List ℕ) → later_tlvs octets ≡ drop 3 (extent_tlvs octets)
+unfolding later_tlvs
+later_of octets = refl
+
+extent_octets : (octets : List ℕ) → AreOctets octets → AreOctets (extent octets)
+unfolding extent
+extent_octets octets fits = let f = extent_is_front octets fits in AreOctets-left (extent octets) f.0 (subst AreOctets f.1 fits)
+
+-- ---- how many there are
+
+tlvs_fewer : (us : List TlvUnit) → 2 * length us ≤ length (spellings us)
+tlvs_fewer [] = omega arith
+tlvs_fewer (u ∷ us) = omega (arith, tlvs_fewer us, length-append (spelling u) (spellings us))
+
+-- three mandatory TLVs of at least 4 octets each, and the others of at least 2
+later_fewer : (octets : List ℕ) → Opened (cut octets).tlvs → 12 + 2 * length (later_tlvs octets) ≤ length (extent octets)
+unfolding extent
+later_fewer octets o =
+    let later : later_tlvs octets ≡ before_end o.others = later_of octets ∙ ap (drop 3) (opened_extent octets o) in
+    let others = spellings (before_end o.others) in
+    let len : length (extent octets) ≡ length (spelling o.chassis ++ (spelling o.port ++ (spelling o.ttl ++ others))) = ap (λ (us : List TlvUnit). length (spellings us)) (opened_extent octets o) in
+    omega (
+      arith,
+      len,
+      ap length later,
+      tlvs_fewer (before_end o.others),
+      o.chassis_fits.least,
+      o.port_fits.least,
+      o.ttl_fits,
+      length-append (spelling o.chassis) (spelling o.port ++ (spelling o.ttl ++ others)),
+      length-append (spelling o.port) (spelling o.ttl ++ others),
+      length-append (spelling o.ttl) others,
+    )
+
+few_kept : (octets : List ℕ) → Opened (cut octets).tlvs → 12 + 2 * length (kept_of octets) ≤ length (extent octets)
+unfolding kept_of
+few_kept octets o = omega (arith, later_fewer octets o, kept_and_others [] (later_tlvs octets))
+
+few_discarded : (octets : List ℕ) → Opened (cut octets).tlvs → 10 + 2 * discarded_of octets ≤ length (extent octets)
+unfolding discarded_of
+few_discarded octets o = go (ended_incomplete octets)
+  where
+    go : (b : Bool) → 10 + 2 * (length (others_after [] (later_tlvs octets)) + cond b 1 0) ≤ length (extent octets)
+    go true = omega (arith, later_fewer octets o, kept_and_others [] (later_tlvs octets))
+    go false = omega (arith, later_fewer octets o, kept_and_others [] (later_tlvs octets))
+
+few_unrecognized : (us : List TlvUnit) → count_unrecognized us ≤ length us
+few_unrecognized [] = omega arith
+few_unrecognized (u ∷ us) = go (leb 9 u.kind) refl (few_unrecognized us)
+  where
+    go : (b : Bool) → leb 9 u.kind ≡ b → count_unrecognized us ≤ length us → count_unrecognized (u ∷ us) ≤ suc (length us)
+    go true e h = rw e (omega (arith, h))
+    go false e h = rw e (omega (arith, h))
+
+sound_last : (us : List TlvUnit) (ttl : ℕ) (later : List TlvUnit) → first_fault (checks us ttl later) ≡ None → 0 < ttl → list_any is_mandatory later ≡ false
+sound_last us ttl later h l =
+    let p : (ltb 0 ttl && list_any is_mandatory later) ≡ false = all_pass (checks us ttl later) h 9 in
+    sym (ap (λ (b : Bool). b && list_any is_mandatory later) (lt-ltb 0 ttl l)) ∙ p
+
+-- The octets of what a sound LLDPDU tells tell the same.
+pub tells_itself : (octets : List ℕ) → AreOctets octets → fault_of octets ≡ None → 0 < ttl_of octets → IsInfo (info_of octets) × TellsItself (info_of octets)
+tells_itself octets fits sound lives =
+    let checked = fault_tlvs octets ∙ sound in
+    let o = sound_opens (cut octets).tlvs (ttl_of octets) (later_tlvs octets) checked in
+    let a = again octets fits o in
+    let later : later_tlvs octets ≡ before_end o.others = later_of octets ∙ ap (drop 3) (opened_extent octets o) in
+    let tlvs : AllByRecursion IsTlv o.others = (subst (AllByRecursion IsTlv) o.parts (cut_is_cut octets fits).complete).1.1.1 in
+    let no_more : list_any is_mandatory (before_end o.others) ≡ false = ap (list_any is_mandatory) (sym later) ∙ sound_last (cut octets).tlvs (ttl_of octets) (later_tlvs octets) checked lives in
+    let named : msap_of octets ≡ record { chassis = o.chassis.body; port = o.port.body } = msap_tlvs octets ∙ ap (λ (vs : List TlvUnit). record { chassis = (tlv_at vs 0).body; port = (tlv_at vs 1).body }) o.parts in (
+      record {
+        lives = lives;
+        chassis = subst IsIdentifier (sym (ap (λ (m : MsapId). m.chassis) named)) o.chassis_fits;
+        port = subst IsIdentifier (sym (ap (λ (m : MsapId). m.port) named)) o.port_fits;
+        kept = subst (AllByRecursion IsKeptTlv) (sym (kept_tlvs_of octets ∙ ap (kept_after []) later)) (kept_tlvs [] (before_end o.others) (all_later o.others tlvs no_more));
+        few = few_kept octets o;
+        few_discarded = few_discarded octets o;
+        few_unrecognized = few_unrecognized (kept_of octets);
+      },
+      record {
+        are_octets = extent_octets octets fits;
+        sound = a.fault ∙ sound;
+        msap = a.msap;
+        ttl = a.ttl;
+        extent = extent-again octets fits;
+        kept = kept-again octets fits;
+        unrecognized = refl;
+        discarded = fewer_discarded octets fits;
+      },
+    )

@@ -1,0 +1,50 @@
+-- What a contract sees of a `Builder`, and what its fields keep.
+use Rattle.std.specs.Prelude.{◌≡◌, ℕ, ◌+◌, ◌-◌, ◌<◌, ◌≤◌, ◌^◌, Bool, true, false, List, [], ◌∷◌, length, drop, nat_lt, slice_index_or}
+use Rattle.lldp_pdu.specs.declared.builder.Builder.TheInside.{Inside}
+use Rattle.lldp_pdu.specs.Tlv.{TlvUnit, spellings}
+use Rattle.lldp_pdu.specs.Cut.{cut}
+use Rattle.lldp_pdu.specs.Msap.{IsIdentifier}
+use Rattle.lldp_pdu.specs.Lldpdu.{msap_of, ttl_of}
+use Rattle.lldp_pdu.specs.Kept.{is_kept}
+use Rattle.lldp_pdu.specs.Draft.{Draft, all_tlvs, was_put}
+
+-- the draft that octets spell
+unfoldable pub draft_of : List ℕ → Draft
+draft_of octets = record { msap = msap_of octets; ttl = ttl_of octets; tlvs = drop 3 (cut octets).tlvs }
+
+abbrev pub draft_seen : Inside → Draft
+draft_seen b = draft_of b.octets.items
+
+-- each TLV is kept behind those before it
+abbrev pub AllKept : List TlvUnit → List TlvUnit → Type 0
+AllKept earlier [] = Unit {0}
+AllKept earlier (u ∷ us) = (is_kept earlier u ≡ true) × AllKept (u ∷ earlier) us
+
+-- what a TLV that was put is
+pub record IsOptional (u : TlvUnit) : Type 0 where
+  pub least : 4 ≤ u.kind
+  pub greatest : u.kind ≤ 127
+  pub body : length u.body < 512
+
+abbrev pub AllOptional : List TlvUnit → Type 0
+AllOptional [] = Unit {0}
+AllOptional (u ∷ us) = IsOptional u × AllOptional us
+
+pub record IsDraft (d : Draft) : Type 0 where
+  pub chassis : IsIdentifier d.msap.chassis
+  pub port : IsIdentifier d.msap.port
+  pub ttl : d.ttl < 2 ^ 16
+  pub tlvs : AllOptional d.tlvs
+  pub kept : AllKept [] d.tlvs
+
+-- which flags are set
+pub record Flags (met : List Bool) (us : List TlvUnit) : Type 0 where
+  pub four : length met ≡ 4
+  pub set : (kind : ℕ) → 4 ≤ kind → kind ≤ 7 → slice_index_or met (kind - 4) false ≡ was_put kind us
+
+pub record Builds (octets : List ℕ) (met : List Bool) (lives : Bool) : Type 0 where
+  pub spelled : octets ≡ spellings (all_tlvs (draft_of octets))
+  pub draft : IsDraft (draft_of octets)
+  pub room : length octets + 2 ≤ 1500
+  pub flags : Flags met (draft_of octets).tlvs
+  pub lives_is : lives ≡ nat_lt 0 (draft_of octets).ttl

@@ -1,0 +1,17 @@
+-- What a contract sees of an `Info`.
+use Rattle.lldp_pdu.specs.declared.info.Info.TheInside.{Inside}
+use Rattle.lldp_pdu.specs.Cut.{cut}
+use Rattle.lldp_pdu.specs.Info.{LldpInfo}
+use Rattle.lldp_pdu.specs.Code.Seen.{none_seen, kept_seen}
+use Rattle.lldp_pdu.specs.View.{msap_seen}
+
+abbrev pub info_seen : Inside → LldpInfo
+info_seen i =
+    record {
+      msap = msap_seen i.msap;
+      ttl = i.ttl;
+      octets = i.octets.now;
+      kept = kept_seen none_seen (cut i.optional.now).tlvs;
+      discarded = i.discarded;
+      unrecognized = i.unrecognized;
+    }

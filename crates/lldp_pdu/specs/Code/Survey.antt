@@ -1,0 +1,33 @@
+-- The two parts in which the code examines an LLDPDU.
+use Rattle.std.specs.Prelude.{◌≡◌, ℕ, ◌+◌, ◌&&◌, List, [], ◌∷◌, drop, Some, None, nat_lt, if◌then◌else◌, Bool}
+use Rattle.std.specs.List.{list_any}
+use Rattle.lldp_pdu.specs.declared.fault.PduFault.TheVariants.{Repeated}
+use Rattle.lldp_pdu.specs.Tlv.{TlvUnit, spellings}
+use Rattle.lldp_pdu.specs.Cut.{cut}
+use Rattle.lldp_pdu.specs.Msap.{MsapId}
+use Rattle.lldp_pdu.specs.Lldpdu.{seconds, before_end, ended_incomplete, later_tlvs}
+use Rattle.lldp_pdu.specs.Kept.{count_unrecognized}
+use Rattle.lldp_pdu.specs.Fault.{is_mandatory, fault_of}
+use Rattle.lldp_pdu.specs.Code.Seen.{none_seen, is_kept_seen, seen_after, kept_seen}
+
+-- the mandatory TLVs are sound, and these octets follow them
+pub record OpensWith (octets : List ℕ) (msap : MsapId) (ttl : ℕ) (after : List ℕ) : Type 0 where
+  pub body : List ℕ
+  pub seconds_are : seconds body ≡ ttl
+  pub parts : cut octets ≡ record {
+    tlvs = record { kind = 1; body = msap.chassis } ∷ record { kind = 2; body = msap.port } ∷ record { kind = 3; body = body } ∷ (cut after).tlvs;
+    rest = (cut after).rest;
+  }
+  pub behind : (n : ℕ) × (after ≡ drop n octets)
+  pub fault : fault_of octets ≡ (if nat_lt 0 ttl && list_any is_mandatory (later_tlvs octets) then Some Repeated else None)
+
+-- how many of the TLVs are not kept from here on
+abbrev pub count_lost : List Bool → List TlvUnit → ℕ
+count_lost seen [] = 0
+count_lost seen (u ∷ us) = (if is_kept_seen seen u then 0 else 1) + count_lost (seen_after seen u) us
+
+-- what is found in the octets after the mandatory TLVs
+pub record IsSurveyOf (after found : List ℕ) (lost unknown : ℕ) : Type 0 where
+  pub octets : found ≡ spellings (before_end (cut after).tlvs)
+  pub discarded : lost ≡ count_lost none_seen (before_end (cut after).tlvs) + (if ended_incomplete after then 1 else 0)
+  pub unrecognized : unknown ≡ count_unrecognized (kept_seen none_seen (before_end (cut after).tlvs))

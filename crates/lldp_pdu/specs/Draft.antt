@@ -1,0 +1,70 @@
+-- An LLDPDU that is built.
+use Rattle.std.specs.Prelude.{◌≡◌, ℕ, ◌+◌, ◌<◌, ◌≤◌, Bool, true, false, not, ◌&&◌, ◌||◌, List, [], ◌∷◌, ◌++◌, length, Option, nat_lt, ◌==◌}
+use Rattle.std.specs.List.{list_any}
+use Rattle.std.specs.Int.{w16, to_be_bytes}
+use Rattle.lldp_pdu.specs.declared.fault.BuildFault.{BuildFault}
+use Rattle.lldp_pdu.specs.declared.fault.BuildFault.TheVariants.{Full, Kind, Body}
+use Rattle.lldp_pdu.specs.Check.{Check, first_fault}
+use Rattle.lldp_pdu.specs.Tlv.{TlvUnit, spelling, spellings}
+use Rattle.lldp_pdu.specs.Range.{is_between}
+use Rattle.lldp_pdu.specs.WellFormed.{is_well_formed}
+use Rattle.lldp_pdu.specs.Msap.{MsapId}
+use Rattle.lldp_pdu.specs.Kept.{is_single, count_unrecognized}
+use Rattle.lldp_pdu.specs.Info.{LldpInfo}
+
+-- what was begun, and the TLVs put since
+pub record Draft : Type 0 where
+  pub msap : MsapId
+  pub ttl : ℕ
+  pub tlvs : List TlvUnit
+
+-- its TLVs, the mandatory ones first
+abbrev pub all_tlvs : Draft → List TlvUnit
+all_tlvs d = record { kind = 1; body = d.msap.chassis } ∷ record { kind = 2; body = d.msap.port } ∷ record { kind = 3; body = to_be_bytes w16 d.ttl } ∷ d.tlvs
+
+abbrev pub end_of_lldpdu : TlvUnit
+end_of_lldpdu = record { kind = 0; body = [] }
+
+-- the finished LLDPDU
+abbrev pub lldpdu_octets : Draft → List ℕ
+lldpdu_octets d = spellings (all_tlvs d) ++ spelling end_of_lldpdu
+
+abbrev pub with_tlv : Draft → TlvUnit → Draft
+with_tlv d u = record { msap = d.msap; ttl = d.ttl; tlvs = d.tlvs ++ u ∷ [] }
+
+-- a TLV of that type was put
+abbrev pub was_put : ℕ → List TlvUnit → Bool
+was_put kind us = list_any (λ u. u.kind == kind) us
+
+-- the checks on a TLV that is put, in their order
+abbrev pub put_checks : Draft → TlvUnit → List (Check BuildFault)
+put_checks d u =
+    record { fails = not (is_between 4 u.kind 127) || (d.ttl == 0) || (is_single u && was_put u.kind d.tlvs); fault = Kind }
+    ∷ record { fails = nat_lt 511 (length u.body) || not (is_well_formed u); fault = Body }
+    ∷ record { fails = nat_lt 1500 (length (lldpdu_octets (with_tlv d u))); fault = Full }
+    ∷ []
+
+unfoldable pub put_fault : Draft → TlvUnit → Option BuildFault
+put_fault d u = first_fault (put_checks d u)
+
+-- what passes each of them
+pub record CanPut (d : Draft) (u : TlvUnit) : Type 0 where
+  pub least : 4 ≤ u.kind
+  pub greatest : u.kind ≤ 127
+  pub lives : 0 < d.ttl
+  pub new : (is_single u && was_put u.kind d.tlvs) ≡ false
+  pub short : length u.body ≤ 511
+  pub well_formed : is_well_formed u ≡ true
+  pub room : length (spellings (all_tlvs d)) + length u.body + 4 ≤ 1500
+
+-- what the finished LLDPDU tells
+abbrev pub told_by : Draft → LldpInfo
+told_by d =
+    record {
+      msap = d.msap;
+      ttl = d.ttl;
+      octets = spellings (all_tlvs d);
+      kept = d.tlvs;
+      discarded = 0;
+      unrecognized = count_unrecognized d.tlvs;
+    }

@@ -1,0 +1,51 @@
+-- The Management Address TLV (IEEE 802.1AB-2009, 8.5.9).
+use Rattle.std.specs.Prelude.{◌≡◌, ℕ, ◌+◌, ◌-◌, ◌<◌, ◌≤◌, ◌^◌, ◌&&◌, List, ◌∷◌, ◌++◌, length, take, drop, Option, Some, None, nat_le, ◌==◌, slice_index, if◌then◌else◌}
+use Rattle.std.specs.Int.{w32, from_be_bytes, to_be_bytes}
+use Rattle.lldp_pdu.specs.Range.{is_between}
+
+pub record Address : Type 0 where
+  pub family : ℕ
+  pub address : List ℕ
+  pub numbering : ℕ
+  pub interface : ℕ
+  pub oid : List ℕ
+
+-- ---- by its spelling
+
+-- m, the number of octets of family and address together; the family; the address; the interface numbering subtype;
+-- the interface number, four octets, most significant first; the number of octets of the OID; the OID
+abbrev pub address_spelling : Address → List ℕ
+address_spelling a = (length a.address + 1) ∷ a.family ∷ a.address ++ a.numbering ∷ to_be_bytes w32 a.interface ++ length a.oid ∷ a.oid
+
+-- An address has 1 to 31 octets, an interface number fits in 32 bits, an OID has at most 128 octets.
+pub record IsAddress (a : Address) : Type 0 where
+  pub least : 1 ≤ length a.address
+  pub greatest : length a.address ≤ 31
+  pub interface : a.interface < 2 ^ 32
+  pub oid : length a.oid ≤ 128
+
+-- the body is the spelling of that address
+pub record IsSpelled (body : List ℕ) (a : Address) : Type 0 where
+  pub address : IsAddress a
+  pub octets : body ≡ address_spelling a
+
+-- ---- by its places, which the law `address_is_spelled` proves equal
+
+-- the fields, where m octets have family and address
+abbrev pub address_fields : List ℕ → ℕ → Address
+address_fields body m =
+    record {
+      family = slice_index body 1;
+      address = take (m - 1) (drop 2 body);
+      numbering = slice_index body (m + 1);
+      interface = from_be_bytes w32 (take 4 (drop (m + 2) body));
+      oid = drop (m + 7) body;
+    }
+
+-- m is 2 to 32, o is at most 128, and there are exactly m + o + 7 octets
+abbrev pub address_of : List ℕ → Option Address
+address_of body =
+    let m = slice_index body 0 in
+    let o = slice_index body (m + 6) in
+    if is_between 2 m 32 && nat_le o 128 && (length body == m + o + 7)
+    then Some (address_fields body m) else None

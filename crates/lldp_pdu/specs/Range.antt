@@ -1,0 +1,6 @@
+-- Ranges of numbers.
+use Rattle.std.specs.Prelude.{ℕ, Bool, ◌&&◌, nat_le}
+
+-- least ≤ n ≤ greatest
+abbrev pub is_between : ℕ → ℕ → ℕ → Bool
+is_between least n greatest = nat_le least n && nat_le n greatest

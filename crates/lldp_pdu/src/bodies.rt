@@ -1,0 +1,66 @@
+//! The bodies of TLVs: which are well formed, and the fields of two (IEEE 802.1AB-2009, 8.5 and 8.6).
+ghost use Rattle.std.specs.Prelude.{◌≡◌};
+ghost use Rattle.std.specs.Option.{option_map};
+ghost use Rattle.lldp_pdu.specs.Capabilities.{caps_of};
+ghost use Rattle.lldp_pdu.specs.ManagementAddress.{address_of};
+ghost use Rattle.lldp_pdu.specs.WellFormed as well_formed;
+ghost use Rattle.lldp_pdu.specs.View.{unit_of, address_seen};
+
+use crate::fields::{Caps, Mgmt};
+use crate::tlv::Tlv;
+use crate::tlv_type::{
+    CHASSIS_ID, MANAGEMENT_ADDRESS, ORGANIZATIONALLY_SPECIFIC, PORT_DESCRIPTION, PORT_ID,
+    SYSTEM_CAPABILITIES, SYSTEM_DESCRIPTION, TIME_TO_LIVE,
+};
+
+/// The fields of System Capabilities. None exactly where the body is not well formed: it has not four octets, or a bit is
+/// enabled that is not available (IEEE 802.1AB-2009, 8.5.8).
+pub fn caps(body: &[u8]) -> Option<Caps>
+    ensures { result ≡ caps_of body.now }
+{
+    let [a, b, c, d] = body else {
+        return None;
+    };
+    let available = u16::from_be_bytes([*a, *b]);
+    let enabled = u16::from_be_bytes([*c, *d]);
+    (enabled & available == enabled).then_some(Caps { available, enabled })
+}
+
+/// The fields of a Management Address. None exactly where the body is not well formed: `m`, its first octet, is not 2 to 32,
+/// the OID has more than 128 octets, or the body is longer or shorter than these say (IEEE 802.1AB-2009, 8.5.9).
+pub fn mgmt(body: &[u8]) -> Option<Mgmt<'_>>
+    ensures { option_map address_seen result ≡ address_of body.now }
+{
+    let m = usize::from(*body.first()?);
+    if m < 2 || m > 32 {
+        return None;
+    }
+    let o = usize::from(*body.get(m + 6)?);
+    if o > 128 || body.len() != m + o + 7 {
+        return None;
+    }
+    Some(Mgmt {
+        family: body[1],
+        address: &body[2..m + 1],
+        numbering: body[m + 1],
+        interface: u32::from_be_bytes([body[m + 2], body[m + 3], body[m + 4], body[m + 5]]),
+        oid: &body[m + 7..],
+    })
+}
+
+/// Whether the body is well formed for the type.
+#[tactic(auto, unfolding(crate::specs::WellFormed::is_well_formed))]
+pub(crate) fn is_well_formed(tlv: &Tlv<'_>) -> bool
+    ensures { result ≡ well_formed.is_well_formed (unit_of tlv.now) }
+{
+    let len = tlv.body.len();
+    match tlv.kind {
+        CHASSIS_ID | PORT_ID => (2..=256).contains(&len),
+        TIME_TO_LIVE => len >= 2,
+        PORT_DESCRIPTION..=SYSTEM_DESCRIPTION => len <= 255,
+        SYSTEM_CAPABILITIES => caps(tlv.body).is_some(),
+        MANAGEMENT_ADDRESS => mgmt(tlv.body).is_some(),
+        ORGANIZATIONALLY_SPECIFIC => len >= 4,
+        _ => true,
+    }
+}

@@ -1,0 +1,139 @@
+//! A builder of LLDPDUs.
+ghost use Rattle.std.specs.Prelude.{◌≡◌, ℕ, ◌+◌, ◌<◌, ◌≤◌, [], ◌++◌, length, Some, None, OnOk, OnErr};
+ghost use Rattle.std.specs.Result.{result_err};
+ghost use Rattle.arrayvec.specs.ArrayVec.{array_vec_len};
+ghost use Rattle.lldp_pdu.specs.Tlv.{TlvUnit, spelling};
+ghost use Rattle.lldp_pdu.specs.Range.{is_between};
+ghost use Rattle.lldp_pdu.specs.Fault.{fault_of};
+ghost use Rattle.lldp_pdu.specs.Lldpdu.{msap_of, ttl_of};
+ghost use Rattle.lldp_pdu.specs.Info.{info_of};
+ghost use Rattle.lldp_pdu.specs.View.{unit_of};
+ghost use Rattle.lldp_pdu.specs.Draft.{with_tlv, put_fault, lldpdu_octets, told_by};
+
+use crate::bodies::is_well_formed;
+use crate::fault::BuildFault;
+use crate::seen::Seen;
+use crate::tlv::Tlv;
+use crate::tlv_type::{
+    CHASSIS_ID, END_OF_LLDPDU, ORGANIZATIONALLY_SPECIFIC, PORT_DESCRIPTION, PORT_ID, TIME_TO_LIVE,
+};
+use arrayvec::ArrayVec;
+use std::marker::Model;
+
+/// An LLDPDU that is built: at most 1,500 octets, the End Of LLDPDU among them.
+#[derive(Drop)]
+pub struct Builder {
+    octets: ArrayVec<u8, 1500>,
+    met: Seen,
+    lives: bool,
+}
+
+impl Model for Builder {
+    ghost use Rattle.lldp_pdu.specs.Draft.{Draft};
+
+    ghost Value = { Draft };
+
+    ghost use Rattle.lldp_pdu.specs.Code.BuilderView.{draft_seen, Builds};
+
+    ghost view = { draft_seen };
+
+    ghost invariant = { λ b. Builds b.octets.items b.met.types b.lives };
+}
+
+/// Appends a TLV.
+fn append_tlv(octets: &mut ArrayVec<u8, 1500>, kind: u8, body: &[u8])
+    requires kind { kind < 128 }
+    requires body { length body.now < 512 }
+    requires room { array_vec_len octets.old + 2 + length body.now ≤ 1500 }
+    ensures { octets.new.items ≡ octets.old.items ++ spelling (record { kind = kind; body = body.now }) }
+{
+    let header = u16::from(kind) << 9 | body.len() as u16;
+    octets.try_extend_from_slice(&header.to_be_bytes()).unwrap();
+    octets.try_extend_from_slice(body).unwrap();
+}
+
+/// Whether TLVs of the type stand behind the mandatory ones.
+fn is_optional_type(kind: u8) -> bool
+    ensures { result ≡ is_between 4 kind 127 }
+{
+    (PORT_DESCRIPTION..=ORGANIZATIONALLY_SPECIFIC).contains(&kind)
+}
+
+impl Builder {
+    ghost use Rattle.std.specs.Prelude.{◌≡◌, ◌<◌, ◌≤◌, [], length, None, OnOk, OnErr};
+    ghost use Rattle.lldp_pdu.specs.Msap.{IsIdentifier};
+
+    /// Begins one with the mandatory TLVs: the bodies of the Chassis ID and the Port ID, of 2 to 256 octets each, and the TTL
+    /// in seconds. A TTL of 0 makes it a shutdown LLDPDU, which has no other TLVs.
+    pub fn begin(chassis: &[u8], port: &[u8], ttl: u16) -> Builder
+        requires chassis { IsIdentifier chassis.now }
+        requires port { IsIdentifier port.now }
+        ensures { result ≡ record { msap = record { chassis = chassis.now; port = port.now }; ttl = ttl; tlvs = [] } }
+    {
+        let mut octets = ArrayVec::new();
+        append_tlv(&mut octets, CHASSIS_ID, chassis);
+        append_tlv(&mut octets, PORT_ID, port);
+        append_tlv(&mut octets, TIME_TO_LIVE, &ttl.to_be_bytes());
+        Builder {
+            octets,
+            met: Seen::NONE,
+            lives: ttl > 0,
+        }
+    }
+
+    /// Why a TLV can't be put next.
+    fn refusal(&self, tlv: &Tlv<'_>) -> Option<BuildFault>
+        ensures { result ≡ put_fault self.now (unit_of tlv.now) }
+    {
+        if !is_optional_type(tlv.kind) {
+            return Some(BuildFault::Kind);
+        }
+        if !self.lives {
+            return Some(BuildFault::Kind);
+        }
+        if self.met.has(tlv.kind) {
+            return Some(BuildFault::Kind);
+        }
+        if tlv.body.len() > 511 {
+            return Some(BuildFault::Body);
+        }
+        if !is_well_formed(tlv) {
+            return Some(BuildFault::Body);
+        }
+        if self.octets.len() + tlv.body.len() + 4 > 1500 {
+            return Some(BuildFault::Full);
+        }
+        None
+    }
+
+    /// Puts a TLV behind those before it.
+    ///
+    /// Err, with nothing changed, is the first of these checks that fails. Kind: the kind is not 4 to 127, or one of 4 to 7 that
+    /// was put before, or the TTL is 0. Body: the body has more than 511 octets or is not well formed for its kind. Full: the
+    /// TLV and the End Of LLDPDU do not fit in 1,500 octets.
+    pub fn put(&mut self, kind: u8, body: &[u8]) -> Result<(), BuildFault>
+        ensures fault { result_err result ≡ put_fault self.old (record { kind = kind; body = body.now }) }
+        ensures ok { OnOk result (self.new ≡ with_tlv self.old (record { kind = kind; body = body.now })) }
+        ensures err { OnErr result (self.new ≡ self.old) }
+    {
+        if let Some(fault) = self.refusal(&Tlv { kind, body }) {
+            return Err(fault);
+        }
+        append_tlv(&mut self.octets, kind, body);
+        self.met.add(kind);
+        Ok(())
+    }
+
+    /// The LLDPDU, with its End Of LLDPDU. Examining it gives back what was begun and put.
+    pub fn finish(self) -> ArrayVec<u8, 1500>
+        ensures octets { result.items ≡ lldpdu_octets self }
+        ensures sound { fault_of result.items ≡ None }
+        ensures msap { msap_of result.items ≡ self.msap }
+        ensures ttl { ttl_of result.items ≡ self.ttl }
+        ensures told { info_of result.items ≡ told_by self }
+    {
+        let mut octets = self.octets;
+        append_tlv(&mut octets, END_OF_LLDPDU, &[]);
+        octets
+    }
+}

@@ -1,0 +1,87 @@
+//! What a sound LLDPDU tells of a neighbor that lives.
+ghost use Rattle.std.specs.Prelude.{◌≡◌, ◌+◌, ◌*◌, ◌<◌, ◌≤◌, length};
+ghost use Rattle.std.specs.List.{AllByRecursion};
+ghost use Rattle.lldp_pdu.specs.Msap.{IsIdentifier};
+ghost use Rattle.lldp_pdu.specs.Kept.{IsKeptTlv};
+ghost use Rattle.lldp_pdu.specs.Info.{TellsItself};
+ghost use Rattle.lldp_pdu.specs.View.{msap_seen};
+
+use crate::kept::Kept;
+use crate::msap::Msap;
+use std::marker::Model;
+
+/// What a sound LLDPDU tells of a neighbor that lives: its TTL is not 0.
+#[derive(Debug, Drop)]
+pub struct Info<'a> {
+    pub(crate) msap: Msap<'a>,
+    pub(crate) ttl: u16,
+    pub(crate) octets: &'a [u8],
+    pub(crate) optional: &'a [u8],
+    pub(crate) discarded: usize,
+    pub(crate) unrecognized: usize,
+}
+
+impl<'a> Model for Info<'a> {
+    ghost use Rattle.lldp_pdu.specs.Info.{LldpInfo, IsInfo, TellsItself};
+
+    ghost Value = { LldpInfo };
+
+    ghost use Rattle.lldp_pdu.specs.Code.InfoView.{info_seen};
+
+    ghost view = { info_seen };
+
+    ghost invariant = { λ i. IsInfo (info_seen i) × TellsItself (info_seen i) };
+}
+
+impl<'a> Info<'a> {
+    /// The neighbor's name: both bodies have 2 to 256 octets.
+    pub fn msap(&self) -> Msap<'a>
+        ensures value { msap_seen result ≡ self.now.msap }
+        ensures chassis { IsIdentifier self.now.msap.chassis }
+        ensures port { IsIdentifier self.now.msap.port }
+    {
+        self.msap
+    }
+
+    /// The time to live in seconds, 1 to 65,535.
+    pub fn ttl(&self) -> u16
+        ensures value { result ≡ self.now.ttl }
+        ensures lives { 0 < result }
+    {
+        self.ttl
+    }
+
+    /// The kept TLVs, in order: of type 4 to 127, well formed, and at most one of each of the types 4 to 7. They are read again
+    /// from the octets, so a walk costs time linear in them and nothing is stored.
+    pub fn kept(&self) -> Kept<'a>
+        ensures value { result ≡ self.now.kept }
+        ensures each { AllByRecursion IsKeptTlv self.now.kept }
+        ensures few { 12 + 2 * length self.now.kept ≤ length self.now.octets }
+    {
+        Kept::of(self.optional)
+    }
+
+    /// The extent: the octets before the End Of LLDPDU, or before a TLV that is not complete. They tell the same again.
+    pub fn octets(&self) -> &'a [u8]
+        ensures value { result.now ≡ self.now.octets }
+        ensures again { TellsItself self.now }
+    {
+        self.octets
+    }
+
+    /// How many TLVs were discarded, one that is not complete among them.
+    pub fn discarded(&self) -> usize
+        ensures value { result ≡ self.now.discarded }
+        ensures few { 10 + 2 * result ≤ length self.now.octets }
+    {
+        self.discarded
+    }
+
+    /// How many kept TLVs are of the types 9 to 127: reserved, or organizationally specific.
+    pub fn unrecognized(&self) -> usize
+        ensures value { result ≡ self.now.unrecognized }
+        ensures few { result ≤ length self.now.kept }
+    {
+        self.unrecognized
+    }
+}

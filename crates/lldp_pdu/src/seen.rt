@@ -1,0 +1,57 @@
+//! Which single TLVs were met.
+ghost use Rattle.std.specs.Prelude.{◌≡◌};
+ghost use Rattle.lldp_pdu.specs.Range.{is_between};
+ghost use Rattle.lldp_pdu.specs.Code.Seen.{has_flag, with_flag, is_kept_seen, seen_after};
+ghost use Rattle.lldp_pdu.specs.View.{unit_of};
+
+use crate::bodies::is_well_formed;
+use crate::tlv::Tlv;
+use crate::tlv_type::{PORT_DESCRIPTION, SYSTEM_CAPABILITIES};
+
+/// Whether one TLV of the type counts: Port Description to System Capabilities.
+fn is_single(kind: u8) -> bool
+    ensures { result ≡ is_between 4 kind 7 }
+{
+    (PORT_DESCRIPTION..=SYSTEM_CAPABILITIES).contains(&kind)
+}
+
+/// Of which of the types that count once a well-formed TLV was met.
+#[derive(Clone, Copy, Debug)]
+pub(crate) struct Seen {
+    types: [bool; 4],
+}
+
+impl Seen {
+    pub(crate) const NONE: Seen = Seen { types: [false; 4] };
+
+    /// Whether a TLV of the type was met, where one of the type counts.
+    #[tactic(auto, unfolding(crate::specs::Code::Seen::has_flag))]
+    pub(crate) fn has(&self, kind: u8) -> bool
+        ensures { result ≡ has_flag self.now.types kind }
+    {
+        is_single(kind) && self.types[usize::from(kind - PORT_DESCRIPTION)]
+    }
+
+    /// A TLV of the type is met.
+    #[tactic(auto, unfolding(crate::specs::Code::Seen::with_flag))]
+    pub(crate) fn add(&mut self, kind: u8)
+        ensures { self.new.types ≡ with_flag self.old.types kind }
+    {
+        if is_single(kind) {
+            self.types[usize::from(kind - PORT_DESCRIPTION)] = true;
+        }
+    }
+
+    /// Whether the next TLV is kept. It counts as met from then on where it is well formed.
+    pub(crate) fn keeps(&mut self, tlv: &Tlv<'_>) -> bool
+        ensures kept { result ≡ is_kept_seen self.old.types (unit_of tlv.now) }
+        ensures met { self.new.types ≡ seen_after self.old.types (unit_of tlv.now) }
+    {
+        if !is_well_formed(tlv) {
+            return false;
+        }
+        let was_met = self.has(tlv.kind);
+        self.add(tlv.kind);
+        !was_met
+    }
+}

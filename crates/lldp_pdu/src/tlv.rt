@@ -1,0 +1,74 @@
+//! TLVs, and an iterator over those of a list of octets.
+ghost use Rattle.std.specs.Prelude.{◌≡◌, ℕ, List};
+ghost use Rattle.std.specs.Option.{option_map};
+ghost use Rattle.std.specs.Iterator.{item_count};
+ghost use Rattle.lldp_pdu.specs.Cut.{first_tlv, cut};
+ghost use Rattle.lldp_pdu.specs.View.{unit_of, GivesFirstTlv};
+
+use std::marker::Model;
+
+/// A TLV (IEEE 802.1AB-2009, 8.4).
+#[derive(Clone, Copy, Debug, PartialEq, Eq)]
+pub struct Tlv<'a> {
+    /// The type, below 128.
+    pub kind: u8,
+    /// The standard's information string, at most 511 octets.
+    pub body: &'a [u8],
+}
+
+/// The complete TLVs of some octets, from the front. An End Of LLDPDU is a TLV as any other, and does not end them.
+#[derive(Debug, Drop)]
+pub struct Tlvs<'a> {
+    rest: &'a [u8],
+}
+
+impl<'a> Model for Tlvs<'a> {
+    ghost use Rattle.std.specs.Prelude.{ℕ, List};
+
+    ghost Value = { List ℕ };
+
+    ghost view = { λ t. t.rest.now };
+}
+
+impl<'a> Tlvs<'a> {
+    /// The TLVs of these octets, of which there may be any number.
+    pub fn new(octets: &'a [u8]) -> Tlvs<'a>
+        ensures { result ≡ octets.now }
+    {
+        Tlvs { rest: octets }
+    }
+
+    /// The octets not yet read: once no TLV is left, those that are no complete TLV.
+    pub fn rest(&self) -> &'a [u8]
+        ensures { result.now ≡ self.now }
+    {
+        self.rest
+    }
+}
+
+impl<'a> Iterator for Tlvs<'a> {
+    type Item = Tlv<'a>;
+
+    ghost next_gives = { GivesFirstTlv };
+
+    ghost remaining = { item_count (λ octets. (cut octets).tlvs) };
+
+    fn next(&mut self) -> Option<Tlv<'a>> {
+        let (tlv, rest) = first(self.rest)?;
+        self.rest = rest;
+        Some(tlv)
+    }
+}
+
+/// The TLV at the front, and the octets after it.
+fn first(octets: &[u8]) -> Option<(Tlv<'_>, &[u8])>
+    ensures { option_map (λ x. (unit_of x.0, x.1.now)) result ≡ first_tlv octets.now }
+{
+    let [high, low, after @ ..] = octets else {
+        return None;
+    };
+    let header = u16::from_be_bytes([*high, *low]);
+    let (body, others) = after.split_at_checked(usize::from(header & 0x1ff))?;
+    let kind = (header >> 9) as u8;
+    Some((Tlv { kind, body }, others))
+}
