@@ -1,0 +1,76 @@
+-- The windows of a history, and the same with what a machine answered.
+use Rattle.std.specs.Prelude.{◌≡◌, ◌+◌, ◌↔◌, Bool, true, false, cond, List, [], ◌∷◌}
+use Rattle.std.proofs.Common.{refl, ap, sym, arith, subst}
+use Rattle.lldp_transmit.specs.declared.event.Mark.{Mark}
+use Rattle.lldp_transmit.specs.declared.event.Mark.TheVariants.{Quiet, Ordinary, Shutdown}
+use Rattle.lldp_transmit.specs.History.{Settings, Event, History}
+use Rattle.lldp_transmit.specs.Moments.{Moment, moment, moments, frames, mark_at}
+use Rattle.lldp_transmit.specs.Positions.{IsDueAndOpen, StopsAt, stops_in}
+use Rattle.lldp_transmit.specs.Standing.{AreSettings}
+use Rattle.lldp_transmit.specs.Windows.{WindowsHold, frames_with, stops_with, IsBoundedWith, StopsRarelyWith, IsEarliestWith}
+use Rattle.lldp_transmit.proofs.Windows.{is_bounded, one_if}
+use Rattle.lldp_transmit.proofs.Stops.{stops_rarely}
+use Rattle.lldp_transmit.proofs.Earliest.{is_earliest}
+use Rattle.lldp_transmit.proofs.Standing.{apart, exact}
+use Rattle.lldp_transmit.proofs.Activity.{stop_reads}
+use Rattle.lldp_transmit.proofs.Sending.{sent_reads}
+
+-- Every history keeps its windows.
+pub windows_hold : (s : Settings) (h : History) → AreSettings s → WindowsHold s h
+windows_hold s h r = record {
+  bounded = is_bounded s h r.some_credit;
+  few_stops = stops_rarely s h r.some_wait;
+  earliest = λ later earlier e. is_earliest s earlier;
+}
+
+-- with its own mark a moment adds its own frame, and its own stop
+frames_marked : (x y : Bool) (run : List Moment) → (x ≡ true → y ≡ false) → frames_with (cond x Shutdown (cond y Ordinary Quiet)) run ≡ one_if y + frames run
+frames_marked true true run a = cc (a refl)
+frames_marked true false run a = omega arith
+frames_marked false true run a = refl
+frames_marked false false run a = omega arith
+
+stops_marked : (x y : Bool) (run : List Moment) → stops_with (cond x Shutdown (cond y Ordinary Quiet)) run ≡ one_if x + stops_in run
+stops_marked true y run = refl
+stops_marked false true run = omega arith
+stops_marked false false run = omega arith
+
+module _ (s : Settings) (past : History) (e : Event) where
+  frames_of_mark : (run : List Moment) → frames_with (mark_at s (e ∷ past)) run ≡ frames (moment s (moments s past) e ∷ run)
+  frames_of_mark run =
+      let m = moment s (moments s past) e in
+      frames_marked m.stop m.sent run (apart s (moments s past) e)
+
+  stops_of_mark : (run : List Moment) → stops_with (mark_at s (e ∷ past)) run ≡ stops_in (moment s (moments s past) e ∷ run)
+  stops_of_mark run =
+      let m = moment s (moments s past) e in
+      stops_marked m.stop m.sent run
+
+  module _ (answer : Mark) (is : answer ≡ mark_at s (e ∷ past)) where
+    pub bounded_with : AreSettings s → IsBoundedWith s past e answer
+    bounded_with r = subst (IsBoundedWith s past e) (sym is)
+        (λ run before i.
+        let all = is_bounded s (e ∷ past) r.some_credit [] (moment s (moments s past) e ∷ run) before (ap (λ l. moment s (moments s past) e ∷ l) i) in
+        omega (arith, all, frames_of_mark run))
+
+    pub stops_rarely_with : AreSettings s → StopsRarelyWith s past e answer
+    stops_rarely_with r = subst (StopsRarelyWith s past e) (sym is)
+        (λ run before i.
+        let all = stops_rarely s (e ∷ past) r.some_wait [] (moment s (moments s past) e ∷ run) before (ap (λ l. moment s (moments s past) e ∷ l) i) in
+        omega (arith, all, stops_of_mark run))
+
+    pub earliest_with : IsEarliestWith s past e answer
+    earliest_with = subst (IsEarliestWith s past e) (sym is)
+        (λ marks t. omega (arith, is_earliest s (e ∷ past) marks t, frames_of_mark (moments s past)))
+
+    pub ordinary_with : AreSettings s → (answer ≡ Ordinary) ↔ IsDueAndOpen s past e
+    ordinary_with r =
+        let sent = (exact s (moments s past) e answer is).0 in
+        let reads = sent_reads s past e r.some_credit in
+        (λ p. reads.0 (sent.0 p), λ q. sent.1 (reads.1 q))
+
+    pub shutdown_with : (answer ≡ Shutdown) ↔ StopsAt s past e
+    shutdown_with =
+        let stop = (exact s (moments s past) e answer is).1 in
+        let reads = stop_reads s past e in
+        (λ p. reads.0 (stop.0 p), λ q. stop.1 (reads.1 q))

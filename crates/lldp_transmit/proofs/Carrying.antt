@@ -1,0 +1,119 @@
+-- A step of the machine carries what it stands for from every history to that history and the event.
+use Rattle.std.specs.Prelude.{◌≡◌, ℕ, ◌+◌, ◌-◌, ◌≤◌, Bool, true, false, cond, not, ◌&&◌, ◌||◌, ◌==◌, nat_le, nat_lt, min}
+use Rattle.std.proofs.Common.{refl, arith}
+use Rattle.std.proofs.lemmas.Bool.Decides.{nat_tests}
+use Rattle.lldp_transmit.specs.declared.event.Cause.{Cause}
+use Rattle.lldp_transmit.specs.declared.event.Cause.TheVariants.{Tick, Change, Neighbor, Stop, Allow, Down, Up, Nothing}
+use Rattle.lldp_transmit.specs.declared.event.Mark.{Mark}
+use Rattle.lldp_transmit.specs.declared.event.Mark.TheVariants.{Quiet, Ordinary, Shutdown}
+use Rattle.lldp_transmit.specs.Machine.{Machine, stepped}
+use Rattle.lldp_transmit.specs.History.{is_tick, is_change, is_neighbor, is_down}
+use Rattle.lldp_transmit.specs.Moments.{allowed_after, up_after}
+use Rattle.lldp_transmit.proofs.Windows.{one_if}
+
+-- the labels of the next moment, by the counters
+abbrev pub start_of : Machine → Cause → Bool
+start_of t c = is_tick c && (allowed_after c t.allowed && (up_after c t.up && (not t.active && nat_lt t.wait 2)))
+
+abbrev pub stop_of : Machine → Cause → Bool
+stop_of t c = t.active && not (allowed_after c t.allowed)
+
+abbrev pub now_of : Machine → Cause → Bool
+now_of t c = not (stop_of t c || is_down c) && (start_of t c || t.active)
+
+abbrev pub signal_of : Machine → Cause → Bool
+signal_of t c = now_of t c && (start_of t c || (is_change c || (is_neighbor c || (is_tick c && (not (start_of t c) && (t.timer == 1))))))
+
+abbrev pub opening_of : Machine → Cause → Bool
+opening_of t c = signal_of t c && (is_neighbor c && (t.left == 0))
+
+abbrev pub room_of : Machine → Cause → ℕ
+room_of t c = min t.credit_max (t.credit + one_if (is_tick c))
+
+abbrev pub sent_of : Machine → Cause → Bool
+sent_of t c = (now_of t c && (signal_of t c || (not (start_of t c) && t.waiting))) && nat_le 1 (room_of t c)
+
+abbrev pub spends_of : Machine → Cause → Bool
+spends_of t c = signal_of t c && (is_neighbor c || (is_tick c && not (start_of t c)))
+
+abbrev pub left_of : Machine → Cause → ℕ
+left_of t c = cond (start_of t c) 0 (cond (opening_of t c) t.fast_init t.left - one_if (spends_of t c))
+
+-- what a step makes of the counters
+pub record Makes (t : Machine) (c : Cause) (n : ℕ) (r : Machine × Mark) : Type 0 where
+  pub credit : r.0.credit ≡ room_of t c - one_if (sent_of t c)
+  pub wait : r.0.wait ≡ cond (stop_of t c) t.reinit (t.wait - one_if (is_tick c))
+  pub timer : r.0.timer ≡ cond (signal_of t c) (cond (nat_lt 0 (left_of t c)) 1 n) (t.timer - one_if (is_tick c))
+  pub left : r.0.left ≡ left_of t c
+  pub waiting : r.0.waiting ≡ (not (sent_of t c) && (signal_of t c || (not (start_of t c) && t.waiting)))
+  pub active : r.0.active ≡ now_of t c
+  pub allowed : r.0.allowed ≡ allowed_after c t.allowed
+  pub up : r.0.up ≡ up_after c t.up
+  pub mark : r.1 ≡ cond (stop_of t c) Shutdown (cond (sent_of t c) Ordinary Quiet)
+  pub credit_max : r.0.credit_max ≡ t.credit_max
+  pub fast_init : r.0.fast_init ≡ t.fast_init
+  pub reinit : r.0.reinit ≡ t.reinit
+
+abbrev machine : (cm fi re cr wa ti le : ℕ) (wt ac al up : Bool) → Machine
+machine cm fi re cr wa ti le wt ac al up = record { credit_max = cm; fast_init = fi; reinit = re; credit = cr; wait = wa; timer = ti; left = le; waiting = wt; active = ac; allowed = al; up = up }
+
+module _ (cm fi re cr wa ti le n : ℕ) (few : cr ≤ cm) where
+  abbrev IsRight : (wt ac al up : Bool) → Cause → Type 0
+  IsRight wt ac al up c = Makes (machine cm fi re cr wa ti le wt ac al up) c n (stepped (machine cm fi re cr wa ti le wt ac al up) c n)
+
+  on_tick : (wt ac al up : Bool) → (ac ≡ true → al ≡ true) → IsRight wt ac al up Tick
+  on_tick wt true false up i = cc (i refl)
+  on_tick false true true up i = grind (arith, nat_tests)
+  on_tick true true true up i = grind (arith, nat_tests)
+  on_tick wt false true true i = grind (arith, nat_tests)
+  on_tick wt false true false i = grind (arith, nat_tests)
+  on_tick wt false false up i = grind (arith, nat_tests)
+
+  on_change : (wt ac al up : Bool) → (ac ≡ true → al ≡ true) → IsRight wt ac al up Change
+  on_change wt true false up i = cc (i refl)
+  on_change wt true true up i = grind (arith, nat_tests)
+  on_change wt false al up i = grind (arith, nat_tests)
+
+  on_neighbor : (wt ac al up : Bool) → (ac ≡ true → al ≡ true) → IsRight wt ac al up Neighbor
+  on_neighbor wt true false up i = cc (i refl)
+  on_neighbor wt true true up i = grind (arith, nat_tests)
+  on_neighbor wt false al up i = grind (arith, nat_tests)
+
+  on_stop : (wt ac al up : Bool) → (ac ≡ true → al ≡ true) → IsRight wt ac al up Stop
+  on_stop wt true false up i = cc (i refl)
+  on_stop wt true true up i = grind (arith, nat_tests)
+  on_stop wt false al up i = grind (arith, nat_tests)
+
+  on_down : (wt ac al up : Bool) → (ac ≡ true → al ≡ true) → IsRight wt ac al up Down
+  on_down wt true false up i = cc (i refl)
+  on_down wt true true up i = grind (arith, nat_tests)
+  on_down wt false al up i = grind (arith, nat_tests)
+
+  on_nothing : (wt ac al up : Bool) → (ac ≡ true → al ≡ true) → (ac ≡ true → wt ≡ true → cr ≡ 0) → IsRight wt ac al up Nothing
+  on_nothing wt true false up i j = cc (i refl)
+  on_nothing false true true up i j = grind (arith, nat_tests)
+  on_nothing true true true up i j = let none : cr ≡ 0 = j refl refl in grind (arith, nat_tests)
+  on_nothing wt false al up i j = grind (arith, nat_tests)
+
+  on_allow : (wt ac al up : Bool) → (ac ≡ true → al ≡ true) → (ac ≡ true → wt ≡ true → cr ≡ 0) → IsRight wt ac al up Allow
+  on_allow wt true false up i j = cc (i refl)
+  on_allow false true true up i j = grind (arith, nat_tests)
+  on_allow true true true up i j = let none : cr ≡ 0 = j refl refl in grind (arith, nat_tests)
+  on_allow wt false al up i j = grind (arith, nat_tests)
+
+  on_up : (wt ac al up : Bool) → (ac ≡ true → al ≡ true) → (ac ≡ true → wt ≡ true → cr ≡ 0) → IsRight wt ac al up Up
+  on_up wt true false up i j = cc (i refl)
+  on_up false true true up i j = grind (arith, nat_tests)
+  on_up true true true up i j = let none : cr ≡ 0 = j refl refl in grind (arith, nat_tests)
+  on_up wt false al up i j = grind (arith, nat_tests)
+
+-- A step of the machine makes of its counters what the labels of the next moment say.
+pub step_makes : (t : Machine) (c : Cause) (n : ℕ) → t.credit ≤ t.credit_max → (t.active ≡ true → t.allowed ≡ true) → (t.active ≡ true → t.waiting ≡ true → t.credit ≡ 0) → Makes t c n (stepped t c n)
+step_makes t Tick n few i j = on_tick t.credit_max t.fast_init t.reinit t.credit t.wait t.timer t.left n few t.waiting t.active t.allowed t.up i
+step_makes t Change n few i j = on_change t.credit_max t.fast_init t.reinit t.credit t.wait t.timer t.left n few t.waiting t.active t.allowed t.up i
+step_makes t Neighbor n few i j = on_neighbor t.credit_max t.fast_init t.reinit t.credit t.wait t.timer t.left n few t.waiting t.active t.allowed t.up i
+step_makes t Stop n few i j = on_stop t.credit_max t.fast_init t.reinit t.credit t.wait t.timer t.left n few t.waiting t.active t.allowed t.up i
+step_makes t Down n few i j = on_down t.credit_max t.fast_init t.reinit t.credit t.wait t.timer t.left n few t.waiting t.active t.allowed t.up i
+step_makes t Nothing n few i j = on_nothing t.credit_max t.fast_init t.reinit t.credit t.wait t.timer t.left n few t.waiting t.active t.allowed t.up i j
+step_makes t Allow n few i j = on_allow t.credit_max t.fast_init t.reinit t.credit t.wait t.timer t.left n few t.waiting t.active t.allowed t.up i j
+step_makes t Up n few i j = on_up t.credit_max t.fast_init t.reinit t.credit t.wait t.timer t.left n few t.waiting t.active t.allowed t.up i j

@@ -1,0 +1,14 @@
+pub mod Activity
+pub mod Answered
+pub mod Carrying
+pub mod Counters
+pub mod Earliest
+pub mod Examples
+pub mod Labels
+pub mod Refused
+pub mod Sending
+pub mod Signals
+pub mod Splits
+pub mod Standing
+pub mod Stops
+pub mod Windows

@@ -1,0 +1,141 @@
+-- Waiting, due, open, sent and the credit, read by positions.
+use Rattle.std.specs.Prelude.{◌≡◌, ℕ, ◌+◌, ◌≤◌, ◌<◌, ◌↔◌, ◌⊎◌, Bool, true, false, not, ◌&&◌, ◌||◌, IsTrue, List, [], ◌∷◌, ◌++◌}
+use Rattle.std.specs.List.{list_all}
+use Rattle.std.proofs.Common.{refl, ap, ap₂, sym, ◌∙◌, arith, inl, inr, subst}
+use Rattle.std.proofs.lemmas.Bool.{and_parts, and_from, leb-true, le-leb, cases_lt}
+use Rattle.lldp_transmit.specs.Fronts.{count, runs, after_first}
+use Rattle.lldp_transmit.specs.History.{Settings, Event, History, is_tick}
+use Rattle.lldp_transmit.specs.Moments.{moment, Moment, moments, ticks, frames, is_active, is_waiting, within, open_at, due}
+use Rattle.lldp_transmit.specs.Remaining.{credit_left}
+use Rattle.lldp_transmit.specs.Positions.{HasWanted, IsDue, IsOpen, IsLeastRoom}
+use Rattle.lldp_transmit.proofs.Windows.{one_if, list_all-map, all_fit, fits_enough, bounded, bucket, IsPaid, run_holds, credit_is, bucket_le, paid_moments}
+use Rattle.lldp_transmit.proofs.Activity.{active_reads}
+use Rattle.lldp_transmit.proofs.Counters.{is_active-cons, is_waiting-cons}
+
+-- ---- open windows
+
+-- what holds of each front holds of each run
+all_runs : {X : Type 0} (p : List X → Bool) (xs : List X) → ((run before : List X) → xs ≡ run ++ before → p run ≡ true) → list_all p (runs xs) ≡ true
+all_runs p [] h = refl
+all_runs p (x ∷ xs) h =
+    and_from _ _ (h (x ∷ []) xs refl)
+    (list_all-map p (λ r. x ∷ r) (runs xs) ∙ all_runs (λ r. p (x ∷ r)) xs (λ run before e. h (x ∷ run) before (ap (λ l. x ∷ l) e)))
+
+same_after : (m : Moment) (run : List Moment) → ticks (after_first (record m { sent = true } ∷ run)) ≡ ticks (after_first (m ∷ run))
+same_after m [] = refl
+same_after m (x ∷ xs) = refl
+
+pub open_reads : (s : Settings) (past : List Moment) (m : Moment) → 1 ≤ s.credit_max → IsTrue (open_at s past m) ↔ IsOpen s past m
+open_reads s past m most = (forth, back)
+  where
+    forth : IsTrue (open_at s past m) → IsOpen s past m
+    forth o run before e =
+        let q : list_all (within s) (runs (record m { sent = true } ∷ (run ++ before))) ≡ true = rw e at o in
+        let held : within s (record m { sent = true } ∷ run) ≡ true = run_holds (within s) (record m { sent = true }) run before q in
+        omega (arith, leb-true _ _ held, same_after m run)
+
+    one : (run before : List Moment) → IsOpen s past m → record m { sent = true } ∷ past ≡ run ++ before → within s run ≡ true
+    one [] before o e = le-leb _ _ (omega arith)
+    one (x ∷ run) before o e =
+        let head : record m { sent = true } ≡ x = cc in
+        let bound : frames run + 1 ≤ s.credit_max + ticks (after_first (m ∷ run)) = o run before (cc) in
+        let good : within s (record m { sent = true } ∷ run) ≡ true = le-leb _ _ (omega (arith, bound, same_after m run)) in
+        subst (λ y. within s (y ∷ run) ≡ true) head good
+
+    back : IsOpen s past m → IsTrue (open_at s past m)
+    back o = all_runs (within s) (record m { sent = true } ∷ past) (λ run before e. one run before o e)
+
+-- ---- the credit
+
+-- some run leaves just what is in the bucket
+one_leaves : (s : Settings) (ms : List Moment) → IsPaid s ms → (run before : List Moment) × (ms ≡ run ++ before) × (bucket s ms + frames run ≡ s.credit_max + ticks (after_first run))
+one_leaves s [] paid = ([], [], refl, omega arith)
+one_leaves s (m ∷ past) paid = go (cases_lt (bucket s past + one_if (is_tick m.cause)) s.credit_max) (one_leaves s past paid.1)
+  where
+    go : (bucket s past + one_if (is_tick m.cause) < s.credit_max) ⊎ (s.credit_max ≤ bucket s past + one_if (is_tick m.cause)) →
+        ((run before : List Moment) × (past ≡ run ++ before) × (bucket s past + frames run ≡ s.credit_max + ticks (after_first run))) →
+        (run before : List Moment) × (m ∷ past ≡ run ++ before) × (bucket s (m ∷ past) + frames run ≡ s.credit_max + ticks (after_first run))
+    go (inr full) _ = (m ∷ [], past, refl, omega (arith, paid.0))
+    go (inl less) ([], before, e, b) = absurd (omega arith)
+    go (inl less) (x ∷ run, before, e, b) = (m ∷ x ∷ run, before, ap (λ l. m ∷ l) e, omega (arith, paid.0))
+
+least_bucket : (s : Settings) (ms : List Moment) → IsPaid s ms → IsLeastRoom s ms (bucket s ms)
+least_bucket s ms paid = record { most = bucket_le s ms; each = each; one = one_leaves s ms paid }
+  where
+    all : list_all (bounded s.credit_max (bucket s ms) 0) (runs ms) ≡ true
+    all = all_fit s.credit_max (bucket s ms) 0 ms ∙ fits_enough s (bucket s ms) 0 ms paid (omega arith)
+
+    each : (run before : List Moment) → ms ≡ run ++ before → bucket s ms + frames run ≤ s.credit_max + ticks (after_first run)
+    each [] before e = omega (arith, bucket_le s ms)
+    each (x ∷ run) before e =
+        let q : list_all (bounded s.credit_max (bucket s ms) 0) (runs ((x ∷ run) ++ before)) ≡ true = subst (λ l. list_all (bounded s.credit_max (bucket s ms) 0) (runs l) ≡ true) e all in
+        let held : bounded s.credit_max (bucket s ms) 0 (x ∷ run) ≡ true = run_holds (bounded s.credit_max (bucket s ms) 0) x run before q in
+        omega (arith, leb-true _ _ held)
+
+pub credit_reads : (s : Settings) (h : History) → 1 ≤ s.credit_max → IsLeastRoom s (moments s h) (credit_left s (moments s h))
+credit_reads s h most =
+    let paid = paid_moments s h most in
+    subst (IsLeastRoom s (moments s h)) (sym (credit_is s (moments s h) paid)) (least_bucket s (moments s h) paid)
+
+-- ---- a frame that waits
+
+wanted : (ms : List Moment) → IsTrue (is_waiting ms) → HasWanted ms
+wanted [] w = cc w
+wanted (m ∷ past) w = go m.sent refl m.signal refl m.start refl (sym (is_waiting-cons m past) ∙ w) (wanted past)
+  where
+    go : (b : Bool) → m.sent ≡ b → (g : Bool) → m.signal ≡ g → (c : Bool) → m.start ≡ c → (not b && (g || (not c && is_waiting past))) ≡ true → (IsTrue (is_waiting past) → HasWanted past) → HasWanted (m ∷ past)
+    go true p g q c r e i = cc e
+    go false p true q c r e i = ([], past, m, refl, q, refl, ap (λ b. one_if b + 0) p)
+    go false p false q true r e i = cc e
+    go false p false q false r e i =
+        let w = i e in
+        (m ∷ w.0, w.1, w.2, ap (λ l. m ∷ l) w.3, w.4, ap₂ (λ b n. one_if b + n) r w.5, ap (λ b. one_if w.2.sent + (one_if b + frames w.0)) p ∙ omega (arith, w.6))
+
+waits_first : (b g x : Bool) → one_if b + 0 ≡ 0 → g ≡ true → (not b && (g || x)) ≡ true
+waits_first true g x e p = absurd (omega arith)
+waits_first false g x e p = ap (λ v. v || x) p
+
+waits_more : (b g c w : Bool) (n f k : ℕ) → one_if c + n ≡ 0 → k + (one_if b + f) ≡ 0 → w ≡ true → (not b && (g || (not c && w))) ≡ true
+waits_more true g c w n f k e d p = absurd (omega arith)
+waits_more false g true w n f k e d p = absurd (omega arith)
+waits_more false true false w n f k e d p = refl
+waits_more false false false w n f k e d p = p
+
+waits_on : (after : List Moment) (m : Moment) (before : List Moment) → IsTrue m.signal → count (λ x. x.start) after ≡ 0 → frames (m ∷ after) ≡ 0 → IsTrue (is_waiting (after ++ m ∷ before))
+waits_on [] m before g c f = is_waiting-cons m before ∙ waits_first m.sent m.signal _ f g
+waits_on (x ∷ after) m before g c f =
+    is_waiting-cons x (after ++ m ∷ before)
+    ∙ waits_more x.sent x.signal x.start _ (count (λ y. y.start) after) (frames after) (one_if m.sent) c f (waits_on after m before g (omega arith) (omega arith))
+
+pub waiting_reads : (ms : List Moment) → IsTrue (is_waiting ms) ↔ HasWanted ms
+waiting_reads ms = (wanted ms, back)
+  where
+    back : HasWanted ms → IsTrue (is_waiting ms)
+    back (after, before, m, e, g, c, f) = rw e (waits_on after m before g c f)
+
+-- ---- a frame that goes
+
+same_active : (past : List Moment) (m : Moment) → is_active (record m { sent = false } ∷ past) ≡ is_active (m ∷ past)
+same_active past m = is_active-cons (record m { sent = false }) past ∙ sym (is_active-cons m past)
+
+-- An ordinary frame goes exactly where one is due and the window open.
+pub sent_reads : (s : Settings) (h : History) (e : Event) → 1 ≤ s.credit_max →
+    IsTrue (moment s (moments s h) e).sent ↔ (IsDue (moments s h) (moment s (moments s h) e) × IsOpen s (moments s h) (moment s (moments s h) e))
+unfolding moment
+sent_reads s h e most = (forth, back)
+  where
+    forth : IsTrue (moment s (moments s h) e).sent → IsDue (moments s h) (moment s (moments s h) e) × IsOpen s (moments s h) (moment s (moments s h) e)
+    forth p =
+        let past = moments s h in
+        let m = moment s past e in
+        let parts = and_parts (due past m) (open_at s past m) p in
+        let d = and_parts (is_active (record m { sent = false } ∷ past)) (is_waiting (record m { sent = false } ∷ past)) parts.0 in
+        (((active_reads s (e ∷ h)).0 (sym (same_active past m) ∙ d.0), (waiting_reads (record m { sent = false } ∷ past)).0 d.1), (open_reads s past m most).0 parts.1)
+
+    back : IsDue (moments s h) (moment s (moments s h) e) × IsOpen s (moments s h) (moment s (moments s h) e) → IsTrue (moment s (moments s h) e).sent
+    back p =
+        let past = moments s h in
+        let m = moment s past e in
+        and_from (due past m) (open_at s past m)
+        (and_from (is_active (record m { sent = false } ∷ past)) (is_waiting (record m { sent = false } ∷ past)) (same_active past m ∙ (active_reads s (e ∷ h)).1 p.0.0) ((waiting_reads (record m { sent = false } ∷ past)).1 p.0.1))
+        ((open_reads s past m most).1 p.1)

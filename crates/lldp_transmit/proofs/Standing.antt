@@ -1,0 +1,193 @@
+-- The law: a step carries standing from every history to that history and the event.
+use Rattle.std.specs.Prelude.{◌≡◌, ℕ, ◌-◌, ◌≤◌, Bool, true, false, cond, not, ◌&&◌, ◌||◌, nat_le, List, [], ◌∷◌, IsTrue, ◌↔◌}
+use Rattle.std.proofs.Common.{refl, ap, sym, ◌∙◌, arith}
+use Rattle.std.proofs.lemmas.Bool.Decides.{nat_tests}
+use Rattle.lldp_transmit.specs.declared.event.Cause.{Cause}
+use Rattle.lldp_transmit.specs.declared.event.Cause.TheVariants.{Nothing}
+use Rattle.lldp_transmit.specs.declared.event.Mark.{Mark}
+use Rattle.lldp_transmit.specs.declared.event.Mark.TheVariants.{Quiet, Ordinary, Shutdown}
+use Rattle.lldp_transmit.specs.Machine.{Machine, opened, stepped}
+use Rattle.lldp_transmit.specs.History.{Settings, Event, History, event, is_tick, is_down}
+use Rattle.lldp_transmit.specs.Moments.{Moment, moments, moment, mark_of, mark_at, unlabelled, is_active, is_allowed, is_waiting, open_at, allowed_after}
+use Rattle.std.specs.List.{list_any}
+use Rattle.lldp_transmit.specs.Fronts.{since, from_last}
+use Rattle.lldp_transmit.specs.Standing.{Stands, AreSettings}
+use Rattle.lldp_transmit.proofs.Windows.{one_if, begun, wanted, bucket, IsPaid, open_is, paid_moments, bucket_le, credit_is}
+use Rattle.lldp_transmit.proofs.Counters.{until_start-cons, until_signal-cons, signals_left-cons, is_waiting-cons, is_active-cons, wanted-cons}
+use Rattle.lldp_transmit.proofs.Carrying.{start_of, stop_of, signal_of, opening_of, sent_of, Makes, step_makes}
+use Rattle.lldp_transmit.proofs.Labels.{Counts, starts_is, stops_is, active_is, signals_is, opens_is, sent_is}
+
+-- the labels of a moment are those that the counters say
+pub record Labelled (t : Machine) (c : Cause) (n : ℕ) (m : Moment) : Type 0 where
+  pub cause : m.cause ≡ c
+  pub interval : m.interval ≡ n
+  pub start : m.start ≡ start_of t c
+  pub stop : m.stop ≡ stop_of t c
+  pub signal : m.signal ≡ signal_of t c
+  pub opening : m.opening ≡ opening_of t c
+  pub sent : m.sent ≡ sent_of t c
+
+module _ (s : Settings) (past : List Moment) (t : Machine) (e : Event) (h : Counts s past t) (most : 1 ≤ s.credit_max) (paid : IsPaid s past) where
+  labelled : Labelled t e.cause e.interval (moment s past e)
+  unfolding moment
+  labelled =
+      let m1 = begun s past e in
+      let m2 = wanted s past e in
+      let start : m1.start ≡ start_of t e.cause = starts_is s past t e.cause h (unlabelled e) refl in
+      let stop : m1.stop ≡ stop_of t e.cause = stops_is s past t e.cause h (unlabelled e) refl in
+      let signal : m2.signal ≡ signal_of t e.cause = signals_is s past t e.cause h m1 refl start stop in
+      record {
+        cause = refl;
+        interval = refl;
+        start = start;
+        stop = stop;
+        signal = signal;
+        opening = opens_is s past t e.cause h m1 refl start stop;
+        sent = sent_is s past t e.cause h m2 refl start stop signal most paid;
+      }
+
+-- counters that a step makes stand for one more moment with such labels
+counted_on : (s : Settings) (past : List Moment) (t : Machine) (c : Cause) (n : ℕ) (m : Moment) (u : Machine × Mark) → Counts s past t → Labelled t c n m → Makes t c n u → Counts s (m ∷ past) u.0
+counted_on s past t c n m u h l k = record {
+  credit_max = cc;
+  fast_init = cc;
+  reinit = cc;
+  credit = cc;
+  wait = cc (until_start-cons s m past);
+  timer = cc (until_signal-cons s m past, signals_left-cons s m past);
+  left = cc (signals_left-cons s m past);
+  waiting = cc (is_waiting-cons m past);
+  active = cc (active_is s past t c h m l.cause l.start l.stop);
+  allowed = cc;
+  up = cc;
+}
+
+marked_on : (s : Settings) (past : List Moment) (t : Machine) (c : Cause) (n : ℕ) (m : Moment) (u : Machine × Mark) → Labelled t c n m → Makes t c n u → u.1 ≡ mark_of m
+marked_on s past t c n m u l k = cc
+
+-- An active port may transmit.
+allowed_if_active : (s : Settings) (h : History) → is_active (moments s h) ≡ true → is_allowed s (moments s h) ≡ true
+unfolding moment
+allowed_if_active s [] a = cc
+allowed_if_active s (e ∷ h) a = go (is_active past) (allowed_after e.cause (is_allowed s past)) (is_tick e.cause) _ (is_down e.cause) (sym (is_active-cons (moment s past e) past) ∙ a)
+  where
+    past : List Moment
+    past = moments s h
+
+    go : (x l k r d : Bool) → (not ((x && not l) || d) && ((k && (l && r)) || x)) ≡ true → l ≡ true
+    go x true k r d p = refl
+    go true false k r d p = p
+    go false false k r true p = p
+    go false false true r false p = p
+    go false false false r false p = p
+
+none_left : (x y o : Bool) (n : ℕ) → x ≡ true → (not ((x && y) && o) && y) ≡ true → o ≡ nat_le 1 n → n - one_if ((x && y) && o) ≡ 0
+none_left false y o n a w e = cc a
+none_left true false o n a w e = cc w
+none_left true true true n a w e = cc w
+none_left true true false n a w e = grind (arith, nat_tests)
+
+-- A frame waits on an active port only for want of credit.
+none_if_waiting : (s : Settings) (h : History) → 1 ≤ s.credit_max → is_active (moments s h) ≡ true → is_waiting (moments s h) ≡ true → bucket s (moments s h) ≡ 0
+unfolding moment
+none_if_waiting s [] most a w = cc
+none_if_waiting s (e ∷ h) most a w =
+    let past = moments s h in
+    let m = wanted s past e in
+    let n = moment s past e in
+    none_left (is_active (m ∷ past)) _ (open_at s past m) _
+    (is_active-cons m past ∙ sym (is_active-cons n past) ∙ a)
+    (ap (λ b. not n.sent && b) (wanted-cons m past) ∙ sym (is_waiting-cons n past) ∙ w)
+    (open_is s past m most (paid_moments s h most))
+
+-- The law for the counters.
+pub carries_counts : (s : Settings) (h : History) (t : Machine) (e : Event) → 1 ≤ s.credit_max → Counts s (moments s h) t →
+    Counts s (moments s (e ∷ h)) (stepped t e.cause e.interval).0 × ((stepped t e.cause e.interval).1 ≡ mark_of (moment s (moments s h) e))
+carries_counts s h t e most counts =
+    let past = moments s h in
+    let few : t.credit ≤ t.credit_max = omega (arith, bucket_le s past) in
+    let labels = labelled s past t e counts most (paid_moments s h most) in
+    let makes = step_makes t e.cause e.interval few (λ a. counts.allowed ∙ allowed_if_active s h (sym counts.active ∙ a)) (λ a w. counts.credit ∙ none_if_waiting s h most (sym counts.active ∙ a) (sym counts.waiting ∙ w)) in
+    (counted_on s past t e.cause e.interval (moment s past e) (stepped t e.cause e.interval) counts labels makes, marked_on s past t e.cause e.interval (moment s past e) (stepped t e.cause e.interval) labels makes)
+
+-- between what the machine stands for, by the windows, and its counters, by the bucket
+counts_of : (s : Settings) (h : History) (t : Machine) → Stands s h t → Counts s (moments s h) t
+counts_of s h t k = record {
+  credit_max = k.credit_max;
+  fast_init = k.fast_init;
+  reinit = k.reinit;
+  credit = k.credit ∙ credit_is s (moments s h) (paid_moments s h k.in_range.some_credit);
+  wait = k.wait;
+  timer = k.timer;
+  left = k.left;
+  waiting = k.waiting;
+  active = k.active;
+  allowed = k.allowed;
+  up = k.up;
+}
+
+stands_of : (s : Settings) (h : History) (t : Machine) → AreSettings s → Counts s (moments s h) t → Stands s h t
+stands_of s h t r k = record {
+  in_range = r;
+  credit_max = k.credit_max;
+  fast_init = k.fast_init;
+  reinit = k.reinit;
+  credit = k.credit ∙ sym (credit_is s (moments s h) (paid_moments s h r.some_credit));
+  wait = k.wait;
+  timer = k.timer;
+  left = k.left;
+  waiting = k.waiting;
+  active = k.active;
+  allowed = k.allowed;
+  up = k.up;
+}
+
+-- A step carries standing from every history to that history and the event.
+pub carries : (s : Settings) (h : History) (t : Machine) (e : Event) → Stands s h t → Stands s (e ∷ h) (stepped t e.cause e.interval).0
+carries s h t e k = stands_of s (e ∷ h) _ k.in_range (carries_counts s h t e k.in_range.some_credit (counts_of s h t k)).0
+
+-- A step answers the mark of the event.
+pub marks : (s : Settings) (h : History) (t : Machine) (e : Event) → Stands s h t → (stepped t e.cause e.interval).1 ≡ mark_at s (e ∷ h)
+marks s h t e k = (carries_counts s h t e k.in_range.some_credit (counts_of s h t k)).1
+
+-- A machine as it is opened stands for no events.
+pub stands_at_first : (s : Settings) → AreSettings s → Stands s [] (opened s)
+stands_at_first s r = record {
+  in_range = r;
+  credit_max = refl;
+  fast_init = refl;
+  reinit = refl;
+  credit = refl;
+  wait = refl;
+  timer = refl;
+  left = refl;
+  waiting = refl;
+  active = refl;
+  allowed = refl;
+  up = refl;
+}
+
+-- Where nothing concerns a port, its machine stands for that event too, and no frame goes.
+pub nothing_changes : (s : Settings) (h : History) (t : Machine) (interval : ℕ) → Stands s h t → Stands s (event Nothing interval ∷ h) t
+nothing_changes s h t interval k = carries s h t (event Nothing interval) k
+
+pub nothing_goes : (s : Settings) (h : History) (t : Machine) (interval : ℕ) → Stands s h t → mark_at s (event Nothing interval ∷ h) ≡ Quiet
+nothing_goes s h t interval k = sym (marks s h t (event Nothing interval) k)
+
+-- At a stop no ordinary frame goes.
+pub apart : (s : Settings) (past : List Moment) (e : Event) → (moment s past e).stop ≡ true → (moment s past e).sent ≡ false
+unfolding moment
+apart s past e p =
+    let m = wanted s past e in
+    let stopped : is_active (m ∷ past) ≡ false = is_active-cons m past ∙ ap (λ b. not (b || is_down e.cause) && (m.start || is_active past)) p in
+    ap (λ b. (b && list_any (λ x. x.signal) (from_last (λ x. x.start) (m ∷ since (λ x. x.sent) past))) && open_at s past m) stopped
+
+ordinary_by : (x y : Bool) (r : Mark) → (x ≡ true → y ≡ false) → r ≡ cond x Shutdown (cond y Ordinary Quiet) → ((r ≡ Ordinary) ↔ IsTrue y) × ((r ≡ Shutdown) ↔ IsTrue x)
+ordinary_by true true r a e = cc (a refl)
+ordinary_by true false r a e = ((λ p. cc, λ q. cc), (λ p. refl, λ q. e))
+ordinary_by false true r a e = ((λ p. refl, λ q. e), (λ p. cc, λ q. cc))
+ordinary_by false false r a e = ((λ p. cc, λ q. cc), (λ p. cc, λ q. cc))
+
+-- The mark is Ordinary exactly where a frame is due and the window open, and Shutdown exactly at a stop.
+pub exact : (s : Settings) (past : List Moment) (e : Event) (r : Mark) → r ≡ mark_of (moment s past e) → ((r ≡ Ordinary) ↔ IsTrue (moment s past e).sent) × ((r ≡ Shutdown) ↔ IsTrue (moment s past e).stop)
+exact s past e r p = ordinary_by (moment s past e).stop (moment s past e).sent r (apart s past e) p

@@ -1,0 +1,110 @@
+-- A run that ends now has few stops.
+use Rattle.std.specs.Prelude.{◌≡◌, ℕ, zero, suc, ◌+◌, ◌-◌, ◌*◌, ◌/◌, ◌≤◌, Bool, true, false, cond, not, ◌&&◌, ◌||◌, nat_lt, List, [], ◌∷◌, ◌++◌}
+use Rattle.std.specs.List.{list_any}
+use Rattle.std.proofs.Common.{refl, ap, ap₂, sym, ◌∙◌, arith}
+use Rattle.std.proofs.lemmas.Bool.Decides.{nat_tests}
+use Rattle.std.proofs.lemmas.Nat.{le-div}
+use Rattle.std.proofs.lemmas.Bool.{or_parts, and_parts}
+use Rattle.lldp_transmit.specs.Fronts.{count, since}
+use Rattle.lldp_transmit.specs.History.{Settings, Event, History, is_tick, is_down}
+use Rattle.lldp_transmit.specs.Moments.{Moment, moments, moment, ticks, is_active, is_allowed, is_up, rested, allowed_after, up_after}
+use Rattle.lldp_transmit.specs.Remaining.{until_start}
+use Rattle.lldp_transmit.specs.Windows.{StopsRarely}
+use Rattle.lldp_transmit.proofs.Windows.{earlier, one_if}
+use Rattle.lldp_transmit.proofs.Counters.{is_active-cons, until_start-cons, rested_is}
+
+abbrev stops : List Moment → ℕ
+stops ms = count (λ m. m.stop) ms
+
+rested_if : (x d l tick w r : Bool) (re n : ℕ) → r ≡ nat_lt n 2 → (x ≡ true → n ≡ 0) →
+    (not ((x && not l) || d) && ((tick && (l && (w && (not x && r)))) || x)) ≡ true → cond (x && not l) re (n - one_if tick) ≡ 0
+rested_if x d l tick w r re n e i a = grind (arith, nat_tests)
+
+-- An active port waits for nothing.
+rested_if_active : (s : Settings) (h : History) → is_active (moments s h) ≡ true → until_start s (moments s h) ≡ 0
+unfolding moment
+rested_if_active s [] a = cc
+rested_if_active s (e ∷ h) a =
+    let past = moments s h in
+    let m = moment s past e in
+    until_start-cons s m past
+    ∙ rested_if (is_active past) (is_down e.cause) (allowed_after e.cause (is_allowed s past)) (is_tick e.cause) (up_after e.cause (is_up past)) (rested s past) s.reinit (until_start s past)
+    (rested_is s past) (rested_if_active s h) (sym (is_active-cons m past) ∙ a)
+
+-- the stops of a run are so far apart, and the last is so long ago, as its ticks allow
+spaced_after : (r : ℕ) (stop some : Bool) (n w t k : ℕ) → (some ≡ true → r * n + w ≤ t + r) → (some ≡ false → n ≡ 0) → (stop ≡ true → some ≡ true → r ≤ w) →
+    (stop || some) ≡ true → r * (one_if stop + n) + cond stop 0 (k + w) ≤ k + t + r
+spaced_after r true true n w t k i j l o =
+    let b : r * n + w ≤ t + r = i refl in
+    let a : r ≤ w = l refl refl in
+    omega arith
+spaced_after r true false n w t k i j l o = let none : n ≡ 0 = j refl in rw none (omega arith)
+spaced_after r false true n w t k i j l o = let b : r * n + w ≤ t + r = i refl in omega arith
+spaced_after r false false n w t k i j l o = cc o
+
+none_stops : (run : List Moment) → list_any (λ m. m.stop) run ≡ false → stops run ≡ 0
+none_stops [] e = refl
+none_stops (m ∷ run) e = let parts = or_parts _ _ e in ap₂ (λ b n. one_if b + n) parts.0 (none_stops run parts.1) ∙ refl
+
+-- what comes since the last stop of a run comes since the last stop of the history that it ends
+any_front : (run before : List Moment) → list_any (λ m. m.stop) run ≡ true → list_any (λ m. m.stop) (run ++ before) ≡ true
+any_front [] before e = cc
+any_front (m ∷ run) before e = go m.stop e (any_front run before)
+  where
+    go : (b : Bool) → (b || list_any (λ x. x.stop) run) ≡ true → (list_any (λ x. x.stop) run ≡ true → list_any (λ x. x.stop) (run ++ before) ≡ true) → (b || list_any (λ x. x.stop) (run ++ before)) ≡ true
+    go true e f = refl
+    go false e f = f e
+
+since_front : (run before : List Moment) → list_any (λ m. m.stop) run ≡ true → since (λ m. m.stop) (run ++ before) ≡ since (λ m. m.stop) run
+since_front [] before e = cc
+since_front (m ∷ run) before e = go m.stop e (since_front run before)
+  where
+    go : (b : Bool) → (b || list_any (λ x. x.stop) run) ≡ true → (list_any (λ x. x.stop) run ≡ true → since (λ x. x.stop) (run ++ before) ≡ since (λ x. x.stop) run) → cond b [] (m ∷ since (λ x. x.stop) (run ++ before)) ≡ cond b [] (m ∷ since (λ x. x.stop) run)
+    go true e f = refl
+    go false e f = ap (λ xs. m ∷ xs) (f e)
+
+enough_ticks : (q : Bool) (r t : ℕ) → q ≡ true → cond q (r - t) 0 ≡ 0 → r ≤ t
+enough_ticks true r t e z = omega arith
+enough_ticks false r t e z = cc e
+
+pub ticks_since : (m : Moment) (run : List Moment) → ticks (since (λ x. x.stop) (m ∷ run)) ≡ cond m.stop 0 (one_if (is_tick m.cause) + ticks (since (λ x. x.stop) run))
+ticks_since m run = go m.stop
+  where
+    go : (b : Bool) → ticks (cond b [] (m ∷ since (λ x. x.stop) run)) ≡ cond b 0 (one_if (is_tick m.cause) + ticks (since (λ x. x.stop) run))
+    go true = refl
+    go false = refl
+
+module _ (s : Settings) where
+  -- a stop of an active port comes late enough after the stop before it
+  late : (h : History) (e : Event) (run before : List Moment) → moments s h ≡ run ++ before → (moment s (moments s h) e).stop ≡ true → list_any (λ m. m.stop) run ≡ true → s.reinit ≤ ticks (since (λ m. m.stop) run)
+  unfolding moment
+  late h e run before i p q =
+      let zero : until_start s (run ++ before) ≡ 0 = rw i at (rested_if_active s h (and_parts _ _ p).0) in
+      let enough : s.reinit ≤ ticks (since (λ m. m.stop) (run ++ before)) = enough_ticks _ _ _ (any_front run before q) zero in
+      rw (since_front run before q) at enough
+
+  spaced : (h : History) (run before : List Moment) → moments s h ≡ run ++ before → list_any (λ m. m.stop) run ≡ true → s.reinit * stops run + ticks (since (λ m. m.stop) run) ≤ ticks run + s.reinit
+  spaced h [] before i q = cc q
+  spaced [] (m ∷ run) before i q = cc i
+  spaced (e ∷ h) (m ∷ run) before i q =
+      let head : moment s (moments s h) e ≡ m = cc in
+      let rest : moments s h ≡ run ++ before = cc in
+      let bound : s.reinit * (one_if m.stop + stops run) + cond m.stop 0 (one_if (is_tick m.cause) + ticks (since (λ x. x.stop) run)) ≤ one_if (is_tick m.cause) + ticks run + s.reinit =
+      spaced_after s.reinit m.stop (list_any (λ x. x.stop) run) (stops run) (ticks (since (λ x. x.stop) run)) (ticks run) (one_if (is_tick m.cause))
+      (spaced h run before rest) (none_stops run) (λ p. late h e run before rest (ap (λ x. x.stop) head ∙ p)) q in
+      rw (ticks_since m run) bound
+
+few_from : (r n t : ℕ) → 1 ≤ r → r * n ≤ t + r → n ≤ 1 + t / r
+few_from r zero t p b = omega arith
+few_from r (suc n) t p b = let q : n ≤ t / r = le-div n t r p (omega arith) in omega arith
+
+-- A run has at most one stop, and one more for each reinitDelay ticks in it.
+pub stops_rarely : (s : Settings) (h : History) → 1 ≤ s.reinit → StopsRarely s h
+stops_rarely s h most later run before i = go (list_any (λ m. m.stop) run) refl
+  where
+    go : (b : Bool) → list_any (λ m. m.stop) run ≡ b → stops run ≤ 1 + ticks run / s.reinit
+    go true e =
+        let w = earlier s h later (run ++ before) i in
+        let bound = spaced s w.0 run before w.1 e in
+        few_from s.reinit (stops run) (ticks run) most (omega arith)
+    go false e = let none : stops run ≡ 0 = none_stops run e in omega arith

@@ -1,0 +1,14 @@
+use Rattle.lldp_transmit.proofs.Sending.{waiting_reads, open_reads, credit_reads, sent_reads}
+use Rattle.lldp_transmit.proofs.laws.sending_by_positions.Goals as goal
+
+pub returns-clause-waiting : goal.returns-clause-waiting
+returns-clause-waiting c = waiting_reads
+
+pub returns-clause-open : goal.returns-clause-open
+returns-clause-open c = λ s past m r. open_reads s past m r.some_credit
+
+pub returns-clause-credit : goal.returns-clause-credit
+returns-clause-credit c = λ s h r. credit_reads s h r.some_credit
+
+pub returns-clause-sent : goal.returns-clause-sent
+returns-clause-sent c = λ s h e r. sent_reads s h e r.some_credit

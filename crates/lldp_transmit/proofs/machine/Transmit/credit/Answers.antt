@@ -1,0 +1,10 @@
+-- The credit is the least room, read by positions.
+use Rattle.std.proofs.Common.{ap, ◌∙◌, sym, subst}
+use Rattle.lldp_transmit.specs.Moments.{moments}
+use Rattle.lldp_transmit.specs.Positions.{IsLeastRoom}
+use Rattle.lldp_transmit.proofs.Sending.{credit_reads}
+use Rattle.lldp_transmit.proofs.machine.Transmit.credit.Goals as goal
+
+pub returns-clause-least : goal.returns-clause-least
+returns-clause-least c = λ s past k.
+    subst (IsLeastRoom s (moments s past)) (sym (ap (λ t. t.credit) c.self.view_is ∙ k.credit)) (credit_reads s past k.in_range.some_credit)

@@ -1,0 +1,8 @@
+pub mod Fronts
+pub mod History
+pub mod Machine
+pub mod Moments
+pub mod Positions
+pub mod Remaining
+pub mod Standing
+pub mod Windows

@@ -1,0 +1,34 @@
+-- A machine stands for a history: each thing that it holds has the value that the definitions give.
+use Rattle.std.specs.Prelude.{◌≡◌, ◌≤◌}
+use Rattle.lldp_transmit.specs.History.{Settings, History}
+use Rattle.lldp_transmit.specs.Machine.{Machine}
+use Rattle.lldp_transmit.specs.Moments.{moments, is_active, is_allowed, is_up, is_waiting, signals_left}
+use Rattle.lldp_transmit.specs.Remaining.{credit_left, until_start, until_signal}
+
+-- the ranges of what a port is opened with: txCreditMax 1 to 10, txFastInit 1 to 8, reinitDelay 1 to 10
+pub record AreSettings (s : Settings) : Type 0 where
+  pub some_credit : 1 ≤ s.credit_max
+  pub most_credit : s.credit_max ≤ 10
+  pub some_fast : 1 ≤ s.fast_init
+  pub most_fast : s.fast_init ≤ 8
+  pub some_wait : 1 ≤ s.reinit
+  pub most_wait : s.reinit ≤ 10
+
+-- the machine stands for these settings and this history
+pub record Stands (s : Settings) (h : History) (t : Machine) : Type 0 where
+  pub in_range : AreSettings s
+  pub credit_max : t.credit_max ≡ s.credit_max
+  pub fast_init : t.fast_init ≡ s.fast_init
+  pub reinit : t.reinit ≡ s.reinit
+  pub credit : t.credit ≡ credit_left s (moments s h)
+  pub wait : t.wait ≡ until_start s (moments s h)
+  pub timer : t.timer ≡ until_signal s (moments s h)
+  pub left : t.left ≡ signals_left s (moments s h)
+  pub waiting : t.waiting ≡ is_waiting (moments s h)
+  pub active : t.active ≡ is_active (moments s h)
+  pub allowed : t.allowed ≡ is_allowed s (moments s h)
+  pub up : t.up ≡ is_up (moments s h)
+
+-- for each history that the machine stands for
+abbrev pub ForEachHistory : Machine → (Settings → History → Type 0) → Type 0
+ForEachHistory t P = (s : Settings) (h : History) → Stands s h t → P s h

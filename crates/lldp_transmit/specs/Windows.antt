@@ -1,0 +1,80 @@
+-- How much a port sends, and how soon.
+use Rattle.std.specs.Prelude.{◌≡◌, ℕ, ◌+◌, ◌/◌, ◌≤◌, Bool, IsTrue, ◌&&◌, List, [], ◌∷◌, ◌++◌}
+use Rattle.lldp_transmit.specs.declared.event.Mark.{Mark}
+use Rattle.lldp_transmit.specs.declared.event.Mark.TheVariants.{Quiet, Ordinary, Shutdown}
+use Rattle.lldp_transmit.specs.Fronts.{count, after_first}
+use Rattle.lldp_transmit.specs.History.{Settings, Event, History}
+use Rattle.lldp_transmit.specs.Moments.{Moment, moment, moments, ticks, frames, due, open_at}
+
+-- ---- choices of marks
+
+-- the moments with these marks in place of the ordinary frames
+abbrev pub with_marks : List Bool → List Moment → List Moment
+with_marks [] ms = []
+with_marks (b ∷ bs) [] = []
+with_marks (b ∷ bs) (m ∷ ms) = record m { sent = b } ∷ with_marks bs ms
+
+-- one mark for each moment, and true only where a frame is due and the window open, both read with the marks for the frames
+abbrev pub AreTimely : Settings → List Bool → List Moment → Type 0
+AreTimely s [] [] = Unit {0}
+AreTimely s [] (m ∷ ms) = ⊥
+AreTimely s (b ∷ bs) [] = ⊥
+AreTimely s (b ∷ bs) (m ∷ ms) = (IsTrue b → IsTrue (due (with_marks bs ms) m && open_at s (with_marks bs ms) m)) × AreTimely s bs ms
+
+-- how many of the marks are true
+abbrev pub marked : List Bool → ℕ
+marked marks = count (λ b. b) marks
+
+-- ---- the windows of a history
+
+-- A run of events is a part of the history: these events, between later ones and earlier ones.
+-- Bound on every run: it has at most txCreditMax ordinary frames, and one more for each tick after its first event.
+abbrev pub IsBounded : Settings → History → Type 0
+IsBounded s h =
+    (later run before : List Moment) → moments s h ≡ later ++ (run ++ before) → frames run ≤ s.credit_max + ticks (after_first run)
+
+-- Few stops: a run has at most one stop, and one more for each reinitDelay ticks in it.
+abbrev pub StopsRarely : Settings → History → Type 0
+StopsRarely s h =
+    (later run before : List Moment) → moments s h ≡ later ++ (run ++ before) → count (λ m. m.stop) run ≤ 1 + ticks run / s.reinit
+
+-- Earliest service: no other choice of due and open moments has had more frames up to now.
+abbrev pub IsEarliest : Settings → History → Type 0
+IsEarliest s h = (marks : List Bool) → AreTimely s marks (moments s h) → marked marks ≤ frames (moments s h)
+
+-- all three, the last after each event of the history
+pub record WindowsHold (s : Settings) (h : History) : Type 0 where
+  pub bounded : IsBounded s h
+  pub few_stops : StopsRarely s h
+  pub earliest : (later earlier : History) → h ≡ later ++ earlier → IsEarliest s earlier
+
+-- ---- the same of one event, with what a machine answered there
+
+-- how many ordinary frames go in a run and, by the answer, now
+abbrev pub frames_with : Mark → List Moment → ℕ
+frames_with Ordinary run = 1 + frames run
+frames_with Quiet run = frames run
+frames_with Shutdown run = frames run
+
+-- how many stops stand in a run and, where the answer is a shutdown frame, now
+abbrev pub stops_with : Mark → List Moment → ℕ
+stops_with Shutdown run = 1 + count (λ m. m.stop) run
+stops_with Quiet run = count (λ m. m.stop) run
+stops_with Ordinary run = count (λ m. m.stop) run
+
+-- with this answer each run that ends with the event has at most txCreditMax frames, and one more for each tick after its first event
+abbrev pub IsBoundedWith : Settings → History → Event → Mark → Type 0
+IsBoundedWith s past e answer =
+    (run before : List Moment) → moments s past ≡ run ++ before →
+    frames_with answer run ≤ s.credit_max + ticks (after_first (moment s (moments s past) e ∷ run))
+
+-- with this answer each run that ends with the event has at most one stop, and one more for each reinitDelay ticks in it
+abbrev pub StopsRarelyWith : Settings → History → Event → Mark → Type 0
+StopsRarelyWith s past e answer =
+    (run before : List Moment) → moments s past ≡ run ++ before →
+    stops_with answer run ≤ 1 + ticks (moment s (moments s past) e ∷ run) / s.reinit
+
+-- with this answer no other choice of due and open moments, the event's among them, has had more frames
+abbrev pub IsEarliestWith : Settings → History → Event → Mark → Type 0
+IsEarliestWith s past e answer =
+    (marks : List Bool) → AreTimely s marks (moments s (e ∷ past)) → marked marks ≤ frames_with answer (moments s past)

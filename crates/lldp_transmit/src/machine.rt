@@ -1,0 +1,251 @@
+//! The transmit machine of one port: a few counters, a few machine words.
+
+ghost use Rattle.std.specs.Prelude.{◌≡◌, ◌≤◌, ◌↔◌, [], ◌∷◌};
+ghost use Rattle.lldp_transmit.specs.History.{settings, event};
+ghost use Rattle.lldp_transmit.specs.Moments.{moments, mark_at, is_active, is_allowed, is_up};
+ghost use Rattle.lldp_transmit.specs.Positions.{IsDueAndOpen, StopsAt, IsLeastRoom};
+ghost use Rattle.lldp_transmit.specs.Remaining.{credit_left};
+ghost use Rattle.lldp_transmit.specs.Standing.{AreSettings, Stands, ForEachHistory};
+ghost use Rattle.lldp_transmit.specs.Windows.{IsBoundedWith, StopsRarelyWith, IsEarliestWith};
+ghost use Rattle.lldp_transmit.specs.Machine.{opened, served, signalled, ticked, stopped, stepped};
+
+use crate::event::{Cause, Mark};
+use std::marker::Model;
+
+/// The transmit machine of one port.
+#[derive(Clone, Copy, Debug, PartialEq, Eq)]
+pub struct Transmit {
+    /// Ticks until the timer ends.
+    timer: u16,
+    credit_max: u8,
+    fast_init: u8,
+    reinit: u8,
+    /// Ordinary frames that may go before the next tick.
+    credit: u8,
+    /// Ticks until the port may start again.
+    wait: u8,
+    /// Signals left in the burst.
+    left: u8,
+    /// A signal has had no frame yet.
+    waiting: bool,
+    active: bool,
+    allowed: bool,
+    up: bool,
+}
+
+impl Model for Transmit {
+    ghost use Rattle.std.specs.Prelude.{◌≤◌};
+    ghost use Rattle.lldp_transmit.specs.Machine.{Machine};
+
+    ghost Value = { Machine };
+
+    ghost view = { λ t. record {
+      credit_max = t.credit_max;
+      fast_init = t.fast_init;
+      reinit = t.reinit;
+      credit = t.credit;
+      wait = t.wait;
+      timer = t.timer;
+      left = t.left;
+      waiting = t.waiting;
+      active = t.active;
+      allowed = t.allowed;
+      up = t.up;
+    } };
+
+    ghost invariant = { λ t. t.credit ≤ t.credit_max };
+
+    ghost inverse = { λ m. record {
+      credit_max = m.credit_max;
+      fast_init = m.fast_init;
+      reinit = m.reinit;
+      credit = m.credit;
+      wait = m.wait;
+      timer = m.timer;
+      left = m.left;
+      waiting = m.waiting;
+      active = m.active;
+      allowed = m.allowed;
+      up = m.up;
+    } };
+}
+
+impl Transmit {
+    /// A machine with full credit, on a port whose link is up and that is not active.
+    ///
+    /// `credit_max` is txCreditMax, 1 to 10; `fast_init` is txFastInit, 1 to 8; `reinit` is reinitDelay in seconds, 1
+    /// to 10; `allowed` tells whether the port may transmit from the start.
+    pub fn new(credit_max: u8, fast_init: u8, reinit: u8, allowed: bool) -> Self
+        requires { AreSettings (settings credit_max fast_init reinit allowed) }
+        ensures value { result ≡ opened (settings credit_max fast_init reinit allowed) }
+        ensures stands { Stands (settings credit_max fast_init reinit allowed) [] result }
+    {
+        Transmit {
+            timer: 0,
+            credit_max,
+            fast_init,
+            reinit,
+            credit: credit_max,
+            wait: 0,
+            left: 0,
+            waiting: false,
+            active: false,
+            allowed,
+            up: true,
+        }
+    }
+
+    /// Takes one event, with the tx-interval in force after it (1 to 3600 seconds), and tells which frame goes.
+    ///
+    /// Where nothing changes by a `Stop` or an `Allow`, and for a `Change` or a `Neighbor` on a port that is not
+    /// active, that is none, and for a `Down`, an `Up` or `Nothing` always.
+    pub fn event(&mut self, cause: Cause, interval: u16) -> Mark
+        // What the machine is after the event, and its answer, computed from what it was.
+        ensures next { self.new ≡ (stepped self.old cause interval).0 }
+        ensures answer { result ≡ (stepped self.old cause interval).1 }
+
+        // Whatever the machine stood for, it now stands for that and this event.
+        ensures stands { ForEachHistory self.old (λ s past. Stands s (event cause interval ∷ past) self.new) }
+
+        // The mark is that of the event: Ordinary exactly where a frame is due and its window open, Shutdown exactly at a stop.
+        ensures mark { ForEachHistory self.old (λ s past. result ≡ mark_at s (event cause interval ∷ past)) }
+        ensures ordinary { ForEachHistory self.old (λ s past.
+            (result ≡ Mark.Ordinary) ↔ IsDueAndOpen s past (event cause interval)) }
+        ensures shutdown { ForEachHistory self.old (λ s past.
+            (result ≡ Mark.Shutdown) ↔ StopsAt s past (event cause interval)) }
+
+        // No run of events up to this one has more frames than txCreditMax and the ticks after its first event, or more
+        // stops than one and one for each reinitDelay ticks. No other choice of due and open events has had more frames.
+        ensures bounded { ForEachHistory self.old (λ s past. IsBoundedWith s past (event cause interval) result) }
+        ensures few_stops { ForEachHistory self.old (λ s past. StopsRarelyWith s past (event cause interval) result) }
+        ensures earliest { ForEachHistory self.old (λ s past. IsEarliestWith s past (event cause interval) result) }
+    {
+        self.step(cause, interval)
+    }
+
+    fn step(&mut self, cause: Cause, interval: u16) -> Mark
+        ensures next { self.new ≡ (stepped self.old cause interval).0 }
+        ensures answer { result ≡ (stepped self.old cause interval).1 }
+    {
+        match cause {
+            Cause::Tick => self.tick(interval),
+            Cause::Change if self.active => self.signal(interval),
+            Cause::Neighbor if self.active => {
+                if self.left == 0 {
+                    self.left = self.fast_init;
+                }
+                self.left = self.left.saturating_sub(1);
+                self.signal(interval)
+            }
+            Cause::Stop => self.stop(),
+            Cause::Allow => {
+                self.allowed = true;
+                Mark::Quiet
+            }
+            Cause::Down => {
+                self.up = false;
+                self.active = false;
+                Mark::Quiet
+            }
+            Cause::Up => {
+                self.up = true;
+                Mark::Quiet
+            }
+            Cause::Change | Cause::Neighbor | Cause::Nothing => Mark::Quiet,
+        }
+    }
+
+    fn tick(&mut self, interval: u16) -> Mark
+        ensures next { self.new ≡ (ticked self.old interval).0 }
+        ensures answer { result ≡ (ticked self.old interval).1 }
+    {
+        let timer_ends = self.timer == 1;
+        self.credit = self.credit.saturating_add(1).min(self.credit_max);
+        self.wait = self.wait.saturating_sub(1);
+        self.timer = self.timer.saturating_sub(1);
+        if !self.active {
+            if !self.allowed || !self.up || self.wait > 0 {
+                return Mark::Quiet;
+            }
+            self.active = true;
+            self.left = 0;
+            self.signal(interval)
+        } else if timer_ends {
+            self.left = self.left.saturating_sub(1);
+            self.signal(interval)
+        } else if self.waiting {
+            self.serve()
+        } else {
+            Mark::Quiet
+        }
+    }
+
+    fn stop(&mut self) -> Mark
+        ensures next { self.new ≡ (stopped self.old).0 }
+        ensures answer { result ≡ (stopped self.old).1 }
+    {
+        self.allowed = false;
+        if !self.active {
+            return Mark::Quiet;
+        }
+        self.active = false;
+        self.wait = self.reinit;
+        Mark::Shutdown
+    }
+
+    /// Chooses the distance to the next signal, and wants a frame.
+    fn signal(&mut self, interval: u16) -> Mark
+        ensures next { self.new ≡ (signalled self.old interval).0 }
+        ensures answer { result ≡ (signalled self.old interval).1 }
+    {
+        self.timer = if self.left > 0 { 1 } else { interval };
+        self.serve()
+    }
+
+    /// Sends the wanted frame where credit is left, else it waits.
+    fn serve(&mut self) -> Mark
+        ensures next { self.new ≡ (served self.old).0 }
+        ensures answer { result ≡ (served self.old).1 }
+    {
+        self.waiting = self.credit == 0;
+        if self.waiting {
+            return Mark::Quiet;
+        }
+        self.credit -= 1;
+        Mark::Ordinary
+    }
+
+    /// How many ordinary frames may go before the next tick: at most txCreditMax.
+    pub fn credit(&self) -> u8
+        ensures value { result ≡ self.now.credit }
+        ensures most { self.now.credit ≤ self.now.credit_max }
+        ensures left { ForEachHistory self.now (λ s past. result ≡ credit_left s (moments s past)) }
+        ensures least { ForEachHistory self.now (λ s past. IsLeastRoom s (moments s past) result) }
+    {
+        self.credit
+    }
+
+    /// Whether the port has started, and has neither stopped nor lost its link since.
+    pub fn is_active(&self) -> bool
+        ensures value { result ≡ self.now.active }
+        ensures active { ForEachHistory self.now (λ s past. result ≡ is_active (moments s past)) }
+    {
+        self.active
+    }
+
+    /// Whether the port may transmit: by the last `Stop` or `Allow`, else as it was opened.
+    pub fn is_allowed(&self) -> bool
+        ensures value { result ≡ self.now.allowed }
+        ensures allowed { ForEachHistory self.now (λ s past. result ≡ is_allowed s (moments s past)) }
+    {
+        self.allowed
+    }
+
+    /// Whether the link is up: by the last `Down` or `Up`, else it is.
+    pub fn is_up(&self) -> bool
+        ensures value { result ≡ self.now.up }
+        ensures up { ForEachHistory self.now (λ s past. result ≡ is_up (moments s past)) }
+    {
+        self.up
+    }
+}
