@@ -1,5 +1,5 @@
 -- Which bodies are well formed, type by type (IEEE 802.1AB-2009, 8.5 and 8.6).
-use Rattle.std.specs.Prelude.{ℕ, Bool, true, ◌||◌, length, is_some, nat_le, ◌==◌, if◌then◌else◌}
+use Rattle.std.specs.Prelude.{Bool, true, ◌||◌, length, is_some, nat_le, ◌==◌, if◌then◌else◌}
 use Rattle.lldp_pdu.specs.Tlv.{TlvUnit}
 use Rattle.lldp_pdu.specs.TlvType.{chassis_id_type, port_id_type, time_to_live_type, port_description_type, system_description_type, system_capabilities_type, management_address_type, organizationally_specific_type}
 use Rattle.lldp_pdu.specs.Range.{is_between}

@@ -1,0 +1,13 @@
+pub mod MsapLemmas
+pub mod EventLemmas
+pub mod ExtentLemmas
+pub mod StandingLemmas
+pub mod SoundLemmas
+pub mod LiveLemmas
+pub mod OrderLemmas
+pub mod ListLemmas
+pub mod Rows
+pub mod PlaceLemmas
+pub mod LayoutLemmas
+pub mod AgeLemmas
+pub mod LearnLemmas

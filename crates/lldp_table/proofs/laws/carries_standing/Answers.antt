@@ -1,0 +1,5 @@
+use Rattle.lldp_table.proofs.StandingLemmas.{carries}
+use Rattle.lldp_table.proofs.laws.carries_standing.Goals as goal
+
+pub returns : goal.returns
+returns c = carries

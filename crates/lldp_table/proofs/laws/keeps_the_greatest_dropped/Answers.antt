@@ -1,0 +1,18 @@
+use Rattle.std.proofs.Common.{◌<◌, ◌≤◌, sym, subst}
+use Rattle.lldp_table.specs.Events.{events_of}
+use Rattle.lldp_table.specs.Positions.{WasDropped}
+use Rattle.lldp_table.proofs.OrderLemmas.{greatest_dropped, none_dropped_above}
+use Rattle.lldp_table.proofs.laws.keeps_the_greatest_dropped.Goals as goal
+
+pub returns-clause-one : goal.returns-clause-one
+returns-clause-one c = greatest_dropped
+
+pub returns-clause-most : goal.returns-clause-most
+returns-clause-most c = none_dropped_above
+
+pub returns-clause-one_held : goal.returns-clause-one_held
+returns-clause-one_held c = λ table opened calls h l.
+    subst (WasDropped (events_of opened calls)) (sym h.too_many) (greatest_dropped (events_of opened calls) (subst (λ n. 0 < n) h.too_many l))
+
+pub returns-clause-most_held : goal.returns-clause-most_held
+returns-clause-most_held c = λ table opened calls h left w. subst (λ n. left ≤ n) (sym h.too_many) (none_dropped_above (events_of opened calls) left w)

@@ -1,0 +1,154 @@
+-- The calls that were made on a table, and what they leave live (IEEE 802.1AB-2009, 9.2.7.7). Each list is newest first,
+-- so that what stands behind a call in its list is what came before it.
+use Rattle.std.specs.Prelude.{ℕ, suc, ◌-◌, Bool, true, false, not, ◌&&◌, if◌then◌else◌, nat_lt, max, List, [], ◌∷◌, ◌++◌, length, filter, find, filter_map, Option, Some, None, is_some, option_and_then, count_by, is_none}
+use Rattle.lldp_pdu.specs.Msap.{MsapId}
+use Rattle.lldp_table.specs.Msap.{same_msap}
+use Rattle.lldp_table.specs.declared.learned.Learned.{Learned}
+use Rattle.lldp_table.specs.declared.learned.Learned.TheVariants.{New, Refreshed, Dropped}
+
+-- a call on a table; a learned frame is told by its MSAP identifier, its TTL and its extent
+pub data Call : Type 0 where
+  learn : (msap : MsapId) (ttl : ℕ) (octets : List ℕ) → Call
+  forget : (msap : MsapId) → Call
+  purge : Call
+  tick : Call
+  set_limit : (limit : ℕ) → Call
+
+-- a call that was made: a `learn` with what it answered
+pub data TableEvent : Type 0 where
+  learned : (msap : MsapId) (ttl : ℕ) (octets : List ℕ) (answer : Learned) → TableEvent
+  forgot : (msap : MsapId) → TableEvent
+  purged : TableEvent
+  ticked : TableEvent
+  limit_set : (limit : ℕ) → TableEvent
+
+-- a live neighbor: its name, the octets and the TTL of its last stored frame, and the ticks that are left of it
+pub record Neighbor : Type 0 where
+  pub msap : MsapId
+  pub octets : List ℕ
+  pub ttl : ℕ
+  pub left : ℕ
+
+-- ## Last events, and ticks since
+
+abbrev pub is_tick : TableEvent → Bool
+is_tick ticked = true
+is_tick (learned msap ttl octets answer) = false
+is_tick (forgot msap) = false
+is_tick purged = false
+is_tick (limit_set limit) = false
+
+abbrev pub is_purge : TableEvent → Bool
+is_purge purged = true
+is_purge (learned msap ttl octets answer) = false
+is_purge (forgot msap) = false
+is_purge ticked = false
+is_purge (limit_set limit) = false
+
+-- new and refreshed frames are stored, dropped ones aren't
+abbrev pub is_stored : Learned → Bool
+is_stored New = true
+is_stored Refreshed = true
+is_stored Dropped = false
+
+-- how many ticks came
+abbrev pub ticks : List TableEvent → ℕ
+ticks [] = 0
+ticks (event ∷ past) = if is_tick event then suc (ticks past) else ticks past
+
+-- the events after the last one that passes the test
+abbrev pub since : (TableEvent → Bool) → List TableEvent → List TableEvent
+since test [] = []
+since test (event ∷ past) = if test event then [] else event ∷ since test past
+
+-- the event stored a frame of this name, forgot the name or purged the table
+abbrev pub decides_on : MsapId → TableEvent → Bool
+decides_on name (learned other ttl octets answer) = is_stored answer && same_msap other name
+decides_on name (forgot other) = same_msap other name
+decides_on name purged = true
+decides_on name ticked = false
+decides_on name (limit_set limit) = false
+
+-- ## Who is live
+
+-- what is live of a name whose last deciding event is this one, n ticks ago
+abbrev pub live_after : ℕ → TableEvent → Option Neighbor
+live_after n (learned msap ttl octets answer) = if nat_lt n ttl then Some (record { msap = msap; octets = octets; ttl = ttl; left = ttl - n }) else None
+live_after n (forgot msap) = None
+live_after n purged = None
+live_after n ticked = None
+live_after n (limit_set limit) = None
+
+-- The neighbor of this name, if it is live: of the events that stored it, forgot it or purged the table the last one
+-- stored it, and fewer ticks than its TTL came since.
+unfoldable pub live : MsapId → List TableEvent → Option Neighbor
+live name events = option_and_then (live_after (ticks (since (decides_on name) events))) (find (decides_on name) events)
+
+-- an event's name comes last where it is new
+abbrev pub arrive : TableEvent → List MsapId → List MsapId
+arrive (learned name ttl octets New) names = filter (λ other. not (same_msap name other)) names ++ name ∷ []
+arrive (learned name ttl octets Refreshed) names = names
+arrive (learned name ttl octets Dropped) names = names
+arrive (forgot name) names = names
+arrive purged names = names
+arrive ticked names = names
+arrive (limit_set limit) names = names
+
+-- the names that were ever new, each once, in the order of the events at which each was last new
+abbrev pub arrivals : List TableEvent → List MsapId
+arrivals [] = []
+arrivals (event ∷ past) = arrive event (arrivals past)
+
+-- the live neighbors, in the order in which each was last new
+unfoldable pub neighbors : List TableEvent → List Neighbor
+neighbors events = filter_map (λ name. live name events) (arrivals events)
+
+-- ## What is stored
+
+-- the limit after these events: the last one that was set, or that of opening
+abbrev pub limit_after : ℕ → List TableEvent → ℕ
+limit_after opened [] = opened
+limit_after opened (limit_set limit ∷ past) = limit
+limit_after opened (learned msap ttl octets answer ∷ past) = limit_after opened past
+limit_after opened (forgot msap ∷ past) = limit_after opened past
+limit_after opened (purged ∷ past) = limit_after opened past
+limit_after opened (ticked ∷ past) = limit_after opened past
+
+-- What a `learn` of this name answers. A live name is refreshed, whether or not there is room. Another name is new
+-- where fewer neighbors than the limit in force are live, else its frame is dropped.
+abbrev pub answer : ℕ → MsapId → List TableEvent → Learned
+answer opened name past = if is_some (live name past) then Refreshed else (if nat_lt (length (neighbors past)) (limit_after opened past) then New else Dropped)
+
+-- a call after these events
+abbrev pub event_of : ℕ → Call → List TableEvent → TableEvent
+event_of opened (learn msap ttl octets) past = learned msap ttl octets (answer opened msap past)
+event_of opened (forget msap) past = forgot msap
+event_of opened purge past = purged
+event_of opened tick past = ticked
+event_of opened (set_limit limit) past = limit_set limit
+
+-- the calls with what they answered, on a table that was opened with this limit
+unfoldable pub events_of : ℕ → List Call → List TableEvent
+events_of opened [] = []
+events_of opened (call ∷ calls) = let past = events_of opened calls in event_of opened call past ∷ past
+
+-- how many names that are live after these events are no longer live one tick later
+abbrev pub aged_out : List TableEvent → ℕ
+aged_out past = count_by (λ (neighbor : Neighbor). is_none (live neighbor.msap (ticked ∷ past))) (neighbors past)
+
+-- ## Too many neighbors
+
+-- the most ticks that a dropped one of these frames has left, n ticks after the last event
+abbrev pub most_left : ℕ → List TableEvent → ℕ
+most_left n [] = 0
+most_left n (learned msap ttl octets New ∷ past) = most_left n past
+most_left n (learned msap ttl octets Refreshed ∷ past) = most_left n past
+most_left n (learned msap ttl octets Dropped ∷ past) = max (ttl - n) (most_left n past)
+most_left n (forgot msap ∷ past) = most_left n past
+most_left n (purged ∷ past) = most_left n past
+most_left n (ticked ∷ past) = most_left (suc n) past
+most_left n (limit_set limit ∷ past) = most_left n past
+
+-- The most ticks that a frame dropped since the last purge has left. There are too many neighbors while it isn't 0.
+unfoldable pub too_many_left : List TableEvent → ℕ
+too_many_left events = most_left 0 (since is_purge events)

@@ -1,0 +1,20 @@
+//! The neighbor table of one port (IEEE 802.1AB-2009, clause 9).
+#![tactic(auto)]
+
+mod entry;
+mod laws;
+mod learned;
+mod places;
+mod slot;
+mod table;
+
+pub use entry::Entry;
+pub use laws::{
+    answers_by_what_is_live, carries_standing, holds_last_stored_frames,
+    keeps_the_greatest_dropped, lists_leave_last_stored_frames,
+};
+pub use learned::Learned;
+pub use table::Table;
+
+#[cfg(test)]
+mod tests;

@@ -1,0 +1,203 @@
+//! Worked examples of calls. The frames A to D differ in their port and their time to live.
+ghost use Rattle.std.specs.Prelude.{◌≤◌, length};
+
+use super::*;
+use linked_list_allocator::LocalHeap;
+use lldp_pdu::{Examined, Info, examine};
+use std::alloc::Allocator;
+use std::process::Abort;
+use std::test::Fail;
+
+/// A Chassis ID with the MAC 00:11:22:33:44:55, a Port ID with the interface name `eth` and this octet, a TTL and an End.
+fn lldpdu(port: u8, ttl: u8) -> [u8; 22] {
+    [
+        0x02, 0x07, 0x04, 0x00, 0x11, 0x22, 0x33, 0x44, 0x55, 0x04, 0x05, 0x05, b'e', b't', b'h',
+        port, 0x06, 0x02, 0x00, ttl, 0x00, 0x00,
+    ]
+}
+
+fn told<'a>(rt: &impl Abort, pdu: &'a [u8]) -> Info<'a>
+    requires { length pdu.now ≤ 1500 }
+    ensures { length result.octets ≤ 1500 }
+{
+    match examine(pdu) {
+        Ok(Examined::Info(info)) => info,
+        Ok(Examined::Shutdown(_)) => panic!(rt; "a shutdown"),
+        Err(_) => panic!(rt; "a fault"),
+    }
+}
+
+/// The neighbor at place `i` has this frame, with so many ticks left.
+fn expect_entry<A: Allocator>(rt: &impl Abort, table: &Table<A>, i: u8, pdu: &[u8; 22], left: u16) {
+    assert!(rt; i < table.len());
+    let entry = table.entry(i);
+    assert_eq!(rt; entry.octets(), &pdu[..20]);
+    assert_eq!(rt; entry.msap().chassis, &pdu[2..9]);
+    assert_eq!(rt; entry.msap().port, &pdu[11..16]);
+    assert_eq!(rt; entry.ttl(), u16::from(pdu[19]));
+    assert_eq!(rt; entry.left(), left);
+    assert!(rt; entry.kept().next().is_none());
+}
+
+#[test]
+fn table_of_one(rt: HostRuntime) -> Result<(), Fail> {
+    let (a, b) = (lldpdu(b'0', 120), lldpdu(b'1', 120));
+    let mut table = Table::open(rt.alloc(), 1)?;
+    assert_eq!(rt; (table.len(), table.limit(), table.capacity()), (0, 1, 1));
+    assert_eq!(rt; table.learn(&told(&rt, &a)), Learned::New);
+    assert_eq!(rt; table.learn(&told(&rt, &b)), Learned::Dropped);
+    assert!(rt; table.too_many());
+    assert_eq!(rt; table.learn(&told(&rt, &a)), Learned::Refreshed);
+    expect_entry(&rt, &table, 0, &a, 120);
+    table.purge();
+    assert_eq!(rt;
+        (table.len(), table.octets(), table.too_many()),
+        (0, 0, false)
+    );
+    assert_eq!(rt; table.learn(&told(&rt, &b)), Learned::New);
+    expect_entry(&rt, &table, 0, &b, 120);
+    assert!(rt; !table.forget(&told(&rt, &a).msap()));
+    assert!(rt; table.forget(&told(&rt, &b).msap()));
+    assert!(rt; !table.forget(&told(&rt, &b).msap()));
+    assert_eq!(rt; table.tick(), 0);
+    Ok(())
+}
+
+#[test]
+fn full_table(rt: HostRuntime) -> Result<(), Fail> {
+    let (a, b) = (lldpdu(b'0', 120), lldpdu(b'1', 120));
+    let mut table = Table::open(rt.alloc(), 2)?;
+    assert_eq!(rt; table.learn(&told(&rt, &a)), Learned::New);
+    assert_eq!(rt; table.learn(&told(&rt, &b)), Learned::New);
+    assert_eq!(rt; table.learn(&told(&rt, &lldpdu(b'2', 9))), Learned::Dropped);
+    assert_eq!(rt; table.learn(&told(&rt, &lldpdu(b'3', 5))), Learned::Dropped);
+    assert_eq!(rt; table.learn(&told(&rt, &a)), Learned::Refreshed);
+    for _ in 0..8 {
+        assert_eq!(rt; table.tick(), 0);
+    }
+    assert_eq!(rt;
+        (table.len(), table.octets(), table.too_many()),
+        (2, 40, true)
+    );
+    expect_entry(&rt, &table, 0, &a, 112);
+    expect_entry(&rt, &table, 1, &b, 112);
+    assert_eq!(rt; table.tick(), 0);
+    assert_eq!(rt;
+        (table.len(), table.octets(), table.too_many()),
+        (2, 40, false)
+    );
+    expect_entry(&rt, &table, 0, &a, 111);
+    expect_entry(&rt, &table, 1, &b, 111);
+    Ok(())
+}
+
+#[test]
+fn refresh_to_an_earlier_expiry(rt: HostRuntime) -> Result<(), Fail> {
+    let (a, c, d) = (lldpdu(b'0', 120), lldpdu(b'2', 9), lldpdu(b'3', 5));
+    let mut table = Table::open(rt.alloc(), 3)?;
+    assert_eq!(rt; table.learn(&told(&rt, &a)), Learned::New);
+    assert_eq!(rt; table.learn(&told(&rt, &c)), Learned::New);
+    assert_eq!(rt; table.learn(&told(&rt, &d)), Learned::New);
+    assert_eq!(rt;
+        table.learn(&told(&rt, &lldpdu(b'0', 1))),
+        Learned::Refreshed
+    );
+    expect_entry(&rt, &table, 0, &lldpdu(b'0', 1), 1);
+    assert_eq!(rt; table.tick(), 1);
+    assert_eq!(rt; table.len(), 2);
+    expect_entry(&rt, &table, 0, &c, 8);
+    expect_entry(&rt, &table, 1, &d, 4);
+    for gone in [0, 0, 0, 1] {
+        assert_eq!(rt; table.tick(), gone);
+    }
+    assert_eq!(rt; table.learn(&told(&rt, &a)), Learned::New);
+    assert_eq!(rt; table.len(), 2);
+    expect_entry(&rt, &table, 0, &c, 4);
+    expect_entry(&rt, &table, 1, &a, 120);
+    Ok(())
+}
+
+#[test]
+fn equal_expiries(rt: HostRuntime) -> Result<(), Fail> {
+    let (a, b) = (lldpdu(b'0', 120), lldpdu(b'1', 120));
+    let mut table = Table::open(rt.alloc(), 2)?;
+    assert_eq!(rt; table.learn(&told(&rt, &a)), Learned::New);
+    assert_eq!(rt; table.learn(&told(&rt, &b)), Learned::New);
+    for _ in 0..119 {
+        assert_eq!(rt; table.tick(), 0);
+    }
+    expect_entry(&rt, &table, 0, &a, 1);
+    expect_entry(&rt, &table, 1, &b, 1);
+    assert_eq!(rt; table.tick(), 2);
+    assert_eq!(rt; table.len(), 0);
+    Ok(())
+}
+
+#[test]
+fn lower_limit(rt: HostRuntime) -> Result<(), Fail> {
+    let (a, b, c) = (lldpdu(b'0', 120), lldpdu(b'1', 120), lldpdu(b'2', 9));
+    let mut table = Table::open(rt.alloc(), 3)?;
+    assert_eq!(rt; table.learn(&told(&rt, &a)), Learned::New);
+    assert_eq!(rt; table.learn(&told(&rt, &b)), Learned::New);
+    assert!(rt; table.len() <= 2 && table.capacity() == 3);
+    table.set_limit(2);
+    assert_eq!(rt; table.learn(&told(&rt, &c)), Learned::Dropped);
+    assert_eq!(rt;
+        (table.len(), table.octets(), table.too_many()),
+        (2, 40, true)
+    );
+    expect_entry(&rt, &table, 0, &a, 120);
+    expect_entry(&rt, &table, 1, &b, 120);
+    assert!(rt; table.len() <= 3 && table.capacity() == 3);
+    table.set_limit(3);
+    assert_eq!(rt; table.learn(&told(&rt, &c)), Learned::New);
+    assert_eq!(rt;
+        (table.len(), table.octets(), table.too_many()),
+        (3, 60, true)
+    );
+    expect_entry(&rt, &table, 0, &a, 120);
+    expect_entry(&rt, &table, 1, &b, 120);
+    expect_entry(&rt, &table, 2, &c, 9);
+    assert_eq!(rt; (table.limit(), table.capacity()), (3, 3));
+    Ok(())
+}
+
+/// A System Name `sw2`, and a System Name behind it that is not kept.
+#[test]
+fn kept_tlvs(rt: HostRuntime) -> Result<(), Fail> {
+    let pdu = [
+        0x02, 0x07, 0x04, 0x00, 0x11, 0x22, 0x33, 0x44, 0x55, 0x04, 0x05, 0x05, b'e', b't', b'h',
+        b'0', 0x06, 0x02, 0x00, 0x78, 0x0a, 0x03, b's', b'w', b'2', 0x0a, 0x01, b'x', 0x00, 0x00,
+    ];
+    let mut table = Table::open(rt.alloc(), 1)?;
+    assert_eq!(rt; table.learn(&told(&rt, &pdu)), Learned::New);
+    assert!(rt; 0 < table.len());
+    let mut kept = table.entry(0).kept();
+    let name = kept.next().ok_or("no name")?;
+    assert_eq!(rt; (name.kind, name.body), (5, b"sw2".as_slice()));
+    assert!(rt; kept.next().is_none());
+    assert_eq!(rt; table.octets(), 28);
+    Ok(())
+}
+
+/// The one allocation is for all neighbors, and is refused where there is less room.
+#[test]
+fn memory(rt: HostRuntime) -> Result<(), Fail> {
+    let a = lldpdu(b'0', 120);
+    for limit in [1u8, 32, 128] {
+        let scarce = LocalHeap::new(rt.alloc(), usize::from(limit) * 1500)?;
+        assert!(rt; Table::open(&scarce, limit).is_err());
+        assert_eq!(rt; scarce.used(), 0);
+        let ample = LocalHeap::new(rt.alloc(), usize::from(limit) * 1600)?;
+        let mut table = Table::open(&ample, limit)?;
+        let used = ample.used();
+        assert!(rt; used >= usize::from(limit) * 1500);
+        assert_eq!(rt; table.learn(&told(&rt, &a)), Learned::New);
+        assert_eq!(rt; table.learn(&told(&rt, &a)), Learned::Refreshed);
+        assert_eq!(rt; table.tick(), 0);
+        assert!(rt; table.forget(&told(&rt, &a).msap()));
+        table.purge();
+        assert_eq!(rt; ample.used(), used);
+    }
+    Ok(())
+}
