@@ -1,0 +1,14 @@
+-- Where a complete form stands among the forms is of no matter to a further word.
+use Rattle.std.proofs.Common.{◌≡◌, ℕ, List, [], ◌∷◌, ◌++◌, Result, Ok, Err, refl, ap}
+use Rattle.lldp_engine.specs.declared.fault.CommandFault.{CommandFault}
+use Rattle.lldp_engine.specs.declared.fault.CommandFault.TheVariants.{Extra}
+use Rattle.lldp_engine.specs.Request.{Request}
+use Rattle.lldp_engine.specs.Forms.{Form, complete, after_word, and_form, going_on}
+
+extra_yields : (others : Result (List Form) CommandFault) → and_form (Err Extra) others ≡ others
+extra_yields (Ok left) = refl
+extra_yields (Err fault) = refl
+
+pub going_on-complete : (before after : List Form) (request : Request) (w : List ℕ) → going_on (before ++ complete request ∷ after) w ≡ going_on (before ++ after) w
+going_on-complete [] after request w = extra_yields (going_on after w)
+going_on-complete (form ∷ before) after request w = ap (and_form (after_word form w)) (going_on-complete before after request w)

@@ -1,0 +1,64 @@
+-- No show has more than 6,127,808 lines.
+use Rattle.std.proofs.Common.{◌≡◌, ℕ, ◌+◌, ◌*◌, ◌<◌, ◌≤◌, List, [], ◌∷◌, length, map, Option, Some, None, IsSome, sym, arith}
+use Rattle.std.specs.Prelude.{slice_get}
+use Rattle.std.specs.Option.{option_map}
+use Rattle.std.specs.List.{AllByRecursion}
+use Rattle.std.proofs.lemmas.List.{length-append, length-map}
+use Rattle.std.proofs.lemmas.Option.{slice_get_within}
+use Rattle.arrayvec.specs.ArrayVec.{ArrayVec}
+use Rattle.lldp_pdu.specs.Kept.{kept_of}
+use Rattle.lldp_table.specs.Events.{Neighbor}
+use Rattle.lldp_table.specs.Contents.{IsHeld, IsSound}
+use Rattle.lldp_table.proofs.ExtentLemmas.{kept_is_short}
+use Rattle.lldp_engine.specs.Seen.{SeenPort, Seen}
+use Rattle.lldp_engine.specs.NeighborLines.{kept_line, neighbor_lines, numbered_lines, port_lines, neighbors_lines}
+use Rattle.lldp_engine.specs.StatisticsLines.{counter_lines, statistics_lines}
+use Rattle.lldp_engine.specs.Lines.{lines_of, octets_of}
+use Rattle.lldp_engine.specs.declared.command.Show.{Show}
+use Rattle.lldp_engine.specs.declared.command.Show.TheVariants.{Neighbors, Statistics}
+use Rattle.lldp_engine.specs.declared.lines.TheConstants.{MOST_LINES}
+
+-- of a neighbor: 4, and at most (1500 - 12) / 2
+few_of_neighbor : (name : List ℕ) (number : ℕ) (neighbor : Neighbor) → IsHeld neighbor → length (neighbor_lines name number neighbor) ≤ 748
+few_of_neighbor name number neighbor h =
+    let kept = kept_of neighbor.octets in
+    let short = kept_is_short neighbor h in
+    let count : length (map (kept_line name number) kept) ≡ length kept = length-map kept (kept_line name number) in
+    omega (arith, count, short, h.told.short)
+
+few_of_neighbors : (name : List ℕ) (number : ℕ) (neighbors : List Neighbor) → AllByRecursion IsHeld neighbors → length (numbered_lines name number neighbors) ≤ 748 * length neighbors
+few_of_neighbors name number [] h = omega arith
+few_of_neighbors name number (neighbor ∷ others) h =
+    let first = few_of_neighbor name number neighbor h.0 in
+    let rest = few_of_neighbors name (number + 1) others h.1 in
+    let sum = length-append (neighbor_lines name number neighbor) (numbered_lines name (number + 1) others) in
+    omega (arith, first, rest, sum)
+
+few_of_port : (port : SeenPort) → IsSound port.table → length (port_lines port) ≤ 3 + 128 * 748
+few_of_port port h =
+    let all = few_of_neighbors port.name 1 port.table.neighbors h.held in
+    omega (arith, all, h.few, h.room, h.most)
+
+few_of_ports : (ports : List SeenPort) → AllByRecursion (λ port. IsSound port.table) ports → length (neighbors_lines ports) ≤ (3 + 128 * 748) * length ports
+few_of_ports [] h = omega arith
+few_of_ports (port ∷ ports) h =
+    let first = few_of_port port h.0 in
+    let rest = few_of_ports ports h.1 in
+    let sum = length-append (port_lines port) (neighbors_lines ports) in
+    omega (arith, first, rest, sum)
+
+few_of_counters : (ports : List SeenPort) → length (statistics_lines ports) ≤ 9 * length ports
+few_of_counters [] = omega arith
+few_of_counters (port ∷ ports) =
+    let rest = few_of_counters ports in
+    let sum = length-append (counter_lines port) (statistics_lines ports) in
+    omega (arith, rest, sum)
+
+pub few_lines : (show : Show) (seen : Seen) → length seen.ports ≤ 64 → AllByRecursion (λ port. IsSound port.table) seen.ports → length (lines_of show seen) ≤ MOST_LINES
+few_lines Neighbors seen few sound = let all = few_of_ports seen.ports sound in omega (arith, all, few)
+few_lines Statistics seen few sound = let all = few_of_counters seen.ports in omega (arith, all, few)
+
+-- a line that is there has a place below the number of lines
+pub within : (given : Option (ArrayVec ℕ)) (lines : List (List ℕ)) (i most : ℕ) → option_map octets_of given ≡ slice_get lines i → length lines ≤ most → IsSome given → i < most
+within None lines i most e few some = cc
+within (Some line) lines i most e few some = let lt : i < length lines = slice_get_within lines i (octets_of line) (sym e) in omega (arith, lt, few)

@@ -1,0 +1,67 @@
+-- An agent that was just opened stands for the options and no events.
+use Rattle.std.proofs.Common.{◌≡◌, ℕ, zero, suc, ◌+◌, ◌<◌, ◌≤◌, Bool, true, false, ◌&&◌, List, [], ◌∷◌, ◌++◌, length, get_or, take, drop, map, Bor, refl, ap, sym, ◌∙◌, arith}
+use Rattle.std.specs.List.{list_all}
+use Rattle.std.proofs.lemmas.Bool.Decides.{nat_tests}
+use Rattle.lldp_table.specs.Contents.{newly_opened}
+use Rattle.lldp_table.specs.Events.{events_of}
+use Rattle.lldp_table.specs.Standing.{table_of}
+use Rattle.lldp_table.proofs.StandingLemmas.{stands_open, stands_is}
+use Rattle.lldp_engine.specs.Options.{Options, InRange, is_port_name}
+use Rattle.lldp_engine.specs.Status.{status_at_opening}
+use Rattle.lldp_engine.specs.Counters.{counters_of}
+use Rattle.lldp_engine.specs.Seen.{Seen, SeenPort}
+use Rattle.lldp_engine.specs.AgentState.{AgentState}
+use Rattle.lldp_engine.specs.Past.{opened, port_after, ports_after, seen_after}
+use Rattle.lldp_engine.specs.Standing.{Stands}
+use Rattle.lldp_engine.specs.Step.{opened_port, none_counted}
+use Rattle.lldp_engine.proofs.CounterLemmas.{counted_none}
+
+no_events : (limit : ℕ) → events_of limit [] ≡ []
+unfolding events_of
+no_events limit = refl
+
+port_opened : (o : Options) (i : ℕ) (name : List ℕ) → InRange o → opened_port (status_at_opening o) o.max_neighbors name ≡ port_after o [] i name
+unfolding port_after
+port_opened o i name r =
+    let table : newly_opened o.max_neighbors ≡ table_of o.max_neighbors [] = stands_is _ o.max_neighbors [] (stands_open o.max_neighbors (omega (arith, r.neighbors)) (omega (arith, r.neighbors))) in
+    let counters : none_counted ≡ counters_of [] (events_of o.max_neighbors []) = sym counted_none ∙ ap (counters_of []) (sym (no_events o.max_neighbors)) in
+    cc
+
+ports_opened : (o : Options) (i : ℕ) (names : List (List ℕ)) → InRange o → map (opened_port (status_at_opening o) o.max_neighbors) names ≡ ports_after o [] i names
+ports_opened o i [] r = refl
+ports_opened o i (name ∷ names) r =
+    let one = port_opened o i name r in
+    let others = ports_opened o (i + 1) names r in
+    cc
+
+pub opened_stands : (o : Options) (agent : AgentState) → InRange o → agent.ports ≡ map (opened_port (status_at_opening o) o.max_neighbors) o.names → Stands (opened o) agent
+unfolding seen_after
+opened_stands o agent r h =
+    record { in_range = r; allowed = tt; seen = ap (λ (ps : List SeenPort). let s : Seen = record { ports = ps } in s) (h ∙ ports_opened o 0 o.names r) }
+
+-- ## One name after another
+
+short_name : (name : List ℕ) → is_port_name name ≡ true → length name ≤ 15
+short_name name h = grind (arith, nat_tests)
+
+both : (a b : Bool) → (a && b) ≡ true → (a ≡ true) × (b ≡ true)
+both true b h = (refl, h)
+both false b h = absurd cc
+
+-- the next name is one, and so are those behind it
+pub next_named : (names : List (Bor (List ℕ))) (i : ℕ) (none : Bor (List ℕ)) → i < length names → list_all is_port_name (map (λ n. n.now) (drop i names)) ≡ true
+    → (length (get_or names i none).now ≤ 15) × (list_all is_port_name (map (λ n. n.now) (drop (suc i) names)) ≡ true)
+next_named [] i none lt h = absurd (omega arith)
+next_named (n ∷ ns) zero none lt h = let b = both (is_port_name n.now) (list_all is_port_name (map (λ m. m.now) ns)) h in (short_name n.now b.0, b.1)
+next_named (n ∷ ns) (suc i) none lt h = next_named ns i none (omega arith) h
+
+next_taken : (f : List ℕ → SeenPort) (names : List (Bor (List ℕ))) (i : ℕ) (none : Bor (List ℕ)) → i < length names
+    → map f (map (λ n. n.now) (take i names)) ++ f (get_or names i none).now ∷ [] ≡ map f (map (λ n. n.now) (take (suc i) names))
+next_taken f [] i none lt = absurd (omega arith)
+next_taken f (n ∷ ns) zero none lt = refl
+next_taken f (n ∷ ns) (suc i) none lt = ap (λ (ps : List SeenPort). f n.now ∷ ps) (next_taken f ns i none (omega arith))
+
+-- its port is the next one
+pub next_port : (f : List ℕ → SeenPort) (names : List (Bor (List ℕ))) (i : ℕ) (none : Bor (List ℕ)) (before after : List SeenPort) (port : SeenPort) (name : List ℕ) → i < length names
+    → before ≡ map f (map (λ n. n.now) (take i names)) → name ≡ (get_or names i none).now → port ≡ f name → after ≡ before ++ port ∷ [] → after ≡ map f (map (λ n. n.now) (take (suc i) names))
+next_port f names i none before after port name lt b n p a = rw (a, b, p, n) (next_taken f names i none lt)

@@ -1,0 +1,77 @@
+-- The counters of a port (IEEE 802.1AB-2009, 9.2.6), each modulo 2^32.
+use Rattle.std.specs.Prelude.{ℕ, ◌+◌, ◌%◌, ◌^◌, Bool, true, false, nat_lt, if◌then◌else◌, List, [], ◌∷◌, length, filter}
+use Rattle.lldp_table.specs.Events.{TableEvent, learned, forgot, purged, ticked, limit_set, is_tick, aged_out}
+use Rattle.lldp_table.specs.declared.learned.Learned.TheVariants.{New, Refreshed, Dropped}
+use Rattle.lldp_engine.specs.declared.counters.Counters.{Counters}
+use Rattle.lldp_engine.specs.Heard.{Heard, refused, leaves, tells}
+
+abbrev pub wrapped : ℕ → ℕ
+wrapped n = n % 2 ^ 32
+
+-- how many pass the test
+abbrev pub how_many : {X : Type 0} → (X → Bool) → List X → ℕ
+how_many test xs = length (filter test xs)
+
+-- the numbers of all of them, added
+abbrev pub total : {X : Type 0} → (X → ℕ) → List X → ℕ
+total number [] = 0
+total number (x ∷ xs) = number x + total number xs
+
+-- ## Of one LLDPDU
+
+abbrev pub is_refused : Heard → Bool
+is_refused refused = true
+is_refused (leaves msap) = false
+is_refused (tells info) = false
+
+-- how many of its TLVs were discarded, where it tells of a neighbor that lives
+abbrev pub discarded_tlvs : Heard → ℕ
+discarded_tlvs refused = 0
+discarded_tlvs (leaves msap) = 0
+discarded_tlvs (tells info) = info.discarded
+
+-- how many of its kept TLVs are unrecognized
+abbrev pub unrecognized_tlvs : Heard → ℕ
+unrecognized_tlvs refused = 0
+unrecognized_tlvs (leaves msap) = 0
+unrecognized_tlvs (tells info) = info.unrecognized
+
+-- it was refused, or at least one of its TLVs was discarded
+abbrev pub is_error : Heard → Bool
+is_error refused = true
+is_error (leaves msap) = false
+is_error (tells info) = nat_lt 0 info.discarded
+
+-- ## Of one table event
+
+-- a frame that was dropped for want of room
+abbrev pub is_dropped : TableEvent → Bool
+is_dropped (learned msap ttl octets New) = false
+is_dropped (learned msap ttl octets Refreshed) = false
+is_dropped (learned msap ttl octets Dropped) = true
+is_dropped (forgot msap) = false
+is_dropped purged = false
+is_dropped ticked = false
+is_dropped (limit_set limit) = false
+
+-- at each tick, how many neighbors were live before it and are not after it
+abbrev pub all_aged_out : List TableEvent → ℕ
+all_aged_out [] = 0
+all_aged_out (event ∷ past) = (if is_tick event then aged_out past else 0) + all_aged_out past
+
+-- ## Of a port
+
+-- the counters of a port that heard these LLDPDUs and whose table has these events behind it; it has sent nothing
+unfoldable pub counters_of : List Heard → List TableEvent → Counters
+counters_of heard events =
+    record {
+      sent = 0;
+      shutdowns = 0;
+      received = wrapped (length heard);
+      discarded = wrapped (how_many is_refused heard);
+      errors = wrapped (how_many is_error heard);
+      tlvs_discarded = wrapped (total discarded_tlvs heard);
+      unrecognized = wrapped (total unrecognized_tlvs heard);
+      ageouts = wrapped (all_aged_out events);
+      drops = wrapped (how_many is_dropped events);
+    }

@@ -1,0 +1,50 @@
+-- The lines of `show neighbors`.
+use Rattle.std.specs.Prelude.{ℕ, ◌+◌, nat_lt, if◌then◌else◌, Bool, List, [], ◌∷◌, ◌++◌, length, map, codes, decimal, sum_by}
+use Rattle.std.specs.List.{flat_map}
+use Rattle.lldp_pdu.specs.Tlv.{TlvUnit}
+use Rattle.lldp_pdu.specs.Kept.{kept_of}
+use Rattle.lldp_table.specs.Events.{Neighbor}
+use Rattle.lldp_engine.specs.Seen.{SeenPort}
+use Rattle.lldp_engine.specs.Keys.{port_key, neighbor_key}
+use Rattle.lldp_engine.specs.Identifier.{chassis_text, port_text}
+use Rattle.lldp_engine.specs.KeptTlv.{tlv_text}
+
+-- the first four lines of a neighbor
+abbrev pub identity_lines : List ℕ → ℕ → Neighbor → List (List ℕ)
+identity_lines name number neighbor =
+    (neighbor_key name number ++ (codes "chassis." ++ chassis_text neighbor.msap.chassis))
+    ∷ (neighbor_key name number ++ (codes "port." ++ port_text neighbor.msap.port))
+    ∷ (neighbor_key name number ++ (codes "ttl=" ++ decimal neighbor.ttl))
+    ∷ (neighbor_key name number ++ (codes "expires=" ++ decimal neighbor.left)) ∷ []
+
+-- the line of a kept TLV
+abbrev pub kept_line : List ℕ → ℕ → TlvUnit → List ℕ
+kept_line name number tlv = neighbor_key name number ++ tlv_text tlv
+
+-- The lines of a neighbor: the first four, and one for each kept TLV.
+abbrev pub neighbor_lines : List ℕ → ℕ → Neighbor → List (List ℕ)
+neighbor_lines name number neighbor = identity_lines name number neighbor ++ map (kept_line name number) (kept_of neighbor.octets)
+
+-- the lines of these neighbors, the first of which has this number
+abbrev pub numbered_lines : List ℕ → ℕ → List Neighbor → List (List ℕ)
+numbered_lines name number [] = []
+numbered_lines name number (neighbor ∷ others) = neighbor_lines name number neighbor ++ numbered_lines name (number + 1) others
+
+abbrev pub yes_or_no : Bool → List ℕ
+yes_or_no condition = if condition then codes "yes" else codes "no"
+
+-- The first three lines of a port: how many neighbors it holds, the sum of their stored octets, and whether there are
+-- too many, which is while the timer of that condition is not 0.
+abbrev pub count_lines : SeenPort → List (List ℕ)
+count_lines port =
+    (port_key port.name ++ (codes "neighbors=" ++ decimal (length port.table.neighbors)))
+    ∷ (port_key port.name ++ (codes "octets=" ++ decimal (sum_by (λ neighbor. length neighbor.octets) port.table.neighbors)))
+    ∷ (port_key port.name ++ (codes "too-many=" ++ yes_or_no (nat_lt 0 port.table.too_many_left))) ∷ []
+
+-- The lines of a port: the first three, and those of its neighbors in the order of the table, numbered from 1.
+abbrev pub port_lines : SeenPort → List (List ℕ)
+port_lines port = count_lines port ++ numbered_lines port.name 1 port.table.neighbors
+
+-- Those of each port, in the order of opening.
+abbrev pub neighbors_lines : List SeenPort → List (List ℕ)
+neighbors_lines ports = flat_map port_lines ports

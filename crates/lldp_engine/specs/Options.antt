@@ -1,0 +1,78 @@
+-- What an agent is opened with, as plain data, and which options are refused.
+use Rattle.std.specs.Prelude.{◌≡◌, ℕ, ◌≤◌, ◌==◌, ◌&&◌, ◌||◌, not, nat_le, nat_lt, Bool, false, if◌then◌else◌, List, [], ◌∷◌, length, map, Option, Some, None}
+use Rattle.std.specs.List.{list_any, list_all}
+use Rattle.std.specs.Str.{bytes_eq}
+use Rattle.lldp_engine.specs.declared.options.Options.{Options as CodeOptions}
+use Rattle.lldp_engine.specs.declared.options.Role.{Role}
+use Rattle.lldp_engine.specs.declared.open.OpenFault.{OpenFault}
+use Rattle.lldp_engine.specs.declared.open.OpenFault.TheVariants.{Memory, NoPorts, TooManyPorts, PortName, SamePort, Text}
+
+pub record Options : Type 0 where
+  pub names : List (List ℕ)
+  pub mac : List ℕ
+  pub hostname : List ℕ
+  pub management : Option (List ℕ)
+  pub role : Role
+  pub max_neighbors : ℕ
+  pub credit_max : ℕ
+  pub fast_init : ℕ
+  pub reinit : ℕ
+  pub receive_only : Bool
+
+abbrev pub options_of : CodeOptions → Options
+options_of o =
+    record {
+      names = map (λ name. name.now) o.ports.now;
+      mac = o.mac;
+      hostname = o.hostname.now;
+      management = o.management;
+      role = o.role;
+      max_neighbors = o.max_neighbors;
+      credit_max = o.credit_max;
+      fast_init = o.fast_init;
+      reinit = o.reinit;
+      receive_only = o.receive_only;
+    }
+
+-- the four numbers are in their ranges
+pub record InRange (o : Options) : Type 0 where
+  pub neighbors : (1 ≤ o.max_neighbors) × (o.max_neighbors ≤ 128)
+  pub credit : (1 ≤ o.credit_max) × (o.credit_max ≤ 10)
+  pub fast : (1 ≤ o.fast_init) × (o.fast_init ≤ 8)
+  pub wait : (1 ≤ o.reinit) × (o.reinit ≤ 10)
+
+-- a letter, a digit, `-`, `_`, `/` or `:`
+abbrev pub is_name_octet : ℕ → Bool
+is_name_octet c = (nat_le 97 c && nat_le c 122) || (nat_le 65 c && nat_le c 90) || (nat_le 47 c && nat_le c 58) || c == 45 || c == 95
+
+-- a port's name has 1 to 15 of these octets
+abbrev pub is_port_name : List ℕ → Bool
+is_port_name name = nat_lt 0 (length name) && (nat_le (length name) 15 && list_all is_name_octet name)
+
+-- some name stands twice
+abbrev pub has_same : List (List ℕ) → Bool
+has_same [] = false
+has_same (name ∷ names) = list_any (λ other. bytes_eq other name) names || has_same names
+
+-- a text has at most 255 octets, each from the space to the tilde
+abbrev pub is_text : List ℕ → Bool
+is_text text = nat_le (length text) 255 && list_all (λ c. nat_le 32 c && nat_le c 126) text
+
+-- the fault of the first check that fails, each over the whole list of ports
+abbrev pub fault_of : Options → Option OpenFault
+fault_of o =
+    if length o.names == 0 then Some NoPorts
+    else if nat_lt 64 (length o.names) then Some TooManyPorts
+    else if not (list_all is_port_name o.names) then Some PortName
+    else if has_same o.names then Some SamePort
+    else if not (is_text o.hostname) then Some Text
+    else None
+
+-- An opening is refused for the first check that fails, and for want of memory only where none does.
+abbrev pub IsRefusal : Options → OpenFault → Type 0
+IsRefusal o Memory = fault_of o ≡ None
+IsRefusal o NoPorts = fault_of o ≡ Some NoPorts
+IsRefusal o TooManyPorts = fault_of o ≡ Some TooManyPorts
+IsRefusal o PortName = fault_of o ≡ Some PortName
+IsRefusal o SamePort = fault_of o ≡ Some SamePort
+IsRefusal o Text = fault_of o ≡ Some Text

@@ -1,0 +1,11 @@
+-- The place of a port.
+use Rattle.std.specs.Prelude.{ℕ, ◌+◌, List, [], ◌∷◌, Option, Some, None, if◌then◌else◌}
+use Rattle.std.specs.Str.{bytes_eq}
+
+-- the first place of a name, counted from i
+abbrev pub place_from : ℕ → List (List ℕ) → List ℕ → Option ℕ
+place_from i [] word = None
+place_from i (name ∷ names) word = if bytes_eq name word then Some i else place_from (i + 1) names word
+
+abbrev pub place_of : List (List ℕ) → List ℕ → Option ℕ
+place_of names word = place_from 0 names word

@@ -1,0 +1,15 @@
+-- Statuses of a port (IEEE 802.1AB-2009, 9.2.5.1).
+use Rattle.std.specs.Prelude.{Bool, true, false, if◌then◌else◌}
+use Rattle.lldp_engine.specs.declared.status.Status.{Status}
+use Rattle.lldp_engine.specs.declared.status.Status.TheVariants.{RxAndTx, RxOnly, TxOnly, Disabled}
+use Rattle.lldp_engine.specs.Options.{Options}
+
+-- a port of this status receives
+abbrev pub receives : Status → Bool
+receives RxAndTx = true
+receives RxOnly = true
+receives TxOnly = false
+receives Disabled = false
+
+abbrev pub status_at_opening : Options → Status
+status_at_opening o = if o.receive_only then RxOnly else RxAndTx

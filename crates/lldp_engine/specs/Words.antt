@@ -1,0 +1,81 @@
+-- The words of a command line.
+use Rattle.std.specs.Prelude.{◌≡◌, ℕ, ◌<◌, ◌==◌, ◌||◌, ◌&&◌, not, Bool, true, false, if◌then◌else◌, List, [], ◌∷◌, ◌++◌, length, Option, Some, None, IsTrue, ◌⊎◌}
+use Rattle.std.specs.List.{AllPass}
+use Rattle.std.specs.Option.{option_map}
+
+-- A space or a tab separates words.
+abbrev pub is_separator : ℕ → Bool
+is_separator c = c == 32 || c == 9
+
+-- The double quote.
+abbrev pub is_quote : ℕ → Bool
+is_quote c = c == 34
+
+-- What a quoted word is made of.
+abbrev pub is_unquote : ℕ → Bool
+is_unquote c = not (is_quote c)
+
+-- What an unquoted word is made of.
+abbrev pub is_bare : ℕ → Bool
+is_bare c = not (is_separator c) && not (is_quote c)
+
+-- How a word is spelled: as its octets, of which there is one at least and none is a separator or a quote;
+-- or as any octets but quotes between two quotes.
+abbrev pub IsSpelling : List ℕ → List ℕ → Type 0
+IsSpelling text word =
+    ((0 < length word) × AllPass is_bare word × (text ≡ word))
+    ⊎ (AllPass is_unquote word × (text ≡ 34 ∷ word ++ 34 ∷ []))
+
+-- Whether a word may end before this: the line ends, or a separator stands there.
+abbrev pub may_end_word : List ℕ → Bool
+may_end_word [] = true
+may_end_word (c ∷ _) = is_separator c
+
+-- Whether a separator stands here.
+abbrev pub begins_gap : List ℕ → Bool
+begins_gap [] = false
+begins_gap (c ∷ _) = is_separator c
+
+-- Whether an unquoted word begins here.
+abbrev pub begins_bare : List ℕ → Bool
+begins_bare [] = false
+begins_bare (c ∷ _) = is_bare c
+
+-- The line is these words and no others: separators alone where there is none; else separators, a spelling of
+-- the first, its end, and the words that follow.
+abbrev pub AreWords : List ℕ → List (List ℕ) → Type 0
+AreWords line [] = AllPass is_separator line
+AreWords line (word ∷ words) =
+    (gap : List ℕ) × (text : List ℕ) × (rest : List ℕ) × AllPass is_separator gap × IsSpelling text word
+    × IsTrue (may_end_word rest) × (line ≡ gap ++ text ++ rest) × AreWords rest words
+
+-- Where a reader of the line stands: between words, in an unquoted or a quoted word with its octets so far, or
+-- behind a closing quote.
+pub data Place : Type 0 where
+  between : Place
+  bare : List ℕ → Place
+  quoted : List ℕ → Place
+  closed : Place
+
+-- The words of what is left of a line, None where a quote stands wrongly.
+unfoldable pub words_from : Place → List ℕ → Option (List (List ℕ))
+words_from between [] = Some []
+words_from (bare word) [] = Some (word ∷ [])
+words_from (quoted word) [] = None
+words_from closed [] = Some []
+words_from between (c ∷ cs) =
+    if is_separator c then words_from between cs
+    else if is_quote c then words_from (quoted []) cs
+    else words_from (bare (c ∷ [])) cs
+words_from (bare word) (c ∷ cs) =
+    if is_separator c then option_map (λ words. word ∷ words) (words_from between cs)
+    else if is_quote c then None
+    else words_from (bare (word ++ c ∷ [])) cs
+words_from (quoted word) (c ∷ cs) =
+    if is_quote c then option_map (λ words. word ∷ words) (words_from closed cs)
+    else words_from (quoted (word ++ c ∷ [])) cs
+words_from closed (c ∷ cs) = if is_separator c then words_from between cs else None
+
+-- The words of a line, None where a quote stands wrongly.
+abbrev pub words_of : List ℕ → Option (List (List ℕ))
+words_of line = words_from between line

@@ -1,0 +1,84 @@
+//! The counters of a port (IEEE 802.1AB-2009, 9.2.6).
+ghost use Rattle.std.specs.Prelude.{◌≡◌};
+ghost use Rattle.lldp_engine.specs.Step.{with_received, with_refused, with_tlvs, with_answer, with_aged_out};
+
+use lldp_table::Learned;
+
+/// The counters of a port, each modulo 2^32. Nothing ever resets them.
+#[derive(Clone, Copy, Debug, PartialEq, Eq, Drop)]
+pub struct Counters {
+    /// Ordinary frames sent.
+    pub sent: u32,
+    /// Shutdown frames sent.
+    pub shutdowns: u32,
+    /// LLDP frames that came while the port received.
+    pub received: u32,
+    /// LLDPDUs that were refused.
+    pub discarded: u32,
+    /// LLDPDUs that were refused or had a TLV discarded.
+    pub errors: u32,
+    /// TLVs that were discarded.
+    pub tlvs_discarded: u32,
+    /// Kept TLVs of reserved types and organizationally specific ones.
+    pub unrecognized: u32,
+    /// Neighbors that aged out.
+    pub ageouts: u32,
+    /// LLDPDUs that were dropped for want of room.
+    pub drops: u32,
+}
+
+impl Counters {
+    /// Nothing was counted.
+    pub(crate) const ZERO: Counters = Counters {
+        sent: 0,
+        shutdowns: 0,
+        received: 0,
+        discarded: 0,
+        errors: 0,
+        tlvs_discarded: 0,
+        unrecognized: 0,
+        ageouts: 0,
+        drops: 0,
+    };
+
+    /// An LLDP frame came.
+    pub(crate) fn count_received(&mut self)
+        ensures { self.new ≡ with_received self.old }
+    {
+        self.received = self.received.wrapping_add(1);
+    }
+
+    /// Its LLDPDU was refused.
+    pub(crate) fn count_refused(&mut self)
+        ensures { self.new ≡ with_refused self.old }
+    {
+        self.discarded = self.discarded.wrapping_add(1);
+        self.errors = self.errors.wrapping_add(1);
+    }
+
+    /// So many of its TLVs were discarded, and so many of those kept are unrecognized.
+    pub(crate) fn count_tlvs(&mut self, discarded: u32, unrecognized: u32)
+        ensures { self.new ≡ with_tlvs self.old discarded unrecognized }
+    {
+        self.errors = self.errors.wrapping_add(u32::from(discarded > 0));
+        self.tlvs_discarded = self.tlvs_discarded.wrapping_add(discarded);
+        self.unrecognized = self.unrecognized.wrapping_add(unrecognized);
+    }
+
+    /// The table answered this to it.
+    pub(crate) fn count_answer(&mut self, answer: Learned)
+        ensures { self.new ≡ with_answer self.old answer }
+    {
+        match answer {
+            Learned::New | Learned::Refreshed => {}
+            Learned::Dropped => self.drops = self.drops.wrapping_add(1),
+        }
+    }
+
+    /// So many neighbors aged out.
+    pub(crate) fn count_aged_out(&mut self, n: u8)
+        ensures { self.new ≡ with_aged_out self.old n }
+    {
+        self.ageouts = self.ageouts.wrapping_add(u32::from(n));
+    }
+}

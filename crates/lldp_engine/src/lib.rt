@@ -1,0 +1,46 @@
+//! The agent of the Link Layer Discovery Protocol: its ports, what they hear, its commands and its shows (IEEE
+//! 802.1AB-2009, clause 9).
+#![tactic(auto)]
+
+mod addresses;
+mod agent;
+mod capabilities;
+mod command;
+mod counters;
+mod entry_lines;
+mod event;
+mod fault;
+mod forms;
+mod identifier;
+mod kept_tlv;
+mod keys;
+mod laws;
+mod lines;
+mod management_address;
+mod names;
+mod neighbor_lines;
+pub mod number;
+mod open;
+mod options;
+mod port;
+mod ports;
+mod statistics_lines;
+mod status;
+mod words;
+mod writer;
+
+pub use agent::Agent;
+pub use command::{Command, Show, complete_forms_take_no_word};
+pub use counters::Counters;
+pub use event::Event;
+pub use fault::CommandFault;
+pub use laws::{every_standing_agent_is_promised, standing_agents_are_seen, step_carries_standing};
+pub use lines::{Lines, MOST_LINES};
+pub use open::OpenFault;
+pub use options::{Options, Role};
+pub use status::Status;
+pub use words::{Words, split, words_are_spelled};
+pub use writer::Line;
+
+#[cfg(test)]
+mod tests;

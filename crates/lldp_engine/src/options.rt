@@ -1,0 +1,46 @@
+//! What an agent is opened with.
+ghost use Rattle.std.specs.Prelude.{IsTrue, ◌↔◌};
+ghost use Rattle.lldp_engine.specs.Options.{InRange, options_of};
+
+/// What a station is.
+#[derive(Clone, Copy, Debug, PartialEq, Eq)]
+pub enum Role {
+    Station,
+    Bridge,
+    Router,
+}
+
+/// What an agent is opened with.
+#[derive(Clone, Copy)]
+pub struct Options<'a> {
+    /// The names of the ports, in order.
+    pub ports: &'a [&'a str],
+    /// The source address of every frame.
+    pub mac: [u8; 6],
+    pub hostname: &'a str,
+    /// The IPv4 address under which the agent can be managed.
+    pub management: Option<[u8; 4]>,
+    pub role: Role,
+    /// How many neighbors each port holds, 1 to 128.
+    pub max_neighbors: u8,
+    /// txCreditMax, 1 to 10.
+    pub credit_max: u8,
+    /// txFastInit, 1 to 8.
+    pub fast_init: u8,
+    /// reinitDelay in seconds, 1 to 10.
+    pub reinit: u8,
+    /// Whether no port ever sends, until its status is set.
+    pub receive_only: bool,
+}
+
+impl<'a> Options<'a> {
+    /// Whether the four numbers are in their ranges.
+    pub fn in_range(&self) -> bool
+        ensures { IsTrue result ↔ InRange (options_of self.now) }
+    {
+        (1..=128).contains(&self.max_neighbors)
+            && (1..=10).contains(&self.credit_max)
+            && (1..=8).contains(&self.fast_init)
+            && (1..=10).contains(&self.reinit)
+    }
+}

@@ -1,0 +1,11 @@
+pub mod Written
+pub mod OutputLemmas
+pub mod BufferLemmas
+pub mod LineLemmas
+pub mod ItemLemmas
+pub mod LongLemmas
+pub mod RunLemmas
+pub mod Progress
+pub mod PieceLemmas
+pub mod GoesOnLemmas
+mod Examples

@@ -1,0 +1,63 @@
+-- One more piece of a trace.
+use Rattle.std.proofs.Common.{◌≡◌, ℕ, ◌+◌, List, [], ◌++◌, take, drop, sym, ap, ◌∙◌, arith, Option}
+use Rattle.std.specs.Io.KnownBytes.{Appends, Consumes}
+use Rattle.std.proofs.lemmas.List.{append-nil, take-take}
+use Rattle.std.proofs.Math.Seq.{take-add}
+use Rattle.lldp_engine.specs.Past.{Past}
+use Rattle.lldp_engine.specs.AgentState.{AgentState}
+use Rattle.lldpa.specs.Lines.{ended_lines, unfinished, lines_of, if_any}
+use Rattle.lldpa.specs.Items.{after_all, text_of_all, items_of_lines}
+use Rattle.lldpa.specs.Runs.{Done, Failed}
+use Rattle.lldpa.proofs.Written.{consumes_then}
+use Rattle.lldpa.proofs.ItemLemmas.{items_of_lines-append}
+use Rattle.lldpa.proofs.LineLemmas.{ended_lines-append, unfinished_no_lf, no_lf-take}
+use Rattle.lldpa.proofs.LongLemmas.{same_items, same_last}
+use Rattle.lldpa.proofs.RunLemmas.{done_same, done_then, failed_same, failed_later}
+
+-- what is held, and the piece behind it
+pub held_and_piece : (old new : List ℕ) (held n : ℕ) (p : List ℕ) → take held new ≡ take held old → take held old ≡ take 4097 p → take (held + n) new ≡ take 4097 p ++ take n (drop held new)
+held_and_piece old new held n p kept is = take-add held n new ∙ ap (λ t. t ++ take n (drop held new)) (kept ∙ is)
+
+-- what is held has no LF
+pub held_no_lf : (old new : List ℕ) (held n : ℕ) (xs : List ℕ) → take held new ≡ take held old → take held old ≡ take 4097 (unfinished xs) → ended_lines (take held (take (held + n) new)) ≡ []
+held_no_lf old new held n xs kept is =
+    ap ended_lines (take-take held (held + n) new (omega arith) ∙ kept ∙ is) ∙ no_lf-take 4097 (unfinished xs) (unfinished_no_lf xs)
+
+-- the end came
+pub consumes_end : (a b c : Option (List ℕ)) (xs ys : List ℕ) (n : ℕ) → Consumes a b xs → n ≡ 0 → Consumes b c (take n ys) → Consumes a c xs
+consumes_end a b c xs ys n h zero k =
+    let none : take n ys ≡ [] = ap (λ k. take k ys) zero in
+    let joined : xs ++ take n ys ≡ xs = ap (λ t. xs ++ t) none ∙ append-nil xs in
+    rw joined at (consumes_then a b c xs (take n ys) h k)
+
+pub done_lines : (past : Past) (ls ms : List (List ℕ)) (a b c : Option (List ℕ)) (agent : AgentState) → Appends a b (text_of_all past (items_of_lines past ls)) → Done (after_all past (items_of_lines past ls)) (items_of_lines (after_all past (items_of_lines past ls)) ms) b c agent → Done past (items_of_lines past (ls ++ ms)) a c agent
+done_lines past ls ms a b c agent h k = done_same past _ _ a c agent (sym (items_of_lines-append past ls ms)) (done_then past _ _ a b c agent h k)
+
+pub failed_lines : (past : Past) (ls ms : List (List ℕ)) (a b c : Option (List ℕ)) (agent : AgentState) → Appends a b (text_of_all past (items_of_lines past ls)) → Failed (after_all past (items_of_lines past ls)) (items_of_lines (after_all past (items_of_lines past ls)) ms) b c agent → Failed past (items_of_lines past (ls ++ ms)) a c agent
+failed_lines past ls ms a b c agent h k = failed_same past _ _ a c agent (sym (items_of_lines-append past ls ms)) (failed_later past _ _ a b c agent h k)
+
+-- the lines of a piece are done, or failed
+pub done_piece : (past : Past) (xs ys octets : List ℕ) (a b c : Option (List ℕ)) (agent : AgentState) → octets ≡ take 4097 (unfinished xs) ++ ys → Appends a b (text_of_all past (items_of_lines past (ended_lines xs))) → Done (after_all past (items_of_lines past (ended_lines xs))) (items_of_lines (after_all past (items_of_lines past (ended_lines xs))) (ended_lines octets)) b c agent → Done past (items_of_lines past (ended_lines (xs ++ ys))) a c agent
+done_piece past xs ys octets a b c agent is h k =
+    let now = after_all past (items_of_lines past (ended_lines xs)) in
+    rw (ended_lines-append xs ys) (done_lines past (ended_lines xs) (ended_lines (unfinished xs ++ ys)) a b c agent h
+    (done_same now _ _ b c agent (ap (λ t. items_of_lines now (ended_lines t)) is ∙ same_items now xs ys) k))
+
+pub failed_piece : (past : Past) (xs ys octets : List ℕ) (a b c : Option (List ℕ)) (agent : AgentState) → octets ≡ take 4097 (unfinished xs) ++ ys → Appends a b (text_of_all past (items_of_lines past (ended_lines xs))) → Failed (after_all past (items_of_lines past (ended_lines xs))) (items_of_lines (after_all past (items_of_lines past (ended_lines xs))) (ended_lines octets)) b c agent → Failed past (items_of_lines past (ended_lines (xs ++ ys))) a c agent
+failed_piece past xs ys octets a b c agent is h k =
+    let now = after_all past (items_of_lines past (ended_lines xs)) in
+    rw (ended_lines-append xs ys) (failed_lines past (ended_lines xs) (ended_lines (unfinished xs ++ ys)) a b c agent h
+    (failed_same now _ _ b c agent (ap (λ t. items_of_lines now (ended_lines t)) is ∙ same_items now xs ys) k))
+
+-- so is the last line
+pub done_last : (past : Past) (xs rest : List ℕ) (a b c : Option (List ℕ)) (agent : AgentState) → rest ≡ take 4097 (unfinished xs) → Appends a b (text_of_all past (items_of_lines past (ended_lines xs))) → Done (after_all past (items_of_lines past (ended_lines xs))) (items_of_lines (after_all past (items_of_lines past (ended_lines xs))) (if_any rest)) b c agent → Done past (items_of_lines past (lines_of xs)) a c agent
+done_last past xs rest a b c agent is h k =
+    let now = after_all past (items_of_lines past (ended_lines xs)) in
+    done_lines past (ended_lines xs) (if_any (unfinished xs)) a b c agent h
+    (done_same now _ _ b c agent (ap (λ t. items_of_lines now (if_any t)) is ∙ same_last now (unfinished xs)) k)
+
+pub failed_last : (past : Past) (xs rest : List ℕ) (a b c : Option (List ℕ)) (agent : AgentState) → rest ≡ take 4097 (unfinished xs) → Appends a b (text_of_all past (items_of_lines past (ended_lines xs))) → Failed (after_all past (items_of_lines past (ended_lines xs))) (items_of_lines (after_all past (items_of_lines past (ended_lines xs))) (if_any rest)) b c agent → Failed past (items_of_lines past (lines_of xs)) a c agent
+failed_last past xs rest a b c agent is h k =
+    let now = after_all past (items_of_lines past (ended_lines xs)) in
+    failed_lines past (ended_lines xs) (if_any (unfinished xs)) a b c agent h
+    (failed_same now _ _ b c agent (ap (λ t. items_of_lines now (if_any t)) is ∙ same_last now (unfinished xs)) k)

@@ -1,0 +1,129 @@
+use Rattle.std.proofs.Common.{◌≡◌, [], ◌++◌, take, drop, rules, arith, refl, ap, ◌∙◌, inl, inr, length-append, length-take, length-drop}
+use Rattle.lldpa.specs.Lines.{unfinished}
+use Rattle.lldpa.proofs.Written.{consumes_then, consumes_kept, consumes_nothing}
+use Rattle.lldpa.proofs.LineLemmas.{held_more}
+use Rattle.lldpa.proofs.PieceLemmas.{held_and_piece, held_no_lf, consumes_end, done_piece, failed_piece, done_last, failed_last}
+use Rattle.lldpa.proofs.RunLemmas.{done_none}
+use Rattle.lldpa.proofs.GoesOnLemmas.{done_goes_on, stopped_goes_on}
+use Rattle.lldpa.proofs.trace.run_trace.Goals as goal
+
+pub loop-reads-init : goal.loop-reads-init
+loop-reads-init g c = record {
+  few = search rules;
+  so_far = record {
+    input = [];
+    consumed = consumes_nothing _;
+    many = omega arith;
+    front = refl;
+    done = λ past stands. done_none past _ _ stands;
+  };
+  none = search rules;
+  reads = refl;
+  writes = refl;
+  calls = omega arith;
+  all_calls = λ below. omega arith;
+}
+
+pub run_lines-requires-clause-no_line : goal.run_lines-requires-clause-no_line
+run_lines-requires-clause-no_line g c =
+    let so_far = c.loop-reads.invariant.so_far in
+    held_no_lf c.loop-reads.buffer c.read_more.new.buffer c.loop-reads.held c.in-Ok.n so_far.input c.read_more.ensures.kept so_far.front
+
+pub returns-in_default-clause-run : goal.returns-in_default-clause-run
+returns-in_default-clause-run g c =
+    let so_far = c.loop-reads.invariant.so_far in
+    record {
+      input = so_far.input;
+      consumed = consumes_kept _ _ _ so_far.input so_far.consumed c.in_default.ensures.octets;
+      read = tt;
+      ends = so_far.done;
+    }
+
+pub returns-in-Ok-run_rest-clause-run : goal.returns-in-Ok-run_rest-clause-run
+returns-in-Ok-run_rest-clause-run g c =
+    let so_far = c.loop-reads.invariant.so_far in
+    let zero : c.in-Ok.n ≡ 0 = omega arith in
+    let octets = c.in-Ok.ensures.octets in
+    let front : take c.loop-reads.held c.read_more.new.buffer ≡ take 4097 (unfinished so_far.input) = c.read_more.ensures.kept ∙ so_far.front in
+    record {
+      input = so_far.input;
+      consumed = consumes_end _ _ _ so_far.input (drop c.loop-reads.held c.read_more.new.buffer) c.in-Ok.n so_far.consumed zero octets.0;
+      read = octets.1 zero;
+      ends = λ past stands. let done = so_far.done past stands in
+          done_last past so_far.input _ _ _ _ _ front done.written (c.in-Ok-run_rest.ensures.ok _ done.stands);
+    }
+
+pub returns-in-Err-clause-run : goal.returns-in-Err-clause-run
+returns-in-Err-clause-run g c =
+    let so_far = c.loop-reads.invariant.so_far in
+    let zero : c.in-Ok.n ≡ 0 = omega arith in
+    let octets = c.in-Ok.ensures.octets in
+    record {
+      input = so_far.input;
+      consumed = consumes_end _ _ _ so_far.input (drop c.loop-reads.held c.read_more.new.buffer) c.in-Ok.n so_far.consumed zero octets.0;
+      read = tt;
+      ends = λ past stands. let done = so_far.done past stands in
+          inr (octets.1 zero, failed_last past so_far.input _ _ _ _ _ (c.read_more.ensures.kept ∙ so_far.front) done.written (c.in-Err.ensures.err _ done.stands));
+    }
+
+pub returns-in_default-run_lines-clause-run : goal.returns-in_default-run_lines-clause-run
+returns-in_default-run_lines-clause-run g c =
+    let so_far = c.loop-reads.invariant.so_far in
+    let piece = take c.in-Ok.n (drop c.loop-reads.held c.read_more.new.buffer) in
+    record {
+      input = so_far.input ++ piece;
+      consumed = consumes_then _ _ _ so_far.input piece so_far.consumed c.in-Ok.ensures.octets.0;
+      read = tt;
+      ends = λ past stands. let done = so_far.done past stands in
+          inl (failed_piece past so_far.input piece _ _ _ _ _ (held_and_piece c.loop-reads.buffer c.read_more.new.buffer c.loop-reads.held c.in-Ok.n (unfinished so_far.input) c.read_more.ensures.kept so_far.front) done.written (c.in_default-run_lines.ensures.err _ done.stands));
+    }
+
+pub returns-clause-run : goal.returns-clause-run
+returns-clause-run g c =
+    let so_far = c.loop-reads.invariant.so_far in
+    record {
+      input = so_far.input;
+      consumed = so_far.consumed;
+      read = omega (arith, so_far.many);
+      ends = so_far.done;
+    }
+
+pub loop-reads-preserved : goal.loop-reads-preserved
+loop-reads-preserved g c =
+    let so_far = c.loop-reads.invariant.so_far in
+    let new = c.read_more.new.buffer in
+    let held = c.loop-reads.held in
+    let n = c.in-Ok.n in
+    let piece = take n (drop held new) in
+    let octets = held_and_piece c.loop-reads.buffer new held n (unfinished so_far.input) c.read_more.ensures.kept so_far.front in
+    record {
+      few = search rules;
+      so_far = record {
+        input = so_far.input ++ piece;
+        consumed = consumes_then _ _ _ so_far.input piece so_far.consumed c.in-Ok.ensures.octets.0;
+        many = omega (arith, so_far.many, length-append so_far.input piece, length-take n (drop held new), length-drop held new);
+        front = c.hold-held.ensures.held ∙ ap (take 4097) (c.in-Ok-run_lines.ensures.rest.1 ∙ ap unfinished octets) ∙ held_more 4097 so_far.input piece;
+        done = λ past stands. let done = so_far.done past stands in
+            done_piece past so_far.input piece _ _ _ _ _ octets done.written (c.in-Ok-run_lines.ensures.ok _ done.stands);
+      };
+      none = search rules;
+      reads = search rules;
+      writes = search rules;
+      calls = omega (arith, c.loop-reads.invariant.calls, c.read_more.ensures.calls);
+      all_calls = λ below. omega (arith, c.loop-reads.invariant.all_calls below, c.read_more.ensures.calls);
+    }
+
+pub returns-in-Ok-run_rest-clause-goes_on : goal.returns-in-Ok-run_rest-clause-goes_on
+returns-in-Ok-run_rest-clause-goes_on g c past stands = done_goes_on past _ _ _ _ ((returns-in-Ok-run_rest-clause-run g c).ends past stands)
+
+pub returns-in-Err-clause-goes_on : goal.returns-in-Err-clause-goes_on
+returns-in-Err-clause-goes_on g c past stands = stopped_goes_on past (returns-in-Err-clause-run g c).input _ _ _ _ ((returns-in-Err-clause-run g c).ends past stands)
+
+pub returns-in_default-run_lines-clause-goes_on : goal.returns-in_default-run_lines-clause-goes_on
+returns-in_default-run_lines-clause-goes_on g c past stands = stopped_goes_on past (returns-in_default-run_lines-clause-run g c).input _ _ _ _ ((returns-in_default-run_lines-clause-run g c).ends past stands)
+
+pub returns-in_default-clause-goes_on : goal.returns-in_default-clause-goes_on
+returns-in_default-clause-goes_on g c past stands = done_goes_on past _ _ _ _ (c.loop-reads.invariant.so_far.done past stands)
+
+pub returns-clause-goes_on : goal.returns-clause-goes_on
+returns-clause-goes_on g c past stands = done_goes_on past _ _ _ _ (c.loop-reads.invariant.so_far.done past stands)

@@ -1,0 +1,14 @@
+use Rattle.std.proofs.Common.{◌≡◌, ◌≤◌, ◌<◌, ◌+◌, ◌^◌, [], take}
+use Rattle.lldpa.proofs.Progress.{Progress}
+use Rattle.lldpa.proofs.trace.run_trace.Given as goal
+
+abbrev pub invariant-loop-reads : goal.invariant-loop-reads
+invariant-loop-reads g l = record {
+  few : l.held ≤ 4097;
+  so_far : Progress (g.S.Source.to_come l.fn.reader) (g.S.Source.to_come l.reader) (g.W.Sink.taken l.fn.writer) (g.W.Sink.taken l.writer) l.fn.agent l.agent l.reads (take l.held l.buffer);
+  none : l.waiting.items ≡ [];
+  reads : g.S.Source.failures l.reader ≡ g.S.Source.failures l.fn.reader;
+  writes : g.W.Sink.failures l.writer ≡ g.W.Sink.failures l.fn.writer;
+  calls : g.S.Source.calls l.reader ≤ g.S.Source.calls l.fn.reader + l.reads;
+  all_calls : g.S.Source.calls l.fn.reader < 2 ^ 63 → g.S.Source.calls l.reader ≡ g.S.Source.calls l.fn.reader + l.reads;
+}

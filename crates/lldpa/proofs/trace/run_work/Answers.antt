@@ -1,0 +1,25 @@
+use Rattle.std.proofs.Common.{◌≡◌, ◌∷◌, [], replicate, rules}
+use Rattle.std.proofs.lemmas.Result.{IfOk-weaker, IfErr-weaker}
+use Rattle.lldp_engine.specs.Event.{tick}
+use Rattle.lldpa.specs.Work.{said}
+use Rattle.lldpa.specs.Items.{happens, refused, items_of_reading}
+use Rattle.lldpa.proofs.RunLemmas.{done_same, done_ticks, done_show, failed_same, failed_show, failed_one}
+use Rattle.lldpa.proofs.trace.run_work.Goals as goal
+
+pub returns-in-Ok-Ticks-clause-ok : goal.returns-in-Ok-Ticks-clause-ok
+returns-in-Ok-Ticks-clause-ok g c past stands =
+    let items : replicate c.in-Ok-Ticks.ticks (happens tick) ≡ items_of_reading (said c.args.read) = search rules in
+    done_same past _ _ _ _ _ items (done_ticks past _ _ _ (c.run_ticks.ensures past stands))
+
+pub returns-in-Ok-Command-Show-clause-ok : goal.returns-in-Ok-Command-Show-clause-ok
+returns-in-Ok-Command-Show-clause-ok g c =
+    IfOk-weaker c.write_show.result _ _ (λ _ written past stands. done_same past _ _ _ _ _ (search rules) (done_show past _ _ _ _ stands written)) c.write_show.ensures.ok
+
+pub returns-in-Ok-Command-Show-clause-err : goal.returns-in-Ok-Command-Show-clause-err
+returns-in-Ok-Command-Show-clause-err g c =
+    IfErr-weaker c.write_show.result _ _ (λ _ written past stands. failed_same past _ _ _ _ _ (search rules) (failed_show past _ _ _ _ stands written)) c.write_show.ensures.err
+
+pub returns-in-Err-clause-err : goal.returns-in-Err-clause-err
+returns-in-Err-clause-err g c =
+    let items : refused c.in-Err.fault ∷ [] ≡ items_of_reading (said c.args.read) = search rules in
+    IfErr-weaker c.write_line.result _ _ (λ _ written past stands. failed_same past _ _ _ _ _ items (failed_one past (refused c.in-Err.fault) _ _ _ (rw c.text.ensures.text at written) stands)) c.write_line.ensures.err

@@ -1,0 +1,101 @@
+-- What one line of a trace says, checked from left to right.
+use Rattle.std.specs.Prelude.{ℕ, List, [], ◌∷◌, length, codes, Result, Ok, Err, nat_lt, ◌==◌, ◌||◌, Bool, true, Option, Some, None, if◌then◌else◌}
+use Rattle.std.specs.Str.{bytes_eq}
+use Rattle.hex.specs.Hex.{decode_of}
+use Rattle.lldp_engine.specs.declared.fault.CommandFault.{CommandFault}
+use Rattle.lldp_engine.specs.declared.fault.CommandFault.TheVariants.{Unknown, NoSuchPort, Extra, Quote}
+use Rattle.lldp_engine.specs.Fault.{text_of as command_fault_text}
+use Rattle.lldp_engine.specs.Words.{words_of}
+use Rattle.lldp_engine.specs.Number.{number_of}
+use Rattle.lldp_engine.specs.Seen.{Seen, names_of}
+use Rattle.lldp_engine.specs.Request.{Request}
+use Rattle.lldp_engine.specs.Place.{place_of}
+use Rattle.lldp_engine.specs.Command.{command_of}
+use Rattle.lldpa.specs.declared.line.LineFault.{LineFault}
+use Rattle.lldpa.specs.declared.line.LineFault.TheVariants.{TooLong, Hex, Command}
+
+-- what a line says: nothing, some ticks, a frame on a port, or a command
+pub data Reading : Type 0 where
+  skipped : Reading
+  ticks : ℕ → Reading
+  arrival : ℕ → List ℕ → Reading
+  order : Request → Reading
+
+-- Steps that may fail, the first fault first.
+infixl 10 ◌>>=◌
+abbrev pub ◌>>=◌ : {A B : Type 0} → Result A LineFault → (A → Result B LineFault) → Result B LineFault
+(Ok x) >>= f = f x
+(Err fault) >>= f = Err fault
+
+-- a fault of a command as one of a line
+abbrev pub of_command : {A : Type 0} → Result A CommandFault → Result A LineFault
+of_command (Ok x) = Ok x
+of_command (Err fault) = Err (Command fault)
+
+-- what is there, or this fault
+abbrev pub or_fault : {A : Type 0} → CommandFault → Option A → Result A LineFault
+or_fault fault (Some x) = Ok x
+or_fault fault None = Err (Command fault)
+
+-- the octets that hexadecimal digits spell, or Hex
+abbrev pub or_hex : {E : Type 0} → Result (List ℕ) E → Result (List ℕ) LineFault
+or_hex (Ok octets) = Ok octets
+or_hex (Err fault) = Err Hex
+
+-- a complete form: a word behind it is Extra
+abbrev pub complete : List (List ℕ) → Reading → Result Reading LineFault
+complete [] reading = Ok reading
+complete (word ∷ words) reading = Err (Command Extra)
+
+-- `tick` and `tick N`, behind the first word: one tick, or N, from 1 to 65535
+unfoldable pub tick_form : List (List ℕ) → Result Reading LineFault
+tick_form [] = Ok (ticks 1)
+tick_form (word ∷ words) = do
+  n ← of_command (number_of word 1 65535)
+  complete words (ticks n)
+
+-- `rx PORT HEX`, behind the first word: a frame that came on a port
+unfoldable pub frame_form : Seen → List (List ℕ) → Result Reading LineFault
+frame_form seen [] = Err (Command Unknown)
+frame_form seen (name ∷ []) = do
+  port ← or_fault NoSuchPort (place_of (names_of seen) name)
+  Err (Command Unknown)
+frame_form seen (name ∷ digits ∷ words) = do
+  port ← or_fault NoSuchPort (place_of (names_of seen) name)
+  octets ← or_hex (decode_of digits)
+  complete words (arrival port octets)
+
+-- a command, or its fault
+abbrev pub command_form : Seen → List ℕ → Result Reading LineFault
+command_form seen line = of_command (command_of seen line) >>= λ request. Ok (order request)
+
+-- the words of a line: `tick` and `rx` begin forms of a trace, and every other line is read as a command
+unfoldable pub form_of : Seen → List ℕ → List (List ℕ) → Result Reading LineFault
+form_of seen line [] = Err (Command Unknown)
+form_of seen line (word ∷ words) =
+    if bytes_eq word (codes "tick") then tick_form words
+    else if bytes_eq word (codes "rx") then frame_form seen words
+    else command_form seen line
+
+-- a space or a tab
+abbrev pub is_blank : ℕ → Bool
+is_blank octet = octet == 32 || octet == 9
+
+-- nothing but spaces and tabs, or `#` as the first other octet
+abbrev pub is_skipped : List ℕ → Bool
+is_skipped [] = true
+is_skipped (octet ∷ octets) = if is_blank octet then is_skipped octets else octet == 35
+
+-- What a line says to an agent that is seen so, or its fault. The checks in order: its length, at most 4,096 octets; nothing to
+-- do; its words, and bad quotes; its form.
+unfoldable pub reading_of : Seen → List ℕ → Result Reading LineFault
+reading_of seen line =
+    if nat_lt 4096 (length line) then Err TooLong
+    else if is_skipped line then Ok skipped
+    else or_fault Quote (words_of line) >>= form_of seen line
+
+-- the line that a refused line gives, without LF
+abbrev pub fault_text : LineFault → List ℕ
+fault_text TooLong = codes "error: line too long"
+fault_text Hex = codes "error: bad hexadecimal"
+fault_text (Command fault) = command_fault_text fault

@@ -1,0 +1,9 @@
+pub mod Devices
+pub mod Adapters
+pub mod Lines
+pub mod Forms
+pub mod Work
+pub mod Items
+pub mod Output
+pub mod Runs
+pub mod Program

@@ -1,0 +1,173 @@
+//! One line of a trace, and what it asks for.
+ghost use Rattle.std.specs.Prelude.{◌≡◌, ◌≤◌, length, IfOk, IfErr, ◌*◌};
+ghost use Rattle.std.specs.List.{AllByRecursion};
+ghost use Rattle.hex.specs.Hex.{decode_of};
+ghost use Rattle.lldp_engine.specs.AgentState.{AgentState};
+ghost use Rattle.lldp_engine.specs.AgentState.{seen_of};
+ghost use Rattle.lldpa.specs.Forms.{fault_text, is_skipped, or_hex, complete, tick_form, frame_form, command_form, reading_of};
+ghost use Rattle.lldpa.specs.Work.{reading_of_work, said, AllowsWork};
+
+use lldp_engine::number::number;
+use lldp_engine::{Agent, Command, CommandFault, Words, split};
+
+/// How many octets a line has at most, its LF left out.
+pub const LONGEST: usize = 4096;
+
+/// Why a line is refused.
+#[derive(Clone, Copy, Debug, PartialEq, Eq)]
+pub enum LineFault {
+    /// It has more octets than the longest line.
+    TooLong,
+    /// A frame is not written in pairs of hexadecimal digits.
+    Hex,
+    /// Every other fault.
+    Command(CommandFault),
+}
+
+/// What a line asks for.
+#[derive(Clone, Copy)]
+pub enum Work<'l> {
+    /// Nothing.
+    Skip,
+    /// So many ticks, at least one.
+    Ticks(u16),
+    /// A frame came on a port.
+    Frame { port: u8, octets: &'l [u8] },
+    /// A command.
+    Command(Command),
+}
+
+impl LineFault {
+    /// The line that tells the fault, without LF.
+    pub fn text(self) -> &'static [u8]
+        ensures text { result.now ≡ fault_text self }
+        ensures short { length result.now ≤ 2048 }
+    {
+        match self {
+            LineFault::TooLong => b"error: line too long",
+            LineFault::Hex => b"error: bad hexadecimal",
+            LineFault::Command(fault) => fault.text(),
+        }
+    }
+}
+
+/// Whether a line has nothing but spaces and tabs, or `#` as the first other octet.
+fn is_skipped_line(line: &[u8]) -> bool
+    ensures { result ≡ is_skipped line.now }
+{
+    for octet in line {
+        if *octet != b' ' && *octet != b'\t' {
+            return *octet == b'#';
+        }
+    }
+    true
+}
+
+/// The work, where no word follows it.
+fn completed<'l>(mut words: Words<'_>, work: Work<'l>) -> Result<Work<'l>, LineFault>
+    ensures said { said result ≡ complete words.entry (reading_of_work work.entry) }
+    ensures same { IfOk result (λ done. done ≡ work.entry) }
+{
+    match words.next() {
+        None => Ok(work),
+        Some(_) => Err(LineFault::Command(CommandFault::Extra)),
+    }
+}
+
+/// `tick` and `tick N`, behind their first word.
+#[tactic(auto, unfolding(crate::specs::Forms::tick_form))]
+fn read_tick<'l>(mut words: Words<'_>) -> Result<Work<'l>, LineFault>
+    ensures said { said result ≡ tick_form words.entry }
+    ensures allowed { (agent : AgentState) → IfOk result (AllowsWork agent) }
+{
+    let Some(word) = words.next() else {
+        return Ok(Work::Ticks(1));
+    };
+    match number(word, 1, 65535) {
+        Ok(ticks) => completed(words, Work::Ticks(ticks)),
+        Err(fault) => Err(LineFault::Command(fault)),
+    }
+}
+
+/// The octets that hexadecimal digits spell, at the front of the room.
+fn decode<'l>(digits: &[u8], room: &'l mut [u8]) -> Result<&'l [u8], LineFault>
+    requires { length digits.now ≤ 2 * length room.old }
+    ensures octets { IfOk result (λ octets. or_hex (decode_of digits.now) ≡ Ok octets.now) }
+    ensures fault { IfErr result (λ fault. or_hex (decode_of digits.now) ≡ Err fault) }
+{
+    let octets = &mut room[..digits.len() / 2];
+    match hex::decode_to_slice(digits, octets) {
+        Ok(()) => Ok(octets),
+        Err(_) => Err(LineFault::Hex),
+    }
+}
+
+/// `rx PORT HEX`, behind its first word. The octets go into the room.
+#[tactic(auto, unfolding(crate::specs::Forms::frame_form))]
+fn read_frame<'l>(
+    agent: &Agent,
+    mut words: Words<'_>,
+    room: &'l mut [u8; 2048],
+) -> Result<Work<'l>, LineFault>
+    requires { AllByRecursion (λ word. length word ≤ 4096) words }
+    ensures said { said result ≡ frame_form (seen_of agent.now) words.entry }
+    ensures allowed { IfOk result (AllowsWork agent.now) }
+{
+    let Some(name) = words.next() else {
+        return Err(LineFault::Command(CommandFault::Unknown));
+    };
+    let Some(port) = agent.find_port(name) else {
+        return Err(LineFault::Command(CommandFault::NoSuchPort));
+    };
+    let Some(digits) = words.next() else {
+        return Err(LineFault::Command(CommandFault::Unknown));
+    };
+    match decode(digits, room) {
+        Ok(octets) => completed(words, Work::Frame { port, octets }),
+        Err(fault) => Err(fault),
+    }
+}
+
+/// A command.
+fn read_order<'l>(agent: &Agent, line: &'l [u8]) -> Result<Work<'l>, LineFault>
+    ensures said { said result ≡ command_form (seen_of agent.now) line.now }
+    ensures allowed { IfOk result (AllowsWork agent.now) }
+{
+    match agent.read_command(line) {
+        Ok(command) => Ok(Work::Command(command)),
+        Err(fault) => Err(LineFault::Command(fault)),
+    }
+}
+
+/// What a line, without its LF, asks of the agent, or its first fault. The octets of a frame stand in the room; else nothing is
+/// promised of the room.
+#[tactic(auto, unfolding(crate::specs::Forms::reading_of, crate::specs::Forms::form_of))]
+pub fn read_line<'l>(
+    agent: &Agent,
+    line: &'l [u8],
+    room: &'l mut [u8; 2048],
+) -> Result<Work<'l>, LineFault>
+    ensures said { said result ≡ reading_of (seen_of agent.now) line.now }
+    ensures allowed { IfOk result (AllowsWork agent.now) }
+{
+    if line.len() > LONGEST {
+        return Err(LineFault::TooLong);
+    }
+    if is_skipped_line(line) {
+        return Ok(Work::Skip);
+    }
+    let mut words = match split(line) {
+        Ok(words) => words,
+        Err(fault) => return Err(LineFault::Command(fault)),
+    };
+    let Some(word) = words.next() else {
+        return Err(LineFault::Command(CommandFault::Unknown));
+    };
+    if word == b"tick".as_slice() {
+        read_tick(words)
+    } else if word == b"rx".as_slice() {
+        read_frame(agent, words, room)
+    } else {
+        read_order(agent, line)
+    }
+}

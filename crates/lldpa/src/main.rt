@@ -1,0 +1,37 @@
+//! An LLDP agent over a trace: standard input to standard output.
+#![tactic(auto)]
+
+pub mod buffer;
+pub mod device;
+pub mod line;
+pub mod output;
+pub mod program;
+pub mod trace;
+
+use std::process::ExitCode;
+use std::{env, io};
+
+fn main(rt: HostRuntime) -> ExitCode {
+    let status = match run(&rt) {
+        Ok(status) => status,
+        Err(_) => program::no_memory(&mut rt.stderr()),
+    };
+    ExitCode::from(status)
+}
+
+/// Runs the program on its own words and the standard streams. Fails where it cannot get the words.
+fn run(rt: &HostRuntime) -> io::Result<u8> {
+    let owned: Vec<String> = env::args(rt)?.collect(rt.alloc())?;
+    let words: Vec<&str> = owned.iter().map(|word| word.as_str()).collect(rt.alloc())?;
+    let status = program::run_program(
+        rt.alloc(),
+        &words,
+        &mut rt.stdin(),
+        &mut rt.stdout(),
+        &mut rt.stderr(),
+    );
+    Ok(status)
+}
+
+#[cfg(test)]
+mod tests;

@@ -1,0 +1,136 @@
+//! Lines on their way to a sink. They are gathered, and go out in large pieces.
+ghost use Rattle.std.specs.Prelude.{◌≡◌, ◌≤◌, ◌+◌, ◌++◌, [], length, OnOk, OnErr};
+ghost use Rattle.std.specs.List.{flat_map};
+ghost use Rattle.std.specs.Io.KnownBytes.{Appends};
+ghost use Rattle.arrayvec.specs.ArrayVec.{array_vec_len};
+ghost use Rattle.lldp_engine.specs.AgentState.{seen_of};
+ghost use Rattle.lldp_engine.specs.Lines.{lines_of as show_lines};
+ghost use Rattle.lldpa.specs.Devices.{failures_after};
+ghost use Rattle.lldpa.specs.Lines.{ended};
+ghost use Rattle.lldpa.specs.Output.{IsWritten, IsCutOff, GoesOut};
+
+use crate::device::{DeviceFault, Sink};
+use arrayvec::ArrayVec;
+use lldp_engine::{Agent, Show};
+
+/// How many octets wait at most.
+pub const ROOM: usize = 8192;
+
+/// Lines that wait to be written.
+pub type Waiting = ArrayVec<u8, ROOM>;
+
+/// Writes all of the octets.
+fn send<W: Sink>(sink: &mut W, octets: &[u8]) -> Result<(), DeviceFault>
+    ensures ok { OnOk result (Appends (W.taken sink.old) (W.taken sink.new) octets.now) }
+    ensures err { OnErr result (IsWritten (IsCutOff octets.now) (W.taken sink.old) (W.taken sink.new)) }
+    ensures failures { W.failures sink.new ≡ failures_after (W.failures sink.old) result }
+{
+    let mut sent = 0;
+    while sent < octets.len() {
+        sent += sink.write(&octets[sent..])?;
+    }
+    Ok(())
+}
+
+/// Writes all that waits.
+fn flush<W: Sink>(sink: &mut W, waiting: &mut Waiting) -> Result<(), DeviceFault>
+    ensures ok { OnOk result (Appends (W.taken sink.old) (W.taken sink.new) waiting.old.items) }
+    ensures none { OnOk result (waiting.new.items ≡ []) }
+    ensures err { OnErr result (IsWritten (IsCutOff waiting.old.items) (W.taken sink.old) (W.taken sink.new)) }
+    ensures failures { W.failures sink.new ≡ failures_after (W.failures sink.old) result }
+{
+    send(sink, waiting.as_slice())?;
+    waiting.clear();
+    Ok(())
+}
+
+/// Writes what waits where less room than this is left.
+fn make_room<W: Sink>(sink: &mut W, waiting: &mut Waiting, octets: usize) -> Result<(), DeviceFault>
+    requires { octets ≤ ROOM }
+    ensures ok { OnOk result (GoesOut (W.taken sink.old) waiting.old.items (W.taken sink.new) waiting.new.items []) }
+    ensures room { OnOk result (array_vec_len waiting.new + octets ≤ ROOM) }
+    ensures err { OnErr result (IsWritten (IsCutOff waiting.old.items) (W.taken sink.old) (W.taken sink.new)) }
+    ensures failures { W.failures sink.new ≡ failures_after (W.failures sink.old) result }
+{
+    if waiting.remaining_capacity() < octets {
+        flush(sink, waiting)?;
+    }
+    Ok(())
+}
+
+/// Adds octets to what waits.
+fn append(waiting: &mut Waiting, octets: &[u8])
+    requires { array_vec_len waiting.old + length octets.now ≤ ROOM }
+    ensures { waiting.new.items ≡ waiting.old.items ++ octets.now }
+{
+    let _ = waiting.try_extend_from_slice(octets);
+}
+
+/// Puts a line and its LF behind what waits.
+fn put_line<W: Sink>(sink: &mut W, waiting: &mut Waiting, line: &[u8]) -> Result<(), DeviceFault>
+    requires { length line.now ≤ 2048 }
+    ensures ok { OnOk result (GoesOut (W.taken sink.old) waiting.old.items (W.taken sink.new) waiting.new.items (ended line.now)) }
+    ensures err { OnErr result (IsWritten (IsCutOff waiting.old.items) (W.taken sink.old) (W.taken sink.new)) }
+    ensures failures { W.failures sink.new ≡ failures_after (W.failures sink.old) result }
+{
+    make_room(sink, waiting, line.len() + 1)?;
+    append(waiting, line);
+    append(waiting, b"\n");
+    Ok(())
+}
+
+/// Puts the lines of a show behind what waits.
+fn put_show<W: Sink>(
+    agent: &Agent,
+    sink: &mut W,
+    waiting: &mut Waiting,
+    show: Show,
+) -> Result<(), DeviceFault>
+    ensures ok { OnOk result (GoesOut (W.taken sink.old) waiting.old.items (W.taken sink.new) waiting.new.items
+        (flat_map ended (show_lines show (seen_of agent.now)))) }
+    ensures err { OnErr result (IsWritten (IsCutOff (waiting.old.items ++ flat_map ended (show_lines show (seen_of agent.now))))
+        (W.taken sink.old) (W.taken sink.new)) }
+    ensures failures { W.failures sink.new ≡ failures_after (W.failures sink.old) result }
+{
+    for line in agent.show_lines(&show) {
+        put_line(sink, waiting, line.as_slice())?;
+    }
+    Ok(())
+}
+
+/// Writes a line and its LF, where nothing waits.
+pub fn write_line<W: Sink>(
+    sink: &mut W,
+    waiting: &mut Waiting,
+    line: &[u8],
+) -> Result<(), DeviceFault>
+    requires short { length line.now ≤ 2048 }
+    requires none { waiting.old.items ≡ [] }
+    ensures ok { OnOk result (Appends (W.taken sink.old) (W.taken sink.new) (ended line.now)) }
+    ensures err { OnErr result (IsWritten (IsCutOff (ended line.now)) (W.taken sink.old) (W.taken sink.new)) }
+    ensures none { OnOk result (waiting.new.items ≡ []) }
+    ensures failures { W.failures sink.new ≡ failures_after (W.failures sink.old) result }
+{
+    put_line(sink, waiting, line)?;
+    flush(sink, waiting)?;
+    Ok(())
+}
+
+/// Writes the lines of a show, where nothing waits.
+pub fn write_show<W: Sink>(
+    agent: &Agent,
+    sink: &mut W,
+    waiting: &mut Waiting,
+    show: Show,
+) -> Result<(), DeviceFault>
+    requires { waiting.old.items ≡ [] }
+    ensures ok { OnOk result (Appends (W.taken sink.old) (W.taken sink.new) (flat_map ended (show_lines show (seen_of agent.now)))) }
+    ensures err { OnErr result (IsWritten (IsCutOff (flat_map ended (show_lines show (seen_of agent.now))))
+        (W.taken sink.old) (W.taken sink.new)) }
+    ensures none { OnOk result (waiting.new.items ≡ []) }
+    ensures failures { W.failures sink.new ≡ failures_after (W.failures sink.old) result }
+{
+    put_show(agent, sink, waiting, show)?;
+    flush(sink, waiting)?;
+    Ok(())
+}

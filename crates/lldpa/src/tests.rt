@@ -1,0 +1,14 @@
+//! Runs over devices that give and take little at a time, and that fail.
+mod devices;
+mod program;
+mod runs;
+mod text;
+
+use crate::program::receiving;
+use lldp_engine::{Agent, OpenFault};
+use std::alloc::Global;
+
+/// An agent that only receives, on one port.
+pub fn open(alloc: Global) -> Result<Agent, OpenFault> {
+    Agent::open(alloc, &receiving(&["eth0"]))
+}

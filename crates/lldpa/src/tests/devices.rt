@@ -1,0 +1,117 @@
+//! A reader that gives little at a time, a writer that takes little at a time, and that both fail.
+ghost use Rattle.std.specs.Prelude.{◌≤◌};
+
+use std::io::{Error, ErrorKind, Read, Result, Write};
+
+/// Gives its octets in pieces of these sizes, and fails at one call.
+#[derive(Drop)]
+pub struct Drip<'a> {
+    octets: &'a [u8],
+    first: usize,
+    later: usize,
+    fails_at: Option<u32>,
+    calls: u32,
+}
+
+impl<'a> Drip<'a> {
+    pub fn new(octets: &'a [u8], first: usize, later: usize, fails_at: Option<u32>) -> Self {
+        Drip {
+            octets,
+            first,
+            later,
+            fails_at,
+            calls: 0,
+        }
+    }
+
+    /// Gives all at once.
+    pub fn whole(octets: &'a [u8]) -> Self {
+        Drip::new(octets, usize::MAX, usize::MAX, None)
+    }
+
+    /// How often it was read.
+    pub fn calls(&self) -> u32 {
+        self.calls
+    }
+}
+
+impl Read for Drip<'_> {
+    fn read(&mut self, buf: &mut [u8]) -> Result<usize> {
+        let piece = if self.calls == 0 {
+            self.first
+        } else {
+            self.later
+        };
+        self.calls = self.calls.saturating_add(1);
+        if self.fails_at == Some(self.calls) {
+            return Err(Error::from(ErrorKind::Other));
+        }
+        let n = piece.min(buf.len()).min(self.octets.len());
+        let (front, rest) = self.octets.split_at(n);
+        buf[..n].copy_from_slice(front);
+        self.octets = rest;
+        Ok(n)
+    }
+}
+
+/// How a writer fails.
+#[derive(Clone, Copy, PartialEq, Eq)]
+pub enum Burn {
+    Error,
+    TakesNone,
+    AtFlush,
+}
+
+/// Takes pieces of this size, and fails after so many octets, or where it is flushed.
+#[derive(Drop)]
+pub struct Fuse {
+    octets: [u8; 4096],
+    len: usize,
+    piece: usize,
+    burns_at: usize,
+    burn: Burn,
+    ghost within: { len ≤ 4096 },
+}
+
+impl Fuse {
+    pub fn new(piece: usize, burns_at: usize, burn: Burn) -> Self {
+        Fuse {
+            octets: [0; 4096],
+            len: 0,
+            piece,
+            burns_at,
+            burn,
+        }
+    }
+
+    /// Never fails.
+    pub fn endless() -> Self {
+        Fuse::new(usize::MAX, usize::MAX, Burn::Error)
+    }
+
+    /// What it took.
+    pub fn taken(&self) -> &[u8] {
+        &self.octets[..self.len]
+    }
+}
+
+impl Write for Fuse {
+    fn write(&mut self, buf: &[u8]) -> Result<usize> {
+        let room = self.burns_at.min(4096).saturating_sub(self.len);
+        let n = self.piece.min(buf.len()).min(room);
+        if n == 0 && self.burn == Burn::Error {
+            return Err(Error::from(ErrorKind::Other));
+        }
+        let len = self.len;
+        self.octets[len..len + n].copy_from_slice(&buf[..n]);
+        self.len = len + n;
+        Ok(n)
+    }
+
+    fn flush(&mut self) -> Result<()> {
+        if self.burn == Burn::AtFlush {
+            return Err(Error::from(ErrorKind::Other));
+        }
+        Ok(())
+    }
+}

@@ -1,0 +1,194 @@
+//! A run over a trace.
+ghost use Rattle.std.specs.Prelude.{◌≡◌, ◌<◌, ◌≤◌, ◌+◌, ◌^◌, [], length, take, drop, replicate, OnOk, OnErr, IfOk};
+ghost use Rattle.lldp_engine.specs.Event.{tick};
+ghost use Rattle.lldp_engine.specs.Past.{Past};
+ghost use Rattle.lldp_engine.specs.Standing.{Stands};
+ghost use Rattle.lldpa.specs.Devices.{failures_after};
+ghost use Rattle.lldpa.specs.Lines.{ended_lines, unfinished, if_any};
+ghost use Rattle.lldpa.specs.Work.{said, AllowsWork};
+ghost use Rattle.lldpa.specs.Items.{happens, after_all, items_of_reading, items_of, items_of_lines};
+ghost use Rattle.lldpa.specs.Runs.{Done, Failed, HasRun, GoesOn, read_failures_after, write_failures_after};
+
+use crate::buffer::{hold, read_more};
+use crate::device::{DeviceFault, Sink, Source};
+use crate::line::{LineFault, Work, read_line};
+use crate::output::{Waiting, write_line, write_show};
+use lldp_engine::{Agent, Command, Event};
+use memchr::memchr;
+use thiserror::Error;
+
+const LF: u8 = b'\n';
+
+/// How many octets of the trace are held at most.
+const BUFFER: usize = 16384;
+
+/// How often a run reads at most.
+pub const MOST_READS: u32 = 4_294_967_295;
+
+/// Why a run ended before the end of its trace.
+#[derive(Clone, Copy, Debug, PartialEq, Eq, Error)]
+pub enum RunFault {
+    /// A read failed.
+    #[error("lldpa: read failed")]
+    Read = 1,
+    /// A write failed.
+    #[error("lldpa: write failed")]
+    Write,
+    /// So many reads as a run makes at most did not answer the end.
+    #[error("lldpa: input too long")]
+    InputTooLong,
+}
+
+/// Some ticks.
+fn run_ticks(agent: &mut Agent, ticks: u16)
+    ensures { (past : Past) → Stands past agent.old → Stands (after_all past (replicate ticks (happens tick))) agent.new }
+{
+    for _done in 0..ticks {
+        agent.step(Event::Tick);
+    }
+}
+
+/// What a line was read as.
+fn run_work<W: Sink>(
+    agent: &mut Agent,
+    sink: &mut W,
+    waiting: &mut Waiting,
+    read: Result<Work<'_>, LineFault>,
+) -> Result<(), DeviceFault>
+    requires allowed { IfOk read (AllowsWork agent.old) }
+    requires none { waiting.old.items ≡ [] }
+    ensures ok { OnOk result ((past : Past) → Stands past agent.old →
+        Done past (items_of_reading (said read.entry)) (W.taken sink.old) (W.taken sink.new) agent.new) }
+    ensures err { OnErr result ((past : Past) → Stands past agent.old →
+        Failed past (items_of_reading (said read.entry)) (W.taken sink.old) (W.taken sink.new) agent.new) }
+    ensures none { OnOk result (waiting.new.items ≡ []) }
+    ensures failures { W.failures sink.new ≡ failures_after (W.failures sink.old) result }
+{
+    match read {
+        Ok(Work::Skip) => Ok(()),
+        Ok(Work::Ticks(ticks)) => {
+            run_ticks(agent, ticks);
+            Ok(())
+        }
+        Ok(Work::Frame { port, octets }) => {
+            agent.step(Event::Frame { port, octets });
+            Ok(())
+        }
+        Ok(Work::Command(Command::Show(show))) => write_show(agent, sink, waiting, show),
+        Err(fault) => write_line(sink, waiting, fault.text()),
+    }
+}
+
+/// What one line asks for.
+fn run_line<W: Sink>(
+    agent: &mut Agent,
+    sink: &mut W,
+    waiting: &mut Waiting,
+    room: &mut [u8; 2048],
+    line: &[u8],
+) -> Result<(), DeviceFault>
+    requires { waiting.old.items ≡ [] }
+    ensures ok { OnOk result ((past : Past) → Stands past agent.old →
+        Done past (items_of past line.now) (W.taken sink.old) (W.taken sink.new) agent.new) }
+    ensures err { OnErr result ((past : Past) → Stands past agent.old →
+        Failed past (items_of past line.now) (W.taken sink.old) (W.taken sink.new) agent.new) }
+    ensures none { OnOk result (waiting.new.items ≡ []) }
+    ensures failures { W.failures sink.new ≡ failures_after (W.failures sink.old) result }
+{
+    let read = read_line(agent, line, room);
+    run_work(agent, sink, waiting, read)
+}
+
+/// Each line whose LF is among the octets, of which the first were searched before. Answers where the rest begins.
+fn run_lines<W: Sink>(
+    agent: &mut Agent,
+    sink: &mut W,
+    waiting: &mut Waiting,
+    room: &mut [u8; 2048],
+    octets: &[u8],
+    searched: usize,
+) -> Result<usize, DeviceFault>
+    requires none { waiting.old.items ≡ [] }
+    requires within { searched ≤ length octets.now }
+    requires no_line { ended_lines (take searched octets.now) ≡ [] }
+    ensures rest { IfOk result (λ start. (start ≤ length octets.now) × (drop start octets.now ≡ unfinished octets.now)) }
+    ensures ok { OnOk result ((past : Past) → Stands past agent.old →
+        Done past (items_of_lines past (ended_lines octets.now)) (W.taken sink.old) (W.taken sink.new) agent.new) }
+    ensures err { OnErr result ((past : Past) → Stands past agent.old →
+        Failed past (items_of_lines past (ended_lines octets.now)) (W.taken sink.old) (W.taken sink.new) agent.new) }
+    ensures none { OnOk result (waiting.new.items ≡ []) }
+    ensures failures { W.failures sink.new ≡ failures_after (W.failures sink.old) result }
+{
+    let mut start = 0;
+    let mut from = searched;
+    while let Some(at) = memchr(LF, &octets[from..]) {
+        let end = from + at;
+        run_line(agent, sink, waiting, room, &octets[start..end])?;
+        start = end + 1;
+        from = start;
+    }
+    Ok(start)
+}
+
+/// The last line, where it is not empty.
+fn run_rest<W: Sink>(
+    agent: &mut Agent,
+    sink: &mut W,
+    waiting: &mut Waiting,
+    room: &mut [u8; 2048],
+    rest: &[u8],
+) -> Result<(), DeviceFault>
+    requires { waiting.old.items ≡ [] }
+    ensures ok { OnOk result ((past : Past) → Stands past agent.old →
+        Done past (items_of_lines past (if_any rest.now)) (W.taken sink.old) (W.taken sink.new) agent.new) }
+    ensures err { OnErr result ((past : Past) → Stands past agent.old →
+        Failed past (items_of_lines past (if_any rest.now)) (W.taken sink.old) (W.taken sink.new) agent.new) }
+    ensures failures { W.failures sink.new ≡ failures_after (W.failures sink.old) result }
+{
+    if rest.is_empty() {
+        return Ok(());
+    }
+    run_line(agent, sink, waiting, room, rest)
+}
+
+/// Runs a trace over the agent: reads it to its end, works on each line as soon as its LF was read, and writes what the lines ask to
+/// see. It reads at most 4,294,967,295 times, into a buffer of fixed size, and does not flush. Every failed read or write ends it.
+/// A last line without LF is a line too; one over 4,096 octets is passed over and refused.
+pub fn run_trace<S: Source, W: Sink>(
+    agent: &mut Agent,
+    reader: &mut S,
+    writer: &mut W,
+) -> Result<(), RunFault>
+    // What was read, what was written for it, and what the agent stands for then.
+    ensures run { HasRun (S.to_come reader.old) (S.to_come reader.new) (W.taken writer.old) (W.taken writer.new) agent.old agent.new result }
+    // Over any devices, also those that tell nothing.
+    ensures goes_on { (past : Past) → Stands past agent.old → GoesOn past agent.new }
+    // A fault is answered only where a device failed, once, and nothing else failed.
+    ensures reads { S.failures reader.new ≡ read_failures_after (S.failures reader.old) result }
+    ensures writes { W.failures writer.new ≡ write_failures_after (W.failures writer.old) result }
+    ensures calls { S.calls reader.new ≤ S.calls reader.old + 4294967295 }
+    ensures too_long { result ≡ Err RunFault.InputTooLong → S.calls reader.old < 2 ^ 63 → S.calls reader.new ≡ S.calls reader.old + 4294967295 }
+{
+    let mut buffer = [0u8; BUFFER];
+    let mut waiting = Waiting::new();
+    let mut room = [0u8; 2048];
+    let mut held = 0;
+    for reads in 0..MOST_READS {
+        let Ok(n) = read_more(reader, &mut buffer, held) else {
+            return Err(RunFault::Read);
+        };
+        if n == 0 {
+            return match run_rest(agent, writer, &mut waiting, &mut room, &buffer[..held]) {
+                Ok(()) => Ok(()),
+                Err(_) => Err(RunFault::Write),
+            };
+        }
+        let end = held + n;
+        let Ok(start) = run_lines(agent, writer, &mut waiting, &mut room, &buffer[..end], held)
+        else {
+            return Err(RunFault::Write);
+        };
+        held = hold(&mut buffer, start, end);
+    }
+    Err(RunFault::InputTooLong)
+}
