@@ -1,6 +1,7 @@
 //! Runs over devices that give and take little at a time, and that fail.
 mod devices;
 mod program;
+mod receiving;
 mod runs;
 mod text;
 
