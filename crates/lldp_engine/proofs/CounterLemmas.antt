@@ -4,12 +4,14 @@ use Rattle.std.specs.Prelude.{nat_lt, if◌then◌else◌}
 use Rattle.std.specs.Int.{from_bool}
 use Rattle.lldp_pdu.specs.Msap.{MsapId}
 use Rattle.lldp_pdu.specs.Info.{LldpInfo}
-use Rattle.lldp_table.specs.Events.{TableEvent, learned, forgot, ticked, aged_out}
+use Rattle.lldp_table.specs.Events.{TableEvent, learned, forgot, purged, ticked, limit_set, aged_out}
+use Rattle.lldp_transmit.specs.declared.event.Mark.{Mark}
+use Rattle.lldp_transmit.specs.declared.event.Mark.TheVariants.{Quiet, Ordinary, Shutdown}
 use Rattle.lldp_table.specs.declared.learned.Learned.{Learned}
 use Rattle.lldp_table.specs.declared.learned.Learned.TheVariants.{New, Refreshed, Dropped}
 use Rattle.lldp_engine.specs.Heard.{Heard, refused, leaves, tells}
-use Rattle.lldp_engine.specs.Counters.{wrapped, how_many, total, is_refused, is_error, discarded_tlvs, unrecognized_tlvs, is_dropped, all_aged_out, counters_of}
-use Rattle.lldp_engine.specs.Step.{none_counted, with_received, with_refused, with_tlvs, with_answer, with_aged_out}
+use Rattle.lldp_engine.specs.Counters.{wrapped, how_many, total, is_refused, is_error, discarded_tlvs, unrecognized_tlvs, is_dropped, all_aged_out, is_ordinary, is_shutdown, counters_of}
+use Rattle.lldp_engine.specs.Step.{none_counted, with_received, with_refused, with_tlvs, with_answer, with_aged_out, with_mark}
 
 -- the counter counts on by n
 counts : (all n : ℕ) → wrapped (wrapped all + n) ≡ wrapped (n + all)
@@ -28,40 +30,55 @@ counts_if : (b : Bool) (x : Heard) (xs : List Heard) → wrapped (wrapped (lengt
 counts_if true x xs = omega arith
 counts_if false x xs = omega arith
 
-pub counted_none : counters_of [] [] ≡ none_counted
+pub counted_none : counters_of [] [] [] ≡ none_counted
 unfolding counters_of
 counted_none = refl
 
-pub counted_refused : (heard : List Heard) (events : List TableEvent) → with_refused (with_received (counters_of heard events)) ≡ counters_of (refused ∷ heard) events
-unfolding counters_of
-counted_refused heard events =
-    rw (counts_one (length heard), counts_one (how_many is_refused heard), counts_one (how_many is_error heard), ← counts_none (total discarded_tlvs heard), ← counts_none (total unrecognized_tlvs heard)) refl
+module _ (heard : List Heard) (events : List TableEvent) (marks : List Mark) where
+  pub counted_refused : with_refused (with_received (counters_of heard events marks)) ≡ counters_of (refused ∷ heard) events marks
+  unfolding counters_of
+  counted_refused =
+      rw (counts_one (length heard), counts_one (how_many is_refused heard), counts_one (how_many is_error heard), ← counts_none (total discarded_tlvs heard), ← counts_none (total unrecognized_tlvs heard)) refl
 
-pub counted_leaves : (msap : MsapId) (heard : List Heard) (events : List TableEvent) → with_received (counters_of heard events) ≡ counters_of (leaves msap ∷ heard) (forgot msap ∷ events)
-unfolding counters_of
-counted_leaves msap heard events =
-    rw (counts_one (length heard), ← counts_none (total discarded_tlvs heard), ← counts_none (total unrecognized_tlvs heard), ← counts_none (all_aged_out events)) refl
+  pub counted_leaves : (msap : MsapId) → with_received (counters_of heard events marks) ≡ counters_of (leaves msap ∷ heard) (forgot msap ∷ events) marks
+  unfolding counters_of
+  counted_leaves msap =
+      rw (counts_one (length heard), ← counts_none (total discarded_tlvs heard), ← counts_none (total unrecognized_tlvs heard), ← counts_none (all_aged_out events)) refl
 
--- one that was stored
-counted_stored : (info : LldpInfo) (answer : Learned) (heard : List Heard) (events : List TableEvent) → is_dropped (learned info.msap info.ttl info.octets answer) ≡ false
-    → with_tlvs (with_received (counters_of heard events)) info.discarded info.unrecognized ≡ counters_of (tells info ∷ heard) (learned info.msap info.ttl info.octets answer ∷ events)
-unfolding counters_of
-counted_stored info answer heard events d =
-    rw (d, counts_one (length heard), counts_if (nat_lt 0 info.discarded) (tells info) (filter is_error heard), counts (total discarded_tlvs heard) info.discarded, counts (total unrecognized_tlvs heard) info.unrecognized, ← counts_none (all_aged_out events)) refl
+  -- one that was stored
+  counted_stored : (info : LldpInfo) (answer : Learned) → is_dropped (learned info.msap info.ttl info.octets answer) ≡ false
+      → with_tlvs (with_received (counters_of heard events marks)) info.discarded info.unrecognized ≡ counters_of (tells info ∷ heard) (learned info.msap info.ttl info.octets answer ∷ events) marks
+  unfolding counters_of
+  counted_stored info answer d =
+      rw (d, counts_one (length heard), counts_if (nat_lt 0 info.discarded) (tells info) (filter is_error heard), counts (total discarded_tlvs heard) info.discarded, counts (total unrecognized_tlvs heard) info.unrecognized, ← counts_none (all_aged_out events)) refl
 
--- one that was dropped
-counted_dropped : (info : LldpInfo) (heard : List Heard) (events : List TableEvent)
-    → with_answer (with_tlvs (with_received (counters_of heard events)) info.discarded info.unrecognized) Dropped ≡ counters_of (tells info ∷ heard) (learned info.msap info.ttl info.octets Dropped ∷ events)
-unfolding counters_of
-counted_dropped info heard events =
-    rw (counts_one (how_many is_dropped events), counts_one (length heard), counts_if (nat_lt 0 info.discarded) (tells info) (filter is_error heard), counts (total discarded_tlvs heard) info.discarded, counts (total unrecognized_tlvs heard) info.unrecognized, ← counts_none (all_aged_out events)) refl
+  -- one that was dropped
+  counted_dropped : (info : LldpInfo)
+      → with_answer (with_tlvs (with_received (counters_of heard events marks)) info.discarded info.unrecognized) Dropped ≡ counters_of (tells info ∷ heard) (learned info.msap info.ttl info.octets Dropped ∷ events) marks
+  unfolding counters_of
+  counted_dropped info =
+      rw (counts_one (how_many is_dropped events), counts_one (length heard), counts_if (nat_lt 0 info.discarded) (tells info) (filter is_error heard), counts (total discarded_tlvs heard) info.discarded, counts (total unrecognized_tlvs heard) info.unrecognized, ← counts_none (all_aged_out events)) refl
 
-pub counted_tells : (info : LldpInfo) (answer : Learned) (heard : List Heard) (events : List TableEvent)
-    → with_answer (with_tlvs (with_received (counters_of heard events)) info.discarded info.unrecognized) answer ≡ counters_of (tells info ∷ heard) (learned info.msap info.ttl info.octets answer ∷ events)
-counted_tells info New heard events = counted_stored info New heard events refl
-counted_tells info Refreshed heard events = counted_stored info Refreshed heard events refl
-counted_tells info Dropped heard events = counted_dropped info heard events
+  pub counted_tells : (info : LldpInfo) (answer : Learned)
+      → with_answer (with_tlvs (with_received (counters_of heard events marks)) info.discarded info.unrecognized) answer ≡ counters_of (tells info ∷ heard) (learned info.msap info.ttl info.octets answer ∷ events) marks
+  counted_tells info New = counted_stored info New refl
+  counted_tells info Refreshed = counted_stored info Refreshed refl
+  counted_tells info Dropped = counted_dropped info
 
-pub counted_second : (heard : List Heard) (events : List TableEvent) (n : ℕ) → n ≡ aged_out events → with_aged_out (counters_of heard events) n ≡ counters_of heard (ticked ∷ events)
-unfolding counters_of
-counted_second heard events n h = rw (h, counts (all_aged_out events) (aged_out events)) refl
+  pub counted_second : (n : ℕ) → n ≡ aged_out events → with_aged_out (counters_of heard events marks) n ≡ counters_of heard (ticked ∷ events) marks
+  unfolding counters_of
+  counted_second n h = rw (h, counts (all_aged_out events) (aged_out events)) refl
+
+  pub counted_purged : counters_of heard events marks ≡ counters_of heard (purged ∷ events) marks
+  unfolding counters_of
+  counted_purged = rw (← counts_none (all_aged_out events)) refl
+
+  pub counted_limit : (limit : ℕ) → counters_of heard events marks ≡ counters_of heard (limit_set limit ∷ events) marks
+  unfolding counters_of
+  counted_limit limit = rw (← counts_none (all_aged_out events)) refl
+
+  pub counted_mark : (mark : Mark) → with_mark (counters_of heard events marks) mark ≡ counters_of heard events (mark ∷ marks)
+  unfolding counters_of
+  counted_mark Quiet = refl
+  counted_mark Ordinary = rw (counts_one (how_many is_ordinary marks)) refl
+  counted_mark Shutdown = rw (counts_one (how_many is_shutdown marks)) refl

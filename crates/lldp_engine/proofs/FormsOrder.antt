@@ -9,6 +9,6 @@ extra_yields : (others : Result (List Form) CommandFault) → and_form (Err Extr
 extra_yields (Ok left) = refl
 extra_yields (Err fault) = refl
 
-pub going_on-complete : (before after : List Form) (request : Request) (w : List ℕ) → going_on (before ++ complete request ∷ after) w ≡ going_on (before ++ after) w
-going_on-complete [] after request w = extra_yields (going_on after w)
-going_on-complete (form ∷ before) after request w = ap (and_form (after_word form w)) (going_on-complete before after request w)
+pub going_on-complete : (names : List (List ℕ)) (before after : List Form) (request : Request) (w : List ℕ) → going_on names (before ++ complete request ∷ after) w ≡ going_on names (before ++ after) w
+going_on-complete names [] after request w = extra_yields (going_on names after w)
+going_on-complete names (form ∷ before) after request w = ap (and_form (after_word names form w)) (going_on-complete names before after request w)

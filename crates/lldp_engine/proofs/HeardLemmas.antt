@@ -1,7 +1,7 @@
 -- What a port hears is what its table can be told.
 use Rattle.std.proofs.Common.{◌≡◌, ℕ, ◌<◌, ◌≤◌, Bool, true, false, List, length, take, drop, Option, Some, None, refl, sym, subst, arith}
 use Rattle.std.proofs.lemmas.List.{take-append-drop, length-drop}
-use Rattle.std.specs.Prelude.{◌==◌, if◌then◌else◌, is_some, option_and_then, IfSome}
+use Rattle.std.specs.Prelude.{◌==◌, ◌&&◌, not, if◌then◌else◌, is_some, option_and_then, IfSome}
 use Rattle.std.specs.Option.{option_map}
 use Rattle.std.proofs.lemmas.Bool.Decides.{nat_tests}
 use Rattle.lldp_pdu.specs.Tlv.{AreOctets}
@@ -17,8 +17,11 @@ use Rattle.lldp_table.specs.Standing.{IsTold}
 use Rattle.lldp_table.proofs.ExtentLemmas.{lldpdu_is_extent}
 use Rattle.lldp_engine.specs.declared.status.Status.{Status}
 use Rattle.lldp_engine.specs.Status.{receives}
-use Rattle.lldp_engine.specs.Event.{Event, tick, frame, HasOctets}
-use Rattle.lldp_engine.specs.Heard.{refused, leaves, tells, heard_of, heard_by, call_of, call_at}
+use Rattle.lldp_engine.specs.Event.{Event, tick, frame, link, configure, hostname, description, interval, hold, limit, status as status_setting, update, HasOctets}
+use Rattle.lldp_engine.specs.Heard.{refused, leaves, tells, heard_of, heard_by}
+use Rattle.lldp_engine.specs.PortEvent.{call_of, call_at}
+use Rattle.lldp_engine.specs.Code.Taking.{FitsLimit}
+use Rattle.lldp_table.specs.Events.{purge}
 
 -- a frame's LLDPDU is no longer than 1,500 octets
 short_lldpdu : (octets : List ℕ) → is_lldp_frame octets ≡ true → length (drop 14 octets) ≤ 1500
@@ -48,18 +51,30 @@ heard_told_as : (table : Contents) (octets : List ℕ) (b : Bool) → AreOctets 
 heard_told_as table octets true fits = lldpdu_told table octets (is_lldp_frame octets) refl fits
 heard_told_as table octets false fits = tt
 
-pub heard_told : (table : Contents) (status : Status) (octets : List ℕ) → AreOctets octets → IfSome (option_and_then call_of (heard_by status octets)) (IsTold table)
-heard_told table status octets fits = heard_told_as table octets (receives status) fits
+pub heard_told : (table : Contents) (status : Status) (up : Bool) (octets : List ℕ) → AreOctets octets → IfSome (option_and_then call_of (heard_by status up octets)) (IsTold table)
+heard_told table status up octets fits = heard_told_as table octets (receives status && up) fits
 
-frame_told : (table : Contents) (status : Status) (octets : List ℕ) (b : Bool) → AreOctets octets
-    → IfSome (option_and_then call_of (if b then heard_by status octets else None)) (IsTold table)
-frame_told table status octets true fits = heard_told table status octets fits
-frame_told table status octets false fits = tt
+frame_told : (table : Contents) (status : Status) (up : Bool) (octets : List ℕ) (b : Bool) → AreOctets octets
+    → IfSome (option_and_then call_of (if b then heard_by status up octets else None)) (IsTold table)
+frame_told table status up octets true fits = heard_told table status up octets fits
+frame_told table status up octets false fits = tt
+
+purge_told : (table : Contents) (b : Bool) → IfSome (if b then Some purge else None) (IsTold table)
+purge_told table true = tt
+purge_told table false = tt
 
 -- what an allowed event tells a table can be told to it
-pub event_told : (table : Contents) (event : Event) (i : ℕ) (status : Status) → HasOctets event → IfSome (call_at event i status) (IsTold table)
-event_told table tick i status h = tt
-event_told table (frame port octets) i status h = frame_told table status octets (port == i) h
+pub event_told : (table : Contents) (event : Event) (i : ℕ) (status : Status) (up : Bool) → HasOctets event → FitsLimit event table → IfSome (call_at event i status up) (IsTold table)
+event_told table tick i status up h f = tt
+event_told table (frame port octets) i status up h f = frame_told table status up octets (port == i) h
+event_told table (link port given) i status up h f = tt
+event_told table (configure (hostname text)) i status up h f = tt
+event_told table (configure (description text)) i status up h f = tt
+event_told table (configure (interval seconds)) i status up h f = tt
+event_told table (configure (hold times)) i status up h f = tt
+event_told table (configure (limit neighbors)) i status up h f = f
+event_told table (configure (status_setting port given)) i status up h f = purge_told table (port == i && (receives status && not (receives given)))
+event_told table (configure update) i status up h f = tt
 
 -- ## What the examination of an LLDPDU says of it
 

@@ -1,9 +1,11 @@
 pub mod HeardLemmas
 pub mod CounterLemmas
+pub mod AllowedLemmas
 pub mod StandingLemmas
 pub mod OpenLemmas
 pub mod ReaderLemmas
 pub mod PortsLemmas
+pub mod StepLemmas
 pub mod HeadlineLemmas
 pub mod SoundLemmas
 pub mod FormsOrder
@@ -18,5 +20,11 @@ pub mod KeptTlvFields
 pub mod EntryLinesLeft
 pub mod StatisticsLinesLeft
 pub mod NeighborLinesLeft
+pub mod ChassisLinesLeft
+pub mod ConfigurationLinesLeft
 pub mod LinesProgress
 pub mod LinesBound
+pub mod FramePuts
+pub mod FrameSays
+pub mod FramePast
+pub mod FrameRows

@@ -1,5 +1,5 @@
 -- No show has more than 6,127,808 lines.
-use Rattle.std.proofs.Common.{◌≡◌, ℕ, ◌+◌, ◌*◌, ◌<◌, ◌≤◌, List, [], ◌∷◌, length, map, Option, Some, None, IsSome, sym, arith}
+use Rattle.std.proofs.Common.{◌≡◌, ℕ, ◌+◌, ◌*◌, ◌<◌, ◌≤◌, List, [], ◌∷◌, length, map, Option, Some, None, IsSome, refl, ap, sym, arith}
 use Rattle.std.specs.Prelude.{slice_get}
 use Rattle.std.specs.Option.{option_map}
 use Rattle.std.specs.List.{AllByRecursion}
@@ -10,12 +10,16 @@ use Rattle.lldp_pdu.specs.Kept.{kept_of}
 use Rattle.lldp_table.specs.Events.{Neighbor}
 use Rattle.lldp_table.specs.Contents.{IsHeld, IsSound}
 use Rattle.lldp_table.proofs.ExtentLemmas.{kept_is_short}
-use Rattle.lldp_engine.specs.Seen.{SeenPort, Seen}
+use Rattle.lldp_engine.specs.Configuration.{Configuration}
+use Rattle.lldp_engine.specs.AgentState.{PortState, AgentState}
+use Rattle.lldp_engine.specs.Sound.{IsSoundPort, AreSound}
 use Rattle.lldp_engine.specs.NeighborLines.{kept_line, neighbor_lines, numbered_lines, port_lines, neighbors_lines}
 use Rattle.lldp_engine.specs.StatisticsLines.{counter_lines, statistics_lines}
+use Rattle.lldp_engine.specs.ChassisLines.{management_lines, chassis_lines}
+use Rattle.lldp_engine.specs.ConfigurationLines.{status_line, configuration_lines}
 use Rattle.lldp_engine.specs.Lines.{lines_of, octets_of}
 use Rattle.lldp_engine.specs.declared.command.Show.{Show}
-use Rattle.lldp_engine.specs.declared.command.Show.TheVariants.{Neighbors, Statistics}
+use Rattle.lldp_engine.specs.declared.command.Show.TheVariants.{Neighbors, Statistics, Chassis, Configuration as Configured}
 use Rattle.lldp_engine.specs.declared.lines.TheConstants.{MOST_LINES}
 
 -- of a neighbor: 4, and at most (1500 - 12) / 2
@@ -34,29 +38,38 @@ few_of_neighbors name number (neighbor ∷ others) h =
     let sum = length-append (neighbor_lines name number neighbor) (numbered_lines name (number + 1) others) in
     omega (arith, first, rest, sum)
 
-few_of_port : (port : SeenPort) → IsSound port.table → length (port_lines port) ≤ 3 + 128 * 748
+few_of_port : (port : PortState) → IsSound port.table → length (port_lines port) ≤ 3 + 128 * 748
 few_of_port port h =
     let all = few_of_neighbors port.name 1 port.table.neighbors h.held in
     omega (arith, all, h.few, h.room, h.most)
 
-few_of_ports : (ports : List SeenPort) → AllByRecursion (λ port. IsSound port.table) ports → length (neighbors_lines ports) ≤ (3 + 128 * 748) * length ports
-few_of_ports [] h = omega arith
-few_of_ports (port ∷ ports) h =
-    let first = few_of_port port h.0 in
-    let rest = few_of_ports ports h.1 in
+few_of_ports : (capacity : ℕ) (ports : List PortState) → AllByRecursion (IsSoundPort capacity) ports → length (neighbors_lines ports) ≤ (3 + 128 * 748) * length ports
+few_of_ports capacity [] h = omega arith
+few_of_ports capacity (port ∷ ports) h =
+    let first = few_of_port port h.0.table in
+    let rest = few_of_ports capacity ports h.1 in
     let sum = length-append (port_lines port) (neighbors_lines ports) in
     omega (arith, first, rest, sum)
 
-few_of_counters : (ports : List SeenPort) → length (statistics_lines ports) ≤ 9 * length ports
+few_of_counters : (ports : List PortState) → length (statistics_lines ports) ≤ 9 * length ports
 few_of_counters [] = omega arith
 few_of_counters (port ∷ ports) =
     let rest = few_of_counters ports in
     let sum = length-append (counter_lines port) (statistics_lines ports) in
     omega (arith, rest, sum)
 
-pub few_lines : (show : Show) (seen : Seen) → length seen.ports ≤ 64 → AllByRecursion (λ port. IsSound port.table) seen.ports → length (lines_of show seen) ≤ MOST_LINES
-few_lines Neighbors seen few sound = let all = few_of_ports seen.ports sound in omega (arith, all, few)
-few_lines Statistics seen few sound = let all = few_of_counters seen.ports in omega (arith, all, few)
+few_of_chassis : (c : Configuration) (management : Option (List ℕ)) → management ≡ c.management → length (chassis_lines c) ≤ 5
+few_of_chassis c None h = let e : length (management_lines c.management) ≡ 0 = ap (λ (m : Option (List ℕ)). length (management_lines m)) (sym h) in omega (arith, e)
+few_of_chassis c (Some address) h = let e : length (management_lines c.management) ≡ 1 = ap (λ (m : Option (List ℕ)). length (management_lines m)) (sym h) in omega (arith, e)
+
+few_of_configuration : (agent : AgentState) → length (configuration_lines agent) ≤ 8 + length agent.ports
+few_of_configuration agent = let count : length (map status_line agent.ports) ≡ length agent.ports = length-map agent.ports status_line in omega (arith, count)
+
+pub few_lines : (show : Show) (agent : AgentState) → AreSound agent.configuration.capacity agent.ports → length (lines_of show agent) ≤ MOST_LINES
+few_lines Neighbors agent h = let all = few_of_ports agent.configuration.capacity agent.ports h.sound in omega (arith, all, h.few)
+few_lines Statistics agent h = let all = few_of_counters agent.ports in omega (arith, all, h.few)
+few_lines Chassis agent h = let all = few_of_chassis agent.configuration agent.configuration.management refl in omega (arith, all)
+few_lines Configured agent h = let all = few_of_configuration agent in omega (arith, all, h.few)
 
 -- a line that is there has a place below the number of lines
 pub within : (given : Option (ArrayVec ℕ)) (lines : List (List ℕ)) (i most : ℕ) → option_map octets_of given ≡ slice_get lines i → length lines ≤ most → IsSome given → i < most

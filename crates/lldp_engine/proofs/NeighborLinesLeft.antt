@@ -5,7 +5,7 @@ use Rattle.std.specs.Iterator.{YieldsFirstBy}
 use Rattle.std.proofs.lemmas.List.{nil_from_length}
 use Rattle.arrayvec.specs.ArrayVec.{ArrayVec}
 use Rattle.lldp_table.specs.Events.{Neighbor}
-use Rattle.lldp_engine.specs.Seen.{SeenPort}
+use Rattle.lldp_engine.specs.AgentState.{PortState}
 use Rattle.lldp_engine.specs.Lines.{octets_of}
 use Rattle.lldp_engine.specs.NeighborLines.{neighbor_lines, numbered_lines, neighbors_lines}
 use Rattle.lldp_engine.specs.Code.NeighborsLeft.{count_line, begun_left, neighbors_left}
@@ -27,19 +27,19 @@ drop_past (y ∷ ys) zero h = absurd (omega arith)
 drop_past (y ∷ ys) (suc k) h = drop_past ys k (omega arith)
 
 -- at the start all are left
-pub all_left : (ports : List SeenPort) → neighbors_left ports (Neighbors ∷ Octets ∷ TooMany ∷ []) 0 None ≡ neighbors_lines ports
+pub all_left : (ports : List PortState) → neighbors_left ports (Neighbors ∷ Octets ∷ TooMany ∷ []) 0 None ≡ neighbors_lines ports
 unfolding neighbors_left
 all_left [] = refl
 all_left (port ∷ ports) = refl
 
 -- a count of a port
-pub count_first : (ports others : List SeenPort) (port : SeenPort) (counts rest : List Count) (count : Count) (begun : ℕ) (entry : Option (List (List ℕ))) (line : List ℕ) → ports ≡ port ∷ others → counts ≡ count ∷ rest → line ≡ count_line port count
+pub count_first : (ports others : List PortState) (port : PortState) (counts rest : List Count) (count : Count) (begun : ℕ) (entry : Option (List (List ℕ))) (line : List ℕ) → ports ≡ port ∷ others → counts ≡ count ∷ rest → line ≡ count_line port count
     → neighbors_left ports counts begun entry ≡ line ∷ neighbors_left ports rest begun entry
 unfolding neighbors_left
 count_first ports others port counts rest count begun entry line here first l = rw (here, first, l) refl
 
 -- a line of the neighbor that is begun
-pub entry_first : (ports others : List SeenPort) (port : SeenPort) (counts : List Count) (begun : ℕ) (entry later : Option (List (List ℕ))) (line : List ℕ) → ports ≡ port ∷ others → length counts ≡ 0 → begun_left entry ≡ line ∷ begun_left later
+pub entry_first : (ports others : List PortState) (port : PortState) (counts : List Count) (begun : ℕ) (entry later : Option (List (List ℕ))) (line : List ℕ) → ports ≡ port ∷ others → length counts ≡ 0 → begun_left entry ≡ line ∷ begun_left later
     → neighbors_left ports counts begun entry ≡ line ∷ neighbors_left ports counts begun later
 unfolding neighbors_left
 entry_first ports others port counts begun entry later line here none h =
@@ -49,7 +49,7 @@ glued : (lines rest more others : List (List ℕ)) (line : List ℕ) → lines �
 glued lines rest more others line h = rw h (ap (λ ls. line ∷ ls) (append_assoc rest more others))
 
 -- the first line of the next neighbor
-neighbor_next : (ports others : List SeenPort) (port : SeenPort) (counts : List Count) (begun : ℕ) (entry later : Option (List (List ℕ))) (neighbor : Neighbor) (lines : List (List ℕ)) (line : List ℕ) → ports ≡ port ∷ others → length counts ≡ 0 → begun_left entry ≡ []
+neighbor_next : (ports others : List PortState) (port : PortState) (counts : List Count) (begun : ℕ) (entry later : Option (List (List ℕ))) (neighbor : Neighbor) (lines : List (List ℕ)) (line : List ℕ) → ports ≡ port ∷ others → length counts ≡ 0 → begun_left entry ≡ []
     → slice_get port.table.neighbors begun ≡ Some neighbor → lines ≡ neighbor_lines port.name (begun + 1) neighbor → lines ≡ line ∷ begun_left later
     → neighbors_left ports counts begun entry ≡ line ∷ neighbors_left ports counts (begun + 1) later
 unfolding neighbors_left
@@ -59,7 +59,7 @@ neighbor_next ports others port counts begun entry later neighbor lines line her
     (glued (neighbor_lines port.name (begun + 1) neighbor) (begun_left later) (numbered_lines port.name (begun + 1 + 1) (drop (begun + 1) port.table.neighbors)) (neighbors_lines others) line (sym all ∙ h))
 
 -- the same, where the line comes from the lines of that neighbor
-pub neighbor_first : (ports others : List SeenPort) (port : SeenPort) (counts : List Count) (begun : ℕ) (entry later : Option (List (List ℕ))) (neighbor : Neighbor) (lines : List (List ℕ)) (given : Option (ArrayVec ℕ)) → ports ≡ port ∷ others → length counts ≡ 0 → begun_left entry ≡ []
+pub neighbor_first : (ports others : List PortState) (port : PortState) (counts : List Count) (begun : ℕ) (entry later : Option (List (List ℕ))) (neighbor : Neighbor) (lines : List (List ℕ)) (given : Option (ArrayVec ℕ)) → ports ≡ port ∷ others → length counts ≡ 0 → begun_left entry ≡ []
     → slice_get port.table.neighbors begun ≡ Some neighbor → lines ≡ neighbor_lines port.name (begun + 1) neighbor → YieldsFirstBy octets_of begun_left (Some lines) given later
     → YieldsFirstBy octets_of (λ (ls : List (List ℕ)). ls) (neighbors_left ports counts begun entry) given (neighbors_left ports counts (begun + 1) later)
 neighbor_first ports others port counts begun entry later neighbor lines None here none ended at all h = let e : neighbor_lines port.name (begun + 1) neighbor ≡ [] = sym all ∙ h.0 in absurd cc
@@ -67,7 +67,7 @@ neighbor_first ports others port counts begun entry later neighbor lines (Some l
     neighbor_next ports others port counts begun entry later neighbor lines (octets_of line) here none ended at all h
 
 -- the first line of the next port
-pub port_first : (ports others later : List SeenPort) (port after : SeenPort) (counts : List Count) (begun : ℕ) (entry : Option (List (List ℕ))) (line : List ℕ) → ports ≡ port ∷ others → length counts ≡ 0 → begun_left entry ≡ []
+pub port_first : (ports others later : List PortState) (port after : PortState) (counts : List Count) (begun : ℕ) (entry : Option (List (List ℕ))) (line : List ℕ) → ports ≡ port ∷ others → length counts ≡ 0 → begun_left entry ≡ []
     → length port.table.neighbors ≤ begun → others ≡ after ∷ later → line ≡ count_line after Neighbors
     → neighbors_left ports counts begun entry ≡ line ∷ neighbors_left others (Octets ∷ TooMany ∷ []) 0 None
 unfolding neighbors_left
@@ -76,7 +76,7 @@ port_first ports others later port after counts begun entry line here none ended
     rw (here, e, ended, drop_past port.table.neighbors begun all, more, l) refl
 
 -- nothing is left
-pub nothing_left : (ports others : List SeenPort) (port : SeenPort) (counts : List Count) (begun : ℕ) (entry : Option (List (List ℕ))) → ports ≡ port ∷ others → length counts ≡ 0 → begun_left entry ≡ []
+pub nothing_left : (ports others : List PortState) (port : PortState) (counts : List Count) (begun : ℕ) (entry : Option (List (List ℕ))) → ports ≡ port ∷ others → length counts ≡ 0 → begun_left entry ≡ []
     → length port.table.neighbors ≤ begun → length others ≡ 0 → neighbors_left ports counts begun entry ≡ []
 unfolding neighbors_left
 nothing_left ports others port counts begun entry here none ended all last =
@@ -84,6 +84,6 @@ nothing_left ports others port counts begun entry here none ended all last =
     let f : others ≡ [] = nil_from_length others last in
     rw (here, e, ended, f, drop_past port.table.neighbors begun all) refl
 
-pub none_left : (ports : List SeenPort) (counts : List Count) (begun : ℕ) (entry : Option (List (List ℕ))) → length ports ≡ 0 → neighbors_left ports counts begun entry ≡ []
+pub none_left : (ports : List PortState) (counts : List Count) (begun : ℕ) (entry : Option (List (List ℕ))) → length ports ≡ 0 → neighbors_left ports counts begun entry ≡ []
 unfolding neighbors_left
 none_left ports counts begun entry h = let e : ports ≡ [] = nil_from_length ports h in rw e refl

@@ -7,37 +7,41 @@ use Rattle.lldp_table.specs.Events.{events_of}
 use Rattle.lldp_table.specs.Standing.{table_of}
 use Rattle.lldp_table.proofs.StandingLemmas.{stands_open, stands_is}
 use Rattle.lldp_engine.specs.Options.{Options, InRange, is_port_name}
-use Rattle.lldp_engine.specs.Status.{status_at_opening}
+use Rattle.lldp_transmit.specs.Machine.{opened as opened_machine}
+use Rattle.lldp_transmit.specs.Standing.{machine_of}
+use Rattle.lldp_transmit.proofs.Standing.{stands_at_first, stands_is as machine_is}
+use Rattle.lldp_engine.specs.Configuration.{configuration_at_opening}
 use Rattle.lldp_engine.specs.Counters.{counters_of}
-use Rattle.lldp_engine.specs.Seen.{Seen, SeenPort}
-use Rattle.lldp_engine.specs.AgentState.{AgentState}
-use Rattle.lldp_engine.specs.Past.{opened, port_after, ports_after, seen_after}
+use Rattle.lldp_engine.specs.AgentState.{AgentState, PortState}
+use Rattle.lldp_engine.specs.Past.{opened, settings_of, port_after, ports_after, agent_of}
 use Rattle.lldp_engine.specs.Standing.{Stands}
 use Rattle.lldp_engine.specs.Step.{opened_port, none_counted}
 use Rattle.lldp_engine.proofs.CounterLemmas.{counted_none}
+use Rattle.lldp_engine.proofs.StandingLemmas.{settings_in_range}
 
 no_events : (limit : ℕ) → events_of limit [] ≡ []
 unfolding events_of
 no_events limit = refl
 
-port_opened : (o : Options) (i : ℕ) (name : List ℕ) → InRange o → opened_port (status_at_opening o) o.max_neighbors name ≡ port_after o [] i name
+port_opened : (o : Options) (i : ℕ) (name : List ℕ) → InRange o → opened_port o name ≡ port_after o [] i name
 unfolding port_after
 port_opened o i name r =
     let table : newly_opened o.max_neighbors ≡ table_of o.max_neighbors [] = stands_is _ o.max_neighbors [] (stands_open o.max_neighbors (omega (arith, r.neighbors)) (omega (arith, r.neighbors))) in
-    let counters : none_counted ≡ counters_of [] (events_of o.max_neighbors []) = sym counted_none ∙ ap (counters_of []) (sym (no_events o.max_neighbors)) in
-    cc
+    let machine : opened_machine (settings_of o) ≡ machine_of (settings_of o) [] = machine_is (settings_of o) [] _ (stands_at_first (settings_of o) (settings_in_range o r)) in
+    let counters : none_counted ≡ counters_of [] (events_of o.max_neighbors []) [] = sym counted_none ∙ ap (λ es. counters_of [] es []) (sym (no_events o.max_neighbors)) in
+    rw (table, machine, counters) refl
 
-ports_opened : (o : Options) (i : ℕ) (names : List (List ℕ)) → InRange o → map (opened_port (status_at_opening o) o.max_neighbors) names ≡ ports_after o [] i names
+ports_opened : (o : Options) (i : ℕ) (names : List (List ℕ)) → InRange o → map (opened_port o) names ≡ ports_after o [] i names
 ports_opened o i [] r = refl
 ports_opened o i (name ∷ names) r =
     let one = port_opened o i name r in
     let others = ports_opened o (i + 1) names r in
     cc
 
-pub opened_stands : (o : Options) (agent : AgentState) → InRange o → agent.ports ≡ map (opened_port (status_at_opening o) o.max_neighbors) o.names → Stands (opened o) agent
-unfolding seen_after
-opened_stands o agent r h =
-    record { in_range = r; allowed = tt; seen = ap (λ (ps : List SeenPort). let s : Seen = record { ports = ps } in s) (h ∙ ports_opened o 0 o.names r) }
+pub opened_stands : (o : Options) (agent : AgentState) → InRange o → agent.configuration ≡ configuration_at_opening o → agent.ports ≡ map (opened_port o) o.names → Stands (opened o) agent
+unfolding agent_of
+opened_stands o agent r c h =
+    record { in_range = r; allowed = tt; is = rw (← c, ← ports_opened o 0 o.names r, ← h) refl }
 
 -- ## One name after another
 
@@ -55,13 +59,13 @@ next_named [] i none lt h = absurd (omega arith)
 next_named (n ∷ ns) zero none lt h = let b = both (is_port_name n.now) (list_all is_port_name (map (λ m. m.now) ns)) h in (short_name n.now b.0, b.1)
 next_named (n ∷ ns) (suc i) none lt h = next_named ns i none (omega arith) h
 
-next_taken : (f : List ℕ → SeenPort) (names : List (Bor (List ℕ))) (i : ℕ) (none : Bor (List ℕ)) → i < length names
+next_taken : (f : List ℕ → PortState) (names : List (Bor (List ℕ))) (i : ℕ) (none : Bor (List ℕ)) → i < length names
     → map f (map (λ n. n.now) (take i names)) ++ f (get_or names i none).now ∷ [] ≡ map f (map (λ n. n.now) (take (suc i) names))
 next_taken f [] i none lt = absurd (omega arith)
 next_taken f (n ∷ ns) zero none lt = refl
-next_taken f (n ∷ ns) (suc i) none lt = ap (λ (ps : List SeenPort). f n.now ∷ ps) (next_taken f ns i none (omega arith))
+next_taken f (n ∷ ns) (suc i) none lt = ap (λ (ps : List PortState). f n.now ∷ ps) (next_taken f ns i none (omega arith))
 
 -- its port is the next one
-pub next_port : (f : List ℕ → SeenPort) (names : List (Bor (List ℕ))) (i : ℕ) (none : Bor (List ℕ)) (before after : List SeenPort) (port : SeenPort) (name : List ℕ) → i < length names
+pub next_port : (f : List ℕ → PortState) (names : List (Bor (List ℕ))) (i : ℕ) (none : Bor (List ℕ)) (before after : List PortState) (port : PortState) (name : List ℕ) → i < length names
     → before ≡ map f (map (λ n. n.now) (take i names)) → name ≡ (get_or names i none).now → port ≡ f name → after ≡ before ++ port ∷ [] → after ≡ map f (map (λ n. n.now) (take (suc i) names))
 next_port f names i none before after port name lt b n p a = rw (a, b, p, n) (next_taken f names i none lt)

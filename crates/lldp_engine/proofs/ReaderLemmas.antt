@@ -6,14 +6,17 @@ use Rattle.std.proofs.lemmas.List.{length-map}
 use Rattle.lldp_engine.specs.Options.{Options}
 use Rattle.lldp_engine.specs.Event.{Event}
 use Rattle.lldp_engine.specs.Place.{place_from}
-use Rattle.lldp_engine.specs.Seen.{SeenPort}
+use Rattle.lldp_engine.specs.AgentState.{PortState}
 use Rattle.lldp_engine.specs.AgentState.{AgentState}
-use Rattle.lldp_engine.specs.Past.{Past, port_after, ports_after}
+use Rattle.lldp_engine.specs.Past.{Past, port_after, ports_after, agent_of}
 use Rattle.lldp_engine.specs.Standing.{Stands}
-use Rattle.lldp_engine.proofs.StandingLemmas.{seen_ports}
+
+pub ports_are : (past : Past) (agent : AgentState) → Stands past agent → agent.ports ≡ ports_after past.options past.events 0 past.options.names
+unfolding agent_of
+ports_are past agent h = ap (λ (a : AgentState). a.ports) h.is
 
 -- what the definitions say of the port at a place
-pub record IsPortAfter (o : Options) (events : List Event) (i : ℕ) (name : Option (List ℕ)) (p : SeenPort) : Type 0 where
+pub record IsPortAfter (o : Options) (events : List Event) (i : ℕ) (name : Option (List ℕ)) (p : PortState) : Type 0 where
   pub named : name ≡ Some p.name
   pub is : p ≡ port_after o events i p.name
 
@@ -21,38 +24,38 @@ name_after : (o : Options) (events : List Event) (i : ℕ) (name : List ℕ) →
 unfolding port_after
 name_after o events i name = refl
 
-port_at : (o : Options) (events : List Event) (s i : ℕ) (names : List (List ℕ)) (p : SeenPort) → i < length (ports_after o events s names) → p ≡ get_or (ports_after o events s names) i p → IsPortAfter o events (s + i) (slice_get names i) p
+port_at : (o : Options) (events : List Event) (s i : ℕ) (names : List (List ℕ)) (p : PortState) → i < length (ports_after o events s names) → p ≡ get_or (ports_after o events s names) i p → IsPortAfter o events (s + i) (slice_get names i) p
 port_at o events s i [] p lt h = absurd (omega arith)
 port_at o events s zero (name ∷ names) p lt h =
-    let n : p.name ≡ name = ap (λ (q : SeenPort). q.name) h ∙ name_after o events s name in
+    let n : p.name ≡ name = ap (λ (q : PortState). q.name) h ∙ name_after o events s name in
     record { named = ap (λ (x : List ℕ). Some x) (sym n); is = h ∙ ap (port_after o events s) (sym n) ∙ ap (λ (k : ℕ). port_after o events k p.name) (sym (add-zero s)) }
 port_at o events s (suc i) (name ∷ names) p lt h =
     let place : s + suc i ≡ s + 1 + i = omega arith in
     rw place (port_at o events (s + 1) i names p (omega arith) h)
 
-pub port_reads : (past : Past) (agent : AgentState) (i : ℕ) (p : SeenPort) → Stands past agent → i < length agent.ports → p ≡ get_or agent.ports i p → IsPortAfter past.options past.events i (slice_get past.options.names i) p
+pub port_reads : (past : Past) (agent : AgentState) (i : ℕ) (p : PortState) → Stands past agent → i < length agent.ports → p ≡ get_or agent.ports i p → IsPortAfter past.options past.events i (slice_get past.options.names i) p
 port_reads past agent i p h lt at =
-    let e = seen_ports past agent h in
+    let e = ports_are past agent h in
     let place : 0 + i ≡ i = omega arith in
     subst (λ (k : ℕ). IsPortAfter past.options past.events k (slice_get past.options.names i) p) place
-    (port_at past.options past.events 0 i past.options.names p (subst (λ (ps : List SeenPort). i < length ps) e lt) (at ∙ ap (λ (ps : List SeenPort). get_or ps i p) e))
+    (port_at past.options past.events 0 i past.options.names p (subst (λ (ps : List PortState). i < length ps) e lt) (at ∙ ap (λ (ps : List PortState). get_or ps i p) e))
 
-names_are : (o : Options) (events : List Event) (i : ℕ) (names : List (List ℕ)) → map (λ (p : SeenPort). p.name) (ports_after o events i names) ≡ names
+names_are : (o : Options) (events : List Event) (i : ℕ) (names : List (List ℕ)) → map (λ (p : PortState). p.name) (ports_after o events i names) ≡ names
 names_are o events i [] = refl
 names_are o events i (name ∷ names) =
     let one = name_after o events i name in
     let others = names_are o events (i + 1) names in
     cc
 
-pub names_read : (past : Past) (agent : AgentState) → Stands past agent → map (λ (p : SeenPort). p.name) agent.ports ≡ past.options.names
-names_read past agent h = ap (map (λ (p : SeenPort). p.name)) (seen_ports past agent h) ∙ names_are past.options past.events 0 past.options.names
+pub names_read : (past : Past) (agent : AgentState) → Stands past agent → map (λ (p : PortState). p.name) agent.ports ≡ past.options.names
+names_read past agent h = ap (map (λ (p : PortState). p.name)) (ports_are past agent h) ∙ names_are past.options past.events 0 past.options.names
 
 ports_number : (o : Options) (events : List Event) (i : ℕ) (names : List (List ℕ)) → length (ports_after o events i names) ≡ length names
 ports_number o events i [] = refl
 ports_number o events i (name ∷ names) = omega (arith, ports_number o events (i + 1) names)
 
 pub number_reads : (past : Past) (agent : AgentState) → Stands past agent → length agent.ports ≡ length past.options.names
-number_reads past agent h = ap length (seen_ports past agent h) ∙ ports_number past.options past.events 0 past.options.names
+number_reads past agent h = ap length (ports_are past agent h) ∙ ports_number past.options past.events 0 past.options.names
 
 -- a place is one of the names
 within_more : (o : Option ℕ) (m n : ℕ) → m ≡ n → IfSome o (λ i. i < m) → IfSome o (λ i. i < n)
@@ -67,8 +70,8 @@ place_within : (s : ℕ) (names : List (List ℕ)) (word : List ℕ) → IfSome 
 place_within s [] word = tt
 place_within s (name ∷ names) word = within_if (bytes_eq name word) s (length names) (place_from (s + 1) names word) (place_within (s + 1) names word)
 
-pub place_exists : (ports : List SeenPort) (word : List ℕ) (o : Option ℕ) → o ≡ place_from 0 (map (λ (p : SeenPort). p.name) ports) word → IfSome o (λ i. i < length ports)
+pub place_exists : (ports : List PortState) (word : List ℕ) (o : Option ℕ) → o ≡ place_from 0 (map (λ (p : PortState). p.name) ports) word → IfSome o (λ i. i < length ports)
 place_exists ports word o e =
-    let n : length (map (λ (p : SeenPort). p.name) ports) ≡ length ports = simp length-map in
-    within_more o (0 + length (map (λ (p : SeenPort). p.name) ports)) (length ports) (omega arith)
-    (subst (λ (x : Option ℕ). IfSome x (λ i. i < 0 + length (map (λ (p : SeenPort). p.name) ports))) (sym e) (place_within 0 (map (λ (p : SeenPort). p.name) ports) word))
+    let n : length (map (λ (p : PortState). p.name) ports) ≡ length ports = simp length-map in
+    within_more o (0 + length (map (λ (p : PortState). p.name) ports)) (length ports) (omega arith)
+    (subst (λ (x : Option ℕ). IfSome x (λ i. i < 0 + length (map (λ (p : PortState). p.name) ports))) (sym e) (place_within 0 (map (λ (p : PortState). p.name) ports) word))

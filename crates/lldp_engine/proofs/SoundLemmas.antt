@@ -1,59 +1,128 @@
--- The tables of an agent stay sound.
-use Rattle.std.proofs.Common.{◌≡◌, ℕ, ◌+◌, ◌<◌, ◌≤◌, Bool, true, false, List, [], ◌∷◌, length, map, Option, Some, None, sym, subst, arith}
-use Rattle.std.specs.Prelude.{◌==◌, if◌then◌else◌, option_and_then, IfSome}
-use Rattle.std.specs.List.{AllByRecursion}
+-- The ports of an agent stay sound.
+use Rattle.std.proofs.Common.{◌≡◌, ℕ, ◌+◌, ◌<◌, ◌≤◌, Bool, true, false, ◌&&◌, List, [], ◌∷◌, length, map, Option, Some, None, refl, sym, ◌∙◌, subst, arith}
+use Rattle.std.specs.Prelude.{IfSome, nat_le}
+use Rattle.std.specs.List.{AllByRecursion, list_all}
 use Rattle.std.proofs.lemmas.List.{length-map}
-use Rattle.lldp_pdu.specs.Tlv.{AreOctets}
-use Rattle.lldp_table.specs.Events.{learn, forget, tick as tick_call}
-use Rattle.lldp_table.specs.Contents.{IsSound}
-use Rattle.lldp_table.specs.Standing.{IsTold}
+use Rattle.std.proofs.lemmas.Bool.Decides.{nat_tests}
+use Rattle.lldp_pdu.specs.Msap.{MsapId}
+use Rattle.lldp_table.specs.Events.{Call, learn, forget, purge, tick as tick_call, set_limit}
+use Rattle.lldp_table.specs.declared.learned.Learned.{Learned}
+use Rattle.lldp_table.specs.declared.learned.Learned.TheVariants.{New, Refreshed, Dropped}
+use Rattle.lldp_table.specs.Contents.{Contents, IsSound, learned_as, learn_answer, table_after}
+use Rattle.lldp_table.specs.Standing.{IsTold, IsNewLimit}
 use Rattle.lldp_table.proofs.SoundLemmas.{sound_open, sound_after}
-use Rattle.lldp_engine.specs.declared.status.Status.{Status}
-use Rattle.lldp_engine.specs.Event.{Event, tick, frame, HasOctets}
-use Rattle.lldp_engine.specs.Heard.{Heard, refused, leaves, tells, heard_by, call_of}
-use Rattle.lldp_engine.specs.Seen.{SeenPort}
-use Rattle.lldp_engine.specs.Sound.{AreSound}
-use Rattle.lldp_engine.specs.Step.{opened_port, hears_if, after_octets, port_step, ports_step}
-use Rattle.lldp_engine.proofs.HeardLemmas.{heard_told}
+use Rattle.lldp_engine.specs.Options.{Options, InRange, is_port_name}
+use Rattle.lldp_engine.specs.Event.{Event, tick, frame, link, configure, hostname, description, interval, hold, limit, status, update, HasOctets}
+use Rattle.lldp_engine.specs.PortEvent.{call_at, port_of}
+use Rattle.lldp_engine.specs.AgentState.{AgentState, PortState, Allows, fits}
+use Rattle.lldp_engine.specs.Sound.{IsSoundPort, AreSound}
+use Rattle.lldp_engine.specs.Step.{opened_port, told, port_step, ports_step}
+use Rattle.lldp_engine.specs.Code.Taking.{FitsLimit}
+use Rattle.lldp_engine.proofs.HeardLemmas.{event_told}
 
-abbrev pub AllSound : List SeenPort → Type 0
-AllSound ports = AllByRecursion (λ port. IsSound port.table) ports
+abbrev pub AllSound : ℕ → List PortState → Type 0
+AllSound capacity ports = AllByRecursion (λ port. IsSoundPort capacity port) ports
+
+both : (a b : Bool) → (a && b) ≡ true → (a ≡ true) × (b ≡ true)
+both true b h = (refl, h)
+both false b h = absurd cc
 
 -- ## At opening
 
-opened_sound : (status : Status) (limit : ℕ) (names : List (List ℕ)) → 0 < limit → limit ≤ 128 → AllSound (map (opened_port status limit) names)
-opened_sound status limit [] least most = tt
-opened_sound status limit (name ∷ names) least most = (sound_open limit least most, opened_sound status limit names least most)
+port_opened : (o : Options) (name : List ℕ) → InRange o → is_port_name name ≡ true → IsSoundPort o.max_neighbors (opened_port o name)
+port_opened o name r h = record {
+  table = sound_open o.max_neighbors (omega (arith, r.neighbors)) (omega (arith, r.neighbors));
+  room = refl;
+  some = grind (arith, nat_tests, h);
+  short = grind (arith, nat_tests, h);
+}
 
-pub opened_are_sound : (status : Status) (limit : ℕ) (names : List (List ℕ)) (ports : List SeenPort) → ports ≡ map (opened_port status limit) names → 0 < limit → limit ≤ 128 → length names ≤ 64 → AreSound ports
-opened_are_sound status limit names ports e least most few =
-    let number : length (map (opened_port status limit) names) ≡ length names = simp length-map in
-    subst AreSound (sym e) (record { few = omega arith; sound = opened_sound status limit names least most })
+ports_opened : (o : Options) (names : List (List ℕ)) → InRange o → list_all is_port_name names ≡ true → AllSound o.max_neighbors (map (opened_port o) names)
+ports_opened o [] r h = tt
+ports_opened o (name ∷ names) r h = let b = both (is_port_name name) (list_all is_port_name names) h in (port_opened o name r b.0, ports_opened o names r b.1)
+
+pub opened_are_sound : (o : Options) (ports : List PortState) → InRange o → ports ≡ map (opened_port o) o.names → list_all is_port_name o.names ≡ true → length o.names ≤ 64 → AreSound o.max_neighbors ports
+opened_are_sound o ports r e named few =
+    let number : length (map (opened_port o) o.names) ≡ length o.names = simp length-map in
+    subst (AreSound o.max_neighbors) (sym e) (record { few = omega arith; sound = ports_opened o o.names r named })
 
 -- ## At an event
 
-heard_sound : (p : SeenPort) (h : Option Heard) → IfSome (option_and_then call_of h) (IsTold p.table) → IsSound p.table → IsSound (hears_if p h).table
-heard_sound p None t s = s
-heard_sound p (Some refused) t s = s
-heard_sound p (Some (leaves msap)) t s = sound_after p.table (forget msap) s t
-heard_sound p (Some (tells info)) t s = sound_after p.table (learn info.msap info.ttl info.octets) s t
+told_sound : (table : Contents) (call : Option Call) → IsSound table → IfSome call (IsTold table) → IsSound (told table call)
+told_sound table None s t = s
+told_sound table (Some call) s t = sound_after table call s t
 
-octets_sound : (p : SeenPort) (octets : List ℕ) (b : Bool) → AreOctets octets → IsSound p.table → IsSound (if b then after_octets p octets else p).table
-octets_sound p octets true fits s = heard_sound p (heard_by p.status octets) (heard_told p.table p.status octets fits) s
-octets_sound p octets false fits s = s
+-- no call changes the room
+learned-room : (a : Learned) (table : Contents) (msap : MsapId) (ttl : ℕ) (octets : List ℕ) → (learned_as a table msap ttl octets).capacity ≡ table.capacity
+learned-room New table msap ttl octets = refl
+learned-room Refreshed table msap ttl octets = refl
+learned-room Dropped table msap ttl octets = refl
 
-port_sound : (event : Event) (i : ℕ) (p : SeenPort) → HasOctets event → IsSound p.table → IsSound (port_step event i p).table
-port_sound tick i p h s = sound_after p.table tick_call s tt
-port_sound (frame port octets) i p h s = octets_sound p octets (port == i) h s
+called-room : (table : Contents) (call : Call) → (table_after table call).capacity ≡ table.capacity
+called-room table (learn msap ttl octets) = learned-room (learn_answer table msap) table msap ttl octets
+called-room table (forget msap) = refl
+called-room table purge = refl
+called-room table tick_call = refl
+called-room table (set_limit n) = refl
 
-ports_sound : (event : Event) (i : ℕ) (ports : List SeenPort) → HasOctets event → AllSound ports → AllSound (ports_step event i ports)
-ports_sound event i [] h s = tt
-ports_sound event i (p ∷ ps) h s = (port_sound event i p h s.0, ports_sound event (i + 1) ps h s.1)
+told_room : (table : Contents) (call : Option Call) → (told table call).capacity ≡ table.capacity
+told_room table None = refl
+told_room table (Some call) = called-room table call
 
-ports_number : (event : Event) (i : ℕ) (ports : List SeenPort) → length (ports_step event i ports) ≡ length ports
-ports_number event i [] = omega arith
-ports_number event i (p ∷ ps) = omega (arith, ports_number event (i + 1) ps)
+port_sound : (capacity : ℕ) (event : Event) (n i : ℕ) (p : PortState) → HasOctets event → FitsLimit event p.table → IsSoundPort capacity p → IsSoundPort capacity (port_step event n i p)
+port_sound capacity event n i p h f s = record {
+  table = told_sound p.table (call_at event i p.status p.machine.up) s.table (event_told p.table event i p.status p.machine.up h f);
+  room = told_room p.table (call_at event i p.status p.machine.up) ∙ s.room;
+  some = s.some;
+  short = s.short;
+}
 
-pub stay_sound : (event : Event) (ports new : List SeenPort) → new ≡ ports_step event 0 ports → HasOctets event → AreSound ports → AreSound new
-stay_sound event ports new e h s =
-    subst AreSound (sym e) (record { few = omega (arith, s.few, ports_number event 0 ports); sound = ports_sound event 0 ports h s.sound })
+ports_sound : (capacity : ℕ) (event : Event) (n i : ℕ) (ports : List PortState) → HasOctets event → AllByRecursion (λ port. FitsLimit event port.table) ports → AllSound capacity ports → AllSound capacity (ports_step event n i ports)
+ports_sound capacity event n i [] h f s = tt
+ports_sound capacity event n i (p ∷ ps) h f s = (port_sound capacity event n i p h f.0 s.0, ports_sound capacity event n (i + 1) ps h f.1 s.1)
+
+pub ports_number : (event : Event) (n i : ℕ) (ports : List PortState) → length (ports_step event n i ports) ≡ length ports
+ports_number event n i [] = omega arith
+ports_number event n i (p ∷ ps) = omega (arith, ports_number event n (i + 1) ps)
+
+pub stay_sound : (capacity : ℕ) (event : Event) (n : ℕ) (ports new : List PortState) → new ≡ ports_step event n 0 ports → HasOctets event → AllByRecursion (λ port. FitsLimit event port.table) ports
+    → AreSound capacity ports → AreSound capacity new
+stay_sound capacity event n ports new e h f s =
+    subst (AreSound capacity) (sym e) (record { few = omega (arith, s.few, ports_number event n 0 ports); sound = ports_sound capacity event n 0 ports h f s.sound })
+
+-- ## What an agent allows fits its ports
+
+limit_for_all : (capacity n : ℕ) (ports : List PortState) → 1 ≤ n → n ≤ capacity → fits ports n ≡ true → AllSound capacity ports → AllByRecursion (λ port. IsNewLimit port.table n) ports
+limit_for_all capacity n [] least most f s = tt
+limit_for_all capacity n (p ∷ ps) least most f s =
+    let b = both (nat_le (length p.table.neighbors) n) (fits ps n) f in
+    let held : length p.table.neighbors ≤ n = grind (arith, nat_tests, b.0) in
+    (record { least = omega arith; most = omega (arith, s.0.room); held = held }, limit_for_all capacity n ps least most b.1 s.1)
+
+none_for_all : (ports : List PortState) → AllByRecursion (λ (port : PortState). Unit {0}) ports
+none_for_all [] = tt
+none_for_all (p ∷ ps) = (tt, none_for_all ps)
+
+pub allowed_fits : (agent : AgentState) (event : Event) → Allows agent event → AllSound agent.configuration.capacity agent.ports → AllByRecursion (λ port. FitsLimit event port.table) agent.ports
+allowed_fits agent tick a s = none_for_all agent.ports
+allowed_fits agent (frame port octets) a s = none_for_all agent.ports
+allowed_fits agent (link port up) a s = none_for_all agent.ports
+allowed_fits agent (configure (hostname text)) a s = none_for_all agent.ports
+allowed_fits agent (configure (description text)) a s = none_for_all agent.ports
+allowed_fits agent (configure (interval seconds)) a s = none_for_all agent.ports
+allowed_fits agent (configure (hold times)) a s = none_for_all agent.ports
+allowed_fits agent (configure (limit n)) a s = limit_for_all agent.configuration.capacity n agent.ports a.least a.most a.held s
+allowed_fits agent (configure (status port given)) a s = none_for_all agent.ports
+allowed_fits agent (configure update) a s = none_for_all agent.ports
+
+pub allowed_exists : (agent : AgentState) (event : Event) → Allows agent event → IfSome (port_of event) (λ port. port < length agent.ports)
+allowed_exists agent tick a = tt
+allowed_exists agent (frame port octets) a = a
+allowed_exists agent (link port up) a = a
+allowed_exists agent (configure (hostname text)) a = tt
+allowed_exists agent (configure (description text)) a = tt
+allowed_exists agent (configure (interval seconds)) a = tt
+allowed_exists agent (configure (hold times)) a = tt
+allowed_exists agent (configure (limit n)) a = tt
+allowed_exists agent (configure (status port given)) a = a
+allowed_exists agent (configure update) a = tt

@@ -1,22 +1,61 @@
 -- An agent's present data, and which events it accepts.
-use Rattle.std.specs.Prelude.{ℕ, ◌<◌, List, length}
-use Rattle.lldp_engine.specs.Event.{Event, tick, frame}
-use Rattle.lldp_engine.specs.Seen.{Seen, SeenPort}
+use Rattle.std.specs.Prelude.{◌≡◌, ℕ, ◌<◌, ◌≤◌, Bool, true, nat_le, List, length, map, get_or, []}
+use Rattle.std.specs.List.{list_all}
+use Rattle.lldp_table.specs.Contents.{Contents}
+use Rattle.lldp_transmit.specs.Machine.{Machine}
+use Rattle.lldp_engine.specs.declared.status.Status.{Status}
+use Rattle.lldp_engine.specs.declared.counters.Counters.{Counters}
+use Rattle.lldp_engine.specs.Options.{is_text}
+use Rattle.lldp_engine.specs.Configuration.{Configuration}
+use Rattle.lldp_engine.specs.Event.{Event, tick, frame, link, configure, Setting, hostname, description, interval, hold, limit, status, update}
+
+-- a port: whether its link is up stands in its transmit machine
+pub record PortState : Type 0 where
+  pub name : List ℕ
+  pub status : Status
+  pub table : Contents
+  pub machine : Machine
+  pub counters : Counters
 
 pub record AgentState : Type 0 where
-  pub ports : List SeenPort
+  pub configuration : Configuration
+  pub ports : List PortState
 
-abbrev pub seen_of : AgentState → Seen
-seen_of agent = record { ports = agent.ports }
+-- the names of the ports, in the order of opening
+abbrev pub names_of : AgentState → List (List ℕ)
+names_of agent = map (λ port. port.name) agent.ports
+
+-- the name of a port
+abbrev pub name_of : AgentState → ℕ → List ℕ
+name_of agent port = get_or (names_of agent) port []
 
 -- the port exists
 abbrev pub IsPort : AgentState → ℕ → Type 0
 IsPort agent port = port < length agent.ports
 
--- an agent that is seen so accepts the event: its port exists
-abbrev pub IsAllowed : Seen → Event → Type 0
-IsAllowed seen tick = Unit {0}
-IsAllowed seen (frame port octets) = port < length seen.ports
+-- no port holds more neighbors than this
+abbrev pub fits : List PortState → ℕ → Bool
+fits ports most = list_all (λ port. nat_le (length port.table.neighbors) most) ports
 
+-- A new limit: from 1 to that of opening, and no port holds more.
+pub record IsNewLimit (agent : AgentState) (neighbors : ℕ) : Type 0 where
+  pub least : 1 ≤ neighbors
+  pub most : neighbors ≤ agent.configuration.capacity
+  pub held : fits agent.ports neighbors ≡ true
+
+-- The agent accepts the setting: its port exists, its value is in the range, its text is one.
+abbrev pub AllowsSetting : AgentState → Setting → Type 0
+AllowsSetting agent (hostname text) = is_text text ≡ true
+AllowsSetting agent (description text) = is_text text ≡ true
+AllowsSetting agent (interval seconds) = (1 ≤ seconds) × (seconds ≤ 3600)
+AllowsSetting agent (hold times) = (1 ≤ times) × (times ≤ 100)
+AllowsSetting agent (limit neighbors) = IsNewLimit agent neighbors
+AllowsSetting agent (status port given) = IsPort agent port
+AllowsSetting agent update = Unit {0}
+
+-- the agent accepts the event
 abbrev pub Allows : AgentState → Event → Type 0
-Allows agent event = IsAllowed (seen_of agent) event
+Allows agent tick = Unit {0}
+Allows agent (frame port octets) = IsPort agent port
+Allows agent (link port up) = IsPort agent port
+Allows agent (configure setting) = AllowsSetting agent setting

@@ -2,6 +2,8 @@
 use Rattle.std.specs.Prelude.{ℕ, ◌+◌, ◌%◌, ◌^◌, Bool, true, false, nat_lt, if◌then◌else◌, List, [], ◌∷◌, length, filter}
 use Rattle.lldp_table.specs.Events.{TableEvent, learned, forgot, purged, ticked, limit_set, is_tick, aged_out}
 use Rattle.lldp_table.specs.declared.learned.Learned.TheVariants.{New, Refreshed, Dropped}
+use Rattle.lldp_transmit.specs.declared.event.Mark.{Mark}
+use Rattle.lldp_transmit.specs.declared.event.Mark.TheVariants.{Quiet, Ordinary, Shutdown}
 use Rattle.lldp_engine.specs.declared.counters.Counters.{Counters}
 use Rattle.lldp_engine.specs.Heard.{Heard, refused, leaves, tells}
 
@@ -59,14 +61,26 @@ abbrev pub all_aged_out : List TableEvent → ℕ
 all_aged_out [] = 0
 all_aged_out (event ∷ past) = (if is_tick event then aged_out past else 0) + all_aged_out past
 
+-- ## Of what is sent at one event
+
+abbrev pub is_ordinary : Mark → Bool
+is_ordinary Ordinary = true
+is_ordinary Quiet = false
+is_ordinary Shutdown = false
+
+abbrev pub is_shutdown : Mark → Bool
+is_shutdown Shutdown = true
+is_shutdown Quiet = false
+is_shutdown Ordinary = false
+
 -- ## Of a port
 
--- the counters of a port that heard these LLDPDUs and whose table has these events behind it; it has sent nothing
-unfoldable pub counters_of : List Heard → List TableEvent → Counters
-counters_of heard events =
+-- the counters of a port that heard these LLDPDUs, whose table has these events behind it, and that sent this
+unfoldable pub counters_of : List Heard → List TableEvent → List Mark → Counters
+counters_of heard events marks =
     record {
-      sent = 0;
-      shutdowns = 0;
+      sent = wrapped (how_many is_ordinary marks);
+      shutdowns = wrapped (how_many is_shutdown marks);
       received = wrapped (length heard);
       discarded = wrapped (how_many is_refused heard);
       errors = wrapped (how_many is_error heard);

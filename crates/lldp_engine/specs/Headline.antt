@@ -1,13 +1,16 @@
 -- What is promised of every agent, for each past that it stands for.
-use Rattle.std.specs.Prelude.{◌≡◌, ℕ, ◌≤◌, ◌↔◌, Some, slice_get, length}
+use Rattle.std.specs.Prelude.{◌≡◌, ℕ, ◌<◌, ◌≤◌, ◌↔◌, Some, slice_get, List, ◌∷◌, ◌++◌, length}
 use Rattle.std.specs.List.{Contains, AllPairs, AllByRecursion, IsDistinct}
 use Rattle.lldp_table.specs.Msap.{same_msap}
 use Rattle.lldp_table.specs.Events.{Neighbor, limit_after}
 use Rattle.lldp_table.specs.Contents.{Contents, names_of}
 use Rattle.lldp_table.specs.Positions.{IsLastStored, IsNewBefore}
-use Rattle.lldp_engine.specs.Seen.{SeenPort}
-use Rattle.lldp_engine.specs.AgentState.{AgentState}
-use Rattle.lldp_engine.specs.Past.{Past, told_of}
+use Rattle.lldp_transmit.specs.declared.event.Mark.TheVariants.{Ordinary, Shutdown}
+use Rattle.lldp_transmit.specs.Positions.{IsDueAndOpen, StopsAt}
+use Rattle.lldp_transmit.specs.Windows.{IsBounded, StopsRarely}
+use Rattle.lldp_engine.specs.Event.{Event}
+use Rattle.lldp_engine.specs.AgentState.{AgentState, PortState}
+use Rattle.lldp_engine.specs.Past.{Past, told_of, settings_of, causes_of, causes_after, caused_at, mark_after}
 
 -- The table of port i holds, for each name, its last stored frame that has not expired, and nothing else; each name
 -- once, in the order in which the names were last new; no more neighbors than the limit in force, and no more than
@@ -20,6 +23,23 @@ pub record HoldsLastStored (past : Past) (i : ℕ) (table : Contents) : Type 0 w
   pub few : length table.neighbors ≤ table.limit
   pub short : AllByRecursion (λ neighbor. length neighbor.octets ≤ 1500) table.neighbors
 
--- each port's table does
+-- At an event after earlier ones port i sends an ordinary frame exactly where one is due and the credit window is open:
+-- no run of events that ends there would hold more than txCreditMax and the ticks after its first event. It sends a
+-- shutdown frame exactly where it was active and may no longer transmit.
+pub record SendsExactly (past : Past) (i : ℕ) (event : Event) (earlier : List Event) : Type 0 where
+  pub ordinary : (mark_after past.options i (event ∷ earlier) ≡ Ordinary)
+      ↔ IsDueAndOpen (settings_of past.options) (causes_after past.options i earlier) (caused_at past.options i event earlier)
+  pub shutdown : (mark_after past.options i (event ∷ earlier) ≡ Shutdown)
+      ↔ StopsAt (settings_of past.options) (causes_after past.options i earlier) (caused_at past.options i event earlier)
+
+-- Port i did so at each event so far. No run of events holds more ordinary frames than txCreditMax and the ticks after
+-- its first event, nor more stops than one and one for each reinitDelay ticks in it.
+pub record HasSentExactly (past : Past) (i : ℕ) : Type 0 where
+  pub exactly : (later earlier : List Event) (event : Event) → past.events ≡ later ++ event ∷ earlier → SendsExactly past i event earlier
+  pub bounded : IsBounded (settings_of past.options) (causes_of past i)
+  pub few_stops : StopsRarely (settings_of past.options) (causes_of past i)
+
+-- Each port's table holds the last stored frames, and each port has sent exactly what was due while the window was open.
 pub record Promised (past : Past) (agent : AgentState) : Type 0 where
-  pub tables : (i : ℕ) (port : SeenPort) → slice_get agent.ports i ≡ Some port → HoldsLastStored past i port.table
+  pub tables : (i : ℕ) (port : PortState) → slice_get agent.ports i ≡ Some port → HoldsLastStored past i port.table
+  pub sending : (i : ℕ) → i < length past.options.names → HasSentExactly past i

@@ -2,9 +2,10 @@ pub mod Options
 pub mod Status
 pub mod Event
 pub mod EventView
+pub mod Configuration
 pub mod Heard
+pub mod PortEvent
 pub mod Counters
-pub mod Seen
 pub mod Sound
 pub mod AgentState
 pub mod Place
@@ -18,6 +19,7 @@ pub mod Number
 pub mod Request
 pub mod Forms
 pub mod Command
+pub mod Frames
 pub mod Text
 pub mod Addresses
 pub mod Capabilities
@@ -27,5 +29,7 @@ pub mod KeptTlv
 pub mod Keys
 pub mod NeighborLines
 pub mod StatisticsLines
+pub mod ChassisLines
+pub mod ConfigurationLines
 pub mod Lines
 pub mod Code

@@ -4,7 +4,7 @@ use Rattle.std.specs.List.{flat_map}
 use Rattle.lldp_pdu.specs.Tlv.{TlvUnit}
 use Rattle.lldp_pdu.specs.Kept.{kept_of}
 use Rattle.lldp_table.specs.Events.{Neighbor}
-use Rattle.lldp_engine.specs.Seen.{SeenPort}
+use Rattle.lldp_engine.specs.AgentState.{PortState}
 use Rattle.lldp_engine.specs.Keys.{port_key, neighbor_key}
 use Rattle.lldp_engine.specs.Identifier.{chassis_text, port_text}
 use Rattle.lldp_engine.specs.KeptTlv.{tlv_text}
@@ -35,16 +35,16 @@ yes_or_no condition = if condition then codes "yes" else codes "no"
 
 -- The first three lines of a port: how many neighbors it holds, the sum of their stored octets, and whether there are
 -- too many, which is while the timer of that condition is not 0.
-abbrev pub count_lines : SeenPort → List (List ℕ)
+abbrev pub count_lines : PortState → List (List ℕ)
 count_lines port =
     (port_key port.name ++ (codes "neighbors=" ++ decimal (length port.table.neighbors)))
     ∷ (port_key port.name ++ (codes "octets=" ++ decimal (sum_by (λ neighbor. length neighbor.octets) port.table.neighbors)))
     ∷ (port_key port.name ++ (codes "too-many=" ++ yes_or_no (nat_lt 0 port.table.too_many_left))) ∷ []
 
 -- The lines of a port: the first three, and those of its neighbors in the order of the table, numbered from 1.
-abbrev pub port_lines : SeenPort → List (List ℕ)
+abbrev pub port_lines : PortState → List (List ℕ)
 port_lines port = count_lines port ++ numbered_lines port.name 1 port.table.neighbors
 
 -- Those of each port, in the order of opening.
-abbrev pub neighbors_lines : List SeenPort → List (List ℕ)
+abbrev pub neighbors_lines : List PortState → List (List ℕ)
 neighbors_lines ports = flat_map port_lines ports

@@ -1,10 +1,17 @@
 -- What is true of the ports of every agent.
-use Rattle.std.specs.Prelude.{◌≤◌, List, length}
+use Rattle.std.specs.Prelude.{◌≡◌, ℕ, ◌<◌, ◌≤◌, List, length}
 use Rattle.std.specs.List.{AllByRecursion}
 use Rattle.lldp_table.specs.Contents.{IsSound}
-use Rattle.lldp_engine.specs.Seen.{SeenPort}
+use Rattle.lldp_engine.specs.AgentState.{PortState}
 
--- there are at most 64, and the table of each is sound
-pub record AreSound (ports : List SeenPort) : Type 0 where
+-- a port has a name of 1 to 15 octets, and a sound table with this room
+pub record IsSoundPort (capacity : ℕ) (port : PortState) : Type 0 where
+  pub table : IsSound port.table
+  pub room : port.table.capacity ≡ capacity
+  pub some : 0 < length port.name
+  pub short : length port.name ≤ 15
+
+-- there are at most 64, and each is sound
+pub record AreSound (capacity : ℕ) (ports : List PortState) : Type 0 where
   pub few : length ports ≤ 64
-  pub sound : AllByRecursion (λ port. IsSound port.table) ports
+  pub sound : AllByRecursion (λ port. IsSoundPort capacity port) ports

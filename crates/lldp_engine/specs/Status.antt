@@ -1,4 +1,4 @@
--- Statuses of a port (IEEE 802.1AB-2009, 9.2.5.1).
+-- Statuses of a port (adminStatus, IEEE 802.1AB-2009, 9.2.5.1).
 use Rattle.std.specs.Prelude.{Bool, true, false, if◌then◌else◌}
 use Rattle.lldp_engine.specs.declared.status.Status.{Status}
 use Rattle.lldp_engine.specs.declared.status.Status.TheVariants.{RxAndTx, RxOnly, TxOnly, Disabled}
@@ -10,6 +10,13 @@ receives RxAndTx = true
 receives RxOnly = true
 receives TxOnly = false
 receives Disabled = false
+
+-- a port of this status may transmit
+abbrev pub transmits : Status → Bool
+transmits RxAndTx = true
+transmits RxOnly = false
+transmits TxOnly = true
+transmits Disabled = false
 
 abbrev pub status_at_opening : Options → Status
 status_at_opening o = if o.receive_only then RxOnly else RxAndTx

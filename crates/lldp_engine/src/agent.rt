@@ -1,26 +1,30 @@
 //! The agent.
 ghost use Rattle.std.specs.Prelude.{◌≡◌, ℕ, ◌<◌, ◌≤◌, length, map, None, Some, IfOk, IfErr, IfSome, IsTrue, ◌↔◌, slice_get};
+ghost use Rattle.std.specs.List.{AllByRecursion};
 ghost use Rattle.std.specs.Option.{option_map};
 ghost use Rattle.lldp_table.specs.Standing.{Stands as TableStands};
 ghost use Rattle.lldp_engine.specs.Options.{options_of, InRange, IsRefusal, fault_of as first_fault};
 ghost use Rattle.lldp_engine.specs.EventView.{event_of};
-ghost use Rattle.lldp_engine.specs.AgentState.{seen_of, IsPort, Allows};
-ghost use Rattle.lldp_engine.specs.Seen.{names_of};
+ghost use Rattle.lldp_engine.specs.AgentState.{names_of, name_of, IsPort, Allows};
+ghost use Rattle.lldp_engine.specs.Configuration.{configured};
 ghost use Rattle.lldp_engine.specs.Place.{place_of as place};
-ghost use Rattle.lldp_engine.specs.Past.{Past, opened, with_event, status_after, heard_after, calls_of, told_of};
+ghost use Rattle.lldp_engine.specs.Past.{Past, opened, with_event, configuration_after, status_after, up_after, heard_after, calls_of, told_of, marks_after, marks_of};
 ghost use Rattle.lldp_engine.specs.Counters.{counters_of};
+ghost use Rattle.lldp_engine.specs.Frames.{IsSent};
 ghost use Rattle.lldp_engine.specs.Sound.{AreSound};
 ghost use Rattle.lldp_engine.specs.Standing.{Stands};
-ghost use Rattle.lldp_engine.specs.Step.{agent_after};
+ghost use Rattle.lldp_engine.specs.Step.{agent_after, agent_marks};
 ghost use Rattle.lldp_engine.specs.Headline.{Promised};
 
+use crate::configuration::Configuration;
 use crate::counters::Counters;
-use crate::event::Event;
+use crate::event::{Event, Setting};
+use crate::names::is_text;
 use crate::open::{OpenFault, fault_of};
 use crate::options::Options;
 use crate::port::Port;
-use crate::ports::{open_ports, place_of, tick_all};
-use crate::status::{Status, status_at_opening};
+use crate::ports::{Marks, all_fit, open_ports, place_of, take_event};
+use crate::status::Status;
 use lldp_table::Table;
 use std::alloc::{Allocator, Global};
 use std::marker::Model;
@@ -28,6 +32,7 @@ use std::marker::Model;
 /// An agent of 1 to 64 ports. Only `open` takes memory.
 #[derive(Drop)]
 pub struct Agent<A: Allocator = Global> {
+    configuration: Configuration,
     ports: Vec<Port<A>, A>,
 }
 
@@ -38,9 +43,9 @@ impl<A: Allocator> Model for Agent<A> {
 
     ghost use Rattle.lldp_engine.specs.Sound.{AreSound};
 
-    ghost view = { λ a. record { ports = a.ports.items } };
+    ghost view = { λ a. record { configuration = a.configuration; ports = a.ports.items } };
 
-    ghost invariant = { λ a. AreSound a.ports.items };
+    ghost invariant = { λ a. AreSound a.configuration.capacity a.ports.items };
 }
 
 impl<A: Allocator> Agent<A> {
@@ -56,19 +61,24 @@ impl<A: Allocator> Agent<A> {
         if let Some(fault) = fault_of(options) {
             return Err(fault);
         }
-        let ports = open_ports(
-            alloc,
-            options.ports,
-            status_at_opening(options),
-            options.max_neighbors,
-        )?;
-        Ok(Agent { ports })
+        let ports = open_ports(alloc, options)?;
+        Ok(Agent {
+            configuration: Configuration::open(options),
+            ports,
+        })
+    }
+
+    /// How it is configured.
+    pub(crate) fn configuration(&self) -> &Configuration
+        ensures { result.now ≡ self.now.configuration }
+    {
+        &self.configuration
     }
 
     /// Its ports.
     pub(crate) fn all_ports(&self) -> &[Port<A>]
         ensures value { result.now ≡ self.now.ports }
-        ensures sound { AreSound self.now.ports }
+        ensures sound { AreSound self.now.configuration.capacity self.now.ports }
     {
         self.ports.as_slice()
     }
@@ -85,7 +95,9 @@ impl<A: Allocator> Agent<A> {
     /// The name of a port.
     pub fn port_name(&self, port: u8) -> &[u8]
         requires { IsPort self.now port }
-        ensures value { slice_get (names_of (seen_of self.now)) port ≡ Some result.now }
+        ensures value { slice_get (names_of self.now) port ≡ Some result.now }
+        ensures name { result.now ≡ name_of self.now port }
+        ensures some { 0 < length result.now }
         ensures short { length result.now ≤ 15 }
         ensures past { (past : Past) → Stands past self.now → slice_get past.options.names port ≡ Some result.now }
     {
@@ -94,7 +106,7 @@ impl<A: Allocator> Agent<A> {
 
     /// The place of the port of that name, from 0.
     pub fn find_port(&self, name: &[u8]) -> Option<u8>
-        ensures place { result ≡ place (names_of (seen_of self.now)) name.now }
+        ensures place { result ≡ place (names_of self.now) name.now }
         ensures exists { IfSome result (λ port. IsPort self.now port) }
         ensures past { (past : Past) → Stands past self.now → result ≡ place past.options.names name.now }
     {
@@ -110,6 +122,15 @@ impl<A: Allocator> Agent<A> {
         self.ports[port as usize].status()
     }
 
+    /// Whether the link of a port is up.
+    pub fn is_up(&self, port: u8) -> bool
+        requires { IsPort self.now port }
+        ensures value { option_map (λ p. p.machine.up) (slice_get self.now.ports port) ≡ Some result }
+        ensures past { (past : Past) → Stands past self.now → result ≡ up_after port past.events }
+    {
+        self.ports[port as usize].is_up()
+    }
+
     /// The neighbors of a port.
     pub fn table(&self, port: u8) -> &Table<A>
         requires { IsPort self.now port }
@@ -123,31 +144,61 @@ impl<A: Allocator> Agent<A> {
     pub fn counters(&self, port: u8) -> &Counters
         requires { IsPort self.now port }
         ensures value { option_map (λ p. p.counters) (slice_get self.now.ports port) ≡ Some result.now }
-        ensures past { (past : Past) → Stands past self.now → result.now ≡ counters_of (heard_after past.options port past.events) (told_of past port) }
+        ensures past { (past : Past) → Stands past self.now →
+            result.now ≡ counters_of (heard_after past.options port past.events) (told_of past port) (marks_after past.options port past.events) }
     {
         self.ports[port as usize].counters()
     }
 
-    /// Whether it accepts an event: its port exists.
+    /// Whether it accepts an event: its port exists, its value is in the range, its text has at most 255 printable
+    /// octets, and where it sets a limit no port holds more neighbors.
     pub fn allows(&self, event: &Event<'_>) -> bool
         ensures { IsTrue result ↔ Allows self.now (event_of event.now) }
     {
         match event {
             Event::Tick => true,
-            Event::Frame { port, .. } => *port < self.ports(),
+            Event::Frame { port, .. } | Event::Link { port, .. } => *port < self.ports(),
+            Event::Set(setting) => self.allows_setting(setting),
         }
     }
 
-    /// Takes an event.
-    pub fn step(&mut self, event: Event<'_>)
+    fn allows_setting(&self, setting: &Setting<'_>) -> bool
+        ensures { IsTrue result ↔ Allows self.now (event_of (Event.Set setting.now)) }
+    {
+        match setting {
+            Setting::Hostname(text) | Setting::Description(text) => is_text(text),
+            Setting::Interval(seconds) => (1..=3600).contains(seconds),
+            Setting::Hold(times) => (1..=100).contains(times),
+            Setting::Limit(neighbors) => self.allows_limit(*neighbors),
+            Setting::Status { port, .. } => *port < self.ports(),
+            Setting::Update => true,
+        }
+    }
+
+    fn allows_limit(&self, neighbors: u8) -> bool
+        ensures { IsTrue result ↔ Allows self.now (event_of (Event.Set (Setting.Limit neighbors))) }
+    {
+        1 <= neighbors
+            && neighbors <= self.configuration.capacity()
+            && all_fit(self.ports.as_slice(), neighbors)
+    }
+
+    /// Takes an event, and tells which ports send, rising, each with what it sends.
+    pub fn step(&mut self, event: Event<'_>) -> Marks
         requires { Allows self.old (event_of event) }
+        // What the agent is after the event, and which ports send, computed from what it was.
         ensures after { self.new ≡ agent_after (event_of event.entry) self.old }
+        ensures marks { result.items ≡ agent_marks (event_of event.entry) self.old }
+        ensures sent { AllByRecursion (λ mark. IsPort self.new mark.0 × IsSent mark.1) result.items }
+        // Whatever past the agent stood for, it now stands for that past with the event.
         ensures stands { (past : Past) → Stands past self.old → Stands (with_event past (event_of event.entry)) self.new }
+        ensures marks_past { (past : Past) → Stands past self.old → result.items ≡ marks_of (with_event past (event_of event.entry)) }
+        // Each table holds the last stored frames that have not expired, and each port sends exactly what is due while
+        // its credit window is open.
         ensures headline { (past : Past) → Stands past self.old → Promised (with_event past (event_of event.entry)) self.new }
     {
-        match event {
-            Event::Tick => tick_all(self.ports.as_mut_slice()),
-            Event::Frame { port, octets } => self.ports[port as usize].receive(octets),
-        }
+        self.configuration.take(&event);
+        let interval = self.configuration.interval();
+        take_event(self.ports.as_mut_slice(), &event, interval)
     }
 }

@@ -1,8 +1,9 @@
 //! The counters of a port (IEEE 802.1AB-2009, 9.2.6).
 ghost use Rattle.std.specs.Prelude.{◌≡◌};
-ghost use Rattle.lldp_engine.specs.Step.{with_received, with_refused, with_tlvs, with_answer, with_aged_out};
+ghost use Rattle.lldp_engine.specs.Step.{with_received, with_refused, with_tlvs, with_answer, with_aged_out, with_mark};
 
 use lldp_table::Learned;
+use lldp_transmit::Mark;
 
 /// The counters of a port, each modulo 2^32. Nothing ever resets them.
 #[derive(Clone, Copy, Debug, PartialEq, Eq, Drop)]
@@ -11,7 +12,7 @@ pub struct Counters {
     pub sent: u32,
     /// Shutdown frames sent.
     pub shutdowns: u32,
-    /// LLDP frames that came while the port received.
+    /// LLDP frames that came while the port received and its link was up.
     pub received: u32,
     /// LLDPDUs that were refused.
     pub discarded: u32,
@@ -80,5 +81,16 @@ impl Counters {
         ensures { self.new ≡ with_aged_out self.old n }
     {
         self.ageouts = self.ageouts.wrapping_add(u32::from(n));
+    }
+
+    /// This was sent.
+    pub(crate) fn count_mark(&mut self, mark: Mark)
+        ensures { self.new ≡ with_mark self.old mark }
+    {
+        match mark {
+            Mark::Quiet => {}
+            Mark::Ordinary => self.sent = self.sent.wrapping_add(1),
+            Mark::Shutdown => self.shutdowns = self.shutdowns.wrapping_add(1),
+        }
     }
 }

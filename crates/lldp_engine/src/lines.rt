@@ -3,12 +3,13 @@ ghost use Rattle.std.specs.Prelude.{◌≡◌, ◌<◌, ◌≤◌, length, IsSom
 ghost use Rattle.std.specs.Option.{option_map};
 ghost use Rattle.std.specs.Iterator.{item_count, YieldsFirstBy};
 ghost use Rattle.lldp_engine.specs.Lines.{octets_of, lines_of};
-ghost use Rattle.lldp_engine.specs.AgentState.{seen_of};
-ghost use Rattle.lldp_engine.specs.Past.{Past, seen_after};
+ghost use Rattle.lldp_engine.specs.Past.{Past, agent_of};
 ghost use Rattle.lldp_engine.specs.Standing.{Stands};
 
 use crate::agent::Agent;
+use crate::chassis_lines::ChassisLines;
 use crate::command::Show;
+use crate::configuration_lines::ConfigurationLines;
 use crate::neighbor_lines::NeighborLines;
 use crate::statistics_lines::StatisticsLines;
 use crate::writer::Line;
@@ -23,6 +24,8 @@ pub const MOST_LINES: u32 = 64 * (3 + 128 * (4 + 744));
 enum ShowLines<'a, A: Allocator> {
     Neighbors(NeighborLines<'a, A>),
     Statistics(StatisticsLines<'a, A>),
+    Chassis(ChassisLines<'a>),
+    Configuration(ConfigurationLines<'a, A>),
 }
 
 /// The lines of a show that are left, one after another. It takes no memory, and costs what it shows.
@@ -51,6 +54,8 @@ impl<'a, A: Allocator> Iterator for Lines<'a, A> {
         match &mut self.left {
             ShowLines::Neighbors(lines) => lines.next(),
             ShowLines::Statistics(lines) => lines.next(),
+            ShowLines::Chassis(lines) => lines.next(),
+            ShowLines::Configuration(lines) => lines.next(),
         }
     }
 }
@@ -58,10 +63,11 @@ impl<'a, A: Allocator> Iterator for Lines<'a, A> {
 impl<A: Allocator> Agent<A> {
     /// The lines of a show, in their order.
     pub fn show_lines(&self, show: &Show) -> Lines<'_, A>
-        ensures value { result ≡ lines_of show.now (seen_of self.now) }
-        ensures few { length (lines_of show.now (seen_of self.now)) ≤ MOST_LINES }
-        ensures past { (past : Past) → Stands past self.now → result ≡ lines_of show.now (seen_after past) }
+        ensures value { result ≡ lines_of show.now self.now }
+        ensures few { length (lines_of show.now self.now) ≤ MOST_LINES }
+        ensures past { (past : Past) → Stands past self.now → result ≡ lines_of show.now (agent_of past) }
     {
+        let configuration = self.configuration();
         let ports = self.all_ports();
         match show {
             Show::Neighbors => Lines {
@@ -70,15 +76,21 @@ impl<A: Allocator> Agent<A> {
             Show::Statistics => Lines {
                 left: ShowLines::Statistics(StatisticsLines::new(ports)),
             },
+            Show::Chassis => Lines {
+                left: ShowLines::Chassis(ChassisLines::new(configuration)),
+            },
+            Show::Configuration => Lines {
+                left: ShowLines::Configuration(ConfigurationLines::new(configuration, ports)),
+            },
         }
     }
 
     /// Line `i` of a show, from 0, without its line feed; None from the first `i` past the last line on. It costs as much as
     /// all lines up to that one: whoever wants several takes them from `show_lines`.
     pub fn show_line(&self, show: &Show, i: u32) -> Option<Line>
-        ensures line { option_map octets_of result ≡ slice_get (lines_of show.now (seen_of self.now)) i }
+        ensures line { option_map octets_of result ≡ slice_get (lines_of show.now self.now) i }
         ensures few { IsSome result → i < MOST_LINES }
-        ensures past { (past : Past) → Stands past self.now → option_map octets_of result ≡ slice_get (lines_of show.now (seen_after past)) i }
+        ensures past { (past : Past) → Stands past self.now → option_map octets_of result ≡ slice_get (lines_of show.now (agent_of past)) i }
     {
         self.show_lines(show).nth(i as usize)
     }

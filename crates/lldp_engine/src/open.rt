@@ -40,6 +40,7 @@ pub(crate) fn fault_of(options: &Options<'_>) -> Option<OpenFault>
     ensures fault { result ≡ first_fault (options_of options.now) }
     ensures names { IfNone result (IsTrue (list_all is_port_name (map (λ n. n.now) options.now.ports.now))) }
     ensures few { IfNone result (length options.now.ports.now ≤ 64) }
+    ensures hostname { IfNone result (length options.now.hostname.now ≤ 255) }
 {
     if options.ports.is_empty() {
         Some(OpenFault::NoPorts)

@@ -1,6 +1,6 @@
 //! What a port may do.
 ghost use Rattle.std.specs.Prelude.{◌≡◌};
-ghost use Rattle.lldp_engine.specs.Status.{receives as receives_by, status_at_opening as opening_status};
+ghost use Rattle.lldp_engine.specs.Status.{receives as receives_by, transmits as transmits_by, status_at_opening as opening_status};
 ghost use Rattle.lldp_engine.specs.Options.{options_of};
 
 use crate::options::Options;
@@ -20,6 +20,13 @@ impl Status {
         ensures { result ≡ receives_by self }
     {
         matches!(self, Status::RxAndTx | Status::RxOnly)
+    }
+
+    /// Whether the port may transmit.
+    pub(crate) fn transmits(self) -> bool
+        ensures { result ≡ transmits_by self }
+    {
+        matches!(self, Status::RxAndTx | Status::TxOnly)
     }
 }
 

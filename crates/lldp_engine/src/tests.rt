@@ -1,9 +1,12 @@
 //! Worked examples, through agents that are opened and hear frames.
 mod commands;
+mod configured;
 mod events;
 mod opening;
+mod sending;
 mod shows;
 mod values;
+mod words;
 
 use super::{Agent, Event, OpenFault, Options, Role, Show};
 use arrayvec::ArrayVec;

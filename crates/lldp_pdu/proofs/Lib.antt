@@ -6,3 +6,4 @@ pub mod Telling
 pub mod Whole
 pub mod Drafts
 pub mod Addresses
+pub mod Framing

@@ -11,7 +11,7 @@ use Rattle.lldp_transmit.specs.History.{Settings, Event, History, event, is_tick
 use Rattle.lldp_transmit.specs.Moments.{Moment, moments, moment, mark_of, mark_at, unlabelled, is_active, is_allowed, is_waiting, open_at, allowed_after}
 use Rattle.std.specs.List.{list_any}
 use Rattle.lldp_transmit.specs.Fronts.{since, from_last}
-use Rattle.lldp_transmit.specs.Standing.{Stands, AreSettings}
+use Rattle.lldp_transmit.specs.Standing.{Stands, AreSettings, machine_of}
 use Rattle.lldp_transmit.proofs.Windows.{one_if, begun, wanted, bucket, IsPaid, open_is, paid_moments, bucket_le, credit_is}
 use Rattle.lldp_transmit.proofs.Counters.{until_start-cons, until_signal-cons, signals_left-cons, is_waiting-cons, is_active-cons, wanted-cons}
 use Rattle.lldp_transmit.proofs.Carrying.{start_of, stop_of, signal_of, opening_of, sent_of, Makes, step_makes}
@@ -166,6 +166,33 @@ stands_at_first s r = record {
   allowed = refl;
   up = refl;
 }
+
+-- What stands for a history is the machine that the history leaves, and that one stands for it.
+pub stands_left : (s : Settings) (h : History) → AreSettings s → Stands s h (machine_of s h)
+unfolding machine_of
+stands_left s h r = record {
+  in_range = r;
+  credit_max = refl;
+  fast_init = refl;
+  reinit = refl;
+  credit = refl;
+  wait = refl;
+  timer = refl;
+  left = refl;
+  waiting = refl;
+  active = refl;
+  allowed = refl;
+  up = refl;
+}
+
+machine_by : (t : Machine) (max fast reinit credit wait timer left : ℕ) (waiting active allowed up : Bool) → t.credit_max ≡ max → t.fast_init ≡ fast → t.reinit ≡ reinit → t.credit ≡ credit → t.wait ≡ wait
+    → t.timer ≡ timer → t.left ≡ left → t.waiting ≡ waiting → t.active ≡ active → t.allowed ≡ allowed → t.up ≡ up
+    → t ≡ record { credit_max = max; fast_init = fast; reinit = reinit; credit = credit; wait = wait; timer = timer; left = left; waiting = waiting; active = active; allowed = allowed; up = up }
+machine_by t max fast reinit credit wait timer left waiting active allowed up a b c d e f g h i j k = rw (← a, ← b, ← c, ← d, ← e, ← f, ← g, ← h, ← i, ← j, ← k) refl
+
+pub stands_is : (s : Settings) (h : History) (t : Machine) → Stands s h t → t ≡ machine_of s h
+unfolding machine_of
+stands_is s h t k = machine_by t _ _ _ _ _ _ _ _ _ _ _ k.credit_max k.fast_init k.reinit k.credit k.wait k.timer k.left k.waiting k.active k.allowed k.up
 
 -- Where nothing concerns a port, its machine stands for that event too, and no frame goes.
 pub nothing_changes : (s : Settings) (h : History) (t : Machine) (interval : ℕ) → Stands s h t → Stands s (event Nothing interval ∷ h) t

@@ -29,6 +29,24 @@ pub record Stands (s : Settings) (h : History) (t : Machine) : Type 0 where
   pub allowed : t.allowed ≡ is_allowed s (moments s h)
   pub up : t.up ≡ is_up (moments s h)
 
+-- the machine that these events leave, by the definitions alone
+unfoldable pub machine_of : Settings → History → Machine
+machine_of s h =
+    let past = moments s h in
+    record {
+      credit_max = s.credit_max;
+      fast_init = s.fast_init;
+      reinit = s.reinit;
+      credit = credit_left s past;
+      wait = until_start s past;
+      timer = until_signal s past;
+      left = signals_left s past;
+      waiting = is_waiting past;
+      active = is_active past;
+      allowed = is_allowed s past;
+      up = is_up past;
+    }
+
 -- for each history that the machine stands for
 abbrev pub ForEachHistory : Machine → (Settings → History → Type 0) → Type 0
 ForEachHistory t P = (s : Settings) (h : History) → Stands s h t → P s h

@@ -4,8 +4,9 @@ use Rattle.lldp_engine.specs.Event.{Event}
 use Rattle.lldp_engine.specs.Past.{Past, with_event}
 use Rattle.lldp_engine.specs.Standing.{Stands}
 use Rattle.lldp_engine.specs.AgentState.{AgentState}
+use Rattle.lldp_engine.proofs.HeadlineLemmas.{promised}
 use Rattle.lldpa.specs.Items.{Item, happens, shows, refused, after_all}
-use Rattle.lldpa.specs.Runs.{Done, Failed, StoppedAt, GoesOn, followed}
+use Rattle.lldpa.specs.Runs.{Done, Failed, StoppedAt, GoesOn, KeepsOn, followed}
 
 pub all_followed : (past : Past) (items : List Item) → (events : List Event) × (after_all past items ≡ followed past events)
 all_followed past [] = ([], refl)
@@ -27,3 +28,7 @@ failed_goes_on past items a b agent h = stands_goes_on past (h.before ++ h.item 
 pub stopped_goes_on : (past : Past) (input : List ℕ) (left a b : Option (List ℕ)) (agent : AgentState) → StoppedAt past input left a b agent → GoesOn past agent
 stopped_goes_on past input left a b agent (inl failed) = failed_goes_on past _ a b agent failed
 stopped_goes_on past input left a b agent (inr failed) = failed_goes_on past _ a b agent failed.1
+
+-- what stands keeps the promise
+pub keeps_on : (past : Past) (agent : AgentState) → GoesOn past agent → KeepsOn past agent
+keeps_on past agent h = (h.0, h.1, promised (followed past h.0) agent h.1)

@@ -5,6 +5,7 @@ pub mod LineLemmas
 pub mod ItemLemmas
 pub mod LongLemmas
 pub mod RunLemmas
+pub mod SentLemmas
 pub mod Progress
 pub mod PieceLemmas
 pub mod GoesOnLemmas

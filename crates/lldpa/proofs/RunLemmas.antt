@@ -7,7 +7,6 @@ use Rattle.lldp_engine.specs.declared.command.Show.{Show}
 use Rattle.lldp_engine.specs.Event.{tick}
 use Rattle.lldp_engine.specs.Past.{Past, with_event}
 use Rattle.lldp_engine.specs.Standing.{Stands}
-use Rattle.lldp_engine.specs.AgentState.{seen_of}
 use Rattle.lldp_engine.specs.Lines.{lines_of as show_lines}
 use Rattle.lldp_engine.specs.AgentState.{AgentState}
 use Rattle.lldpa.specs.declared.line.LineFault.{LineFault}
@@ -75,35 +74,21 @@ done_same past xs ys a b agent e h = rw (← e) h
 pub failed_same : (past : Past) (xs ys : List Item) (a b : Option (List ℕ)) (agent : AgentState) → xs ≡ ys → Failed past xs a b agent → Failed past ys a b agent
 failed_same past xs ys a b agent e h = rw (← e) h
 
--- one more tick
-pub one_more_tick : (past : Past) (n : ℕ) (agent : AgentState) → Stands (with_event (after_all past (replicate n (happens tick))) tick) agent → Stands (after_all past (replicate (n + 1) (happens tick))) agent
-one_more_tick past n agent h =
-    let P : Past → Type 0 = λ now. Stands now agent in
-    subst P (sym (after_all-append past (replicate n (happens tick)) (happens tick ∷ [])) ∙ ap (after_all past) (replicate_more n (happens tick))) h
-
-quiet_ticks : (past : Past) (n : ℕ) → text_of_all past (replicate n (happens tick)) ≡ []
-quiet_ticks past zero = refl
-quiet_ticks past (suc n) = quiet_ticks (with_event past tick) n
-
--- ticks have no text
-pub done_ticks : (past : Past) (n : ℕ) (a : Option (List ℕ)) (agent : AgentState) → Stands (after_all past (replicate n (happens tick))) agent → Done past (replicate n (happens tick)) a a agent
-done_ticks past n a agent h = record { written = appends_same a a [] _ (sym (quiet_ticks past n)) (appends_nothing a); stands = h }
-
-shown : (past : Past) (agent : AgentState) (show : Show) → Stands past agent → flat_map ended (show_lines show (seen_of agent)) ≡ text_of past (shows show)
-shown past agent show h = ap (λ seen. flat_map ended (show_lines show seen)) (h.seen)
+shown : (past : Past) (agent : AgentState) (show : Show) → Stands past agent → flat_map ended (show_lines show agent) ≡ text_of past (shows show)
+shown past agent show h = ap (λ seen. flat_map ended (show_lines show seen)) (h.is)
 
 -- the lines of a show that the agent has are those that its past gives
-pub done_show : (past : Past) (show : Show) (a b : Option (List ℕ)) (agent : AgentState) → Stands past agent → Appends a b (flat_map ended (show_lines show (seen_of agent))) → Done past (shows show ∷ []) a b agent
+pub done_show : (past : Past) (show : Show) (a b : Option (List ℕ)) (agent : AgentState) → Stands past agent → Appends a b (flat_map ended (show_lines show agent)) → Done past (shows show ∷ []) a b agent
 done_show past show a b agent h k = done_one past (shows show) a b agent (appends_same a b _ _ (shown past agent show h) k) h
 
-pub failed_show : (past : Past) (show : Show) (a b : Option (List ℕ)) (agent : AgentState) → Stands past agent → IsWritten (IsCutOff (flat_map ended (show_lines show (seen_of agent)))) a b → Failed past (shows show ∷ []) a b agent
+pub failed_show : (past : Past) (show : Show) (a b : Option (List ℕ)) (agent : AgentState) → Stands past agent → IsWritten (IsCutOff (flat_map ended (show_lines show agent))) a b → Failed past (shows show ∷ []) a b agent
 failed_show past show a b agent h k =
     let P : List ℕ → Type 0 = λ t. IsWritten (IsCutOff t) a b in
     failed_one past (shows show) a b agent (subst P (shown past agent show h) k) h
 
 -- what a line was read as is what it asks for after the past
-pub items_read : (past : Past) (agent : AgentState) (line : List ℕ) (read : Result Reading LineFault) → Stands past agent → read ≡ reading_of (seen_of agent) line → items_of_reading read ≡ items_of past line
-items_read past agent line read h is = ap items_of_reading (is ∙ ap (λ seen. reading_of seen line) (h.seen))
+pub items_read : (past : Past) (agent : AgentState) (line : List ℕ) (read : Result Reading LineFault) → Stands past agent → read ≡ reading_of agent line → items_of_reading read ≡ items_of past line
+items_read past agent line read h is = ap items_of_reading (is ∙ ap (λ seen. reading_of seen line) (h.is))
 
 -- one more line was done
 pub done_line : (past : Past) (ls : List (List ℕ)) (line : List ℕ) (a b c : Option (List ℕ)) (agent : AgentState) → Appends a b (text_of_all past (items_of_lines past ls)) → Done (after_all past (items_of_lines past ls)) (items_of (after_all past (items_of_lines past ls)) line) b c agent → Done past (items_of_lines past (ls ++ line ∷ [])) a c agent

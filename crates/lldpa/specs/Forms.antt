@@ -1,5 +1,5 @@
 -- What one line of a trace says, checked from left to right.
-use Rattle.std.specs.Prelude.{ℕ, List, [], ◌∷◌, length, codes, Result, Ok, Err, nat_lt, ◌==◌, ◌||◌, Bool, true, Option, Some, None, if◌then◌else◌}
+use Rattle.std.specs.Prelude.{ℕ, List, [], ◌∷◌, length, codes, Result, Ok, Err, nat_lt, ◌==◌, ◌||◌, Bool, true, false, Option, Some, None, if◌then◌else◌}
 use Rattle.std.specs.Str.{bytes_eq}
 use Rattle.hex.specs.Hex.{decode_of}
 use Rattle.lldp_engine.specs.declared.fault.CommandFault.{CommandFault}
@@ -7,18 +7,19 @@ use Rattle.lldp_engine.specs.declared.fault.CommandFault.TheVariants.{Unknown, N
 use Rattle.lldp_engine.specs.Fault.{text_of as command_fault_text}
 use Rattle.lldp_engine.specs.Words.{words_of}
 use Rattle.lldp_engine.specs.Number.{number_of}
-use Rattle.lldp_engine.specs.Seen.{Seen, names_of}
+use Rattle.lldp_engine.specs.AgentState.{AgentState, names_of}
 use Rattle.lldp_engine.specs.Request.{Request}
 use Rattle.lldp_engine.specs.Place.{place_of}
 use Rattle.lldp_engine.specs.Command.{command_of}
 use Rattle.lldpa.specs.declared.line.LineFault.{LineFault}
 use Rattle.lldpa.specs.declared.line.LineFault.TheVariants.{TooLong, Hex, Command}
 
--- what a line says: nothing, some ticks, a frame on a port, or a command
+-- what a line says: nothing, some ticks, a frame on a port, that a port's link came or went, or a command
 pub data Reading : Type 0 where
   skipped : Reading
   ticks : ℕ → Reading
   arrival : ℕ → List ℕ → Reading
+  link : ℕ → Bool → Reading
   order : Request → Reading
 
 -- Steps that may fail, the first fault first.
@@ -55,27 +56,36 @@ tick_form (word ∷ words) = do
   complete words (ticks n)
 
 -- `rx PORT HEX`, behind the first word: a frame that came on a port
-unfoldable pub frame_form : Seen → List (List ℕ) → Result Reading LineFault
-frame_form seen [] = Err (Command Unknown)
-frame_form seen (name ∷ []) = do
-  port ← or_fault NoSuchPort (place_of (names_of seen) name)
+unfoldable pub frame_form : AgentState → List (List ℕ) → Result Reading LineFault
+frame_form agent [] = Err (Command Unknown)
+frame_form agent (name ∷ []) = do
+  port ← or_fault NoSuchPort (place_of (names_of agent) name)
   Err (Command Unknown)
-frame_form seen (name ∷ digits ∷ words) = do
-  port ← or_fault NoSuchPort (place_of (names_of seen) name)
+frame_form agent (name ∷ digits ∷ words) = do
+  port ← or_fault NoSuchPort (place_of (names_of agent) name)
   octets ← or_hex (decode_of digits)
   complete words (arrival port octets)
 
--- a command, or its fault
-abbrev pub command_form : Seen → List ℕ → Result Reading LineFault
-command_form seen line = of_command (command_of seen line) >>= λ request. Ok (order request)
+-- `up PORT` and `down PORT`, behind the first word: the link of a port came, or went
+unfoldable pub link_form : AgentState → Bool → List (List ℕ) → Result Reading LineFault
+link_form agent up [] = Err (Command Unknown)
+link_form agent up (name ∷ words) = do
+  port ← or_fault NoSuchPort (place_of (names_of agent) name)
+  complete words (link port up)
 
--- the words of a line: `tick` and `rx` begin forms of a trace, and every other line is read as a command
-unfoldable pub form_of : Seen → List ℕ → List (List ℕ) → Result Reading LineFault
-form_of seen line [] = Err (Command Unknown)
-form_of seen line (word ∷ words) =
+-- a command, or its fault
+abbrev pub command_form : AgentState → List ℕ → Result Reading LineFault
+command_form agent line = of_command (command_of agent line) >>= λ request. Ok (order request)
+
+-- the words of a line: `tick`, `rx`, `up` and `down` begin forms of a trace, and every other line is read as a command
+unfoldable pub form_of : AgentState → List ℕ → List (List ℕ) → Result Reading LineFault
+form_of agent line [] = Err (Command Unknown)
+form_of agent line (word ∷ words) =
     if bytes_eq word (codes "tick") then tick_form words
-    else if bytes_eq word (codes "rx") then frame_form seen words
-    else command_form seen line
+    else if bytes_eq word (codes "rx") then frame_form agent words
+    else if bytes_eq word (codes "up") then link_form agent true words
+    else if bytes_eq word (codes "down") then link_form agent false words
+    else command_form agent line
 
 -- a space or a tab
 abbrev pub is_blank : ℕ → Bool
@@ -86,13 +96,13 @@ abbrev pub is_skipped : List ℕ → Bool
 is_skipped [] = true
 is_skipped (octet ∷ octets) = if is_blank octet then is_skipped octets else octet == 35
 
--- What a line says to an agent that is seen so, or its fault. The checks in order: its length, at most 4,096 octets; nothing to
+-- What a line says to an agent, or its fault. The checks in order: its length, at most 4,096 octets; nothing to
 -- do; its words, and bad quotes; its form.
-unfoldable pub reading_of : Seen → List ℕ → Result Reading LineFault
-reading_of seen line =
+unfoldable pub reading_of : AgentState → List ℕ → Result Reading LineFault
+reading_of agent line =
     if nat_lt 4096 (length line) then Err TooLong
     else if is_skipped line then Ok skipped
-    else or_fault Quote (words_of line) >>= form_of seen line
+    else or_fault Quote (words_of line) >>= form_of agent line
 
 -- the line that a refused line gives, without LF
 abbrev pub fault_text : LineFault → List ℕ

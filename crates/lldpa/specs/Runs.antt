@@ -5,6 +5,7 @@ use Rattle.lldp_engine.specs.Event.{Event}
 use Rattle.lldp_engine.specs.AgentState.{AgentState}
 use Rattle.lldp_engine.specs.Past.{Past}
 use Rattle.lldp_engine.specs.Standing.{Stands}
+use Rattle.lldp_engine.specs.Headline.{Promised}
 use Rattle.lldpa.specs.Devices.{one_more}
 use Rattle.lldpa.specs.Lines.{lines_of, ended_lines}
 use Rattle.lldpa.specs.Items.{Item, after_all, text_of, text_of_all, items_of_lines}
@@ -80,3 +81,7 @@ followed past events = record { options = past.options; events = events ++ past.
 -- the agent stands for the past and some more events, all of them allowed, as all are that an agent stands for
 abbrev pub GoesOn : Past → AgentState → Type 0
 GoesOn past agent = (events : List Event) × Stands (followed past events) agent
+
+-- and it keeps the promise: tables hold the last stored frames, and ports have sent exactly what was due
+abbrev pub KeepsOn : Past → AgentState → Type 0
+KeepsOn past agent = (events : List Event) × Stands (followed past events) agent × Promised (followed past events) agent

@@ -3,8 +3,7 @@ ghost use Rattle.std.specs.Prelude.{◌≡◌, ◌≤◌, length, IfOk, IfErr, �
 ghost use Rattle.std.specs.List.{AllByRecursion};
 ghost use Rattle.hex.specs.Hex.{decode_of};
 ghost use Rattle.lldp_engine.specs.AgentState.{AgentState};
-ghost use Rattle.lldp_engine.specs.AgentState.{seen_of};
-ghost use Rattle.lldpa.specs.Forms.{fault_text, is_skipped, or_hex, complete, tick_form, frame_form, command_form, reading_of};
+ghost use Rattle.lldpa.specs.Forms.{fault_text, is_skipped, or_hex, complete, tick_form, frame_form, link_form, command_form, reading_of};
 ghost use Rattle.lldpa.specs.Work.{reading_of_work, said, AllowsWork};
 
 use lldp_engine::number::number;
@@ -33,8 +32,10 @@ pub enum Work<'l> {
     Ticks(u16),
     /// A frame came on a port.
     Frame { port: u8, octets: &'l [u8] },
+    /// The link of a port came up, or went down.
+    Link { port: u8, up: bool },
     /// A command.
-    Command(Command),
+    Command(Command<'l>),
 }
 
 impl LineFault {
@@ -110,7 +111,7 @@ fn read_frame<'l>(
     room: &'l mut [u8; 2048],
 ) -> Result<Work<'l>, LineFault>
     requires { AllByRecursion (λ word. length word ≤ 4096) words }
-    ensures said { said result ≡ frame_form (seen_of agent.now) words.entry }
+    ensures said { said result ≡ frame_form agent.now words.entry }
     ensures allowed { IfOk result (AllowsWork agent.now) }
 {
     let Some(name) = words.next() else {
@@ -128,9 +129,24 @@ fn read_frame<'l>(
     }
 }
 
+/// `up PORT` and `down PORT`, behind their first word.
+#[tactic(auto, unfolding(crate::specs::Forms::link_form))]
+fn read_link<'l>(agent: &Agent, mut words: Words<'_>, up: bool) -> Result<Work<'l>, LineFault>
+    ensures said { said result ≡ link_form agent.now up words.entry }
+    ensures allowed { IfOk result (AllowsWork agent.now) }
+{
+    let Some(name) = words.next() else {
+        return Err(LineFault::Command(CommandFault::Unknown));
+    };
+    let Some(port) = agent.find_port(name) else {
+        return Err(LineFault::Command(CommandFault::NoSuchPort));
+    };
+    completed(words, Work::Link { port, up })
+}
+
 /// A command.
 fn read_order<'l>(agent: &Agent, line: &'l [u8]) -> Result<Work<'l>, LineFault>
-    ensures said { said result ≡ command_form (seen_of agent.now) line.now }
+    ensures said { said result ≡ command_form agent.now line.now }
     ensures allowed { IfOk result (AllowsWork agent.now) }
 {
     match agent.read_command(line) {
@@ -147,7 +163,7 @@ pub fn read_line<'l>(
     line: &'l [u8],
     room: &'l mut [u8; 2048],
 ) -> Result<Work<'l>, LineFault>
-    ensures said { said result ≡ reading_of (seen_of agent.now) line.now }
+    ensures said { said result ≡ reading_of agent.now line.now }
     ensures allowed { IfOk result (AllowsWork agent.now) }
 {
     if line.len() > LONGEST {
@@ -167,6 +183,10 @@ pub fn read_line<'l>(
         read_tick(words)
     } else if word == b"rx".as_slice() {
         read_frame(agent, words, room)
+    } else if word == b"up".as_slice() {
+        read_link(agent, words, true)
+    } else if word == b"down".as_slice() {
+        read_link(agent, words, false)
     } else {
         read_order(agent, line)
     }

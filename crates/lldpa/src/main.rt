@@ -6,6 +6,7 @@ pub mod device;
 pub mod line;
 pub mod output;
 pub mod program;
+pub mod sent;
 pub mod trace;
 
 use std::process::ExitCode;

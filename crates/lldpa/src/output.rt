@@ -3,7 +3,6 @@ ghost use Rattle.std.specs.Prelude.{◌≡◌, ◌≤◌, ◌+◌, ◌++◌, [],
 ghost use Rattle.std.specs.List.{flat_map};
 ghost use Rattle.std.specs.Io.KnownBytes.{Appends};
 ghost use Rattle.arrayvec.specs.ArrayVec.{array_vec_len};
-ghost use Rattle.lldp_engine.specs.AgentState.{seen_of};
 ghost use Rattle.lldp_engine.specs.Lines.{lines_of as show_lines};
 ghost use Rattle.lldpa.specs.Devices.{failures_after};
 ghost use Rattle.lldpa.specs.Lines.{ended};
@@ -33,7 +32,7 @@ fn send<W: Sink>(sink: &mut W, octets: &[u8]) -> Result<(), DeviceFault>
 }
 
 /// Writes all that waits.
-fn flush<W: Sink>(sink: &mut W, waiting: &mut Waiting) -> Result<(), DeviceFault>
+pub fn flush<W: Sink>(sink: &mut W, waiting: &mut Waiting) -> Result<(), DeviceFault>
     ensures ok { OnOk result (Appends (W.taken sink.old) (W.taken sink.new) waiting.old.items) }
     ensures none { OnOk result (waiting.new.items ≡ []) }
     ensures err { OnErr result (IsWritten (IsCutOff waiting.old.items) (W.taken sink.old) (W.taken sink.new)) }
@@ -45,7 +44,7 @@ fn flush<W: Sink>(sink: &mut W, waiting: &mut Waiting) -> Result<(), DeviceFault
 }
 
 /// Writes what waits where less room than this is left.
-fn make_room<W: Sink>(sink: &mut W, waiting: &mut Waiting, octets: usize) -> Result<(), DeviceFault>
+pub fn make_room<W: Sink>(sink: &mut W, waiting: &mut Waiting, octets: usize) -> Result<(), DeviceFault>
     requires { octets ≤ ROOM }
     ensures ok { OnOk result (GoesOut (W.taken sink.old) waiting.old.items (W.taken sink.new) waiting.new.items []) }
     ensures room { OnOk result (array_vec_len waiting.new + octets ≤ ROOM) }
@@ -59,7 +58,7 @@ fn make_room<W: Sink>(sink: &mut W, waiting: &mut Waiting, octets: usize) -> Res
 }
 
 /// Adds octets to what waits.
-fn append(waiting: &mut Waiting, octets: &[u8])
+pub fn append(waiting: &mut Waiting, octets: &[u8])
     requires { array_vec_len waiting.old + length octets.now ≤ ROOM }
     ensures { waiting.new.items ≡ waiting.old.items ++ octets.now }
 {
@@ -87,8 +86,8 @@ fn put_show<W: Sink>(
     show: Show,
 ) -> Result<(), DeviceFault>
     ensures ok { OnOk result (GoesOut (W.taken sink.old) waiting.old.items (W.taken sink.new) waiting.new.items
-        (flat_map ended (show_lines show (seen_of agent.now)))) }
-    ensures err { OnErr result (IsWritten (IsCutOff (waiting.old.items ++ flat_map ended (show_lines show (seen_of agent.now))))
+        (flat_map ended (show_lines show agent.now))) }
+    ensures err { OnErr result (IsWritten (IsCutOff (waiting.old.items ++ flat_map ended (show_lines show agent.now)))
         (W.taken sink.old) (W.taken sink.new)) }
     ensures failures { W.failures sink.new ≡ failures_after (W.failures sink.old) result }
 {
@@ -124,8 +123,8 @@ pub fn write_show<W: Sink>(
     show: Show,
 ) -> Result<(), DeviceFault>
     requires { waiting.old.items ≡ [] }
-    ensures ok { OnOk result (Appends (W.taken sink.old) (W.taken sink.new) (flat_map ended (show_lines show (seen_of agent.now)))) }
-    ensures err { OnErr result (IsWritten (IsCutOff (flat_map ended (show_lines show (seen_of agent.now))))
+    ensures ok { OnOk result (Appends (W.taken sink.old) (W.taken sink.new) (flat_map ended (show_lines show agent.now))) }
+    ensures err { OnErr result (IsWritten (IsCutOff (flat_map ended (show_lines show agent.now)))
         (W.taken sink.old) (W.taken sink.new)) }
     ensures none { OnOk result (waiting.new.items ≡ []) }
     ensures failures { W.failures sink.new ≡ failures_after (W.failures sink.old) result }

@@ -1,18 +1,21 @@
 //! A run over a trace.
-ghost use Rattle.std.specs.Prelude.{◌≡◌, ◌<◌, ◌≤◌, ◌+◌, ◌^◌, [], length, take, drop, replicate, OnOk, OnErr, IfOk};
+ghost use Rattle.std.specs.Prelude.{◌≡◌, ◌<◌, ◌≤◌, ◌+◌, ◌^◌, [], ◌∷◌, length, take, drop, replicate, OnOk, OnErr, IfOk};
+ghost use Rattle.lldp_engine.specs.AgentState.{Allows};
 ghost use Rattle.lldp_engine.specs.Event.{tick};
+ghost use Rattle.lldp_engine.specs.EventView.{event_of};
 ghost use Rattle.lldp_engine.specs.Past.{Past};
 ghost use Rattle.lldp_engine.specs.Standing.{Stands};
 ghost use Rattle.lldpa.specs.Devices.{failures_after};
 ghost use Rattle.lldpa.specs.Lines.{ended_lines, unfinished, if_any};
 ghost use Rattle.lldpa.specs.Work.{said, AllowsWork};
 ghost use Rattle.lldpa.specs.Items.{happens, after_all, items_of_reading, items_of, items_of_lines};
-ghost use Rattle.lldpa.specs.Runs.{Done, Failed, HasRun, GoesOn, read_failures_after, write_failures_after};
+ghost use Rattle.lldpa.specs.Runs.{Done, Failed, HasRun, GoesOn, KeepsOn, read_failures_after, write_failures_after};
 
 use crate::buffer::{hold, read_more};
 use crate::device::{DeviceFault, Sink, Source};
 use crate::line::{LineFault, Work, read_line};
 use crate::output::{Waiting, write_line, write_show};
+use crate::sent::write_marks;
 use lldp_engine::{Agent, Command, Event};
 use memchr::memchr;
 use thiserror::Error;
@@ -39,13 +42,45 @@ pub enum RunFault {
     InputTooLong,
 }
 
+/// An event, which the agent allows: what ports send is written.
+fn run_event<W: Sink>(
+    agent: &mut Agent,
+    sink: &mut W,
+    waiting: &mut Waiting,
+    event: Event<'_>,
+) -> Result<(), DeviceFault>
+    requires allowed { Allows agent.old (event_of event) }
+    requires none { waiting.old.items ≡ [] }
+    ensures ok { OnOk result ((past : Past) → Stands past agent.old →
+        Done past (happens (event_of event.entry) ∷ []) (W.taken sink.old) (W.taken sink.new) agent.new) }
+    ensures err { OnErr result ((past : Past) → Stands past agent.old →
+        Failed past (happens (event_of event.entry) ∷ []) (W.taken sink.old) (W.taken sink.new) agent.new) }
+    ensures none { OnOk result (waiting.new.items ≡ []) }
+    ensures failures { W.failures sink.new ≡ failures_after (W.failures sink.old) result }
+{
+    let marks = agent.step(event);
+    write_marks(agent, sink, waiting, &marks)
+}
+
 /// Some ticks.
-fn run_ticks(agent: &mut Agent, ticks: u16)
-    ensures { (past : Past) → Stands past agent.old → Stands (after_all past (replicate ticks (happens tick))) agent.new }
+fn run_ticks<W: Sink>(
+    agent: &mut Agent,
+    sink: &mut W,
+    waiting: &mut Waiting,
+    ticks: u16,
+) -> Result<(), DeviceFault>
+    requires { waiting.old.items ≡ [] }
+    ensures ok { OnOk result ((past : Past) → Stands past agent.old →
+        Done past (replicate ticks (happens tick)) (W.taken sink.old) (W.taken sink.new) agent.new) }
+    ensures err { OnErr result ((past : Past) → Stands past agent.old →
+        Failed past (replicate ticks (happens tick)) (W.taken sink.old) (W.taken sink.new) agent.new) }
+    ensures none { OnOk result (waiting.new.items ≡ []) }
+    ensures failures { W.failures sink.new ≡ failures_after (W.failures sink.old) result }
 {
     for _done in 0..ticks {
-        agent.step(Event::Tick);
+        run_event(agent, sink, waiting, Event::Tick)?;
     }
+    Ok(())
 }
 
 /// What a line was read as.
@@ -66,13 +101,13 @@ fn run_work<W: Sink>(
 {
     match read {
         Ok(Work::Skip) => Ok(()),
-        Ok(Work::Ticks(ticks)) => {
-            run_ticks(agent, ticks);
-            Ok(())
-        }
+        Ok(Work::Ticks(ticks)) => run_ticks(agent, sink, waiting, ticks),
         Ok(Work::Frame { port, octets }) => {
-            agent.step(Event::Frame { port, octets });
-            Ok(())
+            run_event(agent, sink, waiting, Event::Frame { port, octets })
+        }
+        Ok(Work::Link { port, up }) => run_event(agent, sink, waiting, Event::Link { port, up }),
+        Ok(Work::Command(Command::Set(setting))) => {
+            run_event(agent, sink, waiting, Event::Set(setting))
         }
         Ok(Work::Command(Command::Show(show))) => write_show(agent, sink, waiting, show),
         Err(fault) => write_line(sink, waiting, fault.text()),
@@ -163,6 +198,9 @@ pub fn run_trace<S: Source, W: Sink>(
     ensures run { HasRun (S.to_come reader.old) (S.to_come reader.new) (W.taken writer.old) (W.taken writer.new) agent.old agent.new result }
     // Over any devices, also those that tell nothing.
     ensures goes_on { (past : Past) → Stands past agent.old → GoesOn past agent.new }
+    // Then each table holds the last stored frames that have not expired, and each port has sent exactly what was due while
+    // its credit window was open; no run of events has more frames, nor more stops, than its bound.
+    ensures headline { (past : Past) → Stands past agent.old → KeepsOn past agent.new }
     // A fault is answered only where a device failed, once, and nothing else failed.
     ensures reads { S.failures reader.new ≡ read_failures_after (S.failures reader.old) result }
     ensures writes { W.failures writer.new ≡ write_failures_after (W.failures writer.old) result }

@@ -1,6 +1,6 @@
 -- The lines of `show statistics` that are left.
 use Rattle.std.specs.Prelude.{ℕ, List, [], ◌∷◌, ◌++◌, map, codes, decimal}
-use Rattle.lldp_engine.specs.Seen.{SeenPort}
+use Rattle.lldp_engine.specs.AgentState.{PortState}
 use Rattle.lldp_engine.specs.Keys.{port_key}
 use Rattle.lldp_engine.specs.StatisticsLines.{statistics_lines}
 use Rattle.lldp_engine.specs.declared.counters.Counters.{Counters}
@@ -19,10 +19,10 @@ counter_text counters Unrecognized = codes "unrecognized=" ++ decimal counters.u
 counter_text counters AgeOuts = codes "ageouts=" ++ decimal counters.ageouts
 counter_text counters Drops = codes "drops=" ++ decimal counters.drops
 
-abbrev pub counter_line : SeenPort → Counter → List ℕ
+abbrev pub counter_line : PortState → Counter → List ℕ
 counter_line port counter = port_key port.name ++ counter_text port.counters counter
 
 -- of the first port the counters that are left; then the other ports
-unfoldable pub statistics_left : List SeenPort → List Counter → List (List ℕ)
+unfoldable pub statistics_left : List PortState → List Counter → List (List ℕ)
 statistics_left [] counters = []
 statistics_left (port ∷ ports) counters = map (counter_line port) counters ++ statistics_lines ports

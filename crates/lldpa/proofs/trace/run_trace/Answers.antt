@@ -4,7 +4,7 @@ use Rattle.lldpa.proofs.Written.{consumes_then, consumes_kept, consumes_nothing}
 use Rattle.lldpa.proofs.LineLemmas.{held_more}
 use Rattle.lldpa.proofs.PieceLemmas.{held_and_piece, held_no_lf, consumes_end, done_piece, failed_piece, done_last, failed_last}
 use Rattle.lldpa.proofs.RunLemmas.{done_none}
-use Rattle.lldpa.proofs.GoesOnLemmas.{done_goes_on, stopped_goes_on}
+use Rattle.lldpa.proofs.GoesOnLemmas.{done_goes_on, stopped_goes_on, keeps_on}
 use Rattle.lldpa.proofs.trace.run_trace.Goals as goal
 
 pub loop-reads-init : goal.loop-reads-init
@@ -127,3 +127,18 @@ returns-in_default-clause-goes_on g c past stands = done_goes_on past _ _ _ _ (c
 
 pub returns-clause-goes_on : goal.returns-clause-goes_on
 returns-clause-goes_on g c past stands = done_goes_on past _ _ _ _ (c.loop-reads.invariant.so_far.done past stands)
+
+pub returns-in-Ok-run_rest-clause-headline : goal.returns-in-Ok-run_rest-clause-headline
+returns-in-Ok-run_rest-clause-headline g c past stands = keeps_on past _ (returns-in-Ok-run_rest-clause-goes_on g c past stands)
+
+pub returns-in-Err-clause-headline : goal.returns-in-Err-clause-headline
+returns-in-Err-clause-headline g c past stands = keeps_on past _ (returns-in-Err-clause-goes_on g c past stands)
+
+pub returns-in_default-run_lines-clause-headline : goal.returns-in_default-run_lines-clause-headline
+returns-in_default-run_lines-clause-headline g c past stands = keeps_on past _ (returns-in_default-run_lines-clause-goes_on g c past stands)
+
+pub returns-in_default-clause-headline : goal.returns-in_default-clause-headline
+returns-in_default-clause-headline g c past stands = keeps_on past _ (returns-in_default-clause-goes_on g c past stands)
+
+pub returns-clause-headline : goal.returns-clause-headline
+returns-clause-headline g c past stands = keeps_on past _ (returns-clause-goes_on g c past stands)

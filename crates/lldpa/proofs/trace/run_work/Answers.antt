@@ -3,13 +3,8 @@ use Rattle.std.proofs.lemmas.Result.{IfOk-weaker, IfErr-weaker}
 use Rattle.lldp_engine.specs.Event.{tick}
 use Rattle.lldpa.specs.Work.{said}
 use Rattle.lldpa.specs.Items.{happens, refused, items_of_reading}
-use Rattle.lldpa.proofs.RunLemmas.{done_same, done_ticks, done_show, failed_same, failed_show, failed_one}
+use Rattle.lldpa.proofs.RunLemmas.{done_same, done_show, failed_same, failed_show, failed_one}
 use Rattle.lldpa.proofs.trace.run_work.Goals as goal
-
-pub returns-in-Ok-Ticks-clause-ok : goal.returns-in-Ok-Ticks-clause-ok
-returns-in-Ok-Ticks-clause-ok g c past stands =
-    let items : replicate c.in-Ok-Ticks.ticks (happens tick) ≡ items_of_reading (said c.args.read) = search rules in
-    done_same past _ _ _ _ _ items (done_ticks past _ _ _ (c.run_ticks.ensures past stands))
 
 pub returns-in-Ok-Command-Show-clause-ok : goal.returns-in-Ok-Command-Show-clause-ok
 returns-in-Ok-Command-Show-clause-ok g c =

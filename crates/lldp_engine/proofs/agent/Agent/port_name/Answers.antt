@@ -1,6 +1,5 @@
 use Rattle.std.proofs.Common.{ℕ, get_or, List, Some, ap, sym, ◌∙◌}
-use Rattle.lldp_engine.specs.Seen.{SeenPort}
-use Rattle.lldp_engine.specs.AgentState.{AgentState}
+use Rattle.lldp_engine.specs.AgentState.{AgentState, PortState}
 use Rattle.lldp_engine.proofs.ReaderLemmas.{port_reads}
 use Rattle.lldp_engine.proofs.agent.Agent.port_name.Goals as goal
 
@@ -8,5 +7,5 @@ pub returns-clause-past : goal.returns-clause-past
 returns-clause-past g c = λ past h.
     let p = c.index.result.now in
     let same = ap (λ (a : AgentState). a.ports) c.self.view_is in
-    let r = port_reads past c.args.self.now c.args.port p h c.requires (c.index.ensures ∙ ap (λ (ps : List SeenPort). get_or ps c.args.port p) same) in
+    let r = port_reads past c.args.self.now c.args.port p h c.requires (c.index.ensures ∙ ap (λ (ps : List PortState). get_or ps c.args.port p) same) in
     r.named ∙ ap (λ (x : List ℕ). Some x) (sym c.name.ensures.value)

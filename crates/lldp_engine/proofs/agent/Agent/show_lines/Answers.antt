@@ -1,9 +1,14 @@
-use Rattle.lldp_engine.specs.AgentState.{seen_of}
 use Rattle.lldp_engine.proofs.LinesBound.{few_lines}
 use Rattle.lldp_engine.proofs.agent.Agent.show_lines.Goals as goal
 
 pub returns-in-Neighbors-clause-few : goal.returns-in-Neighbors-clause-few
-returns-in-Neighbors-clause-few g c = few_lines c.args.show.now (seen_of c.args.self.now) c.all_ports-ports.ensures.sound.few c.all_ports-ports.ensures.sound.sound
+returns-in-Neighbors-clause-few g c = few_lines c.args.show.now c.args.self.now c.all_ports-ports.ensures.sound
 
 pub returns-in-Statistics-clause-few : goal.returns-in-Statistics-clause-few
-returns-in-Statistics-clause-few g c = few_lines c.args.show.now (seen_of c.args.self.now) c.all_ports-ports.ensures.sound.few c.all_ports-ports.ensures.sound.sound
+returns-in-Statistics-clause-few g c = few_lines c.args.show.now c.args.self.now c.all_ports-ports.ensures.sound
+
+pub returns-in-Chassis-clause-few : goal.returns-in-Chassis-clause-few
+returns-in-Chassis-clause-few g c = few_lines c.args.show.now c.args.self.now c.all_ports-ports.ensures.sound
+
+pub returns-in-Configuration-clause-few : goal.returns-in-Configuration-clause-few
+returns-in-Configuration-clause-few g c = few_lines c.args.show.now c.args.self.now c.all_ports-ports.ensures.sound

@@ -1,61 +1,72 @@
-use Rattle.std.proofs.Common.{◌≡◌, ◌<◌, length, List, ap, sym, ◌∙◌, subst, arith}
+use Rattle.std.proofs.Common.{◌≡◌, ◌<◌, ℕ, length, ap, sym, ◌∙◌, subst, arith}
 use Rattle.std.specs.Vec.{with_items}
+use Rattle.std.specs.List.{AllByRecursion}
 use Rattle.std.proofs.lemmas.List.{with_items_is}
-use Rattle.lldp_engine.specs.Event.{tick, frame}
-use Rattle.lldp_engine.specs.Seen.{SeenPort}
-use Rattle.lldp_engine.specs.AgentState.{AgentState}
-use Rattle.lldp_engine.specs.Step.{ports_step}
-use Rattle.lldp_engine.proofs.PortsLemmas.{octets_on}
-use Rattle.lldp_engine.proofs.StandingLemmas.{stands_after}
+use Rattle.lldp_transmit.specs.declared.event.Mark.{Mark}
+use Rattle.lldp_engine.specs.EventView.{event_of}
+use Rattle.lldp_engine.specs.AgentState.{AgentState, Allows}
+use Rattle.lldp_engine.specs.Frames.{IsSent}
+use Rattle.lldp_engine.specs.Past.{with_event}
+use Rattle.lldp_engine.specs.Sound.{AreSound}
+use Rattle.lldp_engine.specs.Standing.{Stands}
+use Rattle.lldp_engine.specs.Step.{agent_after, agent_marks, ports_step}
+use Rattle.lldp_engine.proofs.AllowedLemmas.{configured-capacity}
 use Rattle.lldp_engine.proofs.HeadlineLemmas.{promised}
-use Rattle.lldp_engine.proofs.SoundLemmas.{stay_sound}
+use Rattle.lldp_engine.proofs.SoundLemmas.{allowed_fits, stay_sound, ports_number}
+use Rattle.lldp_engine.proofs.StandingLemmas.{carries, marks_carry}
+use Rattle.lldp_engine.proofs.StepLemmas.{allowed_short, steps_to, marks_to, marks_sent}
 use Rattle.lldp_engine.proofs.agent.Agent.step.Goals as goal
 
-pub returns-in-Tick-clause-stands : goal.returns-in-Tick-clause-stands
-returns-in-Tick-clause-stands g c = λ past h.
-    let same = c.as_mut_slice.ensures.value ∙ ap (λ (a : AgentState). a.ports) c.self.view_is in
-    let is : (with_items c.self.inside.ports c.tick_all.new.ports).items ≡ c.tick_all.new.ports = with_items_is c.self.inside.ports c.tick_all.new.ports (omega arith) in
-    rw c.in-Tick.is (stands_after past tick c.args.self.now _ (is ∙ c.tick_all.ensures ∙ ap (ports_step tick 0) same) h tt tt)
+pub take-requires : goal.take-requires
+take-requires g c = allowed_short c.args.self.now (event_of c.args.event) c.requires
 
-pub returns-in-Tick-clause-headline : goal.returns-in-Tick-clause-headline
-returns-in-Tick-clause-headline g c = λ past h. promised _ _ (returns-in-Tick-clause-stands g c past h)
+pub take_event-requires-clause-limits : goal.take_event-requires-clause-limits
+take_event-requires-clause-limits g c =
+    let e = event_of c.args.event in
+    let allowed = subst (λ (a : AgentState). Allows a e) (sym c.self.view_is) c.requires in
+    rw c.as_mut_slice.ensures.value (allowed_fits _ e allowed c.self.invariant.sound)
 
-pub returns-in-Frame-clause-after : goal.returns-in-Frame-clause-after
-returns-in-Frame-clause-after g c =
-    let q = c.in-Frame.port in
-    let octets = c.in-Frame.octets.now in
-    let same = ap (λ (a : AgentState). a.ports) c.self.view_is in
-    let allowed : q < length c.args.self.now.ports = rw c.in-Frame.is at c.requires in
-    let lt : q < length c.self.inside.ports.items = subst (λ (ps : List SeenPort). q < length ps) (sym same) allowed in
-    let after = octets_on q octets c.self.inside.ports.items c.index_mut.result.now c.receive.new.self lt c.index_mut.ensures.value c.receive.ensures.after in
-    rw c.in-Frame.is (ap (λ (ps : List SeenPort). let a : AgentState = record { ports = ps } in a) (after ∙ ap (ports_step (frame q octets) 0) same))
+pub returns-clause-after : goal.returns-clause-after
+returns-clause-after g c =
+    let e = event_of c.args.event in
+    let is : (with_items c.self.inside.ports c.take_event.new.ports).items ≡ c.take_event.new.ports = with_items_is c.self.inside.ports c.take_event.new.ports (omega arith) in
+    subst (λ (a : AgentState). (let b : AgentState = record { configuration = c.take.new.self; ports = (with_items c.self.inside.ports c.take_event.new.ports).items } in b) ≡ agent_after e a) c.self.view_is
+    (steps_to _ e c.take.new.self c.interval-interval.result c.as_mut_slice.result.now _ c.take.ensures c.interval-interval.ensures c.as_mut_slice.ensures.value (is ∙ c.take_event.ensures.after))
 
-pub returns-in-Frame-clause-stands : goal.returns-in-Frame-clause-stands
-returns-in-Frame-clause-stands g c = λ past h.
-    let q = c.in-Frame.port in
-    let octets = c.in-Frame.octets.now in
-    let same = ap (λ (a : AgentState). a.ports) c.self.view_is in
-    let allowed : q < length c.args.self.now.ports = rw c.in-Frame.is at c.requires in
-    let lt : q < length c.self.inside.ports.items = subst (λ (ps : List SeenPort). q < length ps) (sym same) allowed in
-    let after = octets_on q octets c.self.inside.ports.items c.index_mut.result.now c.receive.new.self lt c.index_mut.ensures.value c.receive.ensures.after in
-    rw c.in-Frame.is (stands_after past (frame q octets) c.args.self.now _ (after ∙ ap (ports_step (frame q octets) 0) same) h allowed c.receive.ensures.octets)
+pub returns-clause-marks : goal.returns-clause-marks
+returns-clause-marks g c =
+    let e = event_of c.args.event in
+    subst (λ (a : AgentState). c.take_event.result.items ≡ agent_marks e a) c.self.view_is
+    (marks_to _ e c.take.new.self c.interval-interval.result c.as_mut_slice.result.now _ c.take.ensures c.interval-interval.ensures c.as_mut_slice.ensures.value c.take_event.ensures.marks)
 
-pub returns-in-Frame-clause-headline : goal.returns-in-Frame-clause-headline
-returns-in-Frame-clause-headline g c = λ past h. promised _ _ (returns-in-Frame-clause-stands g c past h)
+pub returns-clause-sent : goal.returns-clause-sent
+returns-clause-sent g c =
+    let e = event_of c.args.event in
+    let ports = c.as_mut_slice.result.now in
+    let n = c.interval-interval.result in
+    let is : (with_items c.self.inside.ports c.take_event.new.ports).items ≡ c.take_event.new.ports = with_items_is c.self.inside.ports c.take_event.new.ports (omega arith) in
+    let number = ports_number e n 0 ports in
+    let new : length (with_items c.self.inside.ports c.take_event.new.ports).items ≡ length ports = ap length (is ∙ c.take_event.ensures.after) ∙ number in
+    subst (λ (m : ℕ). AllByRecursion (λ (x : ℕ × Mark). (x.0 < m) × IsSent x.1) c.take_event.result.items) (sym new)
+    (rw c.take_event.ensures.marks (marks_sent e n 0 (length ports) ports (omega arith)))
 
--- ## The ports stay sound
+pub returns-clause-stands : goal.returns-clause-stands
+returns-clause-stands g c = λ past h.
+    let e = event_of c.args.event in
+    subst (Stands (with_event past e)) (sym (returns-clause-after g c)) (carries past e c.args.self.now h c.requires c.take_event.ensures.octets)
+
+pub returns-clause-marks_past : goal.returns-clause-marks_past
+returns-clause-marks_past g c = λ past h. returns-clause-marks g c ∙ marks_carry past (event_of c.args.event) c.args.self.now h c.requires c.take_event.ensures.octets
+
+pub returns-clause-headline : goal.returns-clause-headline
+returns-clause-headline g c = λ past h. promised _ _ (returns-clause-stands g c past h)
 
 pub invariant_of-self : goal.invariant_of-self
 invariant_of-self g c =
-    let is : (with_items c.self.inside.ports c.tick_all.new.ports).items ≡ c.tick_all.new.ports = with_items_is c.self.inside.ports c.tick_all.new.ports (omega arith) in
-    stay_sound tick c.self.inside.ports.items _ (is ∙ c.tick_all.ensures ∙ ap (ports_step tick 0) c.as_mut_slice.ensures.value) tt c.self.invariant
-
-pub invariant_of-self-in-Frame : goal.invariant_of-self-in-Frame
-invariant_of-self-in-Frame g c =
-    let q = c.in-Frame.port in
-    let octets = c.in-Frame.octets.now in
-    let same = ap (λ (a : AgentState). a.ports) c.self.view_is in
-    let allowed : q < length c.args.self.now.ports = rw c.in-Frame.is at c.requires in
-    let lt : q < length c.self.inside.ports.items = subst (λ (ps : List SeenPort). q < length ps) (sym same) allowed in
-    let after = octets_on q octets c.self.inside.ports.items c.index_mut.result.now c.receive.new.self lt c.index_mut.ensures.value c.receive.ensures.after in
-    stay_sound (frame q octets) c.self.inside.ports.items _ after c.receive.ensures.octets c.self.invariant
+    let e = event_of c.args.event in
+    let allowed = subst (λ (a : AgentState). Allows a e) (sym c.self.view_is) c.requires in
+    let is : (with_items c.self.inside.ports c.take_event.new.ports).items ≡ c.take_event.new.ports = with_items_is c.self.inside.ports c.take_event.new.ports (omega arith) in
+    let room : c.self.inside.configuration.capacity ≡ c.take.new.self.capacity = sym (configured-capacity e c.self.inside.configuration) ∙ ap (λ x. x.capacity) (sym c.take.ensures) in
+    subst (λ (k : ℕ). AreSound k (with_items c.self.inside.ports c.take_event.new.ports).items) room
+    (stay_sound c.self.inside.configuration.capacity e c.interval-interval.result c.self.inside.ports.items _ (is ∙ c.take_event.ensures.after ∙ ap (ports_step e c.interval-interval.result 0) c.as_mut_slice.ensures.value)
+    c.take_event.ensures.octets (allowed_fits _ e allowed c.self.invariant.sound) c.self.invariant)

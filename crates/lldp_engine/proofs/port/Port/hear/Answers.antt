@@ -3,16 +3,29 @@ use Rattle.lldp_pdu.specs.View.{msap_seen}
 use Rattle.lldp_engine.proofs.HeardLemmas.{heard_refused, heard_leaves, heard_tells}
 use Rattle.lldp_engine.proofs.port.Port.hear.Goals as goal
 
-pub returns-in-Err : goal.returns-in-Err
-returns-in-Err g c =
+pub returns-in-Err-clause-after : goal.returns-in-Err-clause-after
+returns-in-Err-clause-after g c =
     rw (heard_refused c.args.pdu.now c.in-Err.field-0 c.in-Err.ensures.fault, ← c.self.view_is, c.count_refused.ensures, c.count_received.ensures) refl
 
-pub returns-in-Ok-Shutdown : goal.returns-in-Ok-Shutdown
-returns-in-Ok-Shutdown g c =
+pub returns-in-Err-clause-cause : goal.returns-in-Err-clause-cause
+returns-in-Err-clause-cause g c = rw (heard_refused c.args.pdu.now c.in-Err.field-0 c.in-Err.ensures.fault) refl
+
+pub returns-in-Ok-Shutdown-clause-after : goal.returns-in-Ok-Shutdown-clause-after
+returns-in-Ok-Shutdown-clause-after g c =
     let told = rw c.in-Ok-Shutdown.field-0-is at c.in-Ok-Shutdown.ensures.answer in
     rw (heard_leaves c.args.pdu.now (msap_seen c.in-Ok-Shutdown.msap) c.in-Ok-Shutdown.ensures.fault told.0 told.1, ← c.self.view_is, c.forget.ensures.after, c.count_received.ensures) refl
 
-pub returns-in-Ok-Info : goal.returns-in-Ok-Info
-returns-in-Ok-Info g c =
+pub returns-in-Ok-Shutdown-clause-cause : goal.returns-in-Ok-Shutdown-clause-cause
+returns-in-Ok-Shutdown-clause-cause g c =
+    let told = rw c.in-Ok-Shutdown.field-0-is at c.in-Ok-Shutdown.ensures.answer in
+    rw (heard_leaves c.args.pdu.now (msap_seen c.in-Ok-Shutdown.msap) c.in-Ok-Shutdown.ensures.fault told.0 told.1) refl
+
+pub returns-in-Ok-Info-clause-after : goal.returns-in-Ok-Info-clause-after
+returns-in-Ok-Info-clause-after g c =
     let told = rw c.in-Ok-Info.field-0-is at c.in-Ok-Info.ensures.answer in
-    rw (heard_tells c.args.pdu.now c.in-Ok-Info.info c.in-Ok-Info.ensures.fault told.0 told.1, ← c.self.view_is, c.learn.ensures, c.count_received.ensures) refl
+    rw (heard_tells c.args.pdu.now c.in-Ok-Info.info c.in-Ok-Info.ensures.fault told.0 told.1, ← c.self.view_is, c.learn.ensures.after, c.count_received.ensures) refl
+
+pub returns-in-Ok-Info-clause-cause : goal.returns-in-Ok-Info-clause-cause
+returns-in-Ok-Info-clause-cause g c =
+    let told = rw c.in-Ok-Info.field-0-is at c.in-Ok-Info.ensures.answer in
+    rw (heard_tells c.args.pdu.now c.in-Ok-Info.info c.in-Ok-Info.ensures.fault told.0 told.1, ← c.self.view_is) c.learn.ensures.cause

@@ -1,0 +1,29 @@
+-- The lines of `show chassis`.
+use Rattle.std.specs.Prelude.{ℕ, List, [], ◌∷◌, ◌++◌, Option, Some, None, codes}
+use Rattle.lldp_engine.specs.declared.options.Role.{Role}
+use Rattle.lldp_engine.specs.declared.options.Role.TheVariants.{Station, Bridge, Router}
+use Rattle.lldp_engine.specs.Configuration.{Configuration}
+use Rattle.lldp_engine.specs.Text.{escaped}
+use Rattle.lldp_engine.specs.Addresses.{mac_text, ipv4_text}
+
+abbrev pub role_text : Role → List ℕ
+role_text Station = codes "Station:on"
+role_text Bridge = codes "Bridge:on"
+role_text Router = codes "Router:on"
+
+-- the line of a management address
+abbrev pub management_line : List ℕ → List ℕ
+management_line address = codes "local-chassis.mgmt=" ++ ipv4_text address ++ codes ",1,0,"
+
+-- a line where one was given
+abbrev pub management_lines : Option (List ℕ) → List (List ℕ)
+management_lines None = []
+management_lines (Some address) = management_line address ∷ []
+
+abbrev pub chassis_lines : Configuration → List (List ℕ)
+chassis_lines c =
+    (codes "local-chassis.mac=" ++ mac_text c.mac)
+    ∷ (codes "local-chassis.name=" ++ escaped c.hostname)
+    ∷ (codes "local-chassis.descr=" ++ escaped c.description)
+    ∷ (codes "local-chassis.caps=" ++ role_text c.role)
+    ∷ management_lines c.management

@@ -1,0 +1,59 @@
+-- How an agent is configured, and what an event makes of that.
+use Rattle.std.specs.Prelude.{ℕ, ◌+◌, ◌*◌, min, List, Option, codes}
+use Rattle.lldp_engine.specs.declared.options.Role.{Role}
+use Rattle.lldp_engine.specs.Options.{Options}
+use Rattle.lldp_engine.specs.Event.{Event, tick, frame, link, configure, Setting, hostname, description, interval, hold, limit, status, update}
+
+-- what the options gave for good; then what commands change: the hostname, the description, the tx-interval
+-- (msgTxInterval) in seconds, the tx-hold (msgTxHold) and the limit of neighbors
+pub record Configuration : Type 0 where
+  pub mac : List ℕ
+  pub role : Role
+  pub management : Option (List ℕ)
+  pub credit_max : ℕ
+  pub fast_init : ℕ
+  pub reinit : ℕ
+  pub capacity : ℕ
+  pub hostname : List ℕ
+  pub description : List ℕ
+  pub interval : ℕ
+  pub hold : ℕ
+  pub limit : ℕ
+
+-- at opening the tx-interval is 30, the tx-hold is 4, and the description is `lldpa`
+abbrev pub configuration_at_opening : Options → Configuration
+configuration_at_opening o =
+    record {
+      mac = o.mac;
+      role = o.role;
+      management = o.management;
+      credit_max = o.credit_max;
+      fast_init = o.fast_init;
+      reinit = o.reinit;
+      capacity = o.max_neighbors;
+      hostname = o.hostname;
+      description = codes "lldpa";
+      interval = 30;
+      hold = 4;
+      limit = o.max_neighbors;
+    }
+
+-- a command sets what it names, and nothing else
+abbrev pub with_setting : Setting → Configuration → Configuration
+with_setting (hostname text) c = record c { hostname = text }
+with_setting (description text) c = record c { description = text }
+with_setting (interval seconds) c = record c { interval = seconds }
+with_setting (hold times) c = record c { hold = times }
+with_setting (limit neighbors) c = record c { limit = neighbors }
+with_setting (status port given) c = c
+with_setting update c = c
+
+abbrev pub configured : Event → Configuration → Configuration
+configured tick c = c
+configured (frame port octets) c = c
+configured (link port up) c = c
+configured (configure setting) c = with_setting setting c
+
+-- the time to live that is sent (txTTL): one second more than the tx-interval times the tx-hold, at most 65,535
+abbrev pub sent_ttl : Configuration → ℕ
+sent_ttl c = min 65535 (c.interval * c.hold + 1)

@@ -1,0 +1,157 @@
+//! The frames that an agent sends.
+ghost use Rattle.std.specs.Prelude.{◌≡◌, ℕ, ◌+◌, ◌≤◌, ◌<◌, ◌∷◌, ◌++◌, [], List, length, true, Some, slice_get};
+ghost use Rattle.lldp_pdu.specs.Draft.{CanPut, with_tlv, all_tlvs};
+ghost use Rattle.lldp_pdu.specs.Tlv.{spellings};
+ghost use Rattle.lldp_pdu.specs.WellFormed.{is_well_formed};
+ghost use Rattle.lldp_engine.specs.AgentState.{name_of, IsPort};
+ghost use Rattle.lldp_engine.specs.Configuration.{sent_ttl};
+ghost use Rattle.lldp_engine.specs.Past.{Past, configuration_after};
+ghost use Rattle.lldp_engine.specs.Standing.{Stands};
+ghost use Rattle.lldp_engine.specs.Frames.{unit, sent_msap, capabilities_of, management_body, draft_of, frame_of, IsSent, SaysBack};
+
+use crate::agent::Agent;
+use crate::configuration::Configuration;
+use crate::options::Role;
+use arrayvec::ArrayVec;
+use lldp_pdu::Builder;
+use lldp_pdu::tlv_type::{
+    MANAGEMENT_ADDRESS, PORT_DESCRIPTION, SYSTEM_CAPABILITIES, SYSTEM_DESCRIPTION, SYSTEM_NAME,
+};
+use lldp_transmit::Mark;
+use std::alloc::Allocator;
+
+/// A frame that is sent, at most 1,514 octets.
+pub type Frame = ArrayVec<u8, 1514>;
+
+/// Puts a TLV that can be put.
+fn put(builder: &mut Builder, kind: u8, body: &[u8])
+    requires { CanPut builder.old (unit kind body.now) }
+    ensures value { builder.new ≡ with_tlv builder.old (unit kind body.now) }
+    ensures grows { length (spellings (all_tlvs builder.new)) ≡ length (spellings (all_tlvs builder.old)) + length body.now + 2 }
+{
+    let _ = builder.put(kind, body);
+}
+
+/// What every frame of a port begins with: the chassis by its MAC address, the port by its name, and the TTL.
+fn begin(configuration: &Configuration, name: &[u8], ttl: u16) -> Builder
+    requires some { 0 < length name.now }
+    requires short { length name.now ≤ 15 }
+    ensures value { result ≡ record { msap = sent_msap configuration.now name.now; ttl = ttl; tlvs = [] } }
+    ensures short { length (spellings (all_tlvs result)) ≤ 31 }
+{
+    let mut chassis = ArrayVec::<u8, 7>::new();
+    chassis.push(4);
+    let _ = chassis.try_extend_from_slice(&configuration.mac);
+    let mut port = ArrayVec::<u8, 16>::new();
+    port.push(5);
+    let _ = port.try_extend_from_slice(name);
+    Builder::begin(chassis.as_slice(), port.as_slice(), ttl)
+}
+
+/// What an ordinary frame of a port says up to the System Description.
+#[tactic(auto, unfolding(lldp_pdu::specs::WellFormed::is_well_formed))]
+fn described(configuration: &Configuration, name: &[u8]) -> Builder
+    requires some { 0 < length name.now }
+    requires short { length name.now ≤ 15 }
+    ensures value { result ≡ record { msap = sent_msap configuration.now name.now; ttl = sent_ttl configuration.now; tlvs = unit 4 name.now ∷ unit 5 configuration.now.hostname ∷ unit 6 configuration.now.description ∷ [] } }
+    ensures lives { 0 < sent_ttl configuration.now }
+    ensures short { length (spellings (all_tlvs result)) ≤ 31 + 17 + 257 + 257 }
+{
+    let mut builder = begin(configuration, name, configuration.ttl());
+    put(&mut builder, PORT_DESCRIPTION, name);
+    put(&mut builder, SYSTEM_NAME, configuration.hostname.as_slice());
+    put(
+        &mut builder,
+        SYSTEM_DESCRIPTION,
+        configuration.description.as_slice(),
+    );
+    builder
+}
+
+/// The body of the System Capabilities of a role.
+fn capabilities(role: Role) -> &'static [u8]
+    ensures value { result.now ≡ capabilities_of role }
+    ensures well_formed { is_well_formed (unit 7 result.now) ≡ true }
+    ensures short { length result.now ≡ 4 }
+{
+    match role {
+        Role::Station => &[0x00, 0x80, 0x00, 0x80],
+        Role::Bridge => &[0x00, 0x04, 0x00, 0x04],
+        Role::Router => &[0x00, 0x10, 0x00, 0x10],
+    }
+}
+
+/// The body of the Management Address TLV of an IPv4 address.
+fn management(address: &[u8; 4]) -> ArrayVec<u8, 12>
+    ensures value { result.items ≡ management_body address.now }
+    ensures well_formed { is_well_formed (unit 8 result.items) ≡ true }
+    ensures short { length result.items ≡ 12 }
+{
+    let mut body = ArrayVec::new();
+    let _ = body.try_extend_from_slice(&[5, 1]);
+    let _ = body.try_extend_from_slice(address);
+    let _ = body.try_extend_from_slice(&[1, 0, 0, 0, 0, 0]);
+    body
+}
+
+/// What an ordinary frame of a port says.
+fn ordinary(configuration: &Configuration, name: &[u8]) -> Builder
+    requires some { 0 < length name.now }
+    requires short { length name.now ≤ 15 }
+    ensures { result ≡ draft_of configuration.now name.now Mark.Ordinary }
+{
+    let mut builder = described(configuration, name);
+    put(
+        &mut builder,
+        SYSTEM_CAPABILITIES,
+        capabilities(configuration.role),
+    );
+    if let Some(address) = &configuration.management {
+        let body = management(address);
+        put(&mut builder, MANAGEMENT_ADDRESS, body.as_slice());
+        return builder;
+    }
+    builder
+}
+
+/// What the frame of a port says.
+fn said(configuration: &Configuration, name: &[u8], mark: Mark) -> Builder
+    requires some { 0 < length name.now }
+    requires short { length name.now ≤ 15 }
+    ensures { result ≡ draft_of configuration.now name.now mark }
+{
+    match mark {
+        Mark::Ordinary => ordinary(configuration, name),
+        Mark::Shutdown | Mark::Quiet => begin(configuration, name, 0),
+    }
+}
+
+/// The frame of a port.
+fn write_frame(configuration: &Configuration, name: &[u8], mark: Mark) -> Frame
+    requires some { 0 < length name.now }
+    requires short { length name.now ≤ 15 }
+    ensures octets { result.items ≡ frame_of configuration.now name.now mark }
+    ensures says { SaysBack (draft_of configuration.now name.now mark) result.items }
+{
+    let lldpdu = said(configuration, name, mark).finish();
+    let mut frame = ArrayVec::new();
+    let _ = frame.try_extend_from_slice(&[0x01, 0x80, 0xc2, 0x00, 0x00, 0x0e]);
+    let _ = frame.try_extend_from_slice(&configuration.mac);
+    let _ = frame.try_extend_from_slice(&[0x88, 0xcc]);
+    let _ = frame.try_extend_from_slice(lldpdu.as_slice());
+    frame
+}
+
+impl<A: Allocator> Agent<A> {
+    /// The frame that a port sends, with the present configuration.
+    pub fn frame(&self, port: u8, mark: Mark) -> Frame
+        requires port { IsPort self.now port }
+        requires sent { IsSent mark }
+        ensures octets { result.items ≡ frame_of self.now.configuration (name_of self.now port) mark }
+        ensures says { SaysBack (draft_of self.now.configuration (name_of self.now port) mark) result.items }
+        ensures past { (past : Past) → Stands past self.now → (name : List ℕ) → slice_get past.options.names port ≡ Some name →
+            result.items ≡ frame_of (configuration_after past.options past.events) name mark }
+    {
+        write_frame(self.configuration(), self.port_name(port), mark)
+    }
+}
