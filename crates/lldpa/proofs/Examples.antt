@@ -1,6 +1,8 @@
--- Lines of small inputs, computed.
+-- Lines of small inputs, and the line of a small frame, computed.
 use Rattle.std.proofs.Common.{◌≡◌, [], ◌∷◌, ◌++◌, refl, codes}
+use Rattle.hex.specs.Hex.{encode_with}
 use Rattle.lldpa.specs.Lines.{lines_of, ended_lines}
+use Rattle.lldpa.specs.Sent.{sent_line}
 
 no_line : lines_of [] ≡ []
 no_line = refl
@@ -19,3 +21,7 @@ two_lines = refl
 
 ended_only : ended_lines (codes "a" ++ 10 ∷ codes "b") ≡ codes "a" ∷ []
 ended_only = refl
+
+sent : sent_line (codes "p1") (1 ∷ 171 ∷ []) ≡ codes "tx p1 01ab" ++ 10 ∷ []
+unfolding encode_with
+sent = refl

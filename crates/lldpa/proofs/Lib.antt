@@ -10,3 +10,4 @@ pub mod Progress
 pub mod PieceLemmas
 pub mod GoesOnLemmas
 mod Examples
+mod ArgumentLemmas

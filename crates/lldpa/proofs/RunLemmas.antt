@@ -1,18 +1,17 @@
 -- Runs, one after another.
-use Rattle.std.proofs.Common.{suc, zero, Result, ◌≡◌, ℕ, ◌+◌, List, [], ◌∷◌, ◌++◌, refl, sym, ap, ◌∙◌, append_assoc, Option, subst, replicate}
+use Rattle.std.proofs.Common.{Result, ◌≡◌, ℕ, List, [], ◌∷◌, ◌++◌, refl, sym, ap, ◌∙◌, append_assoc, Option, subst}
 use Rattle.std.specs.Io.KnownBytes.{Appends}
-use Rattle.std.proofs.lemmas.List.{append-nil, replicate_more}
+use Rattle.std.proofs.lemmas.List.{append-nil}
 use Rattle.std.specs.List.{flat_map}
 use Rattle.lldp_engine.specs.declared.command.Show.{Show}
-use Rattle.lldp_engine.specs.Event.{tick}
-use Rattle.lldp_engine.specs.Past.{Past, with_event}
+use Rattle.lldp_engine.specs.Past.{Past}
 use Rattle.lldp_engine.specs.Standing.{Stands}
 use Rattle.lldp_engine.specs.Lines.{lines_of as show_lines}
 use Rattle.lldp_engine.specs.AgentState.{AgentState}
 use Rattle.lldpa.specs.declared.line.LineFault.{LineFault}
 use Rattle.lldpa.specs.Lines.{ended}
 use Rattle.lldpa.specs.Forms.{Reading, reading_of}
-use Rattle.lldpa.specs.Items.{Item, happens, shows, after, after_all, text_of, text_of_all, items_of_reading, items_of, items_of_lines}
+use Rattle.lldpa.specs.Items.{Item, shows, after, after_all, text_of, text_of_all, items_of_reading, items_of, items_of_lines}
 use Rattle.lldpa.specs.Output.{IsWritten, IsCutOff}
 use Rattle.lldpa.specs.Runs.{Done, Failed}
 use Rattle.lldpa.proofs.Written.{appends_then, appends_nothing, appends_same}

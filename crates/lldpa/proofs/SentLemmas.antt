@@ -12,7 +12,7 @@ use Rattle.lldp_engine.specs.Past.{Past, Sending, with_event, marks_of}
 use Rattle.lldp_engine.specs.Standing.{Stands}
 use Rattle.lldp_engine.proofs.FramePast.{configuration_reads}
 use Rattle.lldp_engine.proofs.ReaderLemmas.{names_read}
-use Rattle.lldpa.specs.Items.{Item, happens, text_of_all, after_all}
+use Rattle.lldpa.specs.Items.{happens, text_of_all, after_all}
 use Rattle.lldpa.specs.Sent.{sent_line, mark_line, sent_text}
 use Rattle.lldpa.specs.Output.{IsCutOff, IsWritten, GoesOut}
 use Rattle.lldpa.specs.Runs.{Done, Failed}

@@ -7,4 +7,4 @@ pub mod Work
 pub mod Items
 pub mod Output
 pub mod Runs
-pub mod Program
+pub mod Arguments

@@ -1,8 +1,11 @@
 //! An LLDP agent over a trace: standard input to standard output.
 #![tactic(auto)]
 
+pub mod addresses;
+pub mod arguments;
 pub mod buffer;
 pub mod device;
+pub mod help;
 pub mod line;
 pub mod output;
 pub mod program;

@@ -44,7 +44,11 @@ pub fn flush<W: Sink>(sink: &mut W, waiting: &mut Waiting) -> Result<(), DeviceF
 }
 
 /// Writes what waits where less room than this is left.
-pub fn make_room<W: Sink>(sink: &mut W, waiting: &mut Waiting, octets: usize) -> Result<(), DeviceFault>
+pub fn make_room<W: Sink>(
+    sink: &mut W,
+    waiting: &mut Waiting,
+    octets: usize,
+) -> Result<(), DeviceFault>
     requires { octets ≤ ROOM }
     ensures ok { OnOk result (GoesOut (W.taken sink.old) waiting.old.items (W.taken sink.new) waiting.new.items []) }
     ensures room { OnOk result (array_vec_len waiting.new + octets ≤ ROOM) }

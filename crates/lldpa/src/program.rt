@@ -1,13 +1,15 @@
 //! The program, over words and streams that are handed in.
-ghost use Rattle.std.specs.Prelude.{◌≡◌, map, codes, None, Some, MatchOption};
-ghost use Rattle.std.specs.Str.{bytes_eq};
+ghost use Rattle.std.specs.Prelude.{◌≡◌, ◌≢◌, ◌≤◌};
 ghost use Rattle.std.specs.Io.KnownBytes.{Keeps};
-ghost use Rattle.lldp_engine.specs.Options.{InRange, options_of};
-ghost use Rattle.lldpa.specs.Program.{receiving_options, options_of_words, IsRefused};
+ghost use Rattle.clap.specs.Values.{kind_of};
+ghost use Rattle.lldpa.specs.Arguments.{GivesOptions};
 
+use crate::arguments::{AddressFault, options_of, parse};
 use crate::device::{FromReader, ToWriter};
 use crate::trace::run_trace;
-use lldp_engine::{Agent, OpenFault, Options, Role};
+use clap::error::ErrorKind;
+use clap::{ArgMatches, Error};
+use lldp_engine::{Agent, OpenFault};
 use std::alloc::Global;
 use std::io::{Read, Write};
 
@@ -20,51 +22,10 @@ const FAILED: u8 = 1;
 /// The words are bad, an opening was refused, or there was no memory.
 const REFUSED: u8 = 2;
 
-/// An agent that only receives, on these ports; all else as it is without an option.
-pub fn receiving<'a>(ports: &'a [&'a str]) -> Options<'a>
-    ensures range { InRange (options_of result) }
-    ensures options { options_of result ≡ receiving_options (map (λ port. port.now) ports.now) }
-{
-    Options {
-        ports,
-        mac: [2, 0, 0, 0, 0, 1],
-        hostname: "localhost",
-        management: None,
-        role: Role::Station,
-        max_neighbors: 32,
-        credit_max: 5,
-        fast_init: 4,
-        reinit: 2,
-        receive_only: true,
-    }
-}
-
-fn is_receive_only(word: &str) -> bool
-    ensures { result ≡ bytes_eq word.now (codes "--receive-only") }
-{
-    word == "--receive-only"
-}
-
-/// The port that the words name, where they are `--receive-only PORT` behind the program's name.
-fn ports_of_words<'a>(words: &'a [&'a str]) -> Option<&'a [&'a str]>
-    ensures { MatchOption result
-        (options_of_words (map (λ word. word.now) words.now) ≡ None)
-        (λ ports. options_of_words (map (λ word. word.now) words.now) ≡ Some (receiving_options (map (λ port. port.now) ports.now))) }
-{
-    if words.len() != 3 {
-        return None;
-    }
-    if is_receive_only(words[1]) {
-        Some(&words[2..])
-    } else {
-        None
-    }
-}
-
 /// Runs the program on its words, of which the first is its name, and answers its status: 0 where the whole trace of the reader was
-/// run and its text was written, 1 where a stream failed or the trace was too long, 2 where the words are no `--receive-only PORT`,
-/// the port's name is bad, or there is no memory. A fault is told by a line on `faults`; words that are none of these are not.
-/// It takes memory for opening alone.
+/// run and its text was written, or the help or version that the words ask for; 1 where a stream failed or the trace was too long; 2
+/// where the words are bad, an opening was refused, or there is no memory. A fault is told on `faults`; that this fails changes no
+/// status. With status 2 nothing was written on the writer. It takes memory for its words and for opening alone.
 pub fn run_program<R: Read, W: Write, E: Write>(
     alloc: Global,
     words: &[&str],
@@ -72,18 +33,55 @@ pub fn run_program<R: Read, W: Write, E: Write>(
     writer: &mut W,
     faults: &mut E,
 ) -> u8
-    ensures refused { IsRefused (options_of_words (map (λ word. word.now) words.now)) →
-        (result ≡ REFUSED) × Keeps (W.contents writer.old) (W.contents writer.new) }
-    ensures silent { options_of_words (map (λ word. word.now) words.now) ≡ None →
-        Keeps (E.contents faults.old) (E.contents faults.new) }
+    ensures status { result ≤ REFUSED }
+    ensures silent { result ≡ REFUSED → Keeps (W.contents writer.old) (W.contents writer.new) }
 {
-    let Some(ports) = ports_of_words(words) else {
-        return REFUSED;
+    match parse(alloc, words) {
+        Ok(matches) => run_matches(alloc, &matches, reader, writer, faults),
+        Err(error) => answer_words(&error, writer, faults),
+    }
+}
+
+/// Runs the program with the options that its words gave.
+fn run_matches<R: Read, W: Write, E: Write>(
+    alloc: Global,
+    matches: &ArgMatches<'_>,
+    reader: &mut R,
+    writer: &mut W,
+    faults: &mut E,
+) -> u8
+    requires given { GivesOptions matches.now }
+    ensures status { result ≤ REFUSED }
+    ensures silent { result ≡ REFUSED → Keeps (W.contents writer.old) (W.contents writer.new) }
+{
+    let options = match options_of(matches) {
+        Ok(options) => options,
+        Err(fault) => return refuse_address(fault, faults),
     };
-    match Agent::open(alloc, &receiving(ports)) {
+    match Agent::open(alloc, &options) {
         Ok(mut agent) => run_streams(&mut agent, reader, writer, faults),
         Err(fault) => refuse_opening(fault, faults),
     }
+}
+
+/// Writes the help or version that was asked for, or tells what is wrong with the words.
+fn answer_words<W: Write, E: Write>(error: &Error, writer: &mut W, faults: &mut E) -> u8
+    ensures refused { (kind_of error.now ≢ ErrorKind.DisplayHelp) → (kind_of error.now ≢ ErrorKind.DisplayVersion) →
+        (result ≡ REFUSED) × Keeps (W.contents writer.old) (W.contents writer.new) }
+    ensures status { result ≤ REFUSED }
+    ensures silent { result ≡ REFUSED → Keeps (W.contents writer.old) (W.contents writer.new) }
+{
+    if error.kind() == ErrorKind::OutOfMemory {
+        return no_memory(faults);
+    }
+    if error.use_stderr() {
+        let _ = write!(faults, "{error}");
+        return REFUSED;
+    }
+    if write!(writer, "{error}").is_err() {
+        return write_fault(faults, b"lldpa: write failed\n", FAILED);
+    }
+    flush(writer, faults)
 }
 
 /// Runs the trace that comes from the reader, and flushes the writer also where the run failed.
@@ -92,21 +90,40 @@ fn run_streams<R: Read, W: Write, E: Write>(
     reader: &mut R,
     writer: &mut W,
     faults: &mut E,
-) -> u8 {
+) -> u8
+    ensures status { result ≤ FAILED }
+{
     let ran = run_trace(
         agent,
         &mut FromReader::new(&mut *reader),
         &mut ToWriter::new(&mut *writer),
     );
-    let flushed = writer.flush();
     if let Err(fault) = ran {
+        let _ = writer.flush();
         let _ = writeln!(faults, "{fault}");
         return FAILED;
     }
-    if flushed.is_err() {
-        return write_fault(faults, b"lldpa: write failed\n", FAILED);
+    flush(writer, faults)
+}
+
+/// Flushes the writer at the end.
+fn flush<W: Write, E: Write>(writer: &mut W, faults: &mut E) -> u8
+    ensures status { result ≤ FAILED }
+{
+    match writer.flush() {
+        Ok(()) => DONE,
+        Err(_) => write_fault(faults, b"lldpa: write failed\n", FAILED),
     }
-    DONE
+}
+
+/// Tells which address cannot be read.
+fn refuse_address<E: Write>(fault: AddressFault, faults: &mut E) -> u8
+    ensures { result ≡ REFUSED }
+{
+    match fault {
+        AddressFault::Mac => write_fault(faults, b"lldpa: bad --mac\n", REFUSED),
+        AddressFault::Management => write_fault(faults, b"lldpa: bad --management\n", REFUSED),
+    }
 }
 
 /// Tells why the agent was not opened.

@@ -1,4 +1,7 @@
 //! Runs over devices that give and take little at a time, and that fail.
+ghost use Rattle.lldp_engine.specs.Options.{InRange, options_of};
+
+mod arguments;
 mod commands;
 mod devices;
 mod failing;
@@ -10,11 +13,28 @@ mod text;
 mod transcripts;
 mod transmitting;
 
-use crate::program::receiving;
-use lldp_engine::{Agent, OpenFault};
+use lldp_engine::{Agent, OpenFault, Options, Role};
 use std::alloc::Global;
 
 /// An agent that only receives, on one port.
 pub fn open(alloc: Global) -> Result<Agent, OpenFault> {
-    Agent::open(alloc, &receiving(&["eth0"]))
+    Agent::open(alloc, &only_receiving(&["eth0"]))
+}
+
+/// What such an agent is opened with.
+pub fn only_receiving<'a>(ports: &'a [&'a str]) -> Options<'a>
+    ensures range { InRange (options_of result) }
+{
+    Options {
+        ports,
+        mac: [2, 0, 0, 0, 0, 1],
+        hostname: "localhost",
+        management: None,
+        role: Role::Station,
+        max_neighbors: 32,
+        credit_max: 5,
+        fast_init: 4,
+        reinit: 2,
+        receive_only: true,
+    }
 }

@@ -1,6 +1,5 @@
 //! The worked examples of commands: numbers, texts, faults, and the limit of neighbors.
-use super::transcripts::{F, F15, RX_A, RX_B, RX_C, Step, expect, expect_text, sending};
-use lldp_engine::Role;
+use super::transcripts::{F, F15, PLAIN, RX_A, RX_B, RX_C, Step, expect, expect_text};
 use std::test::Fail;
 
 /// A frame of the neighbor eth0 for one second.
@@ -36,15 +35,21 @@ fn numbers_and_configuration(rt: HostRuntime) -> Result<(), Fail> {
             ],
         ),
     ];
-    expect(&rt, rt.alloc(), &sending(&["eth0"]), steps)
+    expect(&rt, rt.alloc(), PLAIN, steps)
 }
 
 #[test]
 fn options_shown(rt: HostRuntime) -> Result<(), Fail> {
-    let mut options = sending(&["eth0"]);
-    options.role = Role::Router;
-    options.fast_init = 8;
-    options.reinit = 10;
+    let words = &[
+        "lldpa",
+        "--role",
+        "router",
+        "--tx-fast-init",
+        "8",
+        "--reinit-delay",
+        "10",
+        "eth0",
+    ];
     let steps: &[Step] = &[
         (
             "show chassis",
@@ -70,7 +75,7 @@ fn options_shown(rt: HostRuntime) -> Result<(), Fail> {
             ],
         ),
     ];
-    expect(&rt, rt.alloc(), &options, steps)
+    expect(&rt, rt.alloc(), words, steps)
 }
 
 #[test]
@@ -91,7 +96,7 @@ fn refused_lines(rt: HostRuntime) -> Result<(), Fail> {
             ],
         ),
     ];
-    expect(&rt, rt.alloc(), &sending(&["eth0"]), steps)
+    expect(&rt, rt.alloc(), PLAIN, steps)
 }
 
 /// A line of 4,097 octets is refused, one of 4,096 is not, and the last line has no LF.
@@ -105,25 +110,20 @@ fn lines_of_the_greatest_length(rt: HostRuntime) -> Result<(), Fail> {
     for _octet in 0..4090 {
         input.push(b' ')?;
     }
-    input.extend_from_slice(b"\ntick")?;
+    input.extend_from_slice(b"\nshow chassis")?;
     let mut output = Vec::new(rt.alloc());
     output.extend_from_slice(b"error: line too long\n")?;
-    output.extend_from_slice(F.as_bytes())?;
-    output.push(b'\n')?;
-    expect_text(
-        &rt,
-        rt.alloc(),
-        &sending(&["eth0"]),
-        input.as_slice(),
-        output.as_slice(),
-    )
+    output.extend_from_slice(
+        b"local-chassis.mac=02:00:00:00:00:01\nlocal-chassis.name=localhost\n",
+    )?;
+    output.extend_from_slice(b"local-chassis.descr=lldpa\nlocal-chassis.caps=Station:on\n")?;
+    expect_text(&rt, rt.alloc(), PLAIN, input.as_slice(), output.as_slice());
+    Ok(())
 }
 
 #[test]
 fn lower_limit(rt: HostRuntime) -> Result<(), Fail> {
-    let mut options = sending(&["eth0"]);
-    options.receive_only = true;
-    options.max_neighbors = 3;
+    let words = &["lldpa", "--receive-only", "--max-neighbors", "3", "eth0"];
     let steps: &[Step] = &[
         (RX_A, &[]),
         (RX_B, &[]),
@@ -186,13 +186,12 @@ fn lower_limit(rt: HostRuntime) -> Result<(), Fail> {
             ],
         ),
     ];
-    expect(&rt, rt.alloc(), &options, steps)
+    expect(&rt, rt.alloc(), words, steps)
 }
 
 #[test]
 fn limit_after_expiry(rt: HostRuntime) -> Result<(), Fail> {
-    let mut options = sending(&["eth0"]);
-    options.receive_only = true;
+    let words = &["lldpa", "--receive-only", "eth0"];
     let steps: &[Step] = &[
         (RX_A1, &[]),
         (RX_B, &[]),
@@ -212,11 +211,11 @@ fn limit_after_expiry(rt: HostRuntime) -> Result<(), Fail> {
             ],
         ),
     ];
-    expect(&rt, rt.alloc(), &options, steps)
+    expect(&rt, rt.alloc(), words, steps)
 }
 
 #[test]
 fn same_limit_is_a_change(rt: HostRuntime) -> Result<(), Fail> {
     let steps: &[Step] = &[("tick", &[F]), ("configure lldp max-neighbors 32", &[F])];
-    expect(&rt, rt.alloc(), &sending(&["eth0"]), steps)
+    expect(&rt, rt.alloc(), PLAIN, steps)
 }

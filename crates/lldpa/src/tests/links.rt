@@ -1,5 +1,5 @@
 //! The worked examples of links that go and come.
-use super::transcripts::{F, RX_A, RX_B, S, Step, expect, sending};
+use super::transcripts::{F, PLAIN, RX_A, RX_B, S, Step, expect};
 use std::test::Fail;
 
 #[test]
@@ -41,7 +41,7 @@ fn link_down_keeps_the_table(rt: HostRuntime) -> Result<(), Fail> {
             ],
         ),
     ];
-    expect(&rt, rt.alloc(), &sending(&["eth0"]), steps)
+    expect(&rt, rt.alloc(), PLAIN, steps)
 }
 
 #[test]
@@ -55,7 +55,7 @@ fn wait_runs_on_while_down(rt: HostRuntime) -> Result<(), Fail> {
         ("up eth0", &[]),
         ("tick", &[F]),
     ];
-    expect(&rt, rt.alloc(), &sending(&["eth0"]), steps)
+    expect(&rt, rt.alloc(), PLAIN, steps)
 }
 
 #[test]
@@ -66,7 +66,7 @@ fn down_begins_no_wait(rt: HostRuntime) -> Result<(), Fail> {
         ("up eth0", &[]),
         ("tick", &[F]),
     ];
-    expect(&rt, rt.alloc(), &sending(&["eth0"]), steps)
+    expect(&rt, rt.alloc(), PLAIN, steps)
 }
 
 #[test]
@@ -79,7 +79,7 @@ fn status_while_down(rt: HostRuntime) -> Result<(), Fail> {
         ("up eth0", &[]),
         ("tick", &[F]),
     ];
-    expect(&rt, rt.alloc(), &sending(&["eth0"]), steps)
+    expect(&rt, rt.alloc(), PLAIN, steps)
 }
 
 #[test]
@@ -89,5 +89,5 @@ fn link_lines_refused(rt: HostRuntime) -> Result<(), Fail> {
         ("down eth9", &["error: no such port"]),
         ("up eth0 x", &["error: extra word"]),
     ];
-    expect(&rt, rt.alloc(), &sending(&["eth0"]), steps)
+    expect(&rt, rt.alloc(), PLAIN, steps)
 }

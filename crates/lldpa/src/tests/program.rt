@@ -11,7 +11,7 @@ const WORDS: &[&str] = &["lldpa", "--receive-only", "eth0"];
 const NONE: &[u8] = b"lldp.eth0.neighbors=0\nlldp.eth0.octets=0\nlldp.eth0.too-many=no\n";
 
 /// Compares what the program answers and writes.
-fn expect(
+pub fn expect(
     rt: &impl Abort,
     alloc: Global,
     words: &[&str],
@@ -38,26 +38,6 @@ fn expect(
 fn runs_a_trace(rt: HostRuntime) {
     expect(&rt, rt.alloc(), WORDS, b"", 0, b"", b"");
     expect(&rt, rt.alloc(), WORDS, INPUT, 0, OUTPUT, b"");
-}
-
-#[test]
-fn words(rt: HostRuntime) {
-    let rows: &[(&[&str], &[u8])] = &[
-        (&[], b""),
-        (&["lldpa"], b""),
-        (&["lldpa", "eth0"], b""),
-        (&["lldpa", "--receive-only"], b""),
-        (&["lldpa", "eth0", "--receive-only"], b""),
-        (&["lldpa", "--receive-only", "eth0", "eth1"], b""),
-        (
-            &["lldpa", "--receive-only", "a.b"],
-            b"lldpa: bad port name\n",
-        ),
-        (&["lldpa", "--receive-only", ""], b"lldpa: bad port name\n"),
-    ];
-    for &(words, faults) in rows {
-        expect(&rt, rt.alloc(), words, INPUT, 2, b"", faults);
-    }
 }
 
 const LINES: &[u8] = b"rx eth0 \"\"

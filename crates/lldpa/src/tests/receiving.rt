@@ -1,9 +1,6 @@
 //! The worked examples of receiving, with what the specification shows for each.
 use super::devices::{Drip, Fuse};
-use crate::device::{FromReader, ToWriter};
-use crate::program::receiving;
-use crate::trace::run_trace;
-use lldp_engine::Agent;
+use crate::program::run_program;
 use std::alloc::{AllocError, Global};
 use std::process::Abort;
 use std::test::Fail;
@@ -71,34 +68,32 @@ fn append_times(text: &mut Vec<u8>, octet: &[u8], times: usize) -> Result<(), Al
     Ok(())
 }
 
-/// Runs the input on port eth0 with this limit of neighbors, and compares the output.
+/// Runs the program with this limit of neighbors, as a word, over the input, and compares the output.
 fn expect_limited(
     rt: &impl Abort,
     alloc: Global,
-    limit: u8,
+    limit: &str,
     input: &[u8],
     output: &[&[u8]],
 ) -> Result<(), Fail> {
-    let mut options = receiving(&["eth0"]);
-    options.max_neighbors = limit;
-    if !options.in_range() {
-        panic!(rt; "no such limit");
-    }
-    let mut agent = Agent::open(alloc, &options)?;
-    let mut fuse = Fuse::endless();
-    let ran = run_trace(
-        &mut agent,
-        &mut FromReader::new(&mut Drip::whole(input)),
-        &mut ToWriter::new(&mut fuse),
+    let mut writer = Fuse::endless();
+    let mut faults = Fuse::endless();
+    let status = run_program(
+        alloc,
+        &["lldpa", "--receive-only", "--max-neighbors", limit, "eth0"],
+        &mut Drip::whole(input),
+        &mut writer,
+        &mut faults,
     );
-    assert_eq!(rt; ran, Ok(()));
-    assert_eq!(rt; fuse.taken(), joined(alloc, output)?.as_slice());
+    assert_eq!(rt; writer.taken(), joined(alloc, output)?.as_slice());
+    assert_eq!(rt; faults.taken(), b"".as_slice());
+    assert_eq!(rt; status, 0);
     Ok(())
 }
 
 /// The same of parts, with the default limit.
 fn expect(rt: &impl Abort, alloc: Global, input: &[&[u8]], output: &[&[u8]]) -> Result<(), Fail> {
-    expect_limited(rt, alloc, 32, joined(alloc, input)?.as_slice(), output)
+    expect_limited(rt, alloc, "32", joined(alloc, input)?.as_slice(), output)
 }
 
 #[test]
@@ -123,7 +118,7 @@ fn padding(rt: HostRuntime) -> Result<(), Fail> {
     let mut input = joined(rt.alloc(), &[HEADER, CHASSIS, ETH0, TTL_120, b"0000"])?;
     append_times(&mut input, b"00", 24)?;
     append(&mut input, &[b"\n", NEIGHBORS])?;
-    expect_limited(&rt, rt.alloc(), 32, &input, &[ONE, FIRST, FOR_120])?;
+    expect_limited(&rt, rt.alloc(), "32", &input, &[ONE, FIRST, FOR_120])?;
     let without_end = &[HEADER, CHASSIS, ETH0, TTL_120, b"\n", NEIGHBORS];
     expect(&rt, rt.alloc(), without_end, &[ONE, FIRST, FOR_120])
 }
@@ -226,7 +221,7 @@ fn full_table(rt: HostRuntime) -> Result<(), Fail> {
         b"lldp.eth0.unrecognized=0\nlldp.eth0.ageouts=0\nlldp.eth0.drops=2\n",
     ];
     let text = joined(rt.alloc(), input)?;
-    expect_limited(&rt, rt.alloc(), 2, &text, output)
+    expect_limited(&rt, rt.alloc(), "2", &text, output)
 }
 
 #[test]
@@ -240,7 +235,7 @@ fn room_after_expiry(rt: HostRuntime) -> Result<(), Fail> {
         FOR_120,
     ];
     let text = joined(rt.alloc(), input)?;
-    expect_limited(&rt, rt.alloc(), 1, &text, output)
+    expect_limited(&rt, rt.alloc(), "1", &text, output)
 }
 
 #[test]
@@ -327,7 +322,7 @@ fn all_kinds_of_tlvs(rt: HostRuntime) -> Result<(), Fail> {
         b"\nlldp.eth0.1.unknown.9=\n",
         b"lldp.eth0.1.chassis.descr=a\\\\\\x00b\n",
     ];
-    expect_limited(&rt, rt.alloc(), 32, &input, output)
+    expect_limited(&rt, rt.alloc(), "32", &input, output)
 }
 
 #[test]
@@ -359,9 +354,9 @@ fn padded(alloc: Global, octets: usize) -> Result<Vec<u8>, AllocError> {
 #[test]
 fn frame_sizes(rt: HostRuntime) -> Result<(), Fail> {
     let longest = padded(rt.alloc(), 1514)?;
-    expect_limited(&rt, rt.alloc(), 32, &longest, &[ONE, FIRST, FOR_120])?;
+    expect_limited(&rt, rt.alloc(), "32", &longest, &[ONE, FIRST, FOR_120])?;
     let too_long = padded(rt.alloc(), 1515)?;
-    expect_limited(&rt, rt.alloc(), 32, &too_long, &[NONE])?;
+    expect_limited(&rt, rt.alloc(), "32", &too_long, &[NONE])?;
     let too_short = &[
         b"rx eth0 0180c200000e00112233445588\n".as_slice(),
         NEIGHBORS,

@@ -1,8 +1,7 @@
 //! Transcripts: the lines of an input, each with the lines that it gives.
 use super::devices::{Drip, Fuse};
-use crate::device::{FromReader, ToWriter};
-use crate::program::receiving;
-use crate::trace::run_trace;
+use super::only_receiving;
+use crate::program::run_program;
 use lldp_engine::{Agent, Options};
 use std::alloc::{AllocError, Global};
 use std::process::Abort;
@@ -32,9 +31,12 @@ pub const RX_B: &str =
 pub const RX_C: &str =
     "rx eth0 0180c200000e00112233445588cc02070400112233445504050565746832060200090000";
 
+/// The words of the program where no option is given.
+pub const PLAIN: &[&str] = &["lldpa", "eth0"];
+
 /// What an agent is opened with where no option is given.
 pub fn sending<'a>(ports: &'a [&'a str]) -> Options<'a> {
-    let mut options = receiving(ports);
+    let mut options = only_receiving(ports);
     options.receive_only = false;
     options
 }
@@ -58,72 +60,48 @@ pub fn open(rt: &impl Abort, alloc: Global, options: &Options<'_>) -> Result<Age
     Ok(Agent::open(alloc, options)?)
 }
 
-/// Runs an input on the agent, and compares the output.
-fn compare(rt: &impl Abort, agent: &mut Agent, mut input: Drip<'_>, output: &[u8]) {
-    let mut fuse = Fuse::endless();
-    let ran = run_trace(
-        agent,
-        &mut FromReader::new(&mut input),
-        &mut ToWriter::new(&mut fuse),
-    );
-    assert_eq!(rt; ran, Ok(()));
-    assert_eq!(rt; fuse.taken(), output);
+/// Runs the program on its words over an input, and compares what it writes.
+fn compare(rt: &impl Abort, alloc: Global, words: &[&str], mut input: Drip<'_>, output: &[u8]) {
+    let mut writer = Fuse::endless();
+    let mut faults = Fuse::endless();
+    let status = run_program(alloc, words, &mut input, &mut writer, &mut faults);
+    assert_eq!(rt; writer.taken(), output);
+    assert_eq!(rt; faults.taken(), b"".as_slice());
+    assert_eq!(rt; status, 0);
 }
 
-/// Runs an input on new agents, as a whole and octet by octet, and compares the output.
-pub fn expect_text(
-    rt: &impl Abort,
-    alloc: Global,
-    options: &Options<'_>,
-    input: &[u8],
-    output: &[u8],
-) -> Result<(), Fail> {
+/// Runs an input as a whole and octet by octet, and compares the output.
+pub fn expect_text(rt: &impl Abort, alloc: Global, words: &[&str], input: &[u8], output: &[u8]) {
     for drip in [Drip::whole(input), Drip::new(input, 1, 1, None)] {
-        compare(rt, &mut open(rt, alloc, options)?, drip, output);
+        compare(rt, alloc, words, drip, output);
     }
-    Ok(())
 }
 
-/// The same in two pieces, cut at every place.
-fn expect_pieces(
-    rt: &impl Abort,
-    alloc: Global,
-    options: &Options<'_>,
-    input: &[u8],
-    output: &[u8],
-) -> Result<(), Fail> {
-    for first in 1..input.len() {
-        let drip = Drip::new(input, first, usize::MAX, None);
-        compare(rt, &mut open(rt, alloc, options)?, drip, output);
-    }
-    Ok(())
-}
-
-/// Runs a transcript on a new agent, its lines one by one, and compares what each gives. Then runs it on new agents as a
-/// whole and in pieces.
+/// Runs a transcript by the program on its words: its first lines, one more each time, and compares what they give; then as a
+/// whole, octet by octet, and in two pieces, cut at every place.
 pub fn expect(
     rt: &impl Abort,
     alloc: Global,
-    options: &Options<'_>,
+    words: &[&str],
     steps: &[Step<'_>],
 ) -> Result<(), Fail> {
-    let mut agent = open(rt, alloc, options)?;
     let mut input = Vec::new(alloc);
     let mut output = Vec::new(alloc);
     for &(line, lines) in steps {
-        let mut one = Vec::new(alloc);
-        append_line(&mut one, line)?;
-        let mut given = Vec::new(alloc);
-        append_lines(&mut given, lines)?;
-        compare(
-            rt,
-            &mut agent,
-            Drip::whole(one.as_slice()),
-            given.as_slice(),
-        );
         append_line(&mut input, line)?;
         append_lines(&mut output, lines)?;
+        compare(
+            rt,
+            alloc,
+            words,
+            Drip::whole(input.as_slice()),
+            output.as_slice(),
+        );
     }
-    expect_text(rt, alloc, options, input.as_slice(), output.as_slice())?;
-    expect_pieces(rt, alloc, options, input.as_slice(), output.as_slice())
+    expect_text(rt, alloc, words, input.as_slice(), output.as_slice());
+    for first in 1..input.len() {
+        let drip = Drip::new(input.as_slice(), first, usize::MAX, None);
+        compare(rt, alloc, words, drip, output.as_slice());
+    }
+    Ok(())
 }

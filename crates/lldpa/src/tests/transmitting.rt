@@ -1,6 +1,5 @@
 //! The worked examples of transmitting: what each line of a trace sends.
-use super::transcripts::{F, RX_A, RX_B, RX_C, S, Step, expect, sending};
-use lldp_engine::Role;
+use super::transcripts::{F, PLAIN, RX_A, RX_B, RX_C, S, Step, expect};
 use std::test::Fail;
 
 /// The ordinary frame of port eth0 where the system name is sw9.
@@ -27,7 +26,7 @@ fn merged_wants(rt: HostRuntime) -> Result<(), Fail> {
         ("tick", &[F]),
         ("tick", &[]),
     ];
-    expect(&rt, rt.alloc(), &sending(&["eth0"]), steps)
+    expect(&rt, rt.alloc(), PLAIN, steps)
 }
 
 #[test]
@@ -39,7 +38,7 @@ fn fast_start(rt: HostRuntime) -> Result<(), Fail> {
         ("tick 29", &[]),
         ("tick", &[F]),
     ];
-    expect(&rt, rt.alloc(), &sending(&["eth0"]), steps)
+    expect(&rt, rt.alloc(), PLAIN, steps)
 }
 
 #[test]
@@ -52,7 +51,7 @@ fn fast_start_two_neighbors(rt: HostRuntime) -> Result<(), Fail> {
         ("tick 29", &[]),
         ("tick", &[F]),
     ];
-    expect(&rt, rt.alloc(), &sending(&["eth0"]), steps)
+    expect(&rt, rt.alloc(), PLAIN, steps)
 }
 
 #[test]
@@ -85,33 +84,30 @@ fn restart_keeps_credit(rt: HostRuntime) -> Result<(), Fail> {
         ),
         ("tick", &[F]),
     ];
-    expect(&rt, rt.alloc(), &sending(&["eth0"]), steps)
+    expect(&rt, rt.alloc(), PLAIN, steps)
 }
 
 #[test]
 fn one_credit(rt: HostRuntime) -> Result<(), Fail> {
-    let mut options = sending(&["eth0"]);
-    options.credit_max = 1;
+    let words = &["lldpa", "--tx-credit-max", "1", "eth0"];
     let steps: &[Step] = &[
         ("tick", &[F]),
         ("configure system hostname sw9", &[]),
         ("tick", &[F20]),
     ];
-    expect(&rt, rt.alloc(), &options, steps)
+    expect(&rt, rt.alloc(), words, steps)
 }
 
 #[test]
 fn credit_of_one(rt: HostRuntime) -> Result<(), Fail> {
-    let mut options = sending(&["eth0"]);
-    options.credit_max = 1;
+    let words = &["lldpa", "--tx-credit-max", "1", "eth0"];
     let steps: &[Step] = &[("tick", &[F]), ("update", &[]), ("tick", &[F])];
-    expect(&rt, rt.alloc(), &options, steps)
+    expect(&rt, rt.alloc(), words, steps)
 }
 
 #[test]
 fn wait_of_one_tick(rt: HostRuntime) -> Result<(), Fail> {
-    let mut options = sending(&["eth0"]);
-    options.reinit = 1;
+    let words = &["lldpa", "--reinit-delay", "1", "eth0"];
     let steps: &[Step] = &[
         ("tick", &[F]),
         ("configure ports eth0 lldp status disabled", &[S]),
@@ -119,7 +115,7 @@ fn wait_of_one_tick(rt: HostRuntime) -> Result<(), Fail> {
         ("tick", &[F]),
         ("configure ports eth0 lldp status disabled", &[S]),
     ];
-    expect(&rt, rt.alloc(), &options, steps)
+    expect(&rt, rt.alloc(), words, steps)
 }
 
 #[test]
@@ -129,13 +125,12 @@ fn no_wait_when_inactive(rt: HostRuntime) -> Result<(), Fail> {
         ("configure ports eth0 lldp status rx-and-tx", &[]),
         ("tick", &[F]),
     ];
-    expect(&rt, rt.alloc(), &sending(&["eth0"]), steps)
+    expect(&rt, rt.alloc(), PLAIN, steps)
 }
 
 #[test]
 fn statuses(rt: HostRuntime) -> Result<(), Fail> {
-    let mut options = sending(&["eth0"]);
-    options.max_neighbors = 2;
+    let words = &["lldpa", "--max-neighbors", "2", "eth0"];
     let steps: &[Step] = &[
         ("tick", &[F]),
         (RX_A, &[F]),
@@ -168,28 +163,45 @@ fn statuses(rt: HostRuntime) -> Result<(), Fail> {
             ],
         ),
     ];
-    expect(&rt, rt.alloc(), &options, steps)
+    expect(&rt, rt.alloc(), words, steps)
 }
 
 #[test]
 fn two_ports(rt: HostRuntime) -> Result<(), Fail> {
-    let mut options = sending(&["p1", "p2"]);
-    options.mac = [0, 0, 0x5e, 0, 0x53, 1];
-    options.hostname = "h";
-    options.management = Some([192, 0, 2, 1]);
-    options.role = Role::Bridge;
+    let words = &[
+        "lldpa",
+        "--mac",
+        "00:00:5e:00:53:01",
+        "--hostname",
+        "h",
+        "--management",
+        "192.0.2.1",
+        "--role",
+        "bridge",
+        "p1",
+        "p2",
+    ];
     let steps: &[Step] = &[("tick", &[G1, G2])];
-    expect(&rt, rt.alloc(), &options, steps)
+    expect(&rt, rt.alloc(), words, steps)
 }
 
 #[test]
 fn ports_apart(rt: HostRuntime) -> Result<(), Fail> {
-    let mut options = sending(&["p1", "p2"]);
-    options.credit_max = 1;
-    options.mac = [0, 0, 0x5e, 0, 0x53, 1];
-    options.hostname = "h";
-    options.management = Some([192, 0, 2, 1]);
-    options.role = Role::Bridge;
+    let words = &[
+        "lldpa",
+        "--tx-credit-max",
+        "1",
+        "--mac",
+        "00:00:5e:00:53:01",
+        "--hostname",
+        "h",
+        "--management",
+        "192.0.2.1",
+        "--role",
+        "bridge",
+        "p1",
+        "p2",
+    ];
     let steps: &[Step] = &[
         ("tick", &[G1, G2]),
         (
@@ -212,5 +224,5 @@ fn ports_apart(rt: HostRuntime) -> Result<(), Fail> {
             ],
         ),
     ];
-    expect(&rt, rt.alloc(), &options, steps)
+    expect(&rt, rt.alloc(), words, steps)
 }

@@ -1,8 +1,7 @@
-use Rattle.std.proofs.Common.{◌≡◌, ◌∷◌, [], replicate, rules}
+use Rattle.std.proofs.Common.{◌≡◌, ◌∷◌, [], rules}
 use Rattle.std.proofs.lemmas.Result.{IfOk-weaker, IfErr-weaker}
-use Rattle.lldp_engine.specs.Event.{tick}
 use Rattle.lldpa.specs.Work.{said}
-use Rattle.lldpa.specs.Items.{happens, refused, items_of_reading}
+use Rattle.lldpa.specs.Items.{refused, items_of_reading}
 use Rattle.lldpa.proofs.RunLemmas.{done_same, done_show, failed_same, failed_show, failed_one}
 use Rattle.lldpa.proofs.trace.run_work.Goals as goal
 

@@ -1,0 +1,49 @@
+use Rattle.std.proofs.Common.{◌∙◌, ap, List, ℕ}
+use Rattle.lldpa.specs.Arguments.{HasArgument, ReadsOptions}
+use Rattle.lldpa.proofs.ArgumentLemmas.{new_ready, one_more, has_last, has_still, if_still_reads}
+use Rattle.lldpa.proofs.arguments.command.Goals as goal
+
+-- each option is there from its own step on
+pub returns : goal.returns
+returns c =
+    let args = ap (λ f. f.args.items) c.after_help.ensures ∙ (ap (λ f. f.args.items) c.about.ensures ∙ (ap (λ f. f.args.items) c.version.ensures ∙ c.new.ensures.empty.0)) in
+    let groups = ap (λ f. f.groups.items) c.after_help.ensures ∙ (ap (λ f. f.groups.items) c.about.ensures ∙ (ap (λ f. f.groups.items) c.version.ensures ∙ c.new.ensures.empty.1)) in
+    let local = ap (λ f. f.has_globals) c.after_help.ensures ∙ (ap (λ f. f.has_globals) c.about.ensures ∙ (ap (λ f. f.has_globals) c.version.ensures ∙ c.new.ensures.local)) in
+    let r0 = new_ready c.after_help.result args groups local in
+    let a1 = c.in_ok-arg.ensures in
+    let a2 = c.in_ok-arg-2.ensures in
+    let a3 = c.in_ok-arg-3.ensures in
+    let a4 = c.in_ok-arg-4.ensures in
+    let a5 = c.in_ok-arg-5.ensures in
+    let a6 = c.in_ok-arg-6.ensures in
+    let a7 = c.in_ok-arg-7.ensures in
+    let a8 = c.in_ok-arg-8.ensures in
+    let a9 = c.in_ok-arg-9.ensures in
+    let r1 = one_more _ _ _ _ a1 c.number.ensures r0 in
+    let r2 = one_more _ _ _ _ a2 c.text.ensures r1 in
+    let r3 = one_more _ _ _ _ a3 c.text-2.ensures r2 in
+    let r4 = one_more _ _ _ _ a4 c.management.ensures r3 in
+    let r5 = one_more _ _ _ _ a5 c.role.ensures r4 in
+    let r6 = one_more _ _ _ _ a6 c.number-2.ensures r5 in
+    let r7 = one_more _ _ _ _ a7 c.number-3.ensures r6 in
+    let r8 = one_more _ _ _ _ a8 c.number-4.ensures r7 in
+    let r9 = one_more _ _ _ _ a9 c.receive_only.ensures r8 in
+    let from8 : (name : List ℕ) → HasArgument name c.in_ok-arg-8.field-0 → HasArgument name c.in_ok-arg-9.field-0 = has_still _ _ _ a9 in
+    let from7 : (name : List ℕ) → HasArgument name c.in_ok-arg-7.field-0 → HasArgument name c.in_ok-arg-9.field-0 = λ name h. from8 name (has_still _ _ _ a8 name h) in
+    let from6 : (name : List ℕ) → HasArgument name c.in_ok-arg-6.field-0 → HasArgument name c.in_ok-arg-9.field-0 = λ name h. from7 name (has_still _ _ _ a7 name h) in
+    let from5 : (name : List ℕ) → HasArgument name c.in_ok-arg-5.field-0 → HasArgument name c.in_ok-arg-9.field-0 = λ name h. from6 name (has_still _ _ _ a6 name h) in
+    let from3 : (name : List ℕ) → HasArgument name c.in_ok-arg-3.field-0 → HasArgument name c.in_ok-arg-9.field-0 = λ name h. from5 name (has_still _ _ _ a5 name (has_still _ _ _ a4 name h)) in
+    let from2 : (name : List ℕ) → HasArgument name c.in_ok-arg-2.field-0 → HasArgument name c.in_ok-arg-9.field-0 = λ name h. from3 name (has_still _ _ _ a3 name h) in
+    let reads : ReadsOptions c.in_ok-arg-9.field-0 = record {
+      plain = r9.plain;
+      local = r9.local;
+      fit = r9.fit;
+      max_neighbors = from2 _ (has_still _ _ _ a2 _ (has_last _ _ _ _ a1 c.number.ensures));
+      mac = from2 _ (has_last _ _ _ _ a2 c.text.ensures);
+      hostname = from3 _ (has_last _ _ _ _ a3 c.text-2.ensures);
+      role = from5 _ (has_last _ _ _ _ a5 c.role.ensures);
+      credit_max = from6 _ (has_last _ _ _ _ a6 c.number-2.ensures);
+      fast_init = from7 _ (has_last _ _ _ _ a7 c.number-3.ensures);
+      reinit = from8 _ (has_last _ _ _ _ a8 c.number-4.ensures);
+    } in
+    record { options = if_still_reads _ _ c.arg-10.result _ _ reads c.arg-10.ensures c.ports.ensures }

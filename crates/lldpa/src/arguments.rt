@@ -1,0 +1,212 @@
+//! What the words of the program ask for.
+ghost use Rattle.std.specs.Prelude.{◌≡◌, ◌≤◌, ℕ, IfOk, Some, None, false, codes};
+ghost use Rattle.clap.specs.Words.{IsPlainArg};
+ghost use Rattle.lldp_engine.specs.Options.{InRange, options_of as plain_options};
+ghost use Rattle.lldpa.specs.Arguments.{GivesNumber, GivesOptions, GivesText, HasValue, IsArgument, ReadsOptions, greatest_of};
+
+use crate::addresses::{read_ipv4, read_mac};
+use crate::help::{ABOUT, MORE, VERSION};
+use clap::{Arg, ArgAction, ArgMatches, Command, Error, value_parser};
+use lldp_engine::{Options, Role};
+use std::alloc::{AllocError, Global};
+
+const MAX_NEIGHBORS: &str = "max-neighbors";
+
+const TX_CREDIT_MAX: &str = "tx-credit-max";
+
+const TX_FAST_INIT: &str = "tx-fast-init";
+
+const REINIT_DELAY: &str = "reinit-delay";
+
+const MAC: &str = "mac";
+
+const HOSTNAME: &str = "hostname";
+
+const MANAGEMENT: &str = "management";
+
+const ROLE: &str = "role";
+
+const RECEIVE_ONLY: &str = "receive-only";
+
+const PORT: &str = "PORT";
+
+const MAX_NEIGHBORS_HELP: &str = "How many neighbors each port holds, 1 to 128";
+
+const MAC_HELP: &str = "The source address of frames, six pairs of hexadecimal digits";
+
+const HOSTNAME_HELP: &str = "The system name, up to 255 printable characters";
+
+const TX_CREDIT_MAX_HELP: &str = "The most frames that a port may send at once, 1 to 10";
+
+const TX_FAST_INIT_HELP: &str = "How many signals a new neighbor sets off, one each second, 1 to 8";
+
+const REINIT_DELAY_HELP: &str = "Seconds from a shutdown frame to the next start, 1 to 10";
+
+const ROLES: &[&str] = &["station", "bridge", "router"];
+
+/// An address that cannot be read.
+#[derive(Clone, Copy, Debug, PartialEq, Eq)]
+pub enum AddressFault {
+    Mac,
+    Management,
+}
+
+/// An option that takes a whole number from 1 on.
+fn number<'a>(
+    alloc: Global,
+    name: &'a str,
+    greatest: u8,
+    default: &'a str,
+    help: &'a str,
+) -> Arg<'a>
+    requires greatest { greatest_of name.now ≡ Some greatest }
+    ensures { IsArgument name.entry.now result }
+{
+    valued(alloc, name, default)
+        .value_name("N")
+        .value_parser(value_parser!(u8).range(1..=i64::from(greatest)))
+        .help(help)
+}
+
+/// An option that takes a text.
+fn text<'a>(
+    alloc: Global,
+    name: &'a str,
+    value: &'a str,
+    default: &'a str,
+    help: &'a str,
+) -> Arg<'a>
+    requires text { greatest_of name.now ≡ None }
+    ensures { IsArgument name.entry.now result }
+{
+    valued(alloc, name, default).value_name(value).help(help)
+}
+
+/// An option that takes a value, or has this one.
+fn valued<'a>(alloc: Global, name: &'a str, default: &'a str) -> Arg<'a>
+    ensures id { result.id ≡ name.entry }
+    ensures plain { IsPlainArg result × (result.global ≡ false) }
+    ensures value { HasValue result }
+{
+    Arg::new(alloc, name)
+        .long(name)
+        .action(ArgAction::Set)
+        .default_value(default)
+}
+
+fn management<'a>(alloc: Global) -> Arg<'a>
+    ensures { IsArgument (codes "management") result }
+{
+    Arg::new(alloc, MANAGEMENT)
+        .long(MANAGEMENT)
+        .value_name("IPV4")
+        .help("The address under which the agent can be managed [default: none]")
+}
+
+fn role<'a>(alloc: Global) -> Arg<'a>
+    ensures { IsArgument (codes "role") result }
+{
+    valued(alloc, ROLE, "station")
+        .value_name("ROLE")
+        .value_parser(ROLES)
+        .help("What the system is")
+}
+
+fn receive_only<'a>(alloc: Global) -> Arg<'a>
+    ensures { IsArgument (codes "receive-only") result }
+{
+    Arg::new(alloc, RECEIVE_ONLY)
+        .long(RECEIVE_ONLY)
+        .action(ArgAction::SetTrue)
+        .help("Opens each port as one that never sends")
+}
+
+fn ports<'a>(alloc: Global) -> Arg<'a>
+    ensures { IsArgument (codes "PORT") result }
+{
+    Arg::new(alloc, PORT).num_args(0..).help(
+        "The ports, 1 to 64: names of 1 to 15 letters, digits, `-`, `_`, `/` and `:`",
+    )
+}
+
+/// Reads the words, of which the first is the program's name. Fails also where they ask for help or the version.
+pub fn parse<'a>(alloc: Global, words: &'a [&'a str]) -> Result<ArgMatches<'a>, Error>
+    ensures options { IfOk result GivesOptions }
+{
+    command(alloc)?.try_get_matches_from(words)
+}
+
+/// The program's options and ports.
+fn command<'a>(alloc: Global) -> Result<Command<'a>, AllocError>
+    ensures options { IfOk result ReadsOptions }
+{
+    Command::new(alloc, "lldpa")
+        .version(VERSION)
+        .about(ABOUT)
+        .after_help(MORE)
+        .arg(number(alloc, MAX_NEIGHBORS, 128, "32", MAX_NEIGHBORS_HELP))?
+        .arg(text(alloc, MAC, "MAC", "02:00:00:00:00:01", MAC_HELP))?
+        .arg(text(alloc, HOSTNAME, "TEXT", "localhost", HOSTNAME_HELP))?
+        .arg(management(alloc))?
+        .arg(role(alloc))?
+        .arg(number(alloc, TX_CREDIT_MAX, 10, "5", TX_CREDIT_MAX_HELP))?
+        .arg(number(alloc, TX_FAST_INIT, 8, "4", TX_FAST_INIT_HELP))?
+        .arg(number(alloc, REINIT_DELAY, 10, "2", REINIT_DELAY_HELP))?
+        .arg(receive_only(alloc))?
+        .arg(ports(alloc))
+}
+
+/// The options that the words gave. The MAC is read before the management address.
+pub fn options_of<'m>(matches: &'m ArgMatches<'_>) -> Result<Options<'m>, AddressFault>
+    requires given { GivesOptions matches.now }
+    ensures range { IfOk result (λ options. InRange (plain_options options)) }
+{
+    let Some(mac) = read_mac(given(matches, MAC)) else {
+        return Err(AddressFault::Mac);
+    };
+    Ok(Options {
+        ports: matches.get_strs(PORT).unwrap_or(&[]),
+        mac,
+        hostname: given(matches, HOSTNAME),
+        management: management_of(matches)?,
+        role: role_of(given(matches, ROLE)),
+        max_neighbors: number_of(matches, MAX_NEIGHBORS),
+        credit_max: number_of(matches, TX_CREDIT_MAX),
+        fast_init: number_of(matches, TX_FAST_INIT),
+        reinit: number_of(matches, REINIT_DELAY),
+        receive_only: matches.get_flag(RECEIVE_ONLY),
+    })
+}
+
+/// The text of an option that has a default.
+fn given<'a>(matches: &ArgMatches<'a>, name: &str) -> &'a str
+    requires given { GivesText name.now matches.now }
+{
+    matches.get_str(name).unwrap()
+}
+
+/// The number of an option that has a default.
+fn number_of(matches: &ArgMatches<'_>, name: &str) -> u8
+    requires given { (greatest : ℕ) × (greatest ≤ 255) × GivesNumber greatest name.now matches.now }
+    ensures range { (greatest : ℕ) → greatest ≤ 255 → GivesNumber greatest name.now matches.now → (1 ≤ result) × (result ≤ greatest) }
+{
+    matches.get_one::<u8>(name).unwrap()
+}
+
+fn role_of(name: &str) -> Role {
+    match name {
+        "bridge" => Role::Bridge,
+        "router" => Role::Router,
+        _ => Role::Station,
+    }
+}
+
+fn management_of(matches: &ArgMatches<'_>) -> Result<Option<[u8; 4]>, AddressFault> {
+    match matches.get_str(MANAGEMENT) {
+        None => Ok(None),
+        Some(text) => match read_ipv4(text) {
+            Some(address) => Ok(Some(address)),
+            None => Err(AddressFault::Management),
+        },
+    }
+}
