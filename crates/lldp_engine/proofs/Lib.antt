@@ -17,12 +17,8 @@ pub mod TextJoined
 pub mod AddressesPairs
 pub mod CapabilitiesWritten
 pub mod KeptTlvFields
-pub mod EntryLinesLeft
-pub mod StatisticsLinesLeft
-pub mod NeighborLinesLeft
-pub mod ChassisLinesLeft
-pub mod ConfigurationLinesLeft
-pub mod LinesProgress
+pub mod LinesTaken
+pub mod LineKept
 pub mod LinesBound
 pub mod FramePuts
 pub mod FrameSays

@@ -31,5 +31,6 @@ pub mod NeighborLines
 pub mod StatisticsLines
 pub mod ChassisLines
 pub mod ConfigurationLines
+pub mod Takes
 pub mod Lines
 pub mod Code

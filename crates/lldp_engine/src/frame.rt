@@ -48,24 +48,24 @@ fn begin(configuration: &Configuration, name: &[u8], ttl: u16) -> Builder
     Builder::begin(chassis.as_slice(), port.as_slice(), ttl)
 }
 
-/// What an ordinary frame of a port says up to the System Description.
+/// What an ordinary frame of a port says up to the System Description, behind what it begins with.
 #[tactic(auto, unfolding(lldp_pdu::specs::WellFormed::is_well_formed))]
-fn described(configuration: &Configuration, name: &[u8]) -> Builder
+fn describe(builder: &mut Builder, configuration: &Configuration, name: &[u8])
     requires some { 0 < length name.now }
     requires short { length name.now ≤ 15 }
-    ensures value { result ≡ record { msap = sent_msap configuration.now name.now; ttl = sent_ttl configuration.now; tlvs = unit 4 name.now ∷ unit 5 configuration.now.hostname ∷ unit 6 configuration.now.description ∷ [] } }
-    ensures lives { 0 < sent_ttl configuration.now }
-    ensures short { length (spellings (all_tlvs result)) ≤ 31 + 17 + 257 + 257 }
+    requires begun { builder.old ≡ record { msap = sent_msap configuration.now name.now; ttl = sent_ttl configuration.now; tlvs = [] } }
+    requires lives { 0 < sent_ttl configuration.now }
+    requires room { length (spellings (all_tlvs builder.old)) ≤ 31 }
+    ensures value { builder.new ≡ record { msap = sent_msap configuration.now name.now; ttl = sent_ttl configuration.now; tlvs = unit 4 name.now ∷ unit 5 configuration.now.hostname ∷ unit 6 configuration.now.description ∷ [] } }
+    ensures short { length (spellings (all_tlvs builder.new)) ≤ 31 + 17 + 257 + 257 }
 {
-    let mut builder = begin(configuration, name, configuration.ttl());
-    put(&mut builder, PORT_DESCRIPTION, name);
-    put(&mut builder, SYSTEM_NAME, configuration.hostname.as_slice());
+    put(builder, PORT_DESCRIPTION, name);
+    put(builder, SYSTEM_NAME, configuration.hostname.as_slice());
     put(
-        &mut builder,
+        builder,
         SYSTEM_DESCRIPTION,
         configuration.description.as_slice(),
     );
-    builder
 }
 
 /// The body of the System Capabilities of a role.
@@ -94,24 +94,25 @@ fn management(address: &[u8; 4]) -> ArrayVec<u8, 12>
     body
 }
 
-/// What an ordinary frame of a port says.
-fn ordinary(configuration: &Configuration, name: &[u8]) -> Builder
+/// What an ordinary frame of a port says, behind what it begins with.
+fn complete(builder: &mut Builder, configuration: &Configuration, name: &[u8])
     requires some { 0 < length name.now }
     requires short { length name.now ≤ 15 }
-    ensures { result ≡ draft_of configuration.now name.now Mark.Ordinary }
+    requires begun { builder.old ≡ record { msap = sent_msap configuration.now name.now; ttl = sent_ttl configuration.now; tlvs = [] } }
+    requires lives { 0 < sent_ttl configuration.now }
+    requires room { length (spellings (all_tlvs builder.old)) ≤ 31 }
+    ensures { builder.new ≡ draft_of configuration.now name.now Mark.Ordinary }
 {
-    let mut builder = described(configuration, name);
+    describe(builder, configuration, name);
     put(
-        &mut builder,
+        builder,
         SYSTEM_CAPABILITIES,
         capabilities(configuration.role),
     );
     if let Some(address) = &configuration.management {
         let body = management(address);
-        put(&mut builder, MANAGEMENT_ADDRESS, body.as_slice());
-        return builder;
+        put(builder, MANAGEMENT_ADDRESS, body.as_slice());
     }
-    builder
 }
 
 /// What the frame of a port says.
@@ -121,7 +122,11 @@ fn said(configuration: &Configuration, name: &[u8], mark: Mark) -> Builder
     ensures { result ≡ draft_of configuration.now name.now mark }
 {
     match mark {
-        Mark::Ordinary => ordinary(configuration, name),
+        Mark::Ordinary => {
+            let mut builder = begin(configuration, name, configuration.ttl());
+            complete(&mut builder, configuration, name);
+            builder
+        }
         Mark::Shutdown | Mark::Quiet => begin(configuration, name, 0),
     }
 }

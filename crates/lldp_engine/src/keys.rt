@@ -1,30 +1,45 @@
 //! The keys that lines begin with.
-ghost use Rattle.std.specs.Prelude.{◌≡◌, ◌≤◌, length};
+ghost use Rattle.std.specs.Prelude.{◌≡◌, ◌≤◌, ◌++◌, length, decimal};
 ghost use Rattle.lldp_engine.specs.Keys.{port_key, neighbor_key};
 
+use crate::line_sink::LineSink;
 use crate::writer::Writer;
 
 /// Begins a line by `lldp.PORT.`.
-pub(crate) fn begin_port_line(name: &[u8]) -> Writer
+pub(crate) fn begin_port_line(line: &mut Writer, name: &[u8])
     requires { length name.now ≤ 15 }
-    ensures value { result ≡ port_key name.now }
-    ensures short { length result ≤ 21 }
+    ensures value { line.new ≡ port_key name.now }
+    ensures short { length line.new ≤ 21 }
 {
-    let mut line = Writer::new();
-    line.text(b"lldp.");
+    line.begin(b"lldp.");
     line.text(name);
     line.text(b".");
-    line
 }
 
 /// Begins a line by `lldp.PORT.N.`.
-pub(crate) fn begin_neighbor_line(name: &[u8], number: u8) -> Writer
+pub(crate) fn begin_neighbor_line(line: &mut Writer, name: &[u8], number: u8)
     requires { length name.now ≤ 15 }
-    ensures value { result ≡ neighbor_key name.now number }
-    ensures short { length result ≤ 32 }
+    ensures value { line.new ≡ neighbor_key name.now number }
+    ensures short { length line.new ≤ 32 }
 {
-    let mut line = begin_port_line(name);
+    begin_port_line(line, name);
     line.decimal(u32::from(number));
     line.text(b".");
-    line
+}
+
+/// A line of a port, of a number.
+pub(crate) fn put_port_number<S: LineSink>(
+    sink: &mut S,
+    line: &mut Writer,
+    name: &[u8],
+    key: &[u8],
+    n: u32,
+)
+    requires name { length name.now ≤ 15 }
+    requires key { length key.now ≤ 20 }
+    ensures { S.takes sink.old sink.new (port_key name.now ++ (key.now ++ decimal n)) }
+{
+    begin_port_line(line, name);
+    line.decimal_value(key, n);
+    sink.line(line.as_slice());
 }

@@ -1,26 +1,22 @@
 //! The lines of `show neighbors`.
-ghost use Rattle.std.specs.Prelude.{◌≡◌, ◌≤◌, ◌++◌, length};
-ghost use Rattle.std.specs.Iterator.{item_count, YieldsFirstBy};
-ghost use Rattle.lldp_engine.specs.Lines.{octets_of};
-ghost use Rattle.lldp_engine.specs.NeighborLines.{yes_or_no as yes_or_no_of, neighbors_lines};
-ghost use Rattle.lldp_engine.specs.Code.NeighborsLeft.{count_text, begun_left, count_line as count_line_of};
+ghost use Rattle.std.specs.Prelude.{◌≡◌, ◌≤◌, ◌++◌, length, map, codes, decimal};
+ghost use Rattle.std.specs.List.{AllByRecursion};
+ghost use Rattle.lldp_pdu.specs.Kept.{IsKeptTlv};
+ghost use Rattle.lldp_pdu.specs.Msap.{IsIdentifier};
+ghost use Rattle.lldp_engine.specs.Identifier.{chassis_text, port_text};
+ghost use Rattle.lldp_engine.specs.Keys.{port_key, neighbor_key};
+ghost use Rattle.lldp_engine.specs.NeighborLines.{yes_or_no as yes_or_no_of, kept_line, neighbor_lines, count_lines, port_lines, neighbors_lines};
+ghost use Rattle.lldp_engine.specs.Takes.{Takes};
 
-use crate::entry_lines::EntryLines;
-use crate::keys::begin_port_line;
+use crate::identifier::{write_chassis, write_port};
+use crate::kept_tlv::write_kept_tlv;
+use crate::keys::{begin_neighbor_line, begin_port_line, put_port_number};
+use crate::line_sink::LineSink;
 use crate::port::Port;
-use crate::writer::{Line, Writer};
+use crate::writer::Writer;
+use lldp_pdu::Kept;
+use lldp_table::Entry;
 use std::alloc::Allocator;
-use std::marker::Model;
-
-/// What the first lines of a port tell.
-#[derive(Clone, Copy, Debug, PartialEq, Eq)]
-pub(crate) enum Count {
-    Neighbors,
-    Octets,
-    TooMany,
-}
-
-const COUNTS: [Count; 3] = [Count::Neighbors, Count::Octets, Count::TooMany];
 
 fn yes_or_no(condition: bool) -> &'static [u8]
     ensures value { result.now ≡ yes_or_no_of condition }
@@ -29,106 +25,132 @@ fn yes_or_no(condition: bool) -> &'static [u8]
     if condition { b"yes" } else { b"no" }
 }
 
-/// Writes a count.
-fn write_count<A: Allocator>(line: &mut Writer, port: &Port<A>, count: Count)
-    requires { length line.old ≤ 32 }
-    ensures { line.new ≡ line.old ++ count_text port.now count }
+/// The line of a neighbor's chassis ID.
+fn put_chassis_id<S: LineSink>(sink: &mut S, line: &mut Writer, name: &[u8], number: u8, id: &[u8])
+    requires name { length name.now ≤ 15 }
+    requires id { IsIdentifier id.now }
+    ensures { S.takes sink.old sink.new (neighbor_key name.now number ++ (codes "chassis." ++ chassis_text id.now)) }
 {
-    match count {
-        Count::Neighbors => line.decimal_value(b"neighbors=", u32::from(port.table().len())),
-        Count::Octets => line.decimal_value(b"octets=", port.table().octets()),
-        Count::TooMany => {
-            line.text(b"too-many=");
-            line.text(yes_or_no(port.table().too_many()));
-        }
+    begin_neighbor_line(line, name, number);
+    line.text(b"chassis.");
+    write_chassis(line, id);
+    sink.line(line.as_slice());
+}
+
+/// The line of its port ID.
+fn put_port_id<S: LineSink>(sink: &mut S, line: &mut Writer, name: &[u8], number: u8, id: &[u8])
+    requires name { length name.now ≤ 15 }
+    requires id { IsIdentifier id.now }
+    ensures { S.takes sink.old sink.new (neighbor_key name.now number ++ (codes "port." ++ port_text id.now)) }
+{
+    begin_neighbor_line(line, name, number);
+    line.text(b"port.");
+    write_port(line, id);
+    sink.line(line.as_slice());
+}
+
+/// A line of a neighbor, of a number.
+fn put_number<S: LineSink>(
+    sink: &mut S,
+    line: &mut Writer,
+    name: &[u8],
+    number: u8,
+    key: &[u8],
+    n: u16,
+)
+    requires name { length name.now ≤ 15 }
+    requires key { length key.now ≤ 20 }
+    ensures { S.takes sink.old sink.new (neighbor_key name.now number ++ (key.now ++ decimal n)) }
+{
+    begin_neighbor_line(line, name, number);
+    line.decimal_value(key, u32::from(n));
+    sink.line(line.as_slice());
+}
+
+/// The lines of kept TLVs.
+fn put_kept<S: LineSink>(sink: &mut S, line: &mut Writer, name: &[u8], number: u8, kept: Kept<'_>)
+    requires name { length name.now ≤ 15 }
+    requires kept { AllByRecursion IsKeptTlv kept }
+    ensures { Takes S.takes sink.old sink.new (map (kept_line name.now number) kept.entry) }
+{
+    for tlv in kept {
+        begin_neighbor_line(line, name, number);
+        write_kept_tlv(line, tlv);
+        sink.line(line.as_slice());
     }
 }
 
-/// The line of a count.
-fn count_line<A: Allocator>(port: &Port<A>, count: Count) -> Line
-    ensures { result.items ≡ count_line_of port.now count }
+/// The lines of a neighbor that stands at this place, from 1, in the table of the port of this name.
+fn put_neighbor<S: LineSink>(
+    sink: &mut S,
+    line: &mut Writer,
+    name: &[u8],
+    number: u8,
+    neighbor: Entry<'_>,
+)
+    requires { length name.now ≤ 15 }
+    ensures { Takes S.takes sink.old sink.new (neighbor_lines name.now number neighbor.entry) }
 {
-    let mut line = begin_port_line(port.name());
-    write_count(&mut line, port, count);
-    line.finish()
+    put_chassis_id(sink, line, name, number, neighbor.msap().chassis);
+    put_port_id(sink, line, name, number, neighbor.msap().port);
+    put_number(sink, line, name, number, b"ttl=", neighbor.ttl());
+    put_number(sink, line, name, number, b"expires=", neighbor.left());
+    put_kept(sink, line, name, number, neighbor.kept());
 }
 
-/// The next line of the neighbor that is begun, if one is left.
-fn next_of_begun(entry: &mut Option<EntryLines<'_>>) -> Option<Line>
-    ensures { YieldsFirstBy octets_of begun_left entry.old result entry.new }
+/// Whether a port has too many neighbors.
+fn put_too_many<S: LineSink>(sink: &mut S, line: &mut Writer, name: &[u8], too_many: bool)
+    requires { length name.now ≤ 15 }
+    ensures { S.takes sink.old sink.new (port_key name.now ++ (codes "too-many=" ++ yes_or_no_of too_many)) }
 {
-    match entry {
-        Some(lines) => lines.next(),
-        None => None,
+    begin_port_line(line, name);
+    line.text(b"too-many=");
+    line.text(yes_or_no(too_many));
+    sink.line(line.as_slice());
+}
+
+/// The first lines of a port.
+fn put_counts<A: Allocator, S: LineSink>(sink: &mut S, line: &mut Writer, port: &Port<A>)
+    ensures { Takes S.takes sink.old sink.new (count_lines port.now) }
+{
+    let table = port.table();
+    put_port_number(
+        sink,
+        line,
+        port.name(),
+        b"neighbors=",
+        u32::from(table.len()),
+    );
+    put_port_number(sink, line, port.name(), b"octets=", table.octets());
+    put_too_many(sink, line, port.name(), table.too_many());
+}
+
+/// The lines of a port.
+fn put_port<A: Allocator, S: LineSink>(sink: &mut S, line: &mut Writer, port: &Port<A>)
+    ensures { Takes S.takes sink.old sink.new (port_lines port.now) }
+{
+    put_counts(sink, line, port);
+    let table = port.table();
+    for i in 0..table.len() {
+        if sink.is_done() {
+            return;
+        }
+        put_neighbor(sink, line, port.name(), i + 1, table.entry(i));
     }
 }
 
-/// The lines of `show neighbors` that are left.
-#[derive(Drop)]
-pub(crate) struct NeighborLines<'a, A: Allocator> {
-    /// The port that is shown, and those after it.
-    ports: &'a [Port<A>],
-    counts: &'static [Count],
-    /// How many of its neighbors were begun.
-    begun: u8,
-    /// What is left of the one begun last.
-    entry: Option<EntryLines<'a>>,
-}
-
-impl<'a, A: Allocator> Model for NeighborLines<'a, A> {
-    ghost use Rattle.std.specs.Prelude.{ℕ, List};
-    ghost use Rattle.lldp_engine.specs.Code.NeighborsLeft.{neighbors_left};
-
-    ghost Value = { List (List ℕ) };
-
-    ghost view = { λ s. neighbors_left s.ports.now s.counts.now s.begun s.entry };
-}
-
-impl<'a, A: Allocator> NeighborLines<'a, A> {
-    /// All of them.
-    pub fn new(ports: &'a [Port<A>]) -> Self
-        ensures { result ≡ neighbors_lines ports.now }
-    {
-        NeighborLines {
-            ports,
-            counts: &COUNTS,
-            begun: 0,
-            entry: None,
+/// All of them.
+pub(crate) fn put_neighbors<A: Allocator, S: LineSink>(
+    sink: &mut S,
+    line: &mut Writer,
+    ports: &[Port<A>],
+)
+    ensures { Takes S.takes sink.old sink.new (neighbors_lines ports.now) }
+{
+    for port in ports {
+        if sink.is_done() {
+            return;
         }
-    }
-}
-
-impl<'a, A: Allocator> Iterator for NeighborLines<'a, A> {
-    type Item = Line;
-
-    ghost next_gives = { YieldsFirstBy octets_of (λ lines. lines) };
-
-    ghost remaining = { item_count (λ lines. lines) };
-
-    fn next(&mut self) -> Option<Line> {
-        let Some((port, rest)) = self.ports.split_first() else {
-            return None;
-        };
-        if let Some((count, counts)) = self.counts.split_first() {
-            self.counts = counts;
-            return Some(count_line(port, *count));
-        }
-        if let Some(line) = next_of_begun(&mut self.entry) {
-            return Some(line);
-        }
-        if self.begun < port.table().len() {
-            let neighbor = port.table().entry(self.begun);
-            self.begun += 1;
-            self.entry = Some(EntryLines::new(port.name(), self.begun, neighbor));
-            return next_of_begun(&mut self.entry);
-        }
-        let Some((after, _)) = rest.split_first() else {
-            return None;
-        };
-        self.ports = rest;
-        self.counts = &COUNTS[1..];
-        self.begun = 0;
-        self.entry = None;
-        Some(count_line(after, Count::Neighbors))
+        put_port(sink, line, port);
     }
 }

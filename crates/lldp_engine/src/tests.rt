@@ -8,7 +8,7 @@ mod shows;
 mod values;
 mod words;
 
-use super::{Agent, Event, OpenFault, Options, Role, Show};
+use super::{Agent, Event, LineSink, OpenFault, Options, Role, Show};
 use arrayvec::ArrayVec;
 use std::alloc::{Allocator, Global};
 use std::process::Abort;
@@ -81,21 +81,43 @@ fn ticks<A: Allocator>(rt: &impl Abort, agent: &mut Agent<A>, n: u16) {
     }
 }
 
-/// The lines of a show are these, by the cursor and by their places.
+/// What counts the lines of a show.
+#[derive(Drop)]
+struct Count {
+    lines: u32,
+}
+
+impl LineSink for Count {
+    ghost use Rattle.std.specs.Prelude.{◌≡◌, min, ◌+◌, ◌-◌, ◌^◌};
+
+    ghost takes = { λ old new line. new.lines ≡ min (old.lines + 1) (2 ^ 32 - 1) };
+
+    fn line(&mut self, _line: &[u8]) {
+        self.lines = self.lines.saturating_add(1);
+    }
+
+    fn is_done(&self) -> bool {
+        false
+    }
+}
+
+/// How many lines a show has.
+fn count_lines<A: Allocator>(agent: &Agent<A>, show: Show) -> u32 {
+    let mut count = Count { lines: 0 };
+    agent.show_lines(&show, &mut count);
+    count.lines
+}
+
+/// The lines of a show are these, by their number and by their places.
 fn expect_lines<A: Allocator>(rt: &impl Abort, agent: &Agent<A>, show: Show, expected: &[&str]) {
-    let mut lines = agent.show_lines(&show);
     for (i, text) in expected.iter().enumerate() {
-        let Some(line) = lines.next() else {
-            panic!(rt; "missing {text}");
-        };
-        assert_eq!(rt; line.as_slice(), text.as_bytes(), "{text}");
         assert!(rt; i < 1000);
         let Some(line) = agent.show_line(&show, i as u32) else {
             panic!(rt; "missing {text}");
         };
         assert_eq!(rt; line.as_slice(), text.as_bytes(), "{text}");
     }
-    assert!(rt; lines.next().is_none());
     assert!(rt; expected.len() < 1000);
     assert!(rt; agent.show_line(&show, expected.len() as u32).is_none());
+    assert_eq!(rt; count_lines(agent, show), expected.len() as u32);
 }

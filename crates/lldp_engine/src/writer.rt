@@ -34,6 +34,15 @@ impl Writer {
         }
     }
 
+    /// Begins anew by this.
+    pub fn begin(&mut self, key: &[u8])
+        requires { length key.now ≤ 2048 }
+        ensures { self.new ≡ key.now }
+    {
+        self.line.clear();
+        self.text(key);
+    }
+
     pub fn octet(&mut self, octet: u8)
         requires { length self.old + 1 ≤ 2048 }
         ensures value { self.new ≡ self.old ++ octet ∷ [] }
@@ -139,10 +148,10 @@ impl Writer {
         self.decimal(n);
     }
 
-    pub fn finish(self) -> Line
-        ensures value { result.items ≡ self }
-        ensures short { length result.items ≤ 2048 }
+    pub fn as_slice(&self) -> &[u8]
+        ensures value { result.now ≡ self.now }
+        ensures short { length result.now ≤ 2048 }
     {
-        self.line
+        self.line.as_slice()
     }
 }

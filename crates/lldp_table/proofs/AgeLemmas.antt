@@ -12,7 +12,7 @@ use Rattle.std.proofs.lemmas.Bool.{cases_lt, eqb-false}
 use Rattle.lldp_table.specs.Events.{Neighbor}
 use Rattle.lldp_table.specs.Contents.{Contents, aged, after_tick}
 use Rattle.lldp_table.specs.Layout.{neighbor_of, neighbor_at, neighbors_at, left_in, blank, contents_of, IsLaidOut}
-use Rattle.lldp_table.specs.declared.slot.Slot.{Slot}
+use Rattle.lldp_table.specs.Stored.{Stored}
 use Rattle.lldp_table.proofs.PlaceLemmas.{map-agree, all-weaker, not_before, not_behind, all-take, at_place, distinct-moved, IsOrder-moved}
 use Rattle.lldp_table.proofs.LayoutLemmas.{laid_out}
 use Rattle.lldp_table.proofs.SoundLemmas.{sound_ticked}
@@ -22,7 +22,7 @@ pub record IsAged (lefts0 order0 lefts order : List ℕ) (kept at : ℕ) : Type 
   pub fewer : kept ≤ at
   pub size : length lefts ≡ length lefts0
   pub moved : IsPermutation order0 order
-  pub done : (slots : List Slot) → neighbors_at slots (left_in lefts) (take kept order) ≡ filter_map aged (neighbors_at slots (left_in lefts0) (take at order0))
+  pub done : (slots : List Stored) → neighbors_at slots (left_in lefts) (take kept order) ≡ filter_map aged (neighbors_at slots (left_in lefts0) (take at order0))
   pub rest : drop at order ≡ drop at order0
   pub same : AllByRecursion (λ i. left_in lefts i ≡ left_in lefts0 i) (drop at order)
 
@@ -72,10 +72,10 @@ all-both P Q R h (i ∷ is) p q = (h i p.0 q.0, all-both P Q R h is p.1 q.1)
 -- ## One slot
 
 -- what is left of a slot's neighbor
-aged_lives : (slot : Slot) (left n : ℕ) → nat_lt 1 left ≡ true → n ≡ left - 1 → aged (neighbor_of slot left) ≡ Some (neighbor_of slot n)
+aged_lives : (slot : Stored) (left n : ℕ) → nat_lt 1 left ≡ true → n ≡ left - 1 → aged (neighbor_of slot left) ≡ Some (neighbor_of slot n)
 aged_lives slot left n e m = ap (λ b. cond b (Some (neighbor_of slot (left - 1))) None) e ∙ ap (λ k. Some (neighbor_of slot k)) (sym m)
 
-aged_gone : (slot : Slot) (left : ℕ) → nat_lt 1 left ≡ false → aged (neighbor_of slot left) ≡ None
+aged_gone : (slot : Stored) (left : ℕ) → nat_lt 1 left ≡ false → aged (neighbor_of slot left) ≡ None
 aged_gone slot left e = ap (λ b. cond b (Some (neighbor_of slot (left - 1))) None) e
 
 module _ (lefts0 order0 lefts order : List ℕ) (kept at : ℕ) (within : AllByRecursion (λ i. i < length lefts0) order0) (distinct : IsDistinct nat_eq order0) (h : IsAged lefts0 order0 lefts order kept at) (l : at < length order0) where
@@ -108,7 +108,7 @@ module _ (lefts0 order0 lefts order : List ℕ) (kept at : ℕ) (within : AllByR
   order_distinct : IsDistinct nat_eq order
   order_distinct = distinct-moved order0 order h.moved distinct
 
-  before : (slots : List Slot) → filter_map aged (neighbors_at slots (left_in lefts0) (take (at + 1) order0)) ≡ neighbors_at slots (left_in lefts) (take kept order) ++ cons_option (aged (neighbor_at slots (left_in lefts) s)) []
+  before : (slots : List Stored) → filter_map aged (neighbors_at slots (left_in lefts0) (take (at + 1) order0)) ≡ neighbors_at slots (left_in lefts) (take kept order) ++ cons_option (aged (neighbor_at slots (left_in lefts) s)) []
   before slots =
       let f : ℕ → Neighbor = neighbor_at slots (left_in lefts0) in
       let first : List Neighbor = neighbors_at slots (left_in lefts) (take kept order) in
@@ -127,7 +127,7 @@ module _ (lefts0 order0 lefts order : List ℕ) (kept at : ℕ) (within : AllByR
     other i d = get_or-set_other lefts s i n 0 (λ e. eqb-false s i d (sym e))
 
     -- the write leaves those that are done, and the rest
-    unwritten : (slots : List Slot) → neighbors_at slots (left_in written) (take kept order) ≡ neighbors_at slots (left_in lefts) (take kept order)
+    unwritten : (slots : List Stored) → neighbors_at slots (left_in written) (take kept order) ≡ neighbors_at slots (left_in lefts) (take kept order)
     unwritten slots =
         map-agree (neighbor_at slots (left_in lefts)) (neighbor_at slots (left_in written)) (take kept order)
         (all-weaker (λ i. nat_eq s i ≡ false) (λ i. neighbor_at slots (left_in written) i ≡ neighbor_at slots (left_in lefts) i) (λ i d. ap (neighbor_of (get_or slots i blank)) (other i d)) (take kept order)
@@ -148,7 +148,7 @@ module _ (lefts0 order0 lefts order : List ℕ) (kept at : ℕ) (within : AllByR
       done = λ slots.
           let f : ℕ → Neighbor = neighbor_at slots (left_in written) in
           let first : List Neighbor = neighbors_at slots (left_in lefts) (take kept order) in
-          let slot : Slot = get_or slots s blank in
+          let slot : Stored = get_or slots s blank in
           ap (neighbors_at slots (left_in written)) (take-swap order kept at h.fewer short) ∙ map-append f (take kept order) (s ∷ [])
           ∙ ap (λ xs. xs ++ f s ∷ []) (unwritten slots) ∙ ap (λ k. first ++ neighbor_of slot k ∷ []) (get_or-set_same lefts s n 0 index_within)
           ∙ ap (λ o. first ++ cons_option o []) (sym (aged_lives slot (left_in lefts s) n lives less)) ∙ sym (before slots);
@@ -176,13 +176,13 @@ pub written_back : {X : Type 0} (n : ℕ) (xs ys : List X) → n ≡ length xs �
 written_back n xs ys e = ap (λ k. take k (xs ++ ys)) e ∙ take-append_seam xs ys
 
 -- the table after a tick
-pub after_ticked : (slots : List Slot) (left left' : ℕ → ℕ) (order order' : List ℕ) (used used' limit too_many timer : ℕ) → neighbors_at slots left' (take used' order') ≡ filter_map aged (neighbors_at slots left (take used order)) → timer ≡ too_many - 1
+pub after_ticked : (slots : List Stored) (left left' : ℕ → ℕ) (order order' : List ℕ) (used used' limit too_many timer : ℕ) → neighbors_at slots left' (take used' order') ≡ filter_map aged (neighbors_at slots left (take used order)) → timer ≡ too_many - 1
     → contents_of slots left' order' used' limit timer ≡ after_tick (contents_of slots left order used limit too_many)
 after_ticked slots left left' order order' used used' limit too_many timer n t =
     let table : List Neighbor → ℕ → Contents = λ xs k. record { capacity = length slots; limit = limit; neighbors = xs; too_many_left = k } in
     ap (λ xs. table xs timer) n ∙ ap (table (filter_map aged (neighbors_at slots left (take used order)))) t
 
-pub laid_ticked : (slots : List Slot) (left left' : ℕ → ℕ) (order order' : List ℕ) (used used' limit too_many timer : ℕ) → IsLaidOut slots left order used limit too_many → IsPermutation order order' → used' ≤ used
+pub laid_ticked : (slots : List Stored) (left left' : ℕ → ℕ) (order order' : List ℕ) (used used' limit too_many timer : ℕ) → IsLaidOut slots left order used limit too_many → IsPermutation order order' → used' ≤ used
     → neighbors_at slots left' (take used' order') ≡ filter_map aged (neighbors_at slots left (take used order)) → timer ≡ too_many - 1 → IsLaidOut slots left' order' used' limit timer
 laid_ticked slots left left' order order' used used' limit too_many timer h p f n t =
     laid_out slots left' order' used' limit timer (after_tick (contents_of slots left order used limit too_many)) (IsOrder-moved (length slots) order order' p h.indices) (omega (arith, h.held))

@@ -12,7 +12,7 @@ use Rattle.lldp_table.specs.Events.{Neighbor}
 use Rattle.lldp_table.specs.Contents.{Contents, IsExtent, is_named, fresh, refreshed, learn_answer, learned_as, after_learn, after_forget, after_purge, after_set_limit, newly_opened, IsSound, IsHeld}
 use Rattle.lldp_table.specs.Standing.{IsNewLimit}
 use Rattle.lldp_table.specs.Layout.{neighbor_of, neighbor_at, neighbors_at, msap_at, octets_at, left_in, blank, IsOrder, contents_of, IsLaidOut}
-use Rattle.lldp_table.specs.declared.slot.Slot.{Slot}
+use Rattle.lldp_table.specs.Stored.{Stored}
 use Rattle.lldp_table.specs.declared.learned.Learned.{Learned}
 use Rattle.lldp_table.specs.declared.learned.Learned.TheVariants.{New, Refreshed, Dropped}
 use Rattle.lldp_table.proofs.SoundLemmas.{sound_open, sound_limited, sound_learned, sound_forgotten, sound_purged}
@@ -21,7 +21,7 @@ use Rattle.lldp_table.proofs.PlaceLemmas.{at_place, all-weaker, any_at, map-agre
 -- ## Slots
 
 -- Behind a write the slot of this index has this neighbor, and the ticks left of all others are as they were.
-pub record IsStored (left : ℕ → ℕ) (s : ℕ) (slot : Slot) (left' : ℕ → ℕ) (x : Neighbor) : Type 0 where
+pub record IsStored (left : ℕ → ℕ) (s : ℕ) (slot : Stored) (left' : ℕ → ℕ) (x : Neighbor) : Type 0 where
   pub here : neighbor_of slot (left' s) ≡ x
   pub others : (i : ℕ) → nat_eq s i ≡ false → left' i ≡ left i
 
@@ -29,30 +29,30 @@ other_index : (s i : ℕ) → nat_eq s i ≡ false → i ≢ s
 other_index s i d = λ e. eqb-false s i d (sym e)
 
 -- a frame in a slot is that of the neighbor who has just come
-fresh_in : (slot : Slot) (name : MsapId) (ttl : ℕ) (octets : List ℕ) → slot.octets.items ≡ octets → slot.ttl ≡ ttl → IsExtent name ttl octets → neighbor_of slot ttl ≡ fresh name ttl octets
+fresh_in : (slot : Stored) (name : MsapId) (ttl : ℕ) (octets : List ℕ) → slot.octets ≡ octets → slot.ttl ≡ ttl → IsExtent name ttl octets → neighbor_of slot ttl ≡ fresh name ttl octets
 fresh_in slot name ttl octets o t e =
     let made : MsapId → List ℕ → ℕ → Neighbor = λ m os n. record { msap = m; octets = os; ttl = n; left = ttl } in
     ap (λ os. made (msap_of os) os slot.ttl) o ∙ ap (λ m. made m octets slot.ttl) e.msap_is ∙ ap (made name octets) t
 
 -- a frame that was written to a slot, and its TTL to the ticks left
-pub frame_stored : (lefts : List ℕ) (s : ℕ) (slot : Slot) (name : MsapId) (ttl : ℕ) (octets : List ℕ) → s < length lefts → slot.octets.items ≡ octets → slot.ttl ≡ ttl → IsExtent name ttl octets
+pub frame_stored : (lefts : List ℕ) (s : ℕ) (slot : Stored) (name : MsapId) (ttl : ℕ) (octets : List ℕ) → s < length lefts → slot.octets ≡ octets → slot.ttl ≡ ttl → IsExtent name ttl octets
     → IsStored (left_in lefts) s slot (left_in (set lefts s ttl)) (fresh name ttl octets)
 frame_stored lefts s slot name ttl octets l o t e = record {
   here = ap (neighbor_of slot) (get_or-set_same lefts s ttl 0 l) ∙ fresh_in slot name ttl octets o t e;
   others = λ i d. get_or-set_other lefts s i ttl 0 (other_index s i d);
 }
 
-module _ (slots : List Slot) (left : ℕ → ℕ) (s : ℕ) (slot : Slot) (left' : ℕ → ℕ) (x : Neighbor) (w : IsStored left s slot left' x) where
+module _ (slots : List Stored) (left : ℕ → ℕ) (s : ℕ) (slot : Stored) (left' : ℕ → ℕ) (x : Neighbor) (w : IsStored left s slot left' x) where
   stored-other : (i : ℕ) → nat_eq s i ≡ false → neighbor_at (set slots s slot) left' i ≡ neighbor_at slots left i
   stored-other i d =
-      ap (λ (y : Slot). neighbor_of y (left' i)) (get_or-set_other slots s i slot blank (other_index s i d))
+      ap (λ (y : Stored). neighbor_of y (left' i)) (get_or-set_other slots s i slot blank (other_index s i d))
       ∙ ap (neighbor_of (get_or slots i blank)) (w.others i d)
 
   stored-same : s < length slots → neighbor_at (set slots s slot) left' s ≡ x
-  stored-same l = ap (λ (y : Slot). neighbor_of y (left' s)) (get_or-set_same slots s slot blank l) ∙ w.here
+  stored-same l = ap (λ (y : Stored). neighbor_of y (left' s)) (get_or-set_same slots s slot blank l) ∙ w.here
 
 -- the names in slots are those of their neighbors
-pub any-msap : (slots : List Slot) (left : ℕ → ℕ) (name : MsapId) (is : List ℕ) → list_any (same_msap name) (map (msap_at slots) is) ≡ list_any (is_named name) (neighbors_at slots left is)
+pub any-msap : (slots : List Stored) (left : ℕ → ℕ) (name : MsapId) (is : List ℕ) → list_any (same_msap name) (map (msap_at slots) is) ≡ list_any (is_named name) (neighbors_at slots left is)
 any-msap slots left name [] = refl
 any-msap slots left name (i ∷ is) = ap (λ b. same_msap name (msap_at slots i) || b) (any-msap slots left name is)
 
@@ -63,10 +63,10 @@ sum_by-map f g (i ∷ is) = sum_by-cons (λ j. f (g j)) i is ∙ ap (λ n. f (g 
 -- ## Tables
 
 -- a table whose parts show a sound table is laid out
-pub laid_out : (slots : List Slot) (left : ℕ → ℕ) (order : List ℕ) (used limit too_many : ℕ) (table : Contents) → IsOrder (length slots) order → used ≤ limit → contents_of slots left order used limit too_many ≡ table → IsSound table → IsLaidOut slots left order used limit too_many
+pub laid_out : (slots : List Stored) (left : ℕ → ℕ) (order : List ℕ) (used limit too_many : ℕ) (table : Contents) → IsOrder (length slots) order → used ≤ limit → contents_of slots left order used limit too_many ≡ table → IsSound table → IsLaidOut slots left order used limit too_many
 laid_out slots left order used limit too_many table o h e s = record { indices = o; held = h; sound = subst IsSound (sym e) s }
 
-module _ (slots : List Slot) (left : ℕ → ℕ) (order : List ℕ) (used limit too_many : ℕ) (h : IsLaidOut slots left order used limit too_many) where
+module _ (slots : List Stored) (left : ℕ → ℕ) (order : List ℕ) (used limit too_many : ℕ) (h : IsLaidOut slots left order used limit too_many) where
   abbrev held : List Neighbor
   held = neighbors_at slots left (take used order)
 
@@ -100,12 +100,12 @@ module _ (slots : List Slot) (left : ℕ → ℕ) (order : List ℕ) (used limit
   at_named name at l e = ap (is_named name) (place at (neighbor_of blank 0) l) ∙ e
 
   -- the neighbor at a place, from what was read of the slots and the order
-  pub entry_at : (at : ℕ) (read : List ℕ) (slot : Slot) → read ≡ order → slot ≡ get_or slots (get_or read at 0) slot → at < used → neighbor_of slot (left (get_or read at 0)) ≡ neighbor_at slots left (get_or order at 0)
+  pub entry_at : (at : ℕ) (read : List ℕ) (slot : Stored) → read ≡ order → slot ≡ get_or slots (get_or read at 0) slot → at < used → neighbor_of slot (left (get_or read at 0)) ≡ neighbor_at slots left (get_or order at 0)
   entry_at at read slot r e l =
       let s : ℕ = get_or order at 0 in
       let same : get_or read at 0 ≡ s = ap (λ (is : List ℕ). get_or is at 0) r in
       ap (λ n. neighbor_of slot (left n)) same
-      ∙ ap (λ (y : Slot). neighbor_of y (left s)) (e ∙ ap (λ n. get_or slots n slot) same ∙ get_or_default slots s slot blank (index_within at l))
+      ∙ ap (λ (y : Stored). neighbor_of y (left s)) (e ∙ ap (λ n. get_or slots n slot) same ∙ get_or_default slots s slot blank (index_within at l))
 
   pub get_at : (at : ℕ) → at < used → slice_get held at ≡ Some (neighbor_at slots left (get_or order at 0))
   get_at at l = slice_get-get_or held at (neighbor_of blank 0) (omega (arith, count)) ∙ ap Some (place at (neighbor_of blank 0) l)
@@ -134,7 +134,7 @@ module _ (slots : List Slot) (left : ℕ → ℕ) (order : List ℕ) (used limit
   pub answer_new : (name : MsapId) → list_any (is_named name) held ≡ false → used < limit → learn_answer shown name ≡ New
   answer_new name none l = ap (λ b. answer_by b (length held) limit) none ∙ ap (λ n. answer_by false n limit) count ∙ ap (λ b. cond b New Dropped) (lt-ltb used limit l)
 
-  module _ (name : MsapId) (ttl : ℕ) (octets : List ℕ) (slot : Slot) (left' : ℕ → ℕ) where
+  module _ (name : MsapId) (ttl : ℕ) (octets : List ℕ) (slot : Stored) (left' : ℕ → ℕ) where
     module _ (at : ℕ) (l : at < used) (e : same_msap name (msap_at slots (get_or order at 0)) ≡ true) (w : IsStored left (get_or order at 0) slot left' (fresh name ttl octets)) where
       abbrev s : ℕ
       s = get_or order at 0
@@ -234,8 +234,8 @@ module _ (slots : List Slot) (left : ℕ → ℕ) (order : List ℕ) (used limit
 
 -- ## `open`
 
-pub shows_open : (slots : List Slot) (left : ℕ → ℕ) (order : List ℕ) (limit : ℕ) → length slots ≡ limit → contents_of slots left order 0 limit 0 ≡ newly_opened limit
+pub shows_open : (slots : List Stored) (left : ℕ → ℕ) (order : List ℕ) (limit : ℕ) → length slots ≡ limit → contents_of slots left order 0 limit 0 ≡ newly_opened limit
 shows_open slots left order limit e = ap (λ c. record { capacity = c; limit = limit; neighbors = []; too_many_left = 0 }) e
 
-pub laid_open : (slots : List Slot) (left : ℕ → ℕ) (order : List ℕ) (limit : ℕ) → IsOrder (length slots) order → length slots ≡ limit → 0 < limit → limit ≤ 128 → IsLaidOut slots left order 0 limit 0
+pub laid_open : (slots : List Stored) (left : ℕ → ℕ) (order : List ℕ) (limit : ℕ) → IsOrder (length slots) order → length slots ≡ limit → 0 < limit → limit ≤ 128 → IsLaidOut slots left order 0 limit 0
 laid_open slots left order limit h e l m = laid_out slots left order 0 limit 0 (newly_opened limit) h (omega arith) (shows_open slots left order limit e) (sound_open limit l m)

@@ -5,15 +5,15 @@ use Rattle.lldp_pdu.specs.Msap.{MsapId}
 use Rattle.lldp_table.specs.Msap.{same_msap}
 use Rattle.lldp_table.specs.Contents.{IsExtent, is_named, fresh, after_learn}
 use Rattle.lldp_table.specs.Layout.{neighbors_at, msap_at, left_in, contents_of, IsLaidOut}
-use Rattle.lldp_table.specs.declared.slot.Slot.{Slot}
+use Rattle.lldp_table.specs.Stored.{Stored}
 use Rattle.lldp_table.proofs.LayoutLemmas.{IsStored, frame_stored, index_within, next_within, found, after_refreshed, laid_refreshed, after_new, laid_new}
 
-module _ (slots : List Slot) (lefts order : List ℕ) (used limit too_many : ℕ) (h : IsLaidOut slots (left_in lefts) order used limit too_many) where
+module _ (slots : List Stored) (lefts order : List ℕ) (used limit too_many : ℕ) (h : IsLaidOut slots (left_in lefts) order used limit too_many) where
   -- what `place_of` finds under an equal name
   pub found_as : (told name : MsapId) (at : ℕ) → told ≡ name → (at < length (take used order)) × (same_msap told (msap_at slots (get_or (take used order) at 0)) ≡ true) → (at < used) × (same_msap name (msap_at slots (get_or order at 0)) ≡ true)
   found_as told name at same p = let f = found slots (left_in lefts) order used limit too_many h told at p in (f.0, ap (λ (m : MsapId). same_msap m (msap_at slots (get_or order at 0))) (sym same) ∙ f.1)
 
-  module _ (name : MsapId) (ttl : ℕ) (octets : List ℕ) (slot : Slot) (all : length lefts ≡ 128) (o : slot.octets.items ≡ octets) (n : slot.ttl ≡ ttl) (t : IsExtent name ttl octets) where
+  module _ (name : MsapId) (ttl : ℕ) (octets : List ℕ) (slot : Stored) (all : length lefts ≡ 128) (o : slot.octets ≡ octets) (n : slot.ttl ≡ ttl) (t : IsExtent name ttl octets) where
     stored : (s : ℕ) → s < length slots → IsStored (left_in lefts) s slot (left_in (set lefts s ttl)) (fresh name ttl octets)
     stored s l = frame_stored lefts s slot name ttl octets (omega (arith, h.sound.most, h.sound.room)) o n t
 

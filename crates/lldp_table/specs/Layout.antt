@@ -6,29 +6,29 @@ use Rattle.lldp_pdu.specs.Msap.{MsapId}
 use Rattle.lldp_pdu.specs.Lldpdu.{msap_of}
 use Rattle.lldp_table.specs.Events.{Neighbor}
 use Rattle.lldp_table.specs.Contents.{Contents, IsSound}
-use Rattle.lldp_table.specs.declared.slot.Slot.{Slot}
+use Rattle.lldp_table.specs.Stored.{Stored}
 
 -- a slot that stores nothing
-abbrev pub blank : Slot
-blank = record { octets = record { items = [] }; ttl = 0 }
+abbrev pub blank : Stored
+blank = record { octets = []; ttl = 0 }
 
 -- the octets that the slot of this index stores, and the MSAP identifier in them
-abbrev pub octets_at : List Slot → ℕ → List ℕ
-octets_at slots i = (slice_index_or slots i blank).octets.items
+abbrev pub octets_at : List Stored → ℕ → List ℕ
+octets_at slots i = (slice_index_or slots i blank).octets
 
-abbrev pub msap_at : List Slot → ℕ → MsapId
+abbrev pub msap_at : List Stored → ℕ → MsapId
 msap_at slots i = msap_of (octets_at slots i)
 
 -- the neighbor whose frame a slot stores, with so many ticks left
-abbrev pub neighbor_of : Slot → ℕ → Neighbor
-neighbor_of slot left = record { msap = msap_of slot.octets.items; octets = slot.octets.items; ttl = slot.ttl; left = left }
+abbrev pub neighbor_of : Stored → ℕ → Neighbor
+neighbor_of slot left = record { msap = msap_of slot.octets; octets = slot.octets; ttl = slot.ttl; left = left }
 
 -- the neighbor in the slot of this index, by the ticks left of each slot
-abbrev pub neighbor_at : List Slot → (ℕ → ℕ) → ℕ → Neighbor
+abbrev pub neighbor_at : List Stored → (ℕ → ℕ) → ℕ → Neighbor
 neighbor_at slots left i = neighbor_of (slice_index_or slots i blank) (left i)
 
 -- the neighbors in these slots
-abbrev pub neighbors_at : List Slot → (ℕ → ℕ) → List ℕ → List Neighbor
+abbrev pub neighbors_at : List Stored → (ℕ → ℕ) → List ℕ → List Neighbor
 neighbors_at slots left indices = map (neighbor_at slots left) indices
 
 -- the ticks left of each slot, from the list of them
@@ -42,11 +42,11 @@ pub record IsOrder (size : ℕ) (order : List ℕ) : Type 0 where
   pub distinct : IsDistinct nat_eq order
 
 -- what a table shows
-abbrev pub contents_of : List Slot → (ℕ → ℕ) → List ℕ → ℕ → ℕ → ℕ → Contents
+abbrev pub contents_of : List Stored → (ℕ → ℕ) → List ℕ → ℕ → ℕ → ℕ → Contents
 contents_of slots left order used limit too_many = record { capacity = length slots; limit = limit; neighbors = neighbors_at slots left (take used order); too_many_left = too_many }
 
 -- what is true of a table's parts
-pub record IsLaidOut (slots : List Slot) (left : ℕ → ℕ) (order : List ℕ) (used limit too_many : ℕ) : Type 0 where
+pub record IsLaidOut (slots : List Stored) (left : ℕ → ℕ) (order : List ℕ) (used limit too_many : ℕ) : Type 0 where
   pub indices : IsOrder (length slots) order
   pub held : used ≤ limit
   pub sound : IsSound (contents_of slots left order used limit too_many)

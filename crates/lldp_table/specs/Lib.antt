@@ -1,3 +1,4 @@
+pub mod Stored
 pub mod Msap
 pub mod Events
 pub mod Contents

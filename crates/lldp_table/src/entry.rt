@@ -45,7 +45,7 @@ impl<'a> Entry<'a> {
         ensures value { result ≡ self.now.ttl }
         ensures lives { 0 < result }
     {
-        self.slot.ttl
+        self.slot.ttl()
     }
 
     /// The ticks that are left of it, at least 1.
@@ -75,6 +75,6 @@ impl<'a> Entry<'a> {
         ensures value { result.now ≡ self.now.octets }
         ensures told { IsExtent self.now.msap self.now.ttl self.now.octets }
     {
-        self.slot.octets.as_slice()
+        self.slot.octets()
     }
 }

@@ -1,19 +1,35 @@
 //! The room for one neighbor.
-ghost use Rattle.std.specs.Prelude.{◌≡◌, ◌≤◌, length};
+ghost use Rattle.std.specs.Prelude.{◌≡◌, ◌<◌, ◌≤◌, length};
 ghost use Rattle.lldp_pdu.specs.Cut.{cut};
 ghost use Rattle.lldp_pdu.specs.Lldpdu.{msap_of, tlv_at};
 ghost use Rattle.lldp_pdu.specs.View.{msap_seen};
 ghost use Rattle.lldp_table.specs.Msap.{same_msap};
 ghost use Rattle.lldp_table.specs.Layout.{blank};
+ghost use Rattle.lldp_table.specs.Stored.{ending_of, tag_of as tag_of_name};
 
 use arrayvec::ArrayVec;
 use lldp_pdu::{Msap, Tlvs};
+use std::marker::Model;
 
 /// The room for one neighbor, which stores the extent of its frame.
 #[derive(Drop)]
 pub(crate) struct Slot {
-    pub(crate) octets: ArrayVec<u8, 1500>,
-    pub(crate) ttl: u16,
+    octets: ArrayVec<u8, 1500>,
+    ttl: u16,
+    /// The tag of its name, which tells most names apart at once.
+    tag: u32,
+}
+
+impl Model for Slot {
+    ghost use Rattle.std.specs.Prelude.{◌≡◌};
+    ghost use Rattle.lldp_pdu.specs.Lldpdu.{msap_of};
+    ghost use Rattle.lldp_table.specs.Stored.{Stored, tag_of};
+
+    ghost Value = { Stored };
+
+    ghost view = { λ s. record { octets = s.octets.items; ttl = s.ttl } };
+
+    ghost invariant = { λ s. s.tag ≡ tag_of (msap_of s.octets.items) };
 }
 
 /// The body of the next TLV, or no octets where there is none.
@@ -37,6 +53,25 @@ fn msap_in(octets: &[u8]) -> Msap<'_>
     Msap { chassis, port }
 }
 
+/// The last two octets as a number.
+fn ending(body: &[u8]) -> u32
+    ensures value { result ≡ ending_of body.now }
+    ensures short { result < 65536 }
+{
+    let len = body.len();
+    if len < 2 {
+        return 0;
+    }
+    u32::from(body[len - 2]) * 256 + u32::from(body[len - 1])
+}
+
+/// The tag of a name.
+pub(crate) fn tag_of(name: &Msap<'_>) -> u32
+    ensures { result ≡ tag_of_name (msap_seen name.now) }
+{
+    ending(name.chassis) * 65536 + ending(name.port)
+}
+
 impl Slot {
     pub(crate) fn blank() -> Slot
         ensures { result ≡ blank }
@@ -44,18 +79,38 @@ impl Slot {
         Slot {
             octets: ArrayVec::new(),
             ttl: 0,
+            tag: 0,
         }
     }
 
+    /// The octets that it stores.
+    pub(crate) fn octets(&self) -> &[u8]
+        ensures value { result.now ≡ self.now.octets }
+        ensures short { length result.now ≤ 1500 }
+    {
+        self.octets.as_slice()
+    }
+
+    pub(crate) fn ttl(&self) -> u16
+        ensures { result ≡ self.now.ttl }
+    {
+        self.ttl
+    }
+
     pub(crate) fn msap(&self) -> Msap<'_>
-        ensures { msap_seen result ≡ msap_of self.now.octets.items }
+        ensures { msap_seen result ≡ msap_of self.now.octets }
     {
         msap_in(self.octets.as_slice())
     }
 
-    pub(crate) fn is_named(&self, name: &Msap<'_>) -> bool
-        ensures { result ≡ same_msap (msap_seen name.now) (msap_of self.now.octets.items) }
+    /// Whether its frame has this name, whose tag is given.
+    pub(crate) fn is_named(&self, name: &Msap<'_>, tag: u32) -> bool
+        requires { tag ≡ tag_of_name (msap_seen name.now) }
+        ensures { result ≡ same_msap (msap_seen name.now) (msap_of self.now.octets) }
     {
+        if self.tag != tag {
+            return false;
+        }
         let held = self.msap();
         name.chassis == held.chassis && name.port == held.port
     }
@@ -63,11 +118,12 @@ impl Slot {
     /// Stores a frame in place of the one before.
     pub(crate) fn store(&mut self, octets: &[u8], ttl: u16)
         requires { length octets.now ≤ 1500 }
-        ensures octets { self.new.octets.items ≡ octets.now }
+        ensures octets { self.new.octets ≡ octets.now }
         ensures ttl { self.new.ttl ≡ ttl }
     {
         self.octets.clear();
         self.octets.try_extend_from_slice(octets).unwrap();
         self.ttl = ttl;
+        self.tag = tag_of(&msap_in(octets));
     }
 }

@@ -1,5 +1,9 @@
+pub mod PlainLemmas
+pub mod DigitLemmas
+pub mod LaneLemmas
 pub mod Written
 pub mod OutputLemmas
+pub mod PageLemmas
 pub mod BufferLemmas
 pub mod LineLemmas
 pub mod ItemLemmas

@@ -1,4 +1,5 @@
 pub mod Devices
+pub mod Digits
 pub mod Adapters
 pub mod Lines
 pub mod Sent
@@ -6,5 +7,7 @@ pub mod Forms
 pub mod Work
 pub mod Items
 pub mod Output
+pub mod Page
+pub mod Told
 pub mod Runs
 pub mod Arguments

@@ -1,13 +1,16 @@
 //! One line of a trace, and what it asks for.
-ghost use Rattle.std.specs.Prelude.{◌≡◌, ◌≤◌, length, IfOk, IfErr, ◌*◌};
-ghost use Rattle.std.specs.List.{AllByRecursion};
+ghost use Rattle.std.specs.Prelude.{◌≡◌, ◌≤◌, length, ℕ, List, IfOk, IfErr, IfSome, ◌*◌, ◌%◌, ◌++◌};
+ghost use Rattle.std.specs.List.{AllByRecursion, AllPass};
+ghost use Rattle.lldp_engine.specs.Words.{is_bare};
 ghost use Rattle.hex.specs.Hex.{decode_of};
-ghost use Rattle.lldp_engine.specs.AgentState.{AgentState};
-ghost use Rattle.lldpa.specs.Forms.{fault_text, is_skipped, or_hex, complete, tick_form, frame_form, link_form, command_form, reading_of};
+ghost use Rattle.lldp_engine.specs.AgentState.{AgentState, IsPort};
+ghost use Rattle.lldpa.specs.Forms.{fault_text, is_skipped, or_hex, complete, tick_form, frame_form, link_form, command_form, reading_of, arrival};
 ghost use Rattle.lldpa.specs.Work.{reading_of_work, said, AllowsWork};
 
+use crate::digits::decode_digits;
 use lldp_engine::number::number;
 use lldp_engine::{Agent, Command, CommandFault, Words, split};
+use memchr::memchr3;
 
 /// How many octets a line has at most, its LF left out.
 pub const LONGEST: usize = 4096;
@@ -97,6 +100,9 @@ fn decode<'l>(digits: &[u8], room: &'l mut [u8]) -> Result<&'l [u8], LineFault>
     ensures fault { IfErr result (λ fault. or_hex (decode_of digits.now) ≡ Err fault) }
 {
     let octets = &mut room[..digits.len() / 2];
+    if digits.len() % 2 == 0 && decode_digits(digits, octets) {
+        return Ok(octets);
+    }
     match hex::decode_to_slice(digits, octets) {
         Ok(()) => Ok(octets),
         Err(_) => Err(LineFault::Hex),
@@ -155,6 +161,49 @@ fn read_order<'l>(agent: &Agent, line: &'l [u8]) -> Result<Work<'l>, LineFault>
     }
 }
 
+/// What follows this front.
+fn behind<'l>(text: &'l [u8], front: &[u8]) -> Option<&'l [u8]>
+    ensures { IfSome result (λ rest. text.now ≡ front.now ++ rest.now) }
+{
+    text.strip_prefix(front)
+}
+
+/// The octets before the next separator or quote, and what follows them.
+fn split_at_bare(text: &[u8]) -> (&[u8], &[u8])
+    ensures bare { AllPass is_bare result.0.now }
+    ensures whole { text.now ≡ result.0.now ++ result.1.now }
+{
+    match memchr3(b' ', b'\t', b'"', text) {
+        Some(end) => text.split_at(end),
+        None => (text, &[]),
+    }
+}
+
+/// The port and the digits of `rx PORT HEX` as it is mostly written, with one space between words and no quotes. None of every other
+/// line.
+fn plain_frame<'l>(agent: &Agent, line: &'l [u8]) -> Option<(u8, &'l [u8])>
+    requires { length line.now ≤ 4096 }
+    ensures reads { IfSome result (λ x. (octets : List ℕ) → decode_of x.1.now ≡ Ok octets → reading_of agent.now line.now ≡ Ok (arrival x.0 octets)) }
+    ensures even { IfSome result (λ x. length x.1.now % 2 ≡ 0) }
+    ensures short { IfSome result (λ x. length x.1.now ≤ 4096) }
+    ensures exists { IfSome result (λ x. IsPort agent.now x.0) }
+{
+    let Some(rest) = behind(line, b"rx ") else {
+        return None;
+    };
+    let (name, after) = split_at_bare(rest);
+    let Some(digits) = behind(after, b" ") else {
+        return None;
+    };
+    if name.is_empty() || digits.is_empty() || digits.len() % 2 != 0 {
+        return None;
+    }
+    match agent.find_port(name) {
+        Some(port) => Some((port, digits)),
+        None => None,
+    }
+}
+
 /// What a line, without its LF, asks of the agent, or its first fault. The octets of a frame stand in the room; else nothing is
 /// promised of the room.
 #[tactic(auto, unfolding(crate::specs::Forms::reading_of, crate::specs::Forms::form_of))]
@@ -168,6 +217,15 @@ pub fn read_line<'l>(
 {
     if line.len() > LONGEST {
         return Err(LineFault::TooLong);
+    }
+    if let Some((port, digits)) = plain_frame(agent, line) {
+        let count = digits.len() / 2;
+        if decode_digits(digits, &mut room[..count]) {
+            return Ok(Work::Frame {
+                port,
+                octets: &room[..count],
+            });
+        }
     }
     if is_skipped_line(line) {
         return Ok(Work::Skip);

@@ -1,5 +1,5 @@
 //! Lines on their way to a sink. They are gathered, and go out in large pieces.
-ghost use Rattle.std.specs.Prelude.{◌≡◌, ◌≤◌, ◌+◌, ◌++◌, [], length, OnOk, OnErr};
+ghost use Rattle.std.specs.Prelude.{◌≡◌, ◌≤◌, ◌+◌, ◌++◌, [], length, OnOk, OnErr, IsOk};
 ghost use Rattle.std.specs.List.{flat_map};
 ghost use Rattle.std.specs.Io.KnownBytes.{Appends};
 ghost use Rattle.arrayvec.specs.ArrayVec.{array_vec_len};
@@ -7,10 +7,12 @@ ghost use Rattle.lldp_engine.specs.Lines.{lines_of as show_lines};
 ghost use Rattle.lldpa.specs.Devices.{failures_after};
 ghost use Rattle.lldpa.specs.Lines.{ended};
 ghost use Rattle.lldpa.specs.Output.{IsWritten, IsCutOff, GoesOut};
+ghost use Rattle.lldpa.specs.Page.{TakesLine};
+ghost use Rattle.lldpa.specs.Told.{told};
 
 use crate::device::{DeviceFault, Sink};
 use arrayvec::ArrayVec;
-use lldp_engine::{Agent, Show};
+use lldp_engine::{Agent, LineSink, Show};
 
 /// How many octets wait at most.
 pub const ROOM: usize = 8192;
@@ -82,6 +84,42 @@ fn put_line<W: Sink>(sink: &mut W, waiting: &mut Waiting, line: &[u8]) -> Result
     Ok(())
 }
 
+/// What takes the lines of a show: it puts them behind what waits. Behind a write that failed it changes nothing.
+#[derive(Drop)]
+struct Page<'a, W: Sink> {
+    sink: &'a mut W,
+    waiting: &'a mut Waiting,
+    result: Result<(), DeviceFault>,
+}
+
+impl<W: Sink> LineSink for Page<'_, W> {
+    ghost takes = { λ old new line. TakesLine (told W.taken W.failures old) (told W.taken W.failures new) line };
+
+    fn line(&mut self, line: &[u8]) {
+        if self.result.is_ok() {
+            self.result = put_line(self.sink, self.waiting, line);
+        }
+    }
+
+    fn is_done(&self) -> bool {
+        self.result.is_err()
+    }
+}
+
+/// Fills a page with the lines of a show.
+fn fill<W: Sink>(agent: &Agent, page: &mut Page<'_, W>, show: Show)
+    requires { IsOk page.old.result }
+    ensures sink { page.new.sink.ghost_name ≡ page.old.sink.ghost_name }
+    ensures waiting { page.new.waiting.ghost_name ≡ page.old.waiting.ghost_name }
+    ensures ok { OnOk page.new.result (GoesOut (W.taken page.old.sink.now) page.old.waiting.now.items (W.taken page.new.sink.now)
+        page.new.waiting.now.items (flat_map ended (show_lines show agent.now))) }
+    ensures err { OnErr page.new.result (IsWritten (IsCutOff (page.old.waiting.now.items ++ flat_map ended (show_lines show agent.now)))
+        (W.taken page.old.sink.now) (W.taken page.new.sink.now)) }
+    ensures failures { W.failures page.new.sink.now ≡ failures_after (W.failures page.old.sink.now) page.new.result }
+{
+    agent.show_lines(&show, page);
+}
+
 /// Puts the lines of a show behind what waits.
 fn put_show<W: Sink>(
     agent: &Agent,
@@ -95,10 +133,13 @@ fn put_show<W: Sink>(
         (W.taken sink.old) (W.taken sink.new)) }
     ensures failures { W.failures sink.new ≡ failures_after (W.failures sink.old) result }
 {
-    for line in agent.show_lines(&show) {
-        put_line(sink, waiting, line.as_slice())?;
-    }
-    Ok(())
+    let mut page = Page {
+        sink,
+        waiting,
+        result: Ok(()),
+    };
+    fill(agent, &mut page, show);
+    page.result
 }
 
 /// Writes a line and its LF, where nothing waits.

@@ -12,6 +12,7 @@ ghost use Rattle.lldpa.specs.Output.{IsWritten, IsCutOff, GoesOut};
 ghost use Rattle.lldpa.specs.Sent.{sent_line, mark_line};
 
 use crate::device::{DeviceFault, Sink};
+use crate::digits::encode_digits;
 use crate::output::{Waiting, append, flush, make_room};
 use lldp_engine::{Agent, Marks};
 
@@ -27,7 +28,7 @@ fn append_hex(waiting: &mut Waiting, octets: &[u8])
 {
     let mut digits = [0u8; 2 * LONGEST_FRAME];
     let digits = &mut digits[..2 * octets.len()];
-    let _ = hex::encode_to_slice(octets, digits);
+    encode_digits(octets, digits);
     append(waiting, digits);
 }
 
@@ -89,6 +90,10 @@ pub fn write_marks<W: Sink>(
     ensures none { OnOk result (waiting.new.items ≡ []) }
     ensures failures { W.failures sink.new ≡ failures_after (W.failures sink.old) result }
 {
+    // Most events send nothing, and need none of the room of a frame.
+    if marks.is_empty() {
+        return Ok(());
+    }
     put_marks(agent, sink, waiting, marks)?;
     flush(sink, waiting)?;
     Ok(())

@@ -1,5 +1,5 @@
 //! Worked examples of shows.
-use super::{expect_lines, hear, hear_hex, open, ticks};
+use super::{count_lines, expect_lines, hear, hear_hex, open, ticks};
 use crate::{MOST_LINES, Show};
 use std::test::Fail;
 
@@ -223,7 +223,7 @@ fn most_lines_of_a_neighbor(rt: HostRuntime) -> Result<(), Fail> {
         pdu.extend_from_slice(&[0x12, 0x00])?;
     }
     hear(&rt, &mut agent, 0, pdu.as_slice())?;
-    assert_eq!(rt; agent.show_lines(&Show::Neighbors).count(), 3 + 4 + 744);
+    assert_eq!(rt; count_lines(&agent, Show::Neighbors), 3 + 4 + 744);
     let last = agent.show_line(&Show::Neighbors, 750);
     assert!(rt; last.is_some_and(|line| line.as_slice() == b"lldp.eth0.1.unknown.9=".as_slice()));
     assert!(rt; agent.show_line(&Show::Neighbors, 751).is_none());

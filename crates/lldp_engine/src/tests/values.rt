@@ -7,7 +7,7 @@ use lldp_pdu::{Caps, caps, mgmt};
 use std::process::Abort;
 
 fn expect_text(rt: &impl Abort, line: Writer, text: &str) {
-    assert_eq!(rt; line.finish().as_slice(), text.as_bytes(), "{text}");
+    assert_eq!(rt; line.as_slice(), text.as_bytes(), "{text}");
 }
 
 fn expect_chassis(rt: &impl Abort, body: &[u8], text: &str) {

@@ -1,0 +1,17 @@
+//! What takes the lines of a show.
+ghost use Rattle.std.specs.Prelude.{◌≡◌, ◌≤◌, ℕ, List, length, true};
+
+/// What takes the lines of a show, one after another.
+pub trait LineSink {
+    /// How it is after it took a line.
+    ghost takes: { Self → Self → List ℕ → Type 0 };
+
+    /// Takes a line, without its line feed.
+    fn line(&mut self, line: &[u8])
+        requires { length line.now ≤ 2048 }
+        ensures { takes self.old self.new line.now };
+
+    /// Whether no line changes it any more, so that the others need not come.
+    fn is_done(&self) -> bool
+        ensures { result ≡ true → (line : List ℕ) → takes self.now self.now line };
+}

@@ -1,0 +1,13 @@
+use Rattle.std.proofs.Common.{◌≡◌, List, ℕ, [], refl, sym, ap}
+use Rattle.lldp_pdu.specs.Cut.{cut, cut_within}
+use Rattle.lldp_pdu.specs.Lldpdu.{msap_of}
+use Rattle.lldp_table.specs.Stored.{tag_of}
+use Rattle.lldp_table.proofs.slot.Slot.blank.Goals as goal
+
+-- no octets have no name
+blank_tag : 0 ≡ tag_of (msap_of [])
+unfolding cut cut_within msap_of
+blank_tag = refl
+
+pub invariant_of-result : goal.invariant_of-result
+invariant_of-result c = rw c.new.ensures blank_tag

@@ -1,0 +1,131 @@
+-- Vectors that are computed lane by lane from one vector.
+use Rattle.std.proofs.Common.{◌≡◌, ℕ, zero, suc, ◌+◌, ◌-◌, T, ◌*◌, ◌/◌, ◌%◌, ◌^◌, ◌<◌, Bool, true, false, nat_lt, if◌then◌else◌, List, [], ◌∷◌, ◌++◌, map, length, get_or, replicate, cond, leb, eqb, bit_and, bit_or, Option, Some, None, Fits, w8, eqb→eq, eqb-true, refl, sym, ap, subst, ◌∙◌, inl, inr, arith}
+use Rattle.std.proofs.lemmas.Bool.{agree_below, agree_below_at, cases_lt, leb-false}
+use Rattle.std.proofs.lemmas.List.{get_or-map, get_or_past, get_or_append_left, get_or-append_right, drop_more, length-map}
+use Rattle.std.proofs.lemmas.Simd.{map-map, zip2_of_maps, splat_is_map, zip2_splat, get_or-zip2, length-zip2, mask_l-mod, get_or_wider, below_from_Fits, Each1-get_or}
+use Rattle.std.specs.Int.Bits.{or_add_and}
+use Rattle.std.proofs.lemmas.Nat.{and_le_r, and_le_l}
+use Rattle.std.specs.Simd.Lanes.{zip2, sel_l, mask_l, top, chunk, number_l, digits_l, pick_l, Each1}
+use Rattle.hex.specs.Hex.{hex_digit_value, lower_digits}
+use Rattle.lldpa.specs.Digits.{IsValue, AreSmall}
+
+-- an operator on two vectors
+pub joined : (h : ℕ → ℕ → ℕ) (f g : ℕ → ℕ) (v : List ℕ) {a b : List ℕ} → a ≡ map f v → b ≡ map g v → zip2 h a b ≡ map (λ x. h (f x) (g x)) v
+joined h f g v p q = zip2_of_maps h f g v p q
+
+pub splat : (v : List ℕ) (n y : ℕ) → length v ≡ n → replicate n y ≡ map (λ _. y) v
+splat v n y long = splat_is_map v n y long
+
+-- an operator on a vector and a splat, at one lane
+pub splat_lane : (f : ℕ → ℕ → ℕ) (v : List ℕ) (n y k : ℕ) → length v ≡ n → k < n → get_or (zip2 f v (replicate n y)) k 0 ≡ f (get_or v k 0) y
+splat_lane f v n y k long h = ap (λ l. get_or l k 0) (zip2_splat f v n y long) ∙ get_or-map (λ x. f x y) v k 0 0 (omega (arith, long))
+
+pub itself : (v : List ℕ) → v ≡ map (λ x. x) v
+itself [] = refl
+itself (x ∷ xs) = ap (λ r. x ∷ r) (itself xs)
+
+choice : (p : ℕ → Bool) (g h : ℕ → ℕ) (v : List ℕ) → sel_l (map p v) (map g v) (map h v) ≡ map (λ x. cond (p x) (g x) (h x)) v
+choice p g h [] = refl
+choice p g h (x ∷ xs) = ap (λ r. cond (p x) (g x) (h x) ∷ r) (choice p g h xs)
+
+-- one or the other, by the test t
+pub chosen : (t : ℕ → ℕ → ℕ) (f g h k : ℕ → ℕ) (v : List ℕ) {a b c d : List ℕ} → a ≡ map f v → b ≡ map g v → c ≡ map h v → d ≡ map k v
+    → sel_l (map (top 7) (zip2 t a b)) c d ≡ map (λ x. cond (top 7 (t (f x) (g x))) (h x) (k x)) v
+chosen t f g h k v p q r s =
+    let m = ap (map (top 7)) (zip2_of_maps t f g v p q) ∙ map-map (top 7) (λ x. t (f x) (g x)) v in
+    rw (m, r, s) (choice (λ x. top 7 (t (f x) (g x))) h k v)
+
+abbrev pub same : Option ℕ → Option ℕ → Bool
+same None None = true
+same None (Some b) = false
+same (Some a) None = false
+same (Some a) (Some b) = eqb a b
+
+same_is : (a b : Option ℕ) → T (same a b) → a ≡ b
+same_is None None t = refl
+same_is None (Some b) t = absurd t
+same_is (Some a) None t = absurd t
+same_is (Some a) (Some b) t = ap Some (eqb→eq a b t)
+
+abbrev pub value_test : (ℕ → ℕ) → ℕ → Bool
+value_test f c = same (hex_digit_value c) (if nat_lt (f c) 16 then Some (f c) else None)
+
+-- f computes to the value of each octet
+pub values_are : (f : ℕ → ℕ) (v : List ℕ) {z : List ℕ} → z ≡ map f v → length v ≡ 32 → Each1 (Fits w8) v → agree_below (value_test f) (λ _. true) 256 ≡ true
+    → (k : ℕ) → k < 32 → IsValue (get_or v k 0) (get_or z k 0)
+values_are f v e long fits all k h =
+    let at = ap (λ l. get_or l k 0) e ∙ get_or-map f v k 0 0 (omega (arith, long)) in
+    let small = Each1-get_or (λ x. x < 256) v k 0 (omega (arith, long)) (below_from_Fits w8 v fits) in
+    rw at (same_is _ _ (subst T (sym (agree_below_at (value_test f) (λ _. true) 256 (get_or v k 0) all small)) tt))
+
+-- f computes to the digit of each value
+pub digits_are : (f : ℕ → ℕ) (v : List ℕ) {z : List ℕ} → z ≡ map f v → length v ≡ 16 → agree_below (λ c. eqb (f c) (get_or lower_digits c 0)) (λ _. true) 16 ≡ true
+    → (k : ℕ) → k < 16 → get_or v k 0 < 16 → get_or z k 0 ≡ get_or lower_digits (get_or v k 0) 0
+digits_are f v e long all k h small =
+    ap (λ l. get_or l k 0) e ∙ get_or-map f v k 0 0 (omega (arith, long)) ∙ eqb-true _ _ (agree_below_at (λ c. eqb (f c) (get_or lower_digits c 0)) (λ _. true) 16 (get_or v k 0) all small)
+
+two_lanes : (v : List ℕ) (i : ℕ) → i + 1 < length v → chunk i 2 v ≡ get_or v i 0 ∷ get_or v (i + 1) 0 ∷ []
+two_lanes v i h =
+    let a = drop_more v i 0 (omega arith) in
+    let b = drop_more v (i + 1) 0 (omega arith) in
+    rw (a, b) refl
+
+-- two values below 16, as one number, give their octet
+pub octet_at : (v : List ℕ) → length v ≡ 32 → Each1 (Fits w8) v → (k : ℕ) → k < 16 → get_or v (2 * k) 0 < 16 → get_or v (2 * k + 1) 0 < 16
+    → get_or (map (λ x. x * 4097 % 65536 / 256) (digits_l 65536 16 (number_l 256 v))) k 0 ≡ get_or v (2 * k) 0 * 16 + get_or v (2 * k + 1) 0
+octet_at v long fits k h high low =
+    let pair : get_or (digits_l 65536 16 (number_l 256 v)) k 0 ≡ get_or v (2 * k) 0 + 256 * (get_or v (2 * k + 1) 0 + 256 * 0) =
+    get_or_wider 256 2 65536 16 v k refl (below_from_Fits w8 v fits) h ∙ ap (number_l 256) (two_lanes v (2 * k) (omega (arith, long))) in
+    get_or-map (λ x. x * 4097 % 65536 / 256) (digits_l 65536 16 (number_l 256 v)) k 0 0 h ∙ omega (arith, pair, high, low)
+
+or_parts : (a b : ℕ) → bit_or a b < 16 → (a < 16) × (b < 16)
+or_parts a b h = (omega (arith, or_add_and a b, and_le_r a b), omega (arith, or_add_and a b, and_le_l a b))
+
+-- what is small together is small in each
+pub either_small : (a b : List ℕ) → length a ≡ 32 → length b ≡ 32 → AreSmall (zip2 bit_or a b) → AreSmall a × AreSmall b
+either_small a b la lb all = (
+  λ k. elim (cases_lt k 32) [
+    | inl l ↦ (or_parts (get_or a k 0) (get_or b k 0) (rw (get_or-zip2 bit_or a b k 0 0 0 (omega (arith, la)) (omega (arith, lb))) at (all k))).0
+    | inr g ↦ rw (get_or_past a k 0 (omega (arith, la))) (omega arith)
+  ],
+  λ k. elim (cases_lt k 32) [
+    | inl l ↦ (or_parts (get_or a k 0) (get_or b k 0) (rw (get_or-zip2 bit_or a b k 0 0 0 (omega (arith, la)) (omega (arith, lb))) at (all k))).1
+    | inr g ↦ rw (get_or_past b k 0 (omega (arith, lb))) (omega arith)
+  ],
+)
+
+abbrev at_least : ℕ → ℕ → ℕ
+at_least a b = cond (leb a b) 255 0
+
+none_large : (xs : List ℕ) → mask_l (map (top 7) (zip2 at_least (replicate (length xs) 16) xs)) ≡ 0 → (i : ℕ) → get_or xs i 0 < 16
+none_large [] e i = omega arith
+none_large (x ∷ xs) e zero = go (leb 16 x) refl (omega arith)
+  where
+    go : (t : Bool) → leb 16 x ≡ t → ◌≡◌ {A = ℕ} (cond (top 7 (cond t 255 0)) 1 0) 0 → x < 16
+    go true p q = absurd (omega arith)
+    go false p q = leb-false _ _ p
+none_large (x ∷ xs) e (suc i) = none_large xs (omega arith) i
+
+-- the mask is empty
+pub small_by_mask : (xs : List ℕ) → length xs ≡ 32 → eqb (mask_l (map (top 7) (zip2 at_least (replicate 32 16) xs)) % 2 ^ 64) 0 ≡ true → AreSmall xs
+small_by_mask xs long e =
+    let few = mask_l-mod (map (top 7) (zip2 at_least (replicate 32 16) xs)) 64 (omega (arith, length-map (zip2 at_least (replicate 32 16) xs) (top 7), length-zip2 at_least (replicate 32 16) xs (sym long))) in
+    none_large xs (ap (λ n. mask_l (map (top 7) (zip2 at_least (replicate n 16) xs))) long ∙ sym few ∙ eqb-true _ _ e)
+
+abbrev pub turns : List ℕ
+turns = 0 ∷ 16 ∷ 1 ∷ 17 ∷ 2 ∷ 18 ∷ 3 ∷ 19 ∷ 4 ∷ 20 ∷ 5 ∷ 21 ∷ 6 ∷ 22 ∷ 7 ∷ 23 ∷ 8 ∷ 24 ∷ 9 ∷ 25 ∷ 10 ∷ 26 ∷ 11 ∷ 27 ∷ 12 ∷ 28 ∷ 13 ∷ 29 ∷ 14 ∷ 30 ∷ 15 ∷ 31 ∷ []
+
+-- the lanes of two vectors by turns
+pub turns_are : (a b : List ℕ) → length a ≡ 16 → (k : ℕ) → k < 16
+    → (get_or (pick_l 0 (a ++ b) turns) (2 * k) 0 ≡ get_or a k 0) × (get_or (pick_l 0 (a ++ b) turns) (2 * k + 1) 0 ≡ get_or b k 0)
+turns_are a b long k h =
+    let one = eqb-true _ _ (agree_below_at (λ j. eqb (get_or turns (2 * j) 0) j) (λ _. true) 16 k refl h) in
+    let two = eqb-true _ _ (agree_below_at (λ j. eqb (get_or turns (2 * j + 1) 0) (16 + j)) (λ _. true) 16 k refl h) in
+    let back : 16 + k - 16 ≡ k = omega arith in (
+      get_or-map (λ j. get_or (a ++ b) j 0) turns (2 * k) 0 0 (omega arith) ∙ ap (λ j. get_or (a ++ b) j 0) one ∙ get_or_append_left a b 0 k (omega (arith, long)),
+      get_or-map (λ j. get_or (a ++ b) j 0) turns (2 * k + 1) 0 0 (omega arith) ∙ ap (λ j. get_or (a ++ b) j 0) two ∙ get_or-append_right a b 16 (16 + k) 0 long (omega arith) ∙ ap (λ j. get_or b j 0) back,
+    )
+
+-- the lower four bits
+pub low_bits : (x : ℕ) → x < 256 → bit_and x 15 ≡ x % 16
+low_bits x h = eqb-true _ _ (agree_below_at (λ j. eqb (bit_and j 15) (j % 16)) (λ _. true) 256 x refl h)

@@ -1,0 +1,5 @@
+use Rattle.lldpa.proofs.LaneLemmas.{octet_at}
+use Rattle.lldpa.proofs.digits.octets_of.Goals as goal
+
+pub returns-clause-pairs : goal.returns-clause-pairs
+returns-clause-pairs c = octet_at c.args.values c.fits-values.0 c.fits-values.1
