@@ -18,7 +18,7 @@ pub mod AddressesPairs
 pub mod CapabilitiesWritten
 pub mod KeptTlvFields
 pub mod LinesTaken
-pub mod LineKept
+pub mod OneLineKept
 pub mod LinesBound
 pub mod FramePuts
 pub mod FrameSays

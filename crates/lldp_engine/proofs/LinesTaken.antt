@@ -45,6 +45,11 @@ takes_rest t f a b xs i h k =
     let split : flat_map f xs ≡ flat_map f (take i xs) ++ flat_map f (drop i xs) = ap (flat_map f) (sym (take-append-drop i xs)) ∙ flat_map-append f (take i xs) (drop i xs) in
     rw split (takes_then t a b b _ _ h (takes_all t b _ k))
 
+-- the same of one line for each
+pub takes_rest_lines : {S X : Type 0} (t : S → S → List ℕ → Type 0) (f : X → List ℕ) (a b : S) (xs : List X) (i : ℕ) → Takes t a b (map f (take i xs)) → ((x : List ℕ) → t b b x) → Takes t a b (map f xs)
+takes_rest_lines t f a b xs i h k =
+    rw (← flat_map_single f xs) (takes_rest t (λ y. f y ∷ []) a b xs i (rw (flat_map_single f (take i xs)) h) k)
+
 -- of all lines these are left, and those before them were taken
 abbrev pub TakesTo : {S : Type 0} → (S → S → List ℕ → Type 0) → S → S → List (List ℕ) → List (List ℕ) → Type 0
 TakesTo t a b left all = (gone : List (List ℕ)) × (gone ++ left ≡ all) × Takes t a b gone
@@ -52,9 +57,7 @@ TakesTo t a b left all = (gone : List (List ℕ)) × (gone ++ left ≡ all) × T
 pub takes_more : {S : Type 0} (t : S → S → List ℕ → Type 0) (a b c : S) (xs left all : List (List ℕ)) → TakesTo t a b (xs ++ left) all → Takes t b c xs → TakesTo t a c left all
 takes_more t a b c xs left all h k = (h.0 ++ xs, append_assoc h.0 xs left ∙ h.1, takes_then t a b c h.0 xs h.2 k)
 
-pub takes_every : {S : Type 0} (t : S → S → List ℕ → Type 0) (a b : S) (all : List (List ℕ)) → TakesTo t a b [] all → Takes t a b all
-takes_every t a b all h = let e : h.0 ≡ all = sym (append-nil h.0) ∙ h.1 in rw (← e) h.2
-
+-- where no line changes anything, those that are left needn't come
 pub takes_left : {S : Type 0} (t : S → S → List ℕ → Type 0) (a b : S) (left all : List (List ℕ)) → TakesTo t a b left all → ((x : List ℕ) → t b b x) → Takes t a b all
 takes_left t a b left all h k = rw (← h.1) (takes_then t a b b h.0 left h.2 (takes_all t b left k))
 

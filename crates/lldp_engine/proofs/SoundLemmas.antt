@@ -114,15 +114,3 @@ allowed_fits agent (configure (hold times)) a s = none_for_all agent.ports
 allowed_fits agent (configure (limit n)) a s = limit_for_all agent.configuration.capacity n agent.ports a.least a.most a.held s
 allowed_fits agent (configure (status port given)) a s = none_for_all agent.ports
 allowed_fits agent (configure update) a s = none_for_all agent.ports
-
-pub allowed_exists : (agent : AgentState) (event : Event) → Allows agent event → IfSome (port_of event) (λ port. port < length agent.ports)
-allowed_exists agent tick a = tt
-allowed_exists agent (frame port octets) a = a
-allowed_exists agent (link port up) a = a
-allowed_exists agent (configure (hostname text)) a = tt
-allowed_exists agent (configure (description text)) a = tt
-allowed_exists agent (configure (interval seconds)) a = tt
-allowed_exists agent (configure (hold times)) a = tt
-allowed_exists agent (configure (limit n)) a = tt
-allowed_exists agent (configure (status port given)) a = a
-allowed_exists agent (configure update) a = tt

@@ -4,14 +4,6 @@ use Rattle.std.specs.List.{join_with_byte}
 use Rattle.std.proofs.lemmas.List.{take_more, length-take-le, length-map, map-append}
 use Rattle.lldp_engine.specs.Text.{separator}
 
-pub separator_some : (c n : ℕ) → 0 < n → separator c n ≡ c ∷ []
-separator_some c zero h = absurd (omega arith)
-separator_some c (suc n) h = refl
-
-pub separator_none : (c n : ℕ) → n ≤ 0 → separator c n ≡ []
-separator_none c zero h = refl
-separator_none c (suc n) h = absurd (omega arith)
-
 -- one item more
 pub join_push : (c : ℕ) (xs : List (List ℕ)) (x : List ℕ) → join_with_byte c (xs ++ x ∷ []) ≡ join_with_byte c xs ++ (separator c (length xs) ++ x)
 join_push c [] x = refl

@@ -6,12 +6,19 @@ use Rattle.lldp_engine.specs.Configuration.{Configuration}
 use Rattle.lldp_engine.specs.Text.{escaped}
 use Rattle.lldp_engine.specs.Addresses.{mac_text, ipv4_text}
 
+abbrev pub mac_line : List ℕ → List ℕ
+mac_line mac = codes "local-chassis.mac=" ++ mac_text mac
+
 abbrev pub role_text : Role → List ℕ
 role_text Station = codes "Station:on"
 role_text Bridge = codes "Bridge:on"
 role_text Router = codes "Router:on"
 
--- the line of a management address
+-- the capabilities: that of the role, which is on
+abbrev pub role_line : Role → List ℕ
+role_line role = codes "local-chassis.caps=" ++ role_text role
+
+-- a management address, with interface number 0 of unknown numbering (1), and no OID
 abbrev pub management_line : List ℕ → List ℕ
 management_line address = codes "local-chassis.mgmt=" ++ ipv4_text address ++ codes ",1,0,"
 
@@ -22,8 +29,8 @@ management_lines (Some address) = management_line address ∷ []
 
 abbrev pub chassis_lines : Configuration → List (List ℕ)
 chassis_lines c =
-    (codes "local-chassis.mac=" ++ mac_text c.mac)
+    mac_line c.mac
     ∷ (codes "local-chassis.name=" ++ escaped c.hostname)
     ∷ (codes "local-chassis.descr=" ++ escaped c.description)
-    ∷ (codes "local-chassis.caps=" ++ role_text c.role)
+    ∷ role_line c.role
     ∷ management_lines c.management

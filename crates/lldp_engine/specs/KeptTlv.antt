@@ -9,10 +9,22 @@ use Rattle.lldp_engine.specs.Text.{escaped}
 use Rattle.lldp_engine.specs.Capabilities.{capabilities_text}
 use Rattle.lldp_engine.specs.ManagementAddress.{management_text}
 
+-- the System Capabilities
+abbrev pub system_capabilities_text : List ℕ → List ℕ
+system_capabilities_text body = codes "chassis.caps=" ++ capabilities_text (caps_fields body)
+
+-- a Management Address
+abbrev pub management_tlv_text : List ℕ → List ℕ
+management_tlv_text body = codes "chassis.mgmt=" ++ management_text (address_fields body (slice_index body 0))
+
 -- an organizationally specific TLV: an OUI of three octets, a subtype, and the octets after it
 abbrev pub organizational_text : List ℕ → List ℕ
 organizational_text body =
     codes "org." ++ encode_lower (take 3 body) ++ codes "." ++ decimal (slice_index body 3) ++ codes "=" ++ encode_lower (drop 4 body)
+
+-- a TLV of a reserved type
+abbrev pub unknown_text : TlvUnit → List ℕ
+unknown_text tlv = codes "unknown." ++ decimal tlv.kind ++ codes "=" ++ encode_lower tlv.body
 
 -- A kept TLV as key and value, by its type; those of the reserved types are unknown.
 abbrev pub tlv_text : TlvUnit → List ℕ
@@ -20,10 +32,10 @@ tlv_text tlv =
     if tlv.kind == port_description_type then codes "port.descr=" ++ escaped tlv.body
     else if tlv.kind == system_name_type then codes "chassis.name=" ++ escaped tlv.body
     else if tlv.kind == system_description_type then codes "chassis.descr=" ++ escaped tlv.body
-    else if tlv.kind == system_capabilities_type then codes "chassis.caps=" ++ capabilities_text (caps_fields tlv.body)
-    else if tlv.kind == management_address_type then codes "chassis.mgmt=" ++ management_text (address_fields tlv.body (slice_index tlv.body 0))
+    else if tlv.kind == system_capabilities_type then system_capabilities_text tlv.body
+    else if tlv.kind == management_address_type then management_tlv_text tlv.body
     else if tlv.kind == organizationally_specific_type then organizational_text tlv.body
-    else codes "unknown." ++ decimal tlv.kind ++ codes "=" ++ encode_lower tlv.body
+    else unknown_text tlv
 
 -- the body has a management address, of at most 31 octets, with an OID of at most 128
 pub record HasAddress (body : List ℕ) : Type 0 where

@@ -1,4 +1,4 @@
--- The keys that lines begin with.
+-- What the lines of ports and neighbors begin with.
 use Rattle.std.specs.Prelude.{ℕ, List, ◌++◌, codes, decimal}
 
 -- `lldp.PORT.`

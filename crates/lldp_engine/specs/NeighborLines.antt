@@ -9,11 +9,19 @@ use Rattle.lldp_engine.specs.Keys.{port_key, neighbor_key}
 use Rattle.lldp_engine.specs.Identifier.{chassis_text, port_text}
 use Rattle.lldp_engine.specs.KeptTlv.{tlv_text}
 
+-- the line of a neighbor's chassis ID
+abbrev pub chassis_id_line : List ℕ → ℕ → List ℕ → List ℕ
+chassis_id_line name number id = neighbor_key name number ++ (codes "chassis." ++ chassis_text id)
+
+-- the line of its port ID
+abbrev pub port_id_line : List ℕ → ℕ → List ℕ → List ℕ
+port_id_line name number id = neighbor_key name number ++ (codes "port." ++ port_text id)
+
 -- the first four lines of a neighbor
 abbrev pub identity_lines : List ℕ → ℕ → Neighbor → List (List ℕ)
 identity_lines name number neighbor =
-    (neighbor_key name number ++ (codes "chassis." ++ chassis_text neighbor.msap.chassis))
-    ∷ (neighbor_key name number ++ (codes "port." ++ port_text neighbor.msap.port))
+    chassis_id_line name number neighbor.msap.chassis
+    ∷ port_id_line name number neighbor.msap.port
     ∷ (neighbor_key name number ++ (codes "ttl=" ++ decimal neighbor.ttl))
     ∷ (neighbor_key name number ++ (codes "expires=" ++ decimal neighbor.left)) ∷ []
 
@@ -33,13 +41,17 @@ numbered_lines name number (neighbor ∷ others) = neighbor_lines name number ne
 abbrev pub yes_or_no : Bool → List ℕ
 yes_or_no condition = if condition then codes "yes" else codes "no"
 
+-- whether a port has too many neighbors
+abbrev pub too_many_line : List ℕ → Bool → List ℕ
+too_many_line name too_many = port_key name ++ (codes "too-many=" ++ yes_or_no too_many)
+
 -- The first three lines of a port: how many neighbors it holds, the sum of their stored octets, and whether there are
 -- too many, which is while the timer of that condition is not 0.
 abbrev pub count_lines : PortState → List (List ℕ)
 count_lines port =
     (port_key port.name ++ (codes "neighbors=" ++ decimal (length port.table.neighbors)))
     ∷ (port_key port.name ++ (codes "octets=" ++ decimal (sum_by (λ neighbor. length neighbor.octets) port.table.neighbors)))
-    ∷ (port_key port.name ++ (codes "too-many=" ++ yes_or_no (nat_lt 0 port.table.too_many_left))) ∷ []
+    ∷ too_many_line port.name (nat_lt 0 port.table.too_many_left) ∷ []
 
 -- The lines of a port: the first three, and those of its neighbors in the order of the table, numbered from 1.
 abbrev pub port_lines : PortState → List (List ℕ)

@@ -1,7 +1,7 @@
 //! The lines of `show chassis`.
 ghost use Rattle.std.specs.Prelude.{◌≡◌, ◌≤◌, ◌++◌, length};
 ghost use Rattle.lldp_engine.specs.Text.{escaped};
-ghost use Rattle.lldp_engine.specs.ChassisLines.{role_text as role_text_of, management_line, management_lines, chassis_lines};
+ghost use Rattle.lldp_engine.specs.ChassisLines.{mac_line, role_text as role_text_of, role_line, management_line, management_lines, chassis_lines};
 ghost use Rattle.lldp_engine.specs.Takes.{Takes};
 
 use crate::addresses::{write_ipv4, write_mac};
@@ -9,6 +9,15 @@ use crate::configuration::Configuration;
 use crate::line_sink::LineSink;
 use crate::options::Role;
 use crate::writer::Writer;
+
+/// The line of the MAC address.
+fn put_mac<S: LineSink>(sink: &mut S, line: &mut Writer, mac: &[u8; 6])
+    ensures { S.takes sink.old sink.new (mac_line mac.now) }
+{
+    line.begin(b"local-chassis.mac=");
+    write_mac(line, mac);
+    sink.line(line.as_slice());
+}
 
 fn role_text(role: Role) -> &'static [u8]
     ensures value { result.now ≡ role_text_of role }
@@ -19,6 +28,15 @@ fn role_text(role: Role) -> &'static [u8]
         Role::Bridge => b"Bridge:on",
         Role::Router => b"Router:on",
     }
+}
+
+/// The line of the capabilities: that of the role, which is on.
+fn put_role<S: LineSink>(sink: &mut S, line: &mut Writer, role: Role)
+    ensures { S.takes sink.old sink.new (role_line role) }
+{
+    line.begin(b"local-chassis.caps=");
+    line.text(role_text(role));
+    sink.line(line.as_slice());
 }
 
 /// A line of escaped text.
@@ -32,7 +50,7 @@ fn put_text<S: LineSink>(sink: &mut S, line: &mut Writer, key: &[u8], text: &[u8
     sink.line(line.as_slice());
 }
 
-/// The line of a management address: interface number 0, of unknown numbering, and no OID.
+/// The line of a management address, with interface number 0 of unknown numbering, and no OID.
 fn put_management<S: LineSink>(sink: &mut S, line: &mut Writer, address: &[u8; 4])
     ensures { S.takes sink.old sink.new (management_line address.now) }
 {
@@ -42,7 +60,7 @@ fn put_management<S: LineSink>(sink: &mut S, line: &mut Writer, address: &[u8; 4
     sink.line(line.as_slice());
 }
 
-/// That line, where an address was given.
+/// The line of the management address, where one was given.
 fn put_if_given<S: LineSink>(sink: &mut S, line: &mut Writer, management: Option<[u8; 4]>)
     ensures { Takes S.takes sink.old sink.new (management_lines management) }
 {
@@ -51,7 +69,7 @@ fn put_if_given<S: LineSink>(sink: &mut S, line: &mut Writer, management: Option
     }
 }
 
-/// All of them.
+/// The lines of `show chassis`.
 pub(crate) fn put_chassis<S: LineSink>(
     sink: &mut S,
     line: &mut Writer,
@@ -59,9 +77,7 @@ pub(crate) fn put_chassis<S: LineSink>(
 )
     ensures { Takes S.takes sink.old sink.new (chassis_lines configuration.now) }
 {
-    line.begin(b"local-chassis.mac=");
-    write_mac(line, &configuration.mac);
-    sink.line(line.as_slice());
+    put_mac(sink, line, &configuration.mac);
     put_text(
         sink,
         line,
@@ -74,8 +90,6 @@ pub(crate) fn put_chassis<S: LineSink>(
         b"local-chassis.descr=",
         configuration.description.as_slice(),
     );
-    line.begin(b"local-chassis.caps=");
-    line.text(role_text(configuration.role));
-    sink.line(line.as_slice());
+    put_role(sink, line, configuration.role);
     put_if_given(sink, line, configuration.management);
 }

@@ -10,7 +10,7 @@ use crate::status::Status;
 use crate::writer::Writer;
 use std::alloc::Allocator;
 
-/// A line of a number.
+/// A line that has a number.
 fn put_number<S: LineSink>(sink: &mut S, line: &mut Writer, key: &[u8], n: u32)
     requires { length key.now ≤ 60 }
     ensures { S.takes sink.old sink.new (key.now ++ decimal n) }
@@ -43,16 +43,19 @@ fn put_status<A: Allocator, S: LineSink>(sink: &mut S, line: &mut Writer, port: 
     sink.line(line.as_slice());
 }
 
-/// Those of the ports.
+/// The line of each port's status.
 fn put_statuses<A: Allocator, S: LineSink>(sink: &mut S, line: &mut Writer, ports: &[Port<A>])
     ensures { Takes S.takes sink.old sink.new (map status_line ports.now) }
 {
     for port in ports {
+        if sink.is_done() {
+            return;
+        }
         put_status(sink, line, port);
     }
 }
 
-/// All of them, of at most 64 ports.
+/// The lines of `show configuration`, of at most 64 ports.
 pub(crate) fn put_configuration<A: Allocator, S: LineSink>(
     sink: &mut S,
     line: &mut Writer,

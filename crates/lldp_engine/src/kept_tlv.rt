@@ -1,13 +1,9 @@
 //! Kept TLVs.
-ghost use Rattle.std.specs.Prelude.{◌≡◌, ◌≤◌, ◌++◌, length, codes, decimal, slice_index, Some};
-ghost use Rattle.hex.specs.Hex.{encode_lower};
+ghost use Rattle.std.specs.Prelude.{◌≡◌, ◌≤◌, ◌++◌, length, Some};
 ghost use Rattle.lldp_pdu.specs.Kept.{IsKeptTlv};
 ghost use Rattle.lldp_pdu.specs.Capabilities.{caps_of, caps_fields};
-ghost use Rattle.lldp_pdu.specs.ManagementAddress.{address_fields};
 ghost use Rattle.lldp_pdu.specs.View.{unit_of};
-ghost use Rattle.lldp_engine.specs.Capabilities.{capabilities_text};
-ghost use Rattle.lldp_engine.specs.ManagementAddress.{management_text};
-ghost use Rattle.lldp_engine.specs.KeptTlv.{organizational_text, tlv_text, HasAddress};
+ghost use Rattle.lldp_engine.specs.KeptTlv.{system_capabilities_text, management_tlv_text, organizational_text, unknown_text, tlv_text, HasAddress};
 
 use crate::capabilities::write_capabilities;
 use crate::management_address::write_management_address;
@@ -37,7 +33,7 @@ fn write_organizational(line: &mut Writer, body: &[u8])
 fn write_unknown(line: &mut Writer, tlv: Tlv<'_>)
     requires room { length line.old ≤ 60 }
     requires short { length tlv.body.now ≤ 511 }
-    ensures { line.new ≡ line.old ++ (codes "unknown." ++ decimal tlv.entry.kind ++ codes "=" ++ encode_lower tlv.entry.body.now) }
+    ensures { line.new ≡ line.old ++ unknown_text (unit_of tlv.entry) }
 {
     line.text(b"unknown.");
     line.decimal(u32::from(tlv.kind));
@@ -49,7 +45,7 @@ fn write_unknown(line: &mut Writer, tlv: Tlv<'_>)
 fn write_system_capabilities(line: &mut Writer, body: &[u8])
     requires room { length line.old ≤ 60 }
     requires well_formed { caps_of body.now ≡ Some (caps_fields body.now) }
-    ensures { line.new ≡ line.old ++ (codes "chassis.caps=" ++ capabilities_text (caps_fields body.now)) }
+    ensures { line.new ≡ line.old ++ system_capabilities_text body.now }
 {
     line.text(b"chassis.caps=");
     write_capabilities(line, caps(body).unwrap());
@@ -59,7 +55,7 @@ fn write_system_capabilities(line: &mut Writer, body: &[u8])
 fn write_management(line: &mut Writer, body: &[u8])
     requires room { length line.old ≤ 60 }
     requires well_formed { HasAddress body.now }
-    ensures { line.new ≡ line.old ++ (codes "chassis.mgmt=" ++ management_text (address_fields body.now (slice_index body.now 0))) }
+    ensures { line.new ≡ line.old ++ management_tlv_text body.now }
 {
     line.text(b"chassis.mgmt=");
     write_management_address(line, mgmt(body).unwrap());

@@ -1,4 +1,4 @@
-//! The keys that lines begin with.
+//! What the lines of ports and neighbors begin with.
 ghost use Rattle.std.specs.Prelude.{◌≡◌, ◌≤◌, ◌++◌, length, decimal};
 ghost use Rattle.lldp_engine.specs.Keys.{port_key, neighbor_key};
 
@@ -27,7 +27,7 @@ pub(crate) fn begin_neighbor_line(line: &mut Writer, name: &[u8], number: u8)
     line.text(b".");
 }
 
-/// A line of a port, of a number.
+/// A line of a port that has a number.
 pub(crate) fn put_port_number<S: LineSink>(
     sink: &mut S,
     line: &mut Writer,

@@ -22,7 +22,8 @@ use std::alloc::Allocator;
 pub const MOST_LINES: u32 = 64 * (3 + 128 * (4 + 744));
 
 impl<A: Allocator> Agent<A> {
-    /// Gives the lines of a show, in their order, to a sink. It takes no memory, and costs what it shows.
+    /// Gives the lines of a show, in their order, to a sink. It takes no memory, and costs what it shows. Where the sink is
+    /// done, as behind a write that failed, the show ends within one neighbor's lines.
     pub fn show_lines<S: LineSink>(&self, show: &Show, sink: &mut S)
         ensures value { Takes S.takes sink.old sink.new (lines_of show.now self.now) }
         ensures few { length (lines_of show.now self.now) ≤ MOST_LINES }

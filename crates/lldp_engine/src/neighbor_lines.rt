@@ -1,11 +1,10 @@
 //! The lines of `show neighbors`.
-ghost use Rattle.std.specs.Prelude.{◌≡◌, ◌≤◌, ◌++◌, length, map, codes, decimal};
+ghost use Rattle.std.specs.Prelude.{◌≡◌, ◌≤◌, ◌++◌, length, map, decimal};
 ghost use Rattle.std.specs.List.{AllByRecursion};
 ghost use Rattle.lldp_pdu.specs.Kept.{IsKeptTlv};
 ghost use Rattle.lldp_pdu.specs.Msap.{IsIdentifier};
-ghost use Rattle.lldp_engine.specs.Identifier.{chassis_text, port_text};
-ghost use Rattle.lldp_engine.specs.Keys.{port_key, neighbor_key};
-ghost use Rattle.lldp_engine.specs.NeighborLines.{yes_or_no as yes_or_no_of, kept_line, neighbor_lines, count_lines, port_lines, neighbors_lines};
+ghost use Rattle.lldp_engine.specs.Keys.{neighbor_key};
+ghost use Rattle.lldp_engine.specs.NeighborLines.{chassis_id_line, port_id_line, kept_line, neighbor_lines, yes_or_no as yes_or_no_of, too_many_line, count_lines, port_lines, neighbors_lines};
 ghost use Rattle.lldp_engine.specs.Takes.{Takes};
 
 use crate::identifier::{write_chassis, write_port};
@@ -29,7 +28,7 @@ fn yes_or_no(condition: bool) -> &'static [u8]
 fn put_chassis_id<S: LineSink>(sink: &mut S, line: &mut Writer, name: &[u8], number: u8, id: &[u8])
     requires name { length name.now ≤ 15 }
     requires id { IsIdentifier id.now }
-    ensures { S.takes sink.old sink.new (neighbor_key name.now number ++ (codes "chassis." ++ chassis_text id.now)) }
+    ensures { S.takes sink.old sink.new (chassis_id_line name.now number id.now) }
 {
     begin_neighbor_line(line, name, number);
     line.text(b"chassis.");
@@ -37,11 +36,11 @@ fn put_chassis_id<S: LineSink>(sink: &mut S, line: &mut Writer, name: &[u8], num
     sink.line(line.as_slice());
 }
 
-/// The line of its port ID.
+/// The line of a neighbor's port ID.
 fn put_port_id<S: LineSink>(sink: &mut S, line: &mut Writer, name: &[u8], number: u8, id: &[u8])
     requires name { length name.now ≤ 15 }
     requires id { IsIdentifier id.now }
-    ensures { S.takes sink.old sink.new (neighbor_key name.now number ++ (codes "port." ++ port_text id.now)) }
+    ensures { S.takes sink.old sink.new (port_id_line name.now number id.now) }
 {
     begin_neighbor_line(line, name, number);
     line.text(b"port.");
@@ -49,8 +48,8 @@ fn put_port_id<S: LineSink>(sink: &mut S, line: &mut Writer, name: &[u8], number
     sink.line(line.as_slice());
 }
 
-/// A line of a neighbor, of a number.
-fn put_number<S: LineSink>(
+/// A line of a neighbor that has a number.
+fn put_neighbor_number<S: LineSink>(
     sink: &mut S,
     line: &mut Writer,
     name: &[u8],
@@ -67,7 +66,7 @@ fn put_number<S: LineSink>(
     sink.line(line.as_slice());
 }
 
-/// The lines of kept TLVs.
+/// The lines of a neighbor's kept TLVs.
 fn put_kept<S: LineSink>(sink: &mut S, line: &mut Writer, name: &[u8], number: u8, kept: Kept<'_>)
     requires name { length name.now ≤ 15 }
     requires kept { AllByRecursion IsKeptTlv kept }
@@ -80,7 +79,7 @@ fn put_kept<S: LineSink>(sink: &mut S, line: &mut Writer, name: &[u8], number: u
     }
 }
 
-/// The lines of a neighbor that stands at this place, from 1, in the table of the port of this name.
+/// The lines of a neighbor, by its number in the table of the port of this name: the first has number 1.
 fn put_neighbor<S: LineSink>(
     sink: &mut S,
     line: &mut Writer,
@@ -93,15 +92,15 @@ fn put_neighbor<S: LineSink>(
 {
     put_chassis_id(sink, line, name, number, neighbor.msap().chassis);
     put_port_id(sink, line, name, number, neighbor.msap().port);
-    put_number(sink, line, name, number, b"ttl=", neighbor.ttl());
-    put_number(sink, line, name, number, b"expires=", neighbor.left());
+    put_neighbor_number(sink, line, name, number, b"ttl=", neighbor.ttl());
+    put_neighbor_number(sink, line, name, number, b"expires=", neighbor.left());
     put_kept(sink, line, name, number, neighbor.kept());
 }
 
-/// Whether a port has too many neighbors.
+/// The line that says whether a port has too many neighbors.
 fn put_too_many<S: LineSink>(sink: &mut S, line: &mut Writer, name: &[u8], too_many: bool)
     requires { length name.now ≤ 15 }
-    ensures { S.takes sink.old sink.new (port_key name.now ++ (codes "too-many=" ++ yes_or_no_of too_many)) }
+    ensures { S.takes sink.old sink.new (too_many_line name.now too_many) }
 {
     begin_port_line(line, name);
     line.text(b"too-many=");
@@ -109,7 +108,7 @@ fn put_too_many<S: LineSink>(sink: &mut S, line: &mut Writer, name: &[u8], too_m
     sink.line(line.as_slice());
 }
 
-/// The first lines of a port.
+/// The lines that stand before those of a port's neighbors.
 fn put_counts<A: Allocator, S: LineSink>(sink: &mut S, line: &mut Writer, port: &Port<A>)
     ensures { Takes S.takes sink.old sink.new (count_lines port.now) }
 {
@@ -139,7 +138,7 @@ fn put_port<A: Allocator, S: LineSink>(sink: &mut S, line: &mut Writer, port: &P
     }
 }
 
-/// All of them.
+/// The lines of `show neighbors`.
 pub(crate) fn put_neighbors<A: Allocator, S: LineSink>(
     sink: &mut S,
     line: &mut Writer,

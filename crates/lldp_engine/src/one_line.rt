@@ -2,14 +2,14 @@
 ghost use Rattle.std.specs.Prelude.{◌≡◌, None};
 ghost use Rattle.std.specs.Option.{option_map};
 ghost use Rattle.lldp_engine.specs.Lines.{octets_of};
-ghost use Rattle.lldp_engine.specs.Code.Awaits.{keeps};
+ghost use Rattle.lldp_engine.specs.Code.OneLineState.{KeepsOne};
 
 use crate::line_sink::LineSink;
 use crate::writer::Line;
 use arrayvec::ArrayVec;
 use std::marker::Model;
 
-/// The line, or how many come before it.
+/// How many lines come before the one that is wanted, and that line once it came.
 #[derive(Drop)]
 pub(crate) struct OneLine {
     before: u32,
@@ -19,9 +19,9 @@ pub(crate) struct OneLine {
 impl Model for OneLine {
     ghost use Rattle.std.specs.Option.{option_map};
     ghost use Rattle.lldp_engine.specs.Lines.{octets_of};
-    ghost use Rattle.lldp_engine.specs.Code.Awaits.{Awaiting};
+    ghost use Rattle.lldp_engine.specs.Code.OneLineState.{OneLineState};
 
-    ghost Value = { Awaiting };
+    ghost Value = { OneLineState };
 
     ghost view = { λ s. record { before = s.before; line = option_map octets_of s.line } };
 }
@@ -41,7 +41,7 @@ impl OneLine {
 }
 
 impl LineSink for OneLine {
-    ghost takes = { keeps };
+    ghost takes = { KeepsOne };
 
     fn line(&mut self, line: &[u8]) {
         if self.line.is_some() {

@@ -8,7 +8,7 @@ use crate::port::Port;
 use crate::writer::Writer;
 use std::alloc::Allocator;
 
-/// The lines of a port.
+/// The lines of a port: its nine counters.
 fn put_counters<A: Allocator, S: LineSink>(sink: &mut S, line: &mut Writer, port: &Port<A>)
     ensures { Takes S.takes sink.old sink.new (counter_lines port.now) }
 {
@@ -31,7 +31,7 @@ fn put_counters<A: Allocator, S: LineSink>(sink: &mut S, line: &mut Writer, port
     put_port_number(sink, line, name, b"drops=", counters.drops);
 }
 
-/// All of them.
+/// The lines of `show statistics`.
 pub(crate) fn put_statistics<A: Allocator, S: LineSink>(
     sink: &mut S,
     line: &mut Writer,

@@ -6,6 +6,7 @@ mod opening;
 mod sending;
 mod shows;
 mod values;
+mod whole_shows;
 mod words;
 
 use super::{Agent, Event, LineSink, OpenFault, Options, Role, Show};

@@ -4,8 +4,8 @@ use Rattle.lldp_engine.proofs.chassis_lines.put_chassis.Goals as goal
 pub returns : goal.returns
 returns g c =
     rw (← c.configuration.view_is) (
-    takes_line _ _ _ _ _ _ (rw (c.as_slice.ensures.value, c.write_mac.ensures.value, c.begin.ensures) at c.line.ensures) (
-    takes_line _ _ _ _ _ _ (rw c.as_slice-2.ensures.value at c.put_text.ensures) (
-    takes_line _ _ _ _ _ _ (rw c.as_slice-3.ensures.value at c.put_text-2.ensures) (
-    takes_line _ _ _ _ _ _ (rw (c.as_slice-4.ensures.value, c.text.ensures.value, c.begin-2.ensures, c.role_text.ensures.value) at c.line-2.ensures)
+    takes_line _ _ _ _ _ _ c.put_mac.ensures (
+    takes_line _ _ _ _ _ _ (rw c.as_slice.ensures.value at c.put_text.ensures) (
+    takes_line _ _ _ _ _ _ (rw c.as_slice-2.ensures.value at c.put_text-2.ensures) (
+    takes_line _ _ _ _ _ _ c.put_role.ensures
     c.put_if_given.ensures))))
