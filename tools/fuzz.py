@@ -64,8 +64,8 @@ def identifier(dice):
 
 def management_address(dice):
     """The body of a Management Address, most often a well-formed one."""
-    family, length = dice.choice([(1, 4), (2, 16), (6, 6), (1, 5), (2, 4), (0, 31)])
-    oid = dice.octets(dice.choice([0, 0, 0, 1, 7, 128]))
+    family, length = dice.choice([(1, 4), (1, 4), (2, 16), (6, 6), (1, 5), (2, 4), (0, 31), (0, 32), (0, 0)])
+    oid = dice.octets(dice.choice([0, 0, 0, 1, 7, 128, 129]))
     body = bytes([length + 1, family]) + dice.randbytes(length)
     return body + dice.randbytes(5) + bytes([len(oid)]) + oid
 
@@ -140,11 +140,13 @@ ODD_WORDS = (b"x tick rx up show lldp status neighbors eth9 0 TICK tick\r \xff c
 
 def ticks(dice, port_count):
     """A tick line. Long waits are rare, and rarer with many ports, since each tick of a port takes time."""
+    if port_count > 9:
+        return b"tick"
     if dice.happens(20000 * port_count):
         return b"tick %d" % dice.choice([65535, dice.randrange(1, 65536)])
     if dice.happens(120 * port_count):
         return b"tick %d" % dice.randrange(1, 700)
-    return dice.choice([b"tick", b"tick", b"tick 2", b"tick 3", b"tick %d" % dice.randrange(1, 40)])
+    return dice.choice([b"tick", b"tick", b"tick", b"tick 2", b"tick 3", b"tick %d" % dice.randrange(1, 40)])
 
 
 def good_line(dice, ports):
@@ -174,6 +176,18 @@ def good_line(dice, ports):
     if form == "limit":
         return b"configure lldp max-neighbors %d" % dice.choice([1, 1, 2, 2, 3, 4, 5, 32, 128])
     return b"update"
+
+
+def restart(dice, port):
+    """Lines that stop a port, or take its link, and let it start again, with changes before and behind."""
+    updates = [b"update"] * dice.randrange(7)
+    if dice.happens(2):
+        away, back = b"down " + port, b"up " + port
+    else:
+        away = b"configure ports %s lldp status %s" % (port, dice.choice([b"rx-only", b"disabled"]))
+        back = b"configure ports %s lldp status %s" % (port, dice.choice([b"rx-and-tx", b"tx-only"]))
+    pause = [b"tick"] * dice.randrange(4)
+    return [b"tick", *updates, away, *pause[:dice.randrange(4)], back, *pause, *updates, b"tick"]
 
 
 def altered_line(dice, line):
@@ -223,7 +237,7 @@ def line_of(dice, ports):
 # ---------------------------------------------------------------------------------------- words and traces
 ODD_VALUES = ["", "-", "0", "00:11", "00:11:22:33:44:5g", "1.2.3", "1.2.3.04", "1.2.3.256", "129", "+1",
               "007", "-1", "x", "Bridge", "a.b", "0123456789abcdef", "~" * 256, "caf\u00e9", "a\tb",
-              "192.0.2.1 ", "4294967297"]
+              "192.0.2.1 ", "4294967297", "\udcff"]
 
 
 def ports_of(dice):
@@ -303,8 +317,11 @@ def case(seed, known):
     else:
         words = words_of(dice)
         ports = [word.encode() for word in words if re.fullmatch("[0-9A-Za-z_/:-]*[0-9]", word)]
-        length = dice.choice([10, 20, 30, 40, 50, 60, 150])
+        length = dice.choice([10, 20, 30, 40, 50, 60, 150]) if len(ports) < 9 else 10
         lines = [line_of(dice, ports) for _ in range(length)]
+        for _ in range(dice.randrange(3) if ports else 0):
+            place = dice.randrange(length)
+            lines[place:place] = restart(dice, dice.choice(ports))
         lines += [b"show neighbors", b"show statistics", b"show configuration"]
     if dice.happens(4):
         lines.append(b"")
@@ -414,6 +431,8 @@ def main():
             print(as_command(given.program, words, lines))
             return 1
         ran += 1
+        if ran % 10000 == 0:
+            print(f"{ran} traces agree so far", flush=True)
     print(f"{ran} traces agree, seeds {given.seed} to {given.seed + ran - 1}, "
           f"{time.monotonic() - begin:.0f} seconds")
     return 0

@@ -26,9 +26,9 @@ class Tlv(NamedTuple):
     kind: int
     body: bytes
 
-    def spelled(self):
-        """Seven bits of type, nine bits of length, the body."""
-        return (self.kind << 9 | len(self.body)).to_bytes(2, "big") + self.body
+def spelled(kind, body):
+    """A TLV: seven bits of type, nine bits of length, the body."""
+    return (kind << 9 | len(body)).to_bytes(2, "big") + body
 
 def number(octets):
     """An unsigned number, most significant octet first."""
@@ -88,7 +88,7 @@ class Lldpdu:
             return
         kinds = [tlv.kind for tlv in tlvs]
         inside = tlvs[:kinds.index(END)] if END in kinds else tlvs
-        self.extent = b"".join(tlv.spelled() for tlv in inside)
+        self.extent = b"".join(spelled(*tlv) for tlv in inside)
         self.kept = []
         for tlv in inside[3:]:
             if tlv.kind in (CHASSIS_ID, PORT_ID, TIME_TO_LIVE):
@@ -271,21 +271,21 @@ class Agent:
         return 2 * ROLES[self.options.role].to_bytes(2, "big")
 
     def management(self):
-        """The body of the Management Address, an IPv4 one with no interface and no OID, or None."""
-        octets = bytes(int(it) for it in self.options.management.split(".") if it)
-        return b"\5\1" + octets + b"\1\0\0\0\0\0" if octets else None
+        """The body of the Management Address: an IPv4 one, with no interface and no OID."""
+        return b"\5\1" + bytes(map(int, self.options.management.split("."))) + b"\1\0\0\0\0\0"
 
     def frame(self, port, kind):
         """The frame that a port sends, "ordinary" or "shutdown"."""
         name, ttl = port.name.encode(), self.ttl() if kind == "ordinary" else 0
-        tlvs = [Tlv(CHASSIS_ID, b"\4" + self.mac), Tlv(PORT_ID, b"\5" + name),
-                Tlv(TIME_TO_LIVE, ttl.to_bytes(2, "big"))]
+        octets = NEAREST_BRIDGE + self.mac + ETHERTYPE + spelled(CHASSIS_ID, b"\4" + self.mac)
+        octets += spelled(PORT_ID, b"\5" + name) + spelled(TIME_TO_LIVE, ttl.to_bytes(2, "big"))
         if kind == "ordinary":
-            tlvs += [Tlv(PORT_DESCRIPTION, name), Tlv(SYSTEM_NAME, self.hostname),
-                     Tlv(SYSTEM_DESCRIPTION, self.description), Tlv(CAPABILITIES, self.capabilities())]
-            tlvs += [Tlv(MANAGEMENT_ADDRESS, self.management())] if self.management() else []
-        tlvs.append(Tlv(END, b""))
-        return NEAREST_BRIDGE + self.mac + ETHERTYPE + b"".join(tlv.spelled() for tlv in tlvs)
+            octets += spelled(PORT_DESCRIPTION, name) + spelled(SYSTEM_NAME, self.hostname)
+            octets += spelled(SYSTEM_DESCRIPTION, self.description)
+            octets += spelled(CAPABILITIES, self.capabilities())
+            if self.options.management:
+                octets += spelled(MANAGEMENT_ADDRESS, self.management())
+        return octets + spelled(END, b"")
 
     def meet(self, ports, event):
         """Has ports meet an event, in their order, and gives the lines of the frames that they send."""
@@ -388,7 +388,7 @@ def show_chassis(agent):
     yield f"local-chassis.name={escaped(agent.hostname)}"
     yield f"local-chassis.descr={escaped(agent.description)}"
     yield f"local-chassis.caps={shown_capabilities(agent.capabilities())}"
-    if agent.management():
+    if agent.options.management:
         yield f"local-chassis.mgmt={shown_management(agent.management())}"
 
 def show_configuration(agent):
@@ -558,6 +558,8 @@ def read_words(words):
 
 def opened(words):
     """The agent that the words ask for; the first check that fails says why there is none."""
+    if re.search("[\ud800-\udfff]", " ".join(words)):  # octets that are no UTF-8
+        raise NoRun(2, "lldpa: no memory")
     given, ports = read_words(words)
     options = SimpleNamespace(**{**DEFAULTS, **given})
     for is_well, fault in [

@@ -1,30 +1,87 @@
 #!/bin/sh
-# Refuses each allocation of the program in turn, on its stored run. Each such run ends with status 2, `lldpa: no memory` on
-# standard error and nothing on standard output, or it does without that allocation and gives the stored output. It ends where
-# ten runs in a row gave the stored output: then no allocation was left to refuse.
-# It takes the numbers to begin and to end with, 1 and none unless given. Each step takes some seconds.
+# Refuses memory to the built program and sees that it says so: status 2, `lldpa: no memory` on its standard
+# error and nothing on standard output. Each request for memory of a run is refused once with all later ones,
+# and once alone:
+#  - with all later ones, the run always ends so;
+#  - alone, a request may also be survived, and the run then gives its right output with status 0: std asks
+#    for all the room that an iterator hints at and, where it does not get that, for less. That is no want.
+# The runs are the stored run of the program, and one that opens 64 ports of 128 neighbors.
+# It takes the program (the gate's unless given), and needs a C compiler for refuse.c, which it preloads. Its
+# last line counts the runs; the status is 3 where it had to be skipped.
 set -u
-cd "$(dirname "$0")/../crates/lldpa" || exit 2
-n=${1:-1}
-refused=0
-unrefused=0
+cd "$(dirname "$0")/.." || exit 2
+program=$(realpath -- "${1:-crates/lldpa/out/lldpa}") && [ -x "$program" ] || { echo "no program"; exit 2; }
+command -v cc > /dev/null || { echo "skipped: refused memory, which needs a C compiler (cc)"; exit 3; }
 room=$(mktemp -d) || exit 2
 trap 'rm -rf "$room"' EXIT
+cc -O1 -shared -fPIC -o "$room/refuse.so" tools/refuse.c || exit 2
+passed=0
+failed=0
+survived=0
 
-while [ "$n" -le "${2:-100000}" ] && [ "$unrefused" -lt 10 ]; do
-    # The words stand one a line.
-    tr '\n' '\0' < args | xargs -0 sh -c 'rt try --fail-alloc "$0" -- "$@" < stdin' "$n" > "$room/out" 2> "$room/err"
-    if grep -q '^checked: ended status=0$' "$room/err" && cmp -s stdout "$room/out"; then
-        unrefused=$((unrefused + 1))
-    elif grep -q '^checked: ended status=2$' "$room/err" && grep -qx 'lldpa: no memory' "$room/err" && [ ! -s "$room/out" ]; then
-        unrefused=0
-        refused=$((refused + 1))
+# Runs the program on $room/in with the words given, memory refused as the environment says.
+run() {
+    LD_PRELOAD=$room/refuse.so "$program" "$@" < "$room/in" > "$room/out" 2> "$room/err"
+    status=$?
+}
+
+says_no_memory() {
+    [ "$status" -eq 2 ] && [ ! -s "$room/out" ] && [ "$(cat "$room/err")" = "lldpa: no memory" ]
+}
+
+survives() {
+    [ "$status" -eq 0 ] && [ ! -s "$room/err" ] && cmp -s "$room/out" "$room/want"
+}
+
+# Counts a run that was well, else tells what it did.
+judge() {
+    if [ "$1" -eq 0 ]; then
+        passed=$((passed + 1))
     else
-        echo "allocation $n refused:"
-        cat "$room/out" "$room/err"
-        exit 1
+        failed=$((failed + 1))
+        echo "$2: status $status, wrote $(head -c 200 "$room/out"), said $(head -c 200 "$room/err")"
     fi
-    n=$((n + 1))
+}
+
+# Refuses each request of the run on the words given, which wants what $room/want has.
+refuse_each() {
+    TELL_TO=$room/requests run "$@"
+    survives
+    judge $? "ample memory"
+    requests=$(cat "$room/requests" 2> /dev/null || echo 0)
+    [ "$requests" -gt 0 ]
+    judge $? "no request was seen: is the program linked to the C library?"
+    number=1
+    while [ "$number" -le "$requests" ]; do
+        REFUSE_AT=$number REFUSE_LATER=1 run "$@"
+        says_no_memory
+        judge $? "request $number and all later ones refused"
+        REFUSE_AT=$number run "$@"
+        if survives; then survived=$((survived + 1)); fi
+        says_no_memory || survives
+        judge $? "request $number refused"
+        number=$((number + 1))
+    done
+    echo "$requests requests for memory refused, of which $survived were survived alone"
+    survived=0
+}
+
+set --
+while IFS= read -r word || [ -n "$word" ]; do set -- "$@" "$word"; done < crates/lldpa/args
+cp crates/lldpa/stdin "$room/in"
+cp crates/lldpa/stdout "$room/want"
+refuse_each "$@"
+
+set -- --hostname sw1 --mac 00:00:5e:00:53:01 --management 192.0.2.1 --role bridge --max-neighbors 128
+number=1
+while [ "$number" -le 64 ]; do
+    set -- "$@" "port$number"
+    number=$((number + 1))
 done
-echo "$refused allocations refused, each with status 2"
-[ "$refused" -gt 0 ]
+echo "show chassis" > "$room/in"
+printf 'local-chassis.%s\n' mac=00:00:5e:00:53:01 name=sw1 descr=lldpa caps=Bridge:on mgmt=192.0.2.1,1,0, \
+    > "$room/want"
+refuse_each "$@"
+
+echo "$passed passed, $failed failed"
+[ "$failed" -eq 0 ]
