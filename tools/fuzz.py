@@ -171,7 +171,8 @@ def good_line(dice, ports):
             return b"configure lldp tx-hold %d" % dice.choice([1, 4, 100, dice.randrange(1, 101)])
         return b"configure lldp tx-interval %d" % dice.choice([1, 2, 3, 5, 30, 40, 3600])
     if form == "text":
-        text = bytes(dice.choices(b"abc XYZ\\'#~~~~\t", k=dice.choice([0, 1, 3, 9, 255, 256])))
+        text = bytes(dice.choices(b"abc XYZ\\'#~", k=dice.choice([0, 1, 3, 9, 255, 256])))
+        text = altered_octets(dice, text).replace(b"\n", b"") if dice.happens(5) else text
         return b'configure system %s "%s"' % (dice.choice([b"hostname", b"description"]), text)
     if form == "limit":
         return b"configure lldp max-neighbors %d" % dice.choice([1, 1, 2, 2, 3, 4, 5, 32, 128])
@@ -265,7 +266,7 @@ def words_of(dice):
             options.append((name, dice.choice(values)))
     if dice.happens(5):
         options.append(("--receive-only",))
-    if dice.happens(40):
+    if dice.happens(12):
         options, ports = altered_words(dice, options, ports)
     dice.shuffle(options)
     joined = [["=".join(option)] if dice.happens(4) else list(option) for option in options]
