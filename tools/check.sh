@@ -1,0 +1,188 @@
+#!/bin/sh
+# Checks the built program: the examples of the manual and the manual page, misuse of its words and streams,
+# refused memory, and half a minute of random traces beside the model.
+#     tools/check.sh [PROGRAM]
+# PROGRAM is the one that the gate leaves unless given. It needs sh, python3 and cmp, and a C compiler for
+# refused memory; what had to be skipped is said and not counted. The last line is `N passed, M failed`.
+set -u
+cd "$(dirname "$0")/.." || exit 2
+program=$(realpath -- "${1:-crates/lldpa/out/lldpa}")
+if [ ! -x "$program" ]; then
+    echo "no program at $program: rt run in crates/lldpa builds it"
+    echo "0 passed, 1 failed"
+    exit 1
+fi
+room=$(mktemp -d) || exit 2
+trap 'rm -rf "$room"' EXIT
+mkdir "$room/bin" "$room/folder"
+ln -s "$program" "$room/bin/lldpa"
+frame=0180c200000e02000000000188cc020704020000000001040505657468300602007908046574683
+frame=${frame}00a096c6f63616c686f73740c056c6c6470610e04008000800000
+passed=0
+failed=0
+
+# Counts a check that held (0), or one that did not, which is told.
+judge() {
+    if [ "$1" -eq 0 ]; then
+        passed=$((passed + 1))
+    else
+        failed=$((failed + 1))
+        echo "FAILED: $2"
+    fi
+}
+
+# ends STATUS SAID COMMAND [WRITTEN]: a command for the shell, run with empty input in a folder of its own,
+# ends with that status, says that line on standard error (none where it is empty, any text where it is `*`)
+# and writes those lines (none unless given, any text where they are `*`).
+ends() {
+    (cd "$room" && PATH="$room/bin:$PATH" sh -c "$3") < /dev/null > "$room/out" 2> "$room/err"
+    status=$?
+    is_so=0
+    [ "$status" -eq "$1" ] || is_so=1
+    holds "$2" "$room/err" || is_so=1
+    holds "${4-}" "$room/out" || is_so=1
+    judge "$is_so" "$3: status $status, said $(head -c 200 "$room/err"), wrote $(head -c 200 "$room/out")"
+}
+
+# Whether a file has those lines: none where they are empty, any where they are `*`.
+holds() {
+    case $1 in
+        "") [ ! -s "$2" ] ;;
+        "*") [ -s "$2" ] ;;
+        *) printf '%s\n' "$1" | cmp -s - "$2" ;;
+    esac
+}
+
+# The counts of a script whose last line is `N passed, M failed`.
+part() {
+    echo "== $1"
+    shift
+    "$@" > "$room/part" 2>&1
+    part_status=$?
+    cat "$room/part"
+    last=$(tail -n 1 "$room/part")
+    counted=$(expr "$last" : '\([0-9]*\) passed, [0-9]* failed$')
+    uncounted=$(expr "$last" : '[0-9]* passed, \([0-9]*\) failed$')
+    if [ "$part_status" -eq 3 ]; then
+        return
+    elif [ -z "$counted" ] || { [ "$part_status" -ne 0 ] && [ "$uncounted" -eq 0 ]; }; then
+        judge 1 "it did not end as it ought to, with status $part_status"
+    else
+        passed=$((passed + counted))
+        failed=$((failed + uncounted))
+    fi
+}
+
+misused_words() {
+    echo "== words"
+    ends 2 "lldpa: no ports" 'lldpa'
+    ends 2 "lldpa: no ports" 'lldpa --receive-only --'
+    ends 2 "lldpa: too many ports" 'lldpa $(seq 65)'
+    ends 2 "lldpa: too many ports" 'lldpa a.b $(seq 64)'
+    ends 0 "" 'lldpa $(seq 64)'
+    ends 2 "lldpa: bad port name" 'lldpa a.b'
+    ends 2 "lldpa: bad port name" 'lldpa ""'
+    ends 2 "lldpa: bad port name" 'lldpa "eth 0"'
+    ends 2 "lldpa: bad port name" 'lldpa 0123456789abcdef'
+    ends 0 "" 'lldpa 0123456789abcde'
+    ends 0 "" 'lldpa -- -a - Gi0/1 x_y:z'
+    ends 2 "lldpa: bad port name" 'lldpa eth0 eth0 a.b'
+    ends 2 "lldpa: same port twice" 'lldpa eth0 eth1 eth0'
+    ends 2 "lldpa: bad text" 'lldpa --hostname "$(printf %256s)" eth0'
+    ends 0 "" 'lldpa --hostname "$(printf %255s)" eth0'
+    ends 2 "lldpa: bad text" 'lldpa --hostname "a$(printf "\t")b" eth0'
+    ends 2 "lldpa: bad text" 'lldpa --hostname "caf$(printf "\303\251")" eth0'
+    ends 0 "" 'lldpa --hostname "" eth0'
+    for mac in 00:11 00:11:22:33:44:5g 00-11-22-33-44-55 00:11:22:33:44:55:66 0:11:22:33:44:55 ""; do
+        ends 2 "lldpa: bad --mac" "lldpa --mac '$mac' eth0"
+    done
+    for address in 192.0.2 192.0.2.1.1 192.0.2.01 192.0.2.256 192.0.2. 192.0.2.-1 " 192.0.2.1" ::1 ""; do
+        ends 2 "lldpa: bad --management" "lldpa --management '$address' eth0"
+    done
+    ends 2 "lldpa: bad --mac" 'lldpa --management x --mac x --hostname "$(printf %256s)" a.b'
+    ends 2 "lldpa: bad --management" 'lldpa --management x --hostname "$(printf %256s)" a.b'
+    for option in max-neighbors:128 tx-credit-max:10 tx-fast-init:8 reinit-delay:10; do
+        name=--${option%:*}
+        most=${option#*:}
+        ends 0 "" "lldpa $name 1 eth0 && lldpa $name=$most eth0"
+        ends 0 "" "lldpa $name +1 eth0 && lldpa $name 01 eth0"
+        for value in 0 $((most + 1)) x 1.0 "" 256 4294967297 18446744073709551617; do
+            ends 2 "*" "lldpa $name '$value' eth0"
+        done
+        ends 2 "*" "lldpa $name=-1 eth0"
+        ends 2 "*" "lldpa $name 1 $name 1 eth0"
+        ends 2 "*" "lldpa eth0 $name"
+    done
+    for words in --no-such-option -x --role "--role switch" "--role Bridge" --receive-only=yes --mac --max \
+        "--receive-only --receive-only" "--hostname a --hostname a" "--role router --role router"; do
+        ends 2 "*" "lldpa eth0 $words"
+    done
+    ends 2 "lldpa: no memory" 'lldpa "$(printf "\377")"'
+    ends 0 "" 'lldpa --help' "*"
+    ends 0 "" 'lldpa -h eth0' "*"
+    ends 0 "" 'lldpa --version' "*"
+    ends 2 "lldpa: bad port name" 'printf "tick\n" | { lldpa a.b; kept=$?; cat; exit $kept; }' tick
+}
+
+misused_streams() {
+    echo "== streams"
+    ends 0 "" 'lldpa eth0'
+    ends 0 "" 'printf "\n\n" | lldpa eth0'
+    ends 0 "" 'printf "tick" | lldpa eth0' "tx eth0 $frame"
+    ends 0 "" '(printf ti; sleep 0.2; printf "ck\nti"; sleep 0.2; echo ck) | lldpa eth0' "tx eth0 $frame"
+    ends 0 "" 'printf "tick\r\n" | lldpa eth0' "error: unknown command"
+    ends 0 "" 'printf "tick\0\n" | lldpa eth0' "error: unknown command"
+    ends 0 "" 'printf %4096s | lldpa eth0'
+    ends 0 "" 'printf %4097s | lldpa eth0' "error: line too long"
+    ends 0 "" 'printf "%3000000s\ntick\n" | lldpa eth0' "error: line too long
+tx eth0 $frame"
+    ends 1 "lldpa: read failed" 'lldpa eth0 < folder'
+    ends 1 "lldpa: read failed" 'lldpa eth0 <&-'
+    ends 1 "" 'lldpa eth0 < folder 2>&-'
+    ends 0 "" 'lldpa eth0 >&-'
+    ends 1 "lldpa: write failed" 'echo tick | lldpa eth0 >&-'
+    ends 1 "lldpa: write failed" 'lldpa --help >&-'
+    ends 1 "lldpa: write failed" 'lldpa --version >&-'
+    ends 1 "" 'echo tick | lldpa eth0 >&- 2>&-'
+    ends 2 "" 'lldpa a.b 2>&-'
+    ends 1 "lldpa: write failed" \
+        '{ sleep 0.5; echo tick; } | { lldpa eth0; echo $? > ended; } | :; sleep 1; exit "$(cat ended)"'
+    if [ -c /dev/full ]; then
+        ends 0 "" 'lldpa eth0 > /dev/full'
+        ends 1 "lldpa: write failed" 'echo tick | lldpa eth0 > /dev/full'
+        ends 1 "lldpa: write failed" 'echo show chassis | lldpa eth0 > /dev/full'
+        ends 1 "lldpa: write failed" 'echo x | lldpa eth0 > /dev/full'
+        ends 1 "lldpa: write failed" 'lldpa --help > /dev/full'
+        ends 1 "lldpa: write failed" 'lldpa --version > /dev/full'
+        ends 2 "" 'lldpa a.b 2> /dev/full'
+        ends 2 "" 'lldpa --role x 2> /dev/full'
+        ends 1 "" 'echo tick | lldpa eth0 > /dev/full 2> /dev/full'
+    else
+        echo "skipped: a full device, since there is no /dev/full"
+    fi
+}
+
+# Input that is no text at all, against the model.
+binary_input() {
+    echo "== binary input"
+    python3 -c 'import random, sys
+sys.stdout.buffer.write(random.Random(1).randbytes(2000000))' > "$room/random"
+    for file in "$room/random" "$program" tools/model.py; do
+        python3 tools/model.py eth0 < "$file" > "$room/want"
+        "$program" eth0 < "$file" > "$room/out" 2> "$room/err"
+        is_so=$?
+        [ ! -s "$room/err" ] && cmp -s "$room/want" "$room/out" || is_so=1
+        judge "$is_so" "$file as input: said $(head -c 200 "$room/err"), or not what the model writes"
+    done
+}
+
+part "examples of the manual and the manual page" python3 tools/examples.py "$program"
+misused_words
+misused_streams
+binary_input
+part "refused memory" tools/refuse-memory.sh "$program"
+echo "== random traces, beside the model"
+python3 tools/fuzz.py --program "$program" --seconds 30
+judge $? "the program and the model differ"
+echo "$passed passed, $failed failed"
+[ "$failed" -eq 0 ]
