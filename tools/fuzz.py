@@ -298,35 +298,43 @@ def examples():
         yield shlex.split(shown[1]), shown[2].encode().split(b"\n")
 
 
+def altered_example(dice, words, lines):
+    """An example with some lines altered, dropped, repeated or added."""
+    words, lines = list(words), list(lines)
+    for _ in range(dice.randrange(1, 12)):
+        place = dice.randrange(len(lines) + 1)
+        change = dice.choice(["alter", "alter", "drop", "again", "new", "new"])
+        if change == "new" or place == len(lines):
+            lines.insert(place, line_of(dice, [b"eth0"]))
+        elif change == "alter":
+            lines[place] = altered_line(dice, lines[place]).replace(b"\n", b"")
+        elif change == "drop":
+            del lines[place]
+        else:
+            lines.insert(dice.randrange(len(lines) + 1), lines[place])
+    return words, lines
+
+
+def new_trace(dice):
+    """Words and lines of all kinds, and shows at the end."""
+    words = words_of(dice)
+    ports = [word.encode() for word in words if re.fullmatch("[0-9A-Za-z_/:-]*[0-9]", word)]
+    length = dice.choice([10, 20, 30, 40, 50, 60, 150]) if len(ports) < 9 else 10
+    lines = [line_of(dice, ports) for _ in range(length)]
+    for _ in range(dice.randrange(3) if ports else 0):
+        place = dice.randrange(length)
+        lines[place:place] = restart(dice, dice.choice(ports))
+    return words, lines + [b"show neighbors", b"show statistics", b"show configuration"]
+
+
 def case(seed, known):
     """The words and the lines of a trace; joined by LF the lines are the input."""
     dice = Dice(seed)
     if known and dice.happens(8):
-        words, lines = dice.choice(known)
-        words, lines = list(words), list(lines)
-        for _ in range(dice.randrange(1, 12)):
-            place = dice.randrange(len(lines) + 1)
-            change = dice.choice(["alter", "alter", "drop", "again", "new", "new"])
-            if change == "new" or place == len(lines):
-                lines.insert(place, line_of(dice, [b"eth0"]))
-            elif change == "alter":
-                lines[place] = altered_line(dice, lines[place]).replace(b"\n", b"")
-            elif change == "drop":
-                del lines[place]
-            else:
-                lines.insert(dice.randrange(len(lines) + 1), lines[place])
+        words, lines = altered_example(dice, *dice.choice(known))
     else:
-        words = words_of(dice)
-        ports = [word.encode() for word in words if re.fullmatch("[0-9A-Za-z_/:-]*[0-9]", word)]
-        length = dice.choice([10, 20, 30, 40, 50, 60, 150]) if len(ports) < 9 else 10
-        lines = [line_of(dice, ports) for _ in range(length)]
-        for _ in range(dice.randrange(3) if ports else 0):
-            place = dice.randrange(length)
-            lines[place:place] = restart(dice, dice.choice(ports))
-        lines += [b"show neighbors", b"show statistics", b"show configuration"]
-    if dice.happens(4):
-        lines.append(b"")
-    return words, lines
+        words, lines = new_trace(dice)
+    return words, lines + [b""] * dice.happens(4)
 
 
 # --------------------------------------------------------------------------------------------- comparing
