@@ -1,9 +1,15 @@
 -- Steps of the loops over digits.
-use Rattle.std.proofs.Common.{◌≡◌, ℕ, ◌+◌, ◌*◌, ◌/◌, ◌%◌, ◌<◌, ◌≤◌, ◌-◌, zero, suc, List, Some, ◌++◌, length, drop, take, slice_index, Ok, refl, sym, ap, subst, ◌∙◌, arith, nat_lt, if◌then◌else◌}
-use Rattle.std.proofs.lemmas.List.{set-get_or}
+use Rattle.std.proofs.Common.{◌≡◌, ℕ, ◌+◌, ◌*◌, ◌/◌, ◌%◌, ◌<◌, ◌≤◌, ◌-◌, zero, suc, List, Some, ◌++◌, length, drop, take, slice_index, true, Result, Ok, Err, inl, inr, refl, sym, ap, subst, ◌∙◌, arith}
+use Rattle.std.proofs.lemmas.List.{set-get_or, get_or_past}
+use Rattle.std.proofs.lemmas.List.Elements.{All-get_or}
+use Rattle.std.proofs.lemmas.Bool.{cases_lt}
+use Rattle.std.specs.Prelude.{IsOk}
+use Rattle.std.specs.List.{AllPass}
 use Rattle.std.proofs.lemmas.Simd.{get_or-chunk, get_or-put_chunk_at}
 use Rattle.std.specs.Simd.Lanes.{chunk, put_chunk}
-use Rattle.hex.specs.Hex.{hex_digit_value, decode_pairs, encode_with, lower_digits}
+use Rattle.hex.specs.Hex.{hex_digit_value, is_hex_digit, decode_pairs, encode_with, lower_digits}
+use Rattle.hex.specs.declared.error.FromHexError.{FromHexError}
+use Rattle.hex.proofs.HexLemmas.{decode_pairs-ok}
 use Rattle.hex.proofs.Pairs.{prepend, decode_start, decode_step, decode_done, encode_step, encode_done}
 use Rattle.lldpa.specs.Digits.{IsValue, AreSmall, ArePairs, AreDigits}
 
@@ -32,28 +38,30 @@ module _ (input out : List ℕ) (long : length out ≡ 2 * length input) (all : 
   pub all_written : out ≡ encode_with lower_digits input
   all_written = encode_done lower_digits input out (length input) (omega arith) long (written_to (length input) (omega arith))
 
--- the digit of a value, by the two ranges
-pub digit_at : (v : ℕ) → v < 16 → (if nat_lt v 10 then 48 + v else 87 + v) ≡ slice_index lower_digits v
-digit_at zero h = refl
-digit_at (suc zero) h = refl
-digit_at (suc (suc zero)) h = refl
-digit_at (suc (suc (suc zero))) h = refl
-digit_at (suc (suc (suc (suc zero)))) h = refl
-digit_at (suc (suc (suc (suc (suc zero))))) h = refl
-digit_at (suc (suc (suc (suc (suc (suc zero)))))) h = refl
-digit_at (suc (suc (suc (suc (suc (suc (suc zero))))))) h = refl
-digit_at (suc (suc (suc (suc (suc (suc (suc (suc zero)))))))) h = refl
-digit_at (suc (suc (suc (suc (suc (suc (suc (suc (suc zero))))))))) h = refl
-digit_at (suc (suc (suc (suc (suc (suc (suc (suc (suc (suc zero)))))))))) h = refl
-digit_at (suc (suc (suc (suc (suc (suc (suc (suc (suc (suc (suc zero))))))))))) h = refl
-digit_at (suc (suc (suc (suc (suc (suc (suc (suc (suc (suc (suc (suc zero)))))))))))) h = refl
-digit_at (suc (suc (suc (suc (suc (suc (suc (suc (suc (suc (suc (suc (suc zero))))))))))))) h = refl
-digit_at (suc (suc (suc (suc (suc (suc (suc (suc (suc (suc (suc (suc (suc (suc zero)))))))))))))) h = refl
-digit_at (suc (suc (suc (suc (suc (suc (suc (suc (suc (suc (suc (suc (suc (suc (suc zero))))))))))))))) h = refl
-digit_at (suc (suc (suc (suc (suc (suc (suc (suc (suc (suc (suc (suc (suc (suc (suc (suc n)))))))))))))))) h = absurd (omega arith)
-
 known : (c v : ℕ) → IsValue c v → v < 16 → hex_digit_value c ≡ Some v
 known c v h below = grind (arith)
+
+-- a digit has a value below 16
+small : (c v : ℕ) → IsValue c v → is_hex_digit c ≡ true → v < 16
+small c v h digit = grind (arith)
+
+-- what is read has digits alone
+pub digits_of_ok : (s : List ℕ) → IsOk (decode_pairs 0 s) → AllPass is_hex_digit s
+digits_of_ok s ok = go (decode_pairs 0 s) refl ok
+  where
+    go : (r : Result (List ℕ) FromHexError) → decode_pairs 0 s ≡ r → IsOk r → AllPass is_hex_digit s
+    go (Ok bytes) e ok = (decode_pairs-ok 0 s bytes e).0
+    go (Err fault) e ok = cc ok
+
+-- the values of a block of digits
+pub block_small : (s values : List ℕ) (at : ℕ) → length values ≡ 32 → 2 * at + 32 ≤ length s → AllPass is_hex_digit s
+    → ((k : ℕ) → k < 32 → IsValue (slice_index (chunk (2 * at) 32 s) k) (slice_index values k)) → AreSmall values
+block_small s values at many room digits read = λ k. elim (cases_lt k 32) [
+  | inl l ↦
+      let value : IsValue (slice_index s (2 * at + k)) (slice_index values k) = rw (get_or-chunk (2 * at) 32 s k 0 l) at (read k l) in
+      small (slice_index s (2 * at + k)) (slice_index values k) value (All-get_or (λ c. is_hex_digit c ≡ true) s (2 * at + k) 0 (omega arith) digits)
+  | inr g ↦ rw (get_or_past values k 0 (omega (arith, many))) (omega arith)
+]
 
 -- two digits of a block
 pub pair_at : (s out values octets : List ℕ) (at i : ℕ) → length s ≡ 2 * length out → at + 16 ≤ length out → length octets ≡ 16

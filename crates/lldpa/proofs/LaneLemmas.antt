@@ -1,10 +1,10 @@
 -- Vectors that are computed lane by lane from one vector.
-use Rattle.std.proofs.Common.{◌≡◌, ℕ, zero, suc, ◌+◌, ◌-◌, T, ◌*◌, ◌/◌, ◌%◌, ◌^◌, ◌<◌, Bool, true, false, nat_lt, if◌then◌else◌, List, [], ◌∷◌, ◌++◌, map, length, get_or, replicate, cond, leb, eqb, bit_and, bit_or, Option, Some, None, Fits, w8, eqb→eq, eqb-true, refl, sym, ap, subst, ◌∙◌, inl, inr, arith}
-use Rattle.std.proofs.lemmas.Bool.{agree_below, agree_below_at, cases_lt, leb-false}
+use Rattle.std.proofs.Common.{◌≡◌, ℕ, zero, suc, ◌+◌, ◌-◌, T, ◌*◌, ◌/◌, ◌%◌, ◌^◌, ◌<◌, Bool, ◌&&◌, true, false, nat_lt, if◌then◌else◌, List, [], ◌∷◌, ◌++◌, map, length, get_or, replicate, cond, leb, eqb, bit_and, bit_or, Option, Some, None, Fits, w8, eqb→eq, eqb-true, refl, sym, ap, subst, ◌∙◌, inl, inr, arith}
+use Rattle.std.proofs.lemmas.Bool.{agree_below, agree_below_at, and_parts, cases_lt, leb-false, leb-true}
 use Rattle.std.proofs.lemmas.List.{get_or-map, get_or_past, get_or_append_left, get_or-append_right, drop_more, length-map}
 use Rattle.std.proofs.lemmas.Simd.{map-map, zip2_of_maps, splat_is_map, zip2_splat, get_or-zip2, length-zip2, mask_l-mod, get_or_wider, below_from_Fits, Each1-get_or}
-use Rattle.std.specs.Int.Bits.{or_add_and}
-use Rattle.std.proofs.lemmas.Nat.{and_le_r, and_le_l}
+use Rattle.std.proofs.lemmas.Nat.{le_or_l, le_or_r, or_lt}
+use Rattle.std.specs.Prelude.{◌↔◌}
 use Rattle.std.specs.Simd.Lanes.{zip2, sel_l, mask_l, top, chunk, number_l, digits_l, pick_l, Each1}
 use Rattle.hex.specs.Hex.{hex_digit_value, lower_digits}
 use Rattle.lldpa.specs.Digits.{IsValue, AreSmall}
@@ -52,11 +52,14 @@ value_test f c = same (hex_digit_value c) (if nat_lt (f c) 16 then Some (f c) el
 
 -- f computes to the value of each octet
 pub values_are : (f : ℕ → ℕ) (v : List ℕ) {z : List ℕ} → z ≡ map f v → length v ≡ 32 → Each1 (Fits w8) v → agree_below (value_test f) (λ _. true) 256 ≡ true
-    → (k : ℕ) → k < 32 → IsValue (get_or v k 0) (get_or z k 0)
-values_are f v e long fits all k h =
-    let at = ap (λ l. get_or l k 0) e ∙ get_or-map f v k 0 0 (omega (arith, long)) in
-    let small = Each1-get_or (λ x. x < 256) v k 0 (omega (arith, long)) (below_from_Fits w8 v fits) in
-    rw at (same_is _ _ (subst T (sym (agree_below_at (value_test f) (λ _. true) 256 (get_or v k 0) all small)) tt))
+    → (length z ≡ 32) × ((k : ℕ) → k < 32 → IsValue (get_or v k 0) (get_or z k 0))
+values_are f v e long fits all = (
+  ap length e ∙ length-map v f ∙ long,
+  λ k h.
+      let at = ap (λ l. get_or l k 0) e ∙ get_or-map f v k 0 0 (omega (arith, long)) in
+      let small = Each1-get_or (λ x. x < 256) v k 0 (omega (arith, long)) (below_from_Fits w8 v fits) in
+      rw at (same_is _ _ (subst T (sym (agree_below_at (value_test f) (λ _. true) 256 (get_or v k 0) all small)) tt)),
+)
 
 -- f computes to the digit of each value
 pub digits_are : (f : ℕ → ℕ) (v : List ℕ) {z : List ℕ} → z ≡ map f v → length v ≡ 16 → agree_below (λ c. eqb (f c) (get_or lower_digits c 0)) (λ _. true) 16 ≡ true
@@ -70,62 +73,104 @@ two_lanes v i h =
     let b = drop_more v (i + 1) 0 (omega arith) in
     rw (a, b) refl
 
--- two values below 16, as one number, give their octet
-pub octet_at : (v : List ℕ) → length v ≡ 32 → Each1 (Fits w8) v → (k : ℕ) → k < 16 → get_or v (2 * k) 0 < 16 → get_or v (2 * k + 1) 0 < 16
-    → get_or (map (λ x. x * 4097 % 65536 / 256) (digits_l 65536 16 (number_l 256 v))) k 0 ≡ get_or v (2 * k) 0 * 16 + get_or v (2 * k + 1) 0
-octet_at v long fits k h high low =
-    let pair : get_or (digits_l 65536 16 (number_l 256 v)) k 0 ≡ get_or v (2 * k) 0 + 256 * (get_or v (2 * k + 1) 0 + 256 * 0) =
-    get_or_wider 256 2 65536 16 v k refl (below_from_Fits w8 v fits) h ∙ ap (number_l 256) (two_lanes v (2 * k) (omega (arith, long))) in
-    get_or-map (λ x. x * 4097 % 65536 / 256) (digits_l 65536 16 (number_l 256 v)) k 0 0 h ∙ omega (arith, pair, high, low)
+abbrev pub upper_half : ℕ → ℕ → ℕ
+upper_half factor x = x * factor % 65536 / 256
 
-or_parts : (a b : ℕ) → bit_or a b < 16 → (a < 16) × (b < 16)
-or_parts a b h = (omega (arith, or_add_and a b, and_le_r a b), omega (arith, or_add_and a b, and_le_l a b))
+abbrev pub octet_test : (ℕ → ℕ) → ℕ → Bool
+octet_test f p = eqb (f (p / 16 + 256 * (p % 16))) p
+
+-- two values below 16, as one number, give their octet by a factor that does so for each pair
+pub octet_at : (factor : ℕ) (v : List ℕ) → length v ≡ 32 → Each1 (Fits w8) v → agree_below (octet_test (upper_half factor)) (λ _. true) 256 ≡ true
+    → (k : ℕ) → k < 16 → get_or v (2 * k) 0 < 16 → get_or v (2 * k + 1) 0 < 16
+    → get_or (map (upper_half factor) (digits_l 65536 16 (number_l 256 v))) k 0 ≡ get_or v (2 * k) 0 * 16 + get_or v (2 * k + 1) 0
+octet_at factor v long fits all k h high low =
+    let f : ℕ → ℕ = upper_half factor in
+    let a : ℕ = get_or v (2 * k) 0 in
+    let b : ℕ = get_or v (2 * k + 1) 0 in
+    let pair : get_or (digits_l 65536 16 (number_l 256 v)) k 0 ≡ a + 256 * (b + 256 * 0) =
+    get_or_wider 256 2 65536 16 v k refl (below_from_Fits w8 v fits) h ∙ ap (number_l 256) (two_lanes v (2 * k) (omega (arith, long))) in
+    let numbered : a + 256 * (b + 256 * 0) ≡ (a * 16 + b) / 16 + 256 * ((a * 16 + b) % 16) = omega (arith, high, low) in
+    get_or-map f (digits_l 65536 16 (number_l 256 v)) k 0 0 h ∙ ap f (pair ∙ numbered)
+    ∙ eqb-true _ _ (agree_below_at (octet_test f) (λ _. true) 256 (a * 16 + b) all (omega (arith, high, low)))
+
+at_zip2 : (a b : List ℕ) (k : ℕ) → length a ≡ 32 → length b ≡ 32 → k < 32 → get_or (zip2 bit_or a b) k 0 ≡ bit_or (get_or a k 0) (get_or b k 0)
+at_zip2 a b k la lb h = get_or-zip2 bit_or a b k 0 0 0 (omega (arith, la)) (omega (arith, lb))
 
 -- what is small together is small in each
-pub either_small : (a b : List ℕ) → length a ≡ 32 → length b ≡ 32 → AreSmall (zip2 bit_or a b) → AreSmall a × AreSmall b
-either_small a b la lb all = (
+pub each_small : (a b : List ℕ) → length a ≡ 32 → length b ≡ 32 → AreSmall (zip2 bit_or a b) → AreSmall a × AreSmall b
+each_small a b la lb all = (
   λ k. elim (cases_lt k 32) [
-    | inl l ↦ (or_parts (get_or a k 0) (get_or b k 0) (rw (get_or-zip2 bit_or a b k 0 0 0 (omega (arith, la)) (omega (arith, lb))) at (all k))).0
+    | inl l ↦ omega (arith, rw (at_zip2 a b k la lb l) at (all k), le_or_l (get_or a k 0) (get_or b k 0))
     | inr g ↦ rw (get_or_past a k 0 (omega (arith, la))) (omega arith)
   ],
   λ k. elim (cases_lt k 32) [
-    | inl l ↦ (or_parts (get_or a k 0) (get_or b k 0) (rw (get_or-zip2 bit_or a b k 0 0 0 (omega (arith, la)) (omega (arith, lb))) at (all k))).1
+    | inl l ↦ omega (arith, rw (at_zip2 a b k la lb l) at (all k), le_or_r (get_or a k 0) (get_or b k 0))
     | inr g ↦ rw (get_or_past b k 0 (omega (arith, lb))) (omega arith)
   ],
 )
 
+-- and what is small in each is small together
+pub both_small : (a b : List ℕ) → length a ≡ 32 → length b ≡ 32 → AreSmall a × AreSmall b → AreSmall (zip2 bit_or a b)
+both_small a b la lb each = λ k. elim (cases_lt k 32) [
+  | inl l ↦ rw (at_zip2 a b k la lb l) (or_lt 4 (get_or a k 0) (get_or b k 0) (each.0 k) (each.1 k))
+  | inr g ↦ rw (get_or_past (zip2 bit_or a b) k 0 (omega (arith, length-zip2 bit_or a b (la ∙ sym lb), la))) (omega arith)
+]
+
 abbrev at_least : ℕ → ℕ → ℕ
 at_least a b = cond (leb a b) 255 0
 
-none_large : (xs : List ℕ) → mask_l (map (top 7) (zip2 at_least (replicate (length xs) 16) xs)) ≡ 0 → (i : ℕ) → get_or xs i 0 < 16
-none_large [] e i = omega arith
-none_large (x ∷ xs) e zero = go (leb 16 x) refl (omega arith)
+-- the lanes that are not below n
+abbrev pub not_below : ℕ → List ℕ → ℕ
+not_below n xs = mask_l (map (top 7) (zip2 at_least (replicate (length xs) n) xs))
+
+no_bit : (n x rest : ℕ) → x < n → rest ≡ 0 → cond (top 7 (at_least n x)) 1 0 + 2 * rest ≡ 0
+no_bit n x rest below none = go (leb n x) refl
   where
-    go : (t : Bool) → leb 16 x ≡ t → ◌≡◌ {A = ℕ} (cond (top 7 (cond t 255 0)) 1 0) 0 → x < 16
+    go : (t : Bool) → leb n x ≡ t → cond (top 7 (at_least n x)) 1 0 + 2 * rest ≡ 0
+    go true p = absurd (omega (arith, leb-true n x p))
+    go false p = rw (p, none) refl
+
+none_marked : (n : ℕ) (xs : List ℕ) → ((i : ℕ) → get_or xs i 0 < n) → not_below n xs ≡ 0
+none_marked n [] all = refl
+none_marked n (x ∷ xs) all = no_bit n x (not_below n xs) (all 0) (none_marked n xs (λ i. all (suc i)))
+
+all_below_n : (n : ℕ) (xs : List ℕ) → 0 < n → not_below n xs ≡ 0 → (i : ℕ) → get_or xs i 0 < n
+all_below_n n [] some e i = some
+all_below_n n (x ∷ xs) some e zero = go (leb n x) refl (omega arith)
+  where
+    go : (t : Bool) → leb n x ≡ t → ◌≡◌ {A = ℕ} (cond (top 7 (cond t 255 0)) 1 0) 0 → x < n
     go true p q = absurd (omega arith)
-    go false p q = leb-false _ _ p
-none_large (x ∷ xs) e (suc i) = none_large xs (omega arith) i
+    go false p q = leb-false n x p
+all_below_n n (x ∷ xs) some e (suc i) = all_below_n n xs some (omega arith) i
 
--- the mask is empty
-pub small_by_mask : (xs : List ℕ) → length xs ≡ 32 → eqb (mask_l (map (top 7) (zip2 at_least (replicate 32 16) xs)) % 2 ^ 64) 0 ≡ true → AreSmall xs
-small_by_mask xs long e =
-    let few = mask_l-mod (map (top 7) (zip2 at_least (replicate 32 16) xs)) 64 (omega (arith, length-map (zip2 at_least (replicate 32 16) xs) (top 7), length-zip2 at_least (replicate 32 16) xs (sym long))) in
-    none_large xs (ap (λ n. mask_l (map (top 7) (zip2 at_least (replicate n 16) xs))) long ∙ sym few ∙ eqb-true _ _ e)
+-- the mask of the lanes that are not below n is empty exactly where all are below
+pub empty_mask : (n : ℕ) (xs : List ℕ) → length xs ≡ 32 → 0 < n
+    → (eqb (mask_l (map (top 7) (zip2 at_least (replicate 32 n) xs)) % 2 ^ 64) 0 ≡ true) ↔ ((i : ℕ) → get_or xs i 0 < n)
+empty_mask n xs long some =
+    let fits = mask_l-mod (map (top 7) (zip2 at_least (replicate 32 n) xs)) 64 (omega (arith, length-map (zip2 at_least (replicate 32 n) xs) (top 7), length-zip2 at_least (replicate 32 n) xs (sym long))) in
+    let same = ap (λ m. mask_l (map (top 7) (zip2 at_least (replicate m n) xs))) long in (
+      λ e. all_below_n n xs some (same ∙ sym fits ∙ eqb-true _ _ e),
+      λ all. ap (λ m. eqb m 0) (fits ∙ sym same ∙ none_marked n xs all),
+    )
 
-abbrev pub turns : List ℕ
-turns = 0 ∷ 16 ∷ 1 ∷ 17 ∷ 2 ∷ 18 ∷ 3 ∷ 19 ∷ 4 ∷ 20 ∷ 5 ∷ 21 ∷ 6 ∷ 22 ∷ 7 ∷ 23 ∷ 8 ∷ 24 ∷ 9 ∷ 25 ∷ 10 ∷ 26 ∷ 11 ∷ 27 ∷ 12 ∷ 28 ∷ 13 ∷ 29 ∷ 14 ∷ 30 ∷ 15 ∷ 31 ∷ []
-
--- the lanes of two vectors by turns
-pub turns_are : (a b : List ℕ) → length a ≡ 16 → (k : ℕ) → k < 16
-    → (get_or (pick_l 0 (a ++ b) turns) (2 * k) 0 ≡ get_or a k 0) × (get_or (pick_l 0 (a ++ b) turns) (2 * k + 1) 0 ≡ get_or b k 0)
-turns_are a b long k h =
-    let one = eqb-true _ _ (agree_below_at (λ j. eqb (get_or turns (2 * j) 0) j) (λ _. true) 16 k refl h) in
-    let two = eqb-true _ _ (agree_below_at (λ j. eqb (get_or turns (2 * j + 1) 0) (16 + j)) (λ _. true) 16 k refl h) in
+-- places that pick the lanes of two vectors by turns
+pub turns_are : (places a b : List ℕ) → length places ≡ 32 → length a ≡ 16
+    → agree_below (λ j. eqb (get_or places (2 * j) 0) j && eqb (get_or places (2 * j + 1) 0) (16 + j)) (λ _. true) 16 ≡ true
+    → (k : ℕ) → k < 16 → (get_or (pick_l 0 (a ++ b) places) (2 * k) 0 ≡ get_or a k 0) × (get_or (pick_l 0 (a ++ b) places) (2 * k + 1) 0 ≡ get_or b k 0)
+turns_are places a b many long all k h =
+    let both = and_parts _ _ (agree_below_at (λ j. eqb (get_or places (2 * j) 0) j && eqb (get_or places (2 * j + 1) 0) (16 + j)) (λ _. true) 16 k all h) in
+    let one : get_or places (2 * k) 0 ≡ k = eqb-true _ _ both.0 in
+    let two : get_or places (2 * k + 1) 0 ≡ 16 + k = eqb-true _ _ both.1 in
     let back : 16 + k - 16 ≡ k = omega arith in (
-      get_or-map (λ j. get_or (a ++ b) j 0) turns (2 * k) 0 0 (omega arith) ∙ ap (λ j. get_or (a ++ b) j 0) one ∙ get_or_append_left a b 0 k (omega (arith, long)),
-      get_or-map (λ j. get_or (a ++ b) j 0) turns (2 * k + 1) 0 0 (omega arith) ∙ ap (λ j. get_or (a ++ b) j 0) two ∙ get_or-append_right a b 16 (16 + k) 0 long (omega arith) ∙ ap (λ j. get_or b j 0) back,
+      get_or-map (λ j. get_or (a ++ b) j 0) places (2 * k) 0 0 (omega (arith, many)) ∙ ap (λ j. get_or (a ++ b) j 0) one ∙ get_or_append_left a b 0 k (omega (arith, long)),
+      get_or-map (λ j. get_or (a ++ b) j 0) places (2 * k + 1) 0 0 (omega (arith, many)) ∙ ap (λ j. get_or (a ++ b) j 0) two ∙ get_or-append_right a b 16 (16 + k) 0 long (omega arith) ∙ ap (λ j. get_or b j 0) back,
     )
 
 -- the lower four bits
 pub low_bits : (x : ℕ) → x < 256 → bit_and x 15 ≡ x % 16
 low_bits x h = eqb-true _ _ (agree_below_at (λ j. eqb (bit_and j 15) (j % 16)) (λ _. true) 256 x refl h)
+
+pub zeros_small : (n : ℕ) → AreSmall (replicate n 0)
+zeros_small zero k = omega arith
+zeros_small (suc n) zero = omega arith
+zeros_small (suc n) (suc k) = zeros_small n k

@@ -1,6 +1,38 @@
 //! Hexadecimal digits, sixteen octets at a time and without a branch for each.
-ghost use Rattle.std.specs.Prelude.{◌≡◌, ℕ, ◌<◌, ◌≤◌, ◌+◌, ◌*◌, ◌/◌, ◌%◌, length, true, slice_index};
-ghost use Rattle.hex.specs.Hex.{decode_pairs, encode_lower, lower_digits};
+//!
+//! What is read and written is said by the definitions of the crate `hex`. This module is fast and nothing else: where it answers no,
+//! and wherever fewer than sixteen octets are to be read or written, `hex` itself decides and does the work.
+//!
+//! **Reading.** Thirty-two digits `c` stand in the lanes of one vector, and each lane becomes the value of its digit, or 16 or more
+//! where `c` is no digit. Lanes wrap round at 256. Two values are computed, and the lesser one is taken:
+//!
+//! | `c` | `c - 58` | less 6, never below 0 | less 240 |
+//! |---|---|---|---|
+//! | 0 to 47 | 198 to 245 | 192 to 239 | 208 to 255 |
+//! | `0` to `9`, 48 to 57 | 246 to 255 | 240 to 249 | **0 to 9** |
+//! | 58 to 255 | 0 to 197 | 0 to 191 | 16 to 207 |
+//!
+//! | `c` with its bit 32 set | `c - 97` | at most 245 | and 10 |
+//! |---|---|---|---|
+//! | `a` to `f`, 97 to 102, and so `A` to `F` | 0 to 5 | 0 to 5 | **10 to 15** |
+//! | every other | 6 to 255 | 6 to 245 | 16 to 255 |
+//!
+//! No `c` is below 16 in both. A pair of values, high and low, is then one number of 16 bits, `high + 256 * low`; times 4097 it is
+//! `high + 256 * (16 * high + low)` and what is cut off, so its upper half is the octet.
+//!
+//! **What was met.** The values of all blocks are joined by `|`, lane by lane. The union is below 16 exactly where each part is, so
+//! one look at the end tells whether there was any octet that is no digit. Until then wrong octets may have been written, which
+//! nobody reads.
+//!
+//! **Writing.** A value up to 9 is its distance from `0`, a greater one that and 39 more, which is its distance from `a`. The digits of
+//! the upper and of the lower four bits are put by turns.
+//!
+//! **The last block** begins sixteen octets before the end, wherever that is, and so may lie over the one before it. The octets under
+//! both are read from the same digits, or written from the same octets, a second time, with the same result. So nothing is left
+//! over that would have to be done octet by octet.
+ghost use Rattle.std.specs.Prelude.{◌≡◌, ℕ, ◌↔◌, ◌<◌, ◌≤◌, ◌+◌, ◌*◌, ◌/◌, ◌%◌, length, true, slice_index, IsOk, IsTrue};
+ghost use Rattle.std.specs.List.{AllPass};
+ghost use Rattle.hex.specs.Hex.{decode_pairs, encode_lower, is_hex_digit, lower_digits};
 ghost use Rattle.lldpa.specs.Digits.{IsValue, AreSmall, ArePairs, AreDigits};
 
 use std::simd::prelude::*;
@@ -8,33 +40,34 @@ use std::simd::prelude::*;
 /// How many octets are read or written at a time.
 const BLOCK: usize = 16;
 
-/// The value of each digit, and 16 or more for any other octet. The digits `0` to `9` are moved to
-/// the end of the range, so that what stands behind them wraps round.
+/// The value of each digit, and 16 or more for any other octet.
 #[inline(always)]
 fn values_of(digits: u8x32) -> u8x32
-    ensures { (k : ℕ) → k < 32 → IsValue (slice_index digits k) (slice_index result k) }
+    ensures len { length result ≡ 32 }
+    ensures values { (k : ℕ) → k < 32 → IsValue (slice_index digits k) (slice_index result k) }
 {
     let moved = (digits - u8x32::splat(b'9' + 1)).saturating_sub(u8x32::splat(6));
-    let letters = (digits | u8x32::splat(0x20)) - u8x32::splat(b'a');
-    (moved - u8x32::splat(0xf0)).simd_min(letters.simd_min(u8x32::splat(245)) + u8x32::splat(10))
+    let numeral = moved - u8x32::splat(240);
+    let from_a = (digits | u8x32::splat(0x20)) - u8x32::splat(b'a');
+    let letter = from_a.simd_min(u8x32::splat(245)) + u8x32::splat(10);
+    numeral.simd_min(letter)
 }
 
-/// The octets of pairs of values. A pair is read as one number, low octet first, and the factor
-/// leaves the octet in the upper half.
+/// The octets of pairs of values.
 #[inline(always)]
 fn octets_of(values: u8x32) -> u8x16
     ensures len { length result ≡ 16 }
     ensures pairs { (k : ℕ) → k < 16 → slice_index values (2 * k) < 16 → slice_index values (2 * k + 1) < 16
         → slice_index result k ≡ slice_index values (2 * k) * 16 + slice_index values (2 * k + 1) }
 {
-    let pairs = u16x16::from_le_bytes(values) * u16x16::splat(0x1001);
+    let pairs = u16x16::from_le_bytes(values) * u16x16::splat(4097);
     (pairs >> u16x16::splat(8)).cast::<u8>()
 }
 
 /// The bits that either has.
 #[inline(always)]
 fn either(a: u8x32, b: u8x32) -> u8x32
-    ensures { AreSmall result → AreSmall a × AreSmall b }
+    ensures { AreSmall result ↔ (AreSmall a × AreSmall b) }
 {
     a | b
 }
@@ -42,18 +75,19 @@ fn either(a: u8x32, b: u8x32) -> u8x32
 /// Whether each lane is the value of a digit.
 #[inline(always)]
 fn are_small(values: u8x32) -> bool
-    ensures { result ≡ true → AreSmall values }
+    ensures { IsTrue result ↔ AreSmall values }
 {
     values.simd_ge(u8x32::splat(16)).to_bitmask() == 0
 }
 
-/// Sixteen octets, of the digits from there on. Gives the values that were met.
+/// Reads sixteen octets, of the digits from there on. Gives the values that were met.
 #[inline(always)]
 fn decode_block(digits: &[u8], octets: &mut [u8], at: usize) -> u8x32
     requires fits { at + 16 ≤ length octets.old }
     requires digits { length digits.now ≡ 2 * length octets.old }
     ensures len { length octets.new ≡ length octets.old }
     ensures pairs { AreSmall result → (i : ℕ) → at ≤ i → i < at + 16 → ArePairs digits.now octets.new i }
+    ensures small { AllPass is_hex_digit digits.now → AreSmall result }
     ensures rest { (i : ℕ) → i < at → slice_index octets.new i ≡ slice_index octets.old i }
 {
     let values = values_of(u8x32::from_slice(&digits[2 * at..]));
@@ -61,11 +95,12 @@ fn decode_block(digits: &[u8], octets: &mut [u8], at: usize) -> u8x32
     values
 }
 
-/// Reads pairs of digits, and tells whether each of them is one. If not, or where there are few,
-/// nothing is promised of the octets.
+/// Reads pairs of digits, and answers whether it did: exactly where there are sixteen octets or more and each digit is one. Where it
+/// answers no, nothing is promised of the octets.
 pub fn decode_digits(digits: &[u8], octets: &mut [u8]) -> bool
     requires { length digits.now ≡ 2 * length octets.old }
-    ensures { result ≡ true → decode_pairs 0 digits.now ≡ Ok octets.new }
+    ensures octets { result ≡ true → decode_pairs 0 digits.now ≡ Ok octets.new }
+    ensures answer { IsTrue result ↔ ((16 ≤ length octets.old) × IsOk (decode_pairs 0 digits.now)) }
 {
     if octets.len() < BLOCK {
         return false;
@@ -78,30 +113,6 @@ pub fn decode_digits(digits: &[u8], octets: &mut [u8]) -> bool
         at += BLOCK;
     }
     are_small(either(met, decode_block(digits, octets, last)))
-}
-
-/// The digit of a value.
-fn digit_of(value: u8) -> u8
-    requires { value < 16 }
-    ensures { result ≡ slice_index lower_digits value }
-{
-    if value < 10 {
-        b'0' + value
-    } else {
-        b'a' - 10 + value
-    }
-}
-
-/// Writes each octet as two digits, one after the other.
-fn encode_few(octets: &[u8], digits: &mut [u8])
-    requires { length digits.old ≡ 2 * length octets.now }
-    ensures { digits.new ≡ encode_lower octets.now }
-{
-    'octets: for i in 0..octets.len() {
-        let octet = octets[i];
-        digits[2 * i] = digit_of(octet / 16);
-        digits[2 * i + 1] = digit_of(octet % 16);
-    }
 }
 
 /// The digits of values.
@@ -129,7 +140,7 @@ fn by_turns(first: u8x16, second: u8x16) -> u8x32
     )
 }
 
-/// The digits of sixteen octets from there on.
+/// Writes the digits of sixteen octets, of those from there on.
 #[inline(always)]
 fn encode_block(octets: &[u8], digits: &mut [u8], at: usize)
     requires fits { at + 16 ≤ length octets.now }
@@ -150,7 +161,7 @@ pub fn encode_digits(octets: &[u8], digits: &mut [u8])
     ensures { digits.new ≡ encode_lower octets.now }
 {
     if octets.len() < BLOCK {
-        encode_few(octets, digits);
+        let _ = hex::encode_to_slice(octets, digits);
         return;
     }
     let last = octets.len() - BLOCK;

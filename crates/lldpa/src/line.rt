@@ -103,6 +103,7 @@ fn decode<'l>(digits: &[u8], room: &'l mut [u8]) -> Result<&'l [u8], LineFault>
     if digits.len() % 2 == 0 && decode_digits(digits, octets) {
         return Ok(octets);
     }
+    // Few digits, and whatever is to be refused.
     match hex::decode_to_slice(digits, octets) {
         Ok(()) => Ok(octets),
         Err(_) => Err(LineFault::Hex),
@@ -218,6 +219,7 @@ pub fn read_line<'l>(
     if line.len() > LONGEST {
         return Err(LineFault::TooLong);
     }
+    // Most lines are such frames. One with a bad digit is refused where every other line is read.
     if let Some((port, digits)) = plain_frame(agent, line) {
         let count = digits.len() / 2;
         if decode_digits(digits, &mut room[..count]) {

@@ -4,6 +4,7 @@ ghost use Rattle.lldp_engine.specs.Options.{InRange, options_of};
 mod arguments;
 mod commands;
 mod devices;
+mod digits;
 mod failing;
 mod links;
 mod program;

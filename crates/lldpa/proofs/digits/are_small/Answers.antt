@@ -1,5 +1,6 @@
-use Rattle.lldpa.proofs.LaneLemmas.{small_by_mask}
+use Rattle.std.proofs.Common.{arith}
+use Rattle.lldpa.proofs.LaneLemmas.{empty_mask}
 use Rattle.lldpa.proofs.digits.are_small.Goals as goal
 
 pub returns : goal.returns
-returns c = small_by_mask c.args.values c.fits-values.0
+returns c = empty_mask _ c.args.values c.fits-values.0 (omega arith)

@@ -13,5 +13,5 @@ returns c =
       | inl l ↦
           let was = c.blocks-2.invariant.2 i (omega (arith, stop)) in
           (block.rest (2 * i) (omega arith) ∙ was.0, block.rest (2 * i + 1) (omega arith) ∙ was.1)
-      | inr g ↦ block.pairs i g (omega arith)
+      | inr g ↦ block.pairs i (omega (arith, g)) (omega arith)
     ])

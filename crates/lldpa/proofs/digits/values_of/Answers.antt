@@ -6,11 +6,12 @@ pub returns : goal.returns
 returns c =
     let v = c.args.digits in
     let long = c.fits-digits.0 in
-    let digits = itself v in
     let by : (n : ℕ) → replicate 32 n ≡ map (λ _. n) v = λ n. splat v 32 n long in
-    values_are _ v (chosen _ _ _ _ _ v
-    (joined _ _ _ v (joined _ _ _ v (chosen _ _ _ _ _ v (joined _ _ _ v digits (by 58)) (by 6) (by 6) (joined _ _ _ v digits (by 58))) (by 6)) (by 240))
-    (joined _ _ _ v (chosen _ _ _ _ _ v (joined _ _ _ v (joined _ _ _ v digits (by 32)) (by 97)) (by 245) (joined _ _ _ v (joined _ _ _ v digits (by 32)) (by 97)) (by 245)) (by 10))
-    (joined _ _ _ v (joined _ _ _ v (chosen _ _ _ _ _ v (joined _ _ _ v digits (by 58)) (by 6) (by 6) (joined _ _ _ v digits (by 58))) (by 6)) (by 240))
-    (joined _ _ _ v (chosen _ _ _ _ _ v (joined _ _ _ v (joined _ _ _ v digits (by 32)) (by 97)) (by 245) (joined _ _ _ v (joined _ _ _ v digits (by 32)) (by 97)) (by 245)) (by 10)))
-    long c.fits-digits.1 refl
+    let digits = itself v in
+    let less = joined _ _ _ v digits (by _) in
+    let moved = joined _ _ _ v (chosen _ _ _ _ _ v less (by _) (by _) less) (by _) in
+    let numeral = joined _ _ _ v moved (by _) in
+    let from_a = joined _ _ _ v (joined _ _ _ v digits (by _)) (by _) in
+    let letter = joined _ _ _ v (chosen _ _ _ _ _ v from_a (by _) from_a (by _)) (by _) in
+    let values = values_are _ v (chosen _ _ _ _ _ v numeral letter numeral letter) long c.fits-digits.1 refl in
+    record { len = values.0; values = values.1 }
