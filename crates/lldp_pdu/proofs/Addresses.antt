@@ -1,7 +1,8 @@
 -- A Management Address is well formed exactly where it is spelled so.
-use Rattle.std.proofs.Common.{◌≡◌, ℕ, suc, ◌+◌, ◌-◌, ◌^◌, ◌<◌, ◌≤◌, Bool, true, false, cond, ◌&&◌, leb, eqb, List, [], ◌∷◌, ◌++◌, length, take, drop, get_or, Option, Some, None, refl, sym, ap, subst, ◌∙◌, append_assoc, arith}
+use Rattle.std.proofs.Common.{◌≡◌, ℕ, suc, ◌+◌, ◌-◌, ◌^◌, ◌<◌, ◌≤◌, Bool, true, cond, ◌&&◌, leb, eqb, List, [], ◌∷◌, ◌++◌, length, take, drop, get_or, Option, Some, None, refl, sym, ap, subst, ◌∙◌, append_assoc, arith}
 use Rattle.std.specs.Int.{w32, from_be_bytes, to_be_bytes}
 use Rattle.std.proofs.lemmas.Bool.{and_parts, leb-true, le-leb, eq-eqb, eqb-true}
+use Rattle.std.proofs.lemmas.Option.{cond_some}
 use Rattle.std.proofs.lemmas.List.{take_at, length-append, length-take, length-drop, take-append-drop, get_or-append-add}
 use Rattle.std.proofs.Math.Seq.{drop-append-add}
 use Rattle.std.proofs.lemmas.Nat.{from_be_bytes-to_be_bytes_4}
@@ -70,10 +71,6 @@ fits_parts m o len h =
     let q = and_parts (leb 2 m && leb m 32) (leb o 128) p.0 in
     let r = and_parts (leb 2 m) (leb m 32) q.0 in
     record { least = leb-true 2 m r.0; greatest = leb-true m 32 r.1; oid = leb-true o 128 q.1; exact = eqb-true len (m + o + 7) p.1 }
-
-cond_some : {A : Type 0} (b : Bool) (x y : A) → cond b (Some x) None ≡ Some y → (b ≡ true) × (x ≡ y)
-cond_some true x y h = (refl, cc)
-cond_some false x y h = absurd cc
 
 four_back : (a b c d : ℕ) → a < 256 → b < 256 → c < 256 → d < 256 → (to_be_bytes w32 (from_be_bytes w32 (a ∷ b ∷ c ∷ d ∷ [])) ≡ a ∷ b ∷ c ∷ d ∷ []) × (from_be_bytes w32 (a ∷ b ∷ c ∷ d ∷ []) < 2 ^ 32)
 four_back a b c d h k l m = (list (omega (arith, h, k, l, m)) (omega (arith, h, k, l, m)) (omega (arith, h, k, l, m)) (omega (arith, h, k, l, m)), omega (arith, h, k, l, m))

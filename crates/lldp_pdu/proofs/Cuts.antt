@@ -8,10 +8,6 @@ use Rattle.lldp_pdu.specs.Cut.{Cut, IsCut, first_tlv, cut_after, cut_within, cut
 
 -- ---- octets
 
-pub AreOctets-append : (xs ys : List ℕ) → AreOctets xs → AreOctets ys → AreOctets (xs ++ ys)
-AreOctets-append [] ys p q = q
-AreOctets-append (x ∷ xs) ys p q = (p.0, AreOctets-append xs ys p.1 q)
-
 pub AreOctets-left : (xs ys : List ℕ) → AreOctets (xs ++ ys) → AreOctets xs
 AreOctets-left [] ys p = tt
 AreOctets-left (x ∷ xs) ys p = (p.0, AreOctets-left xs ys p.1)

@@ -1,9 +1,11 @@
 -- Drafts: what is built is sound, and tells what was begun and put.
-use Rattle.std.proofs.Common.{◌≡◌, ℕ, zero, suc, ◌+◌, ◌-◌, ◌^◌, ◌<◌, ◌≤◌, Bool, true, false, cond, not, ◌&&◌, ◌||◌, ltb, leb, eqb, List, [], ◌∷◌, ◌++◌, length, drop, get_or, set, Option, Some, None, refl, sym, ap, subst, ◌∙◌, append_assoc, arith, inl, inr}
+use Rattle.std.proofs.Common.{◌≡◌, ℕ, ◌+◌, ◌^◌, ◌<◌, ◌≤◌, Bool, true, false, cond, not, ◌&&◌, ◌||◌, ltb, leb, eqb, List, [], ◌∷◌, ◌++◌, length, drop, Option, Some, None, refl, sym, ap, subst, ◌∙◌, append_assoc, arith}
 use Rattle.std.specs.List.{list_any, AllByRecursion}
 use Rattle.std.specs.Int.{w16, to_be_bytes}
-use Rattle.std.proofs.lemmas.Bool.{le-leb, le-ltb, cases_eq, and_parts, leb-true, eq-eqb, ne_eqb, and_right, and_left, or_right, lt-leb, ltb-false, true≢false}
-use Rattle.std.proofs.lemmas.List.{length-append, append-nil, length-set, get_or-set_other}
+use Rattle.std.proofs.lemmas.Bool.{le-leb, le-ltb, and_parts, leb-true, ne_eqb, and_right, or_right, lt-leb, ltb-false, true≢false}
+use Rattle.std.proofs.lemmas.List.{length-append, append-nil, flat_map_more}
+use Rattle.std.proofs.lemmas.List.Folds.{list_any-append}
+use Rattle.std.proofs.Math.Bool.{or-false}
 use Rattle.lldp_pdu.specs.declared.fault.PduFault.TheVariants.{Repeated}
 use Rattle.lldp_pdu.specs.declared.fault.BuildFault.{BuildFault}
 use Rattle.lldp_pdu.specs.declared.fault.BuildFault.TheVariants.{Full, Kind, Body}
@@ -16,13 +18,12 @@ use Rattle.lldp_pdu.specs.Msap.{MsapId, IsIdentifier}
 use Rattle.lldp_pdu.specs.Fault.{is_mandatory, fault_of}
 use Rattle.lldp_pdu.specs.Kept.{is_single, has_well_formed, kept_after, others_after, kept_of, discarded_of, count_unrecognized}
 use Rattle.lldp_pdu.specs.Info.{LldpInfo, info_of}
-use Rattle.lldp_pdu.specs.Code.Seen.{none_seen, has_flag, with_flag}
+use Rattle.lldp_pdu.specs.Code.Seen.{Flags, none_seen, with_flag}
 use Rattle.lldp_pdu.specs.Draft.{Draft, all_tlvs, end_of_lldpdu, lldpdu_octets, with_tlv, was_put, put_fault, told_by, CanPut}
-use Rattle.lldp_pdu.specs.Code.BuilderView.{draft_of, AllKept, IsOptional, AllOptional, IsDraft, Flags, Builds}
+use Rattle.lldp_pdu.specs.Code.BuilderView.{draft_of, AllKept, IsOptional, AllOptional, IsDraft, Builds}
 use Rattle.lldp_pdu.proofs.Cuts.{cut-spellings}
 use Rattle.lldp_pdu.proofs.Opening.{fault_from, sound_checks}
-use Rattle.lldp_pdu.proofs.Surveying.{spellings-append}
-use Rattle.lldp_pdu.proofs.Keeping.{single_range, between, set_at}
+use Rattle.lldp_pdu.proofs.Keeping.{flags_none, flags_more, flags_as}
 use Rattle.lldp_pdu.proofs.Telling.{cut_alone, ttl_tlvs, msap_tlvs}
 use Rattle.lldp_pdu.proofs.Whole.{kept_is, discarded_is, info_is}
 
@@ -55,7 +56,7 @@ draft_back d octets e h =
     same : {m m' : MsapId} {t t' : ℕ} {us us' : List TlvUnit} → m ≡ m' → t ≡ t' → us ≡ us' → ◌≡◌ {A = Draft} (record { msap = m; ttl = t; tlvs = us }) (record { msap = m'; ttl = t'; tlvs = us' })
     same p q r = cc
 
-pub builds : (d : Draft) (octets : List ℕ) (met : List Bool) (lives : Bool) → octets ≡ spellings (all_tlvs d) → IsDraft d → length octets + 2 ≤ 1500 → Flags met d.tlvs → lives ≡ ltb 0 d.ttl → Builds octets met lives × (draft_of octets ≡ d)
+pub builds : (d : Draft) (octets : List ℕ) (met : List Bool) (lives : Bool) → octets ≡ spellings (all_tlvs d) → IsDraft d → length octets + 2 ≤ 1500 → Flags met (λ kind. was_put kind d.tlvs) → lives ≡ ltb 0 d.ttl → Builds octets met lives × (draft_of octets ≡ d)
 builds d octets met lives e h room flags l =
     let b = draft_back d octets e h in (
       record {
@@ -69,16 +70,6 @@ builds d octets met lives e h room flags l =
     )
 
 -- ---- begun
-
-flags_none : Flags none_seen []
-flags_none = record { four = refl; set = λ kind low high. at (kind - 4) }
-  where
-    at : (i : ℕ) → get_or none_seen i false ≡ false
-    at zero = refl
-    at (suc zero) = refl
-    at (suc (suc zero)) = refl
-    at (suc (suc (suc zero))) = refl
-    at (suc (suc (suc (suc i)))) = refl
 
 abbrev pub begun : List ℕ → List ℕ → ℕ → Draft
 begun chassis port ttl = record { msap = record { chassis = chassis; port = port }; ttl = ttl; tlvs = [] }
@@ -97,7 +88,7 @@ begins chassis port octets ttl h k l e =
 -- ---- put
 
 put_spells : (d : Draft) (u : TlvUnit) → spellings (all_tlvs d) ++ spelling u ≡ spellings (all_tlvs (with_tlv d u))
-put_spells d u = ap (λ (x : List ℕ). spellings (all_tlvs d) ++ x) (sym (append-nil (spelling u))) ∙ sym (spellings-append (all_tlvs d) (u ∷ []))
+put_spells d u = flat_map_more spelling [] (all_tlvs d) u
 
 pub put_length : (d : Draft) (u : TlvUnit) → length (lldpdu_octets (with_tlv d u)) ≡ length (spellings (all_tlvs d)) + length u.body + 4
 put_length d u =
@@ -109,7 +100,7 @@ put_length d u =
 abbrev decided : Bool → Bool → Bool → Bool → Bool → Bool → Option BuildFault
 decided a b c d e f = cond (not a || b || c) (Some Kind) (cond (d || not e) (Some Body) (cond f (Some Full) None))
 
-pub put_fault_is : (d : Draft) (u : TlvUnit) (a b c e f g : Bool) → is_between 4 u.kind 127 ≡ a → eqb d.ttl 0 ≡ b → (is_single u && was_put u.kind d.tlvs) ≡ c → ltb 511 (length u.body) ≡ e → is_well_formed u ≡ f → ltb 1500 (length (lldpdu_octets (with_tlv d u))) ≡ g
+pub put_fault_is : (d : Draft) (u : TlvUnit) (a b c e f g : Bool) → is_between 4 u.kind 127 ≡ a → eqb d.ttl 0 ≡ b → (is_single u.kind && was_put u.kind d.tlvs) ≡ c → ltb 511 (length u.body) ≡ e → is_well_formed u ≡ f → ltb 1500 (length (lldpdu_octets (with_tlv d u))) ≡ g
     → put_fault d u ≡ decided a b c e f g
 unfolding put_fault
 put_fault_is d u a b c e f g p q r s t v = six p q r s t v
@@ -121,7 +112,7 @@ put_fault_is d u a b c e f g p q r s t v = six p q r s t v
 pub record Passes (d : Draft) (u : TlvUnit) : Type 0 where
   pub least : 4 ≤ u.kind
   pub greatest : u.kind ≤ 127
-  pub new : (is_single u && was_put u.kind d.tlvs) ≡ false
+  pub new : (is_single u.kind && was_put u.kind d.tlvs) ≡ false
   pub short : length u.body ≤ 511
   pub well_formed : is_well_formed u ≡ true
   pub room : length (lldpdu_octets (with_tlv d u)) ≤ 1500
@@ -138,7 +129,7 @@ decided_none true false false false true true h = absurd cc
 pub passes : (d : Draft) (u : TlvUnit) → put_fault d u ≡ None → Passes d u
 passes d u h =
     let n = length (lldpdu_octets (with_tlv d u)) in
-    let p = decided_none (is_between 4 u.kind 127) (eqb d.ttl 0) (is_single u && was_put u.kind d.tlvs) (ltb 511 (length u.body)) (is_well_formed u) (ltb 1500 n) (sym (put_fault_is d u _ _ _ _ _ _ refl refl refl refl refl refl) ∙ h) in
+    let p = decided_none (is_between 4 u.kind 127) (eqb d.ttl 0) (is_single u.kind && was_put u.kind d.tlvs) (ltb 511 (length u.body)) (is_well_formed u) (ltb 1500 n) (sym (put_fault_is d u _ _ _ _ _ _ refl refl refl refl refl refl) ∙ h) in
     let k = and_parts (leb 4 u.kind) (leb u.kind 127) p.0 in
     record {
       least = leb-true 4 u.kind k.0;
@@ -172,61 +163,22 @@ earlier_more true false true f h e = absurd (true≢false e)
 earlier_more true false false f h e = e
 earlier_more true true w f h e = absurd (true≢false e)
 
-kept_more : (earlier us : List TlvUnit) (u : TlvUnit) → AllKept earlier us → is_well_formed u ≡ true → (is_single u && (was_put u.kind us || has_well_formed u.kind earlier)) ≡ false → AllKept earlier (us ++ u ∷ [])
+kept_more : (earlier us : List TlvUnit) (u : TlvUnit) → AllKept earlier us → is_well_formed u ≡ true → (is_single u.kind && (was_put u.kind us || has_well_formed u.kind earlier)) ≡ false → AllKept earlier (us ++ u ∷ [])
 kept_more earlier [] u h w e = (rw (w, e) refl, tt)
-kept_more earlier (v ∷ us) u h w e = (h.0, kept_more (v ∷ earlier) us u h.1 w (earlier_more (is_single u) (eqb v.kind u.kind) (was_put u.kind us) (is_well_formed v) (has_well_formed u.kind earlier) e))
-
-or_false : (b : Bool) → (b || false) ≡ b
-or_false true = refl
-or_false false = refl
-
-or_swap : (a b c : Bool) → (a || (b || c)) ≡ ((a || b) || c)
-or_swap true b c = refl
-or_swap false b c = refl
-
-any-append : (p : TlvUnit → Bool) (us vs : List TlvUnit) → list_any p (us ++ vs) ≡ (list_any p us || list_any p vs)
-any-append p [] vs = refl
-any-append p (u ∷ us) vs = ap (λ (b : Bool). p u || b) (any-append p us vs) ∙ or_swap (p u) (list_any p us) (list_any p vs)
+kept_more earlier (v ∷ us) u h w e = (h.0, kept_more (v ∷ earlier) us u h.1 w (earlier_more (is_single u.kind) (eqb v.kind u.kind) (was_put u.kind us) (is_well_formed v) (has_well_formed u.kind earlier) e))
 
 was_put_more : (kind : ℕ) (us : List TlvUnit) (u : TlvUnit) → was_put kind (us ++ u ∷ []) ≡ (was_put kind us || eqb u.kind kind)
-was_put_more kind us u = any-append (λ v. eqb v.kind kind) us (u ∷ []) ∙ ap (λ (b : Bool). was_put kind us || b) (or_false (eqb u.kind kind))
+was_put_more kind us u = list_any-append (λ v. eqb v.kind kind) us (u ∷ []) ∙ ap (λ (b : Bool). was_put kind us || b) (or-false (eqb u.kind kind))
 
-flags_more : (met : List Bool) (us : List TlvUnit) (u : TlvUnit) → Flags met us → Flags (with_flag met u.kind) (us ++ u ∷ [])
-unfolding with_flag
-flags_more met us u t = go (is_single u) refl
-  where
-    go : (s : Bool) → is_single u ≡ s → Flags (cond s (set met (u.kind - 4) true) met) (us ++ u ∷ [])
-    go false f =
-        record {
-          four = t.four;
-          set = λ kind low high. t.set kind low high ∙ sym (or_false (was_put kind us)) ∙ ap (λ (b : Bool). was_put kind us || b) (sym (ne_eqb u.kind kind (λ same. true≢false (sym (between u.kind (omega (arith, same)) (omega (arith, same))) ∙ f)))) ∙ sym (was_put_more kind us u);
-        }
-    go true f =
-        let r = single_range u.kind f in
-        record {
-          four = length-set met (u.kind - 4) true ∙ t.four;
-          set = λ kind low high. elim (cases_eq u.kind kind) [
-            | inl same ↦ set_at met kind (u.kind - 4) (omega (arith, same)) (omega (arith, r.1, t.four)) ∙ sym (was_put_more kind us u ∙ or_right (was_put kind us) (eqb u.kind kind) (eq-eqb u.kind kind same))
-            | inr other ↦ get_or-set_other met (u.kind - 4) (kind - 4) true false (λ h. other (omega (arith, h, r.0, low)))
-                ∙ t.set kind low high ∙ sym (or_false (was_put kind us)) ∙ ap (λ (b : Bool). was_put kind us || b) (sym (ne_eqb u.kind kind other)) ∙ sym (was_put_more kind us u)
-          ];
-        }
-
--- the flags tell what was put
-pub flag_is : (met : List Bool) (us : List TlvUnit) (u : TlvUnit) → Flags met us → has_flag met u.kind ≡ (is_single u && was_put u.kind us)
-unfolding has_flag
-flag_is met us u t = go (is_single u) refl
-  where
-    go : (s : Bool) → is_single u ≡ s → (is_single u && get_or met (u.kind - 4) false) ≡ (is_single u && was_put u.kind us)
-    go true f = let r = single_range u.kind f in ap (λ (b : Bool). is_single u && b) (t.set u.kind r.0 r.1)
-    go false f = and_left (is_single u) (get_or met (u.kind - 4) false) f ∙ sym (and_left (is_single u) (was_put u.kind us) f)
+flags_put : (met : List Bool) (us : List TlvUnit) (u : TlvUnit) → Flags met (λ kind. was_put kind us) → Flags (with_flag met u.kind) (λ kind. was_put kind (us ++ u ∷ []))
+flags_put met us u f = flags_as (with_flag met u.kind) _ _ (λ kind. sym (was_put_more kind us u)) (flags_more met (λ kind. was_put kind us) u.kind f)
 
 pub puts : (d : Draft) (u : TlvUnit) (old octets : List ℕ) (met : List Bool) (lives : Bool) → draft_of old ≡ d → Builds old met lives → put_fault d u ≡ None → octets ≡ old ++ spelling u
     → Builds octets (with_flag met u.kind) lives × (draft_of octets ≡ with_tlv d u)
 puts d u old octets met lives v b h e =
     let p = passes d u h in
     let draft : IsDraft d = subst IsDraft v b.draft in
-    let flags : Flags met d.tlvs = subst (λ (d : Draft). Flags met d.tlvs) v b.flags in
+    let flags : Flags met (λ kind. was_put kind d.tlvs) = subst (λ (d : Draft). Flags met (λ kind. was_put kind d.tlvs)) v b.flags in
     let spelled : octets ≡ spellings (all_tlvs (with_tlv d u)) = e ∙ ap (λ (x : List ℕ). x ++ spelling u) (b.spelled ∙ ap (λ (d : Draft). spellings (all_tlvs d)) v) ∙ put_spells d u in
     let len : length octets + 2 ≡ length (lldpdu_octets (with_tlv d u)) = ap (λ (n : ℕ). n + 2) (ap length spelled) ∙ sym (length-append (spellings (all_tlvs (with_tlv d u))) (spelling end_of_lldpdu)) in
     builds (with_tlv d u) octets (with_flag met u.kind) lives spelled
@@ -235,9 +187,9 @@ puts d u old octets met lives v b h e =
       port = draft.port;
       ttl = draft.ttl;
       tlvs = optional_more d.tlvs u draft.tlvs (record { least = p.least; greatest = p.greatest; body = omega (arith, p.short) });
-      kept = kept_more [] d.tlvs u draft.kept p.well_formed (ap (λ (b : Bool). is_single u && b) (or_false (was_put u.kind d.tlvs)) ∙ p.new);
+      kept = kept_more [] d.tlvs u draft.kept p.well_formed (ap (λ (b : Bool). is_single u.kind && b) (or-false (was_put u.kind d.tlvs)) ∙ p.new);
     })
-    (omega (arith, len, p.room)) (flags_more met d.tlvs u flags) (b.lives_is ∙ ap (λ (d : Draft). ltb 0 d.ttl) v)
+    (omega (arith, len, p.room)) (flags_put met d.tlvs u flags) (b.lives_is ∙ ap (λ (d : Draft). ltb 0 d.ttl) v)
 
 -- ---- finished
 
@@ -250,7 +202,7 @@ before_end_more [] h = refl
 before_end_more (u ∷ us) h = rw (ne_eqb u.kind 0 (λ z. omega (arith, z, h.0.least)), before_end_more us h.1) refl
 
 end_there : (us : List TlvUnit) → list_any is_end (us ++ end_of_lldpdu ∷ []) ≡ true
-end_there us = any-append is_end us (end_of_lldpdu ∷ []) ∙ or_right (list_any is_end us) true refl
+end_there us = list_any-append is_end us (end_of_lldpdu ∷ []) ∙ or_right (list_any is_end us) true refl
 
 kept_same : (earlier us : List TlvUnit) → AllKept earlier us → kept_after earlier us ≡ us
 kept_same earlier [] h = refl

@@ -2,6 +2,7 @@
 use Rattle.std.proofs.Common.{◌≡◌, ℕ, ◌+◌, ◌<◌, ◌≤◌, Bool, true, false, cond, ltb, leb, List, [], ◌∷◌, ◌++◌, length, take, get_or, refl, sym, ap, ◌∙◌, append_assoc, add-zero, arith}
 use Rattle.std.specs.List.{list_any}
 use Rattle.std.proofs.lemmas.List.{length-append, take_at}
+use Rattle.std.proofs.lemmas.Grind.{flat_map-append}
 use Rattle.lldp_pdu.specs.Tlv.{TlvUnit, spelling, spellings, AreOctets}
 use Rattle.lldp_pdu.specs.Cut.{Cut, cut}
 use Rattle.lldp_pdu.specs.Lldpdu.{is_end, before_end, ended_incomplete}
@@ -31,9 +32,6 @@ starts after left seen e f = rw (e, f) (record { length_is = omega arith; lost_a
 
 extent_front : (left next : List ℕ) (u : TlvUnit) → cut left ≡ with_front u next → is_end u ≡ false → extent_left left ≡ u ∷ extent_left next
 extent_front left next u e k = ap (λ (c : Cut). before_end c.tlvs) e ∙ rw k refl
-
-lost_front : (seen : List Bool) (u : TlvUnit) (us : List TlvUnit) (n : ℕ) → cond (is_kept_seen seen u) 0 1 ≡ n → count_lost seen (u ∷ us) ≡ n + count_lost (seen_after seen u) us
-lost_front seen u us n e = ap (λ (k : ℕ). k + count_lost (seen_after seen u) us) e
 
 unknown_front : (seen : List Bool) (u : TlvUnit) (us : List TlvUnit) (n : ℕ) → cond (is_kept_seen seen u) (cond (leb 9 u.kind) 1 0) 0 ≡ n → count_unrecognized (kept_seen seen (u ∷ us)) ≡ n + count_unrecognized (kept_seen (seen_after seen u) us)
 unknown_front seen u us n e = go (is_kept_seen seen u) (leb 9 u.kind) refl e
@@ -73,17 +71,13 @@ all_of_front (u ∷ us) =
     go true more e = (u ∷ us, refl)
     go false more e = (more, ap (λ (vs : List TlvUnit). u ∷ vs) e)
 
-pub spellings-append : (us vs : List TlvUnit) → spellings (us ++ vs) ≡ spellings us ++ spellings vs
-spellings-append [] vs = refl
-spellings-append (u ∷ us) vs = ap (λ (xs : List ℕ). spelling u ++ xs) (spellings-append us vs) ∙ sym (append_assoc (spelling u) (spellings us) (spellings vs))
-
 -- the extent stands at the front of the octets
 pub extent_is_front : (octets : List ℕ) → AreOctets octets → (more : List ℕ) × (octets ≡ spellings (extent_left octets) ++ more) × (length (cut octets).rest ≤ length more)
 extent_is_front octets fits =
     let c = cut octets in
     let is = cut_is_cut octets fits in
     let f = all_of_front c.tlvs in
-    let joined : octets ≡ (spellings (before_end c.tlvs) ++ spellings f.0) ++ c.rest = is.joined ∙ ap (λ (us : List TlvUnit). spellings us ++ c.rest) f.1 ∙ ap (λ (xs : List ℕ). xs ++ c.rest) (spellings-append (before_end c.tlvs) f.0) in
+    let joined : octets ≡ (spellings (before_end c.tlvs) ++ spellings f.0) ++ c.rest = is.joined ∙ ap (λ (us : List TlvUnit). spellings us ++ c.rest) f.1 ∙ ap (λ (xs : List ℕ). xs ++ c.rest) (flat_map-append spelling (before_end c.tlvs) f.0) in
     (spellings f.0 ++ c.rest, joined ∙ append_assoc (spellings (before_end c.tlvs)) (spellings f.0) c.rest, omega (arith, length-append (spellings f.0) c.rest))
 
 lost_few : (seen : List Bool) (us : List TlvUnit) → count_lost seen us ≤ length (spellings us)

@@ -216,7 +216,7 @@ kept_tlvs earlier (u ∷ us) h = go (is_kept earlier u) refl (kept_tlvs (u ∷ e
         least = later_kind u.kind h.0.not_end h.0.not_mandatory;
         greatest = omega (arith, h.0.tlv.kind);
         short = h.0.tlv.body;
-        well_formed = (and_parts (is_well_formed u) (not (is_single u && has_well_formed u.kind earlier)) e).0;
+        well_formed = (and_parts (is_well_formed u) (not (is_single u.kind && has_well_formed u.kind earlier)) e).0;
       },
       below,
     )

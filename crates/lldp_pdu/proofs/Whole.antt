@@ -34,10 +34,7 @@ module _ (octets after : List ℕ) (msap : MsapId) (ttl : ℕ) (o : OpensWith oc
   unfolding ended_incomplete
   incomplete_is = ap (λ (c : Cut). not (list_any is_end c.tlvs) && ltb 0 (length c.rest)) o.parts
 
-  -- with a TTL of 0 no check is left, and else the last
-  pub sound_shutdown : ttl ≡ 0 → fault_of octets ≡ None
-  sound_shutdown z = o.fault ∙ rw z refl
-
+  -- with a TTL above 0 the last check is left
   pub last_check : (r : Bool) → 0 < ttl → list_any is_mandatory (before_end (cut after).tlvs) ≡ r → fault_of octets ≡ cond r (Some Repeated) None
   last_check r p h = o.fault ∙ rw (later_is, h, lt-ltb 0 ttl p) refl
 

@@ -6,6 +6,7 @@ use Rattle.lldp_pdu.specs.declared.fault.BuildFault.{BuildFault}
 use Rattle.lldp_pdu.specs.declared.fault.BuildFault.TheVariants.{Full, Kind, Body}
 use Rattle.lldp_pdu.specs.Check.{Check, first_fault}
 use Rattle.lldp_pdu.specs.Tlv.{TlvUnit, spelling, spellings}
+use Rattle.lldp_pdu.specs.TlvType.{end_of_lldpdu_type, chassis_id_type, port_id_type, time_to_live_type, port_description_type, organizationally_specific_type}
 use Rattle.lldp_pdu.specs.Range.{is_between}
 use Rattle.lldp_pdu.specs.WellFormed.{is_well_formed}
 use Rattle.lldp_pdu.specs.Msap.{MsapId}
@@ -20,10 +21,14 @@ pub record Draft : Type 0 where
 
 -- its TLVs, the mandatory ones first
 abbrev pub all_tlvs : Draft → List TlvUnit
-all_tlvs d = record { kind = 1; body = d.msap.chassis } ∷ record { kind = 2; body = d.msap.port } ∷ record { kind = 3; body = to_be_bytes w16 d.ttl } ∷ d.tlvs
+all_tlvs d =
+    record { kind = chassis_id_type; body = d.msap.chassis }
+    ∷ record { kind = port_id_type; body = d.msap.port }
+    ∷ record { kind = time_to_live_type; body = to_be_bytes w16 d.ttl }
+    ∷ d.tlvs
 
 abbrev pub end_of_lldpdu : TlvUnit
-end_of_lldpdu = record { kind = 0; body = [] }
+end_of_lldpdu = record { kind = end_of_lldpdu_type; body = [] }
 
 -- the finished LLDPDU
 abbrev pub lldpdu_octets : Draft → List ℕ
@@ -39,7 +44,7 @@ was_put kind us = list_any (λ u. u.kind == kind) us
 -- the checks on a TLV that is put, in their order
 abbrev pub put_checks : Draft → TlvUnit → List (Check BuildFault)
 put_checks d u =
-    record { fails = not (is_between 4 u.kind 127) || (d.ttl == 0) || (is_single u && was_put u.kind d.tlvs); fault = Kind }
+    record { fails = not (is_between port_description_type u.kind organizationally_specific_type) || (d.ttl == 0) || (is_single u.kind && was_put u.kind d.tlvs); fault = Kind }
     ∷ record { fails = nat_lt 511 (length u.body) || not (is_well_formed u); fault = Body }
     ∷ record { fails = nat_lt 1500 (length (lldpdu_octets (with_tlv d u))); fault = Full }
     ∷ []
@@ -49,10 +54,10 @@ put_fault d u = first_fault (put_checks d u)
 
 -- what passes each of them
 pub record CanPut (d : Draft) (u : TlvUnit) : Type 0 where
-  pub least : 4 ≤ u.kind
-  pub greatest : u.kind ≤ 127
+  pub least : port_description_type ≤ u.kind
+  pub greatest : u.kind ≤ organizationally_specific_type
   pub lives : 0 < d.ttl
-  pub new : (is_single u && was_put u.kind d.tlvs) ≡ false
+  pub new : (is_single u.kind && was_put u.kind d.tlvs) ≡ false
   pub short : length u.body ≤ 511
   pub well_formed : is_well_formed u ≡ true
   pub room : length (spellings (all_tlvs d)) + length u.body + 4 ≤ 1500

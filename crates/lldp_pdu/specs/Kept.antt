@@ -7,9 +7,9 @@ use Rattle.lldp_pdu.specs.TlvType.{port_description_type, system_capabilities_ty
 use Rattle.lldp_pdu.specs.WellFormed.{is_well_formed}
 use Rattle.lldp_pdu.specs.Lldpdu.{later_tlvs, ended_incomplete}
 
--- of a type of which one TLV counts: Port Description to System Capabilities
-abbrev pub is_single : TlvUnit → Bool
-is_single u = is_between port_description_type u.kind system_capabilities_type
+-- a type of which one TLV counts: Port Description to System Capabilities
+abbrev pub is_single : ℕ → Bool
+is_single kind = is_between port_description_type kind system_capabilities_type
 
 -- a well-formed TLV of that type is among them
 abbrev pub has_well_formed : ℕ → List TlvUnit → Bool
@@ -17,7 +17,7 @@ has_well_formed kind us = list_any (λ u. (u.kind == kind) && is_well_formed u) 
 
 -- A TLV is kept where it is well formed and, for a type of which one counts, no earlier TLV is well formed and of its type.
 abbrev pub is_kept : List TlvUnit → TlvUnit → Bool
-is_kept earlier u = is_well_formed u && not (is_single u && has_well_formed u.kind earlier)
+is_kept earlier u = is_well_formed u && not (is_single u.kind && has_well_formed u.kind earlier)
 
 -- those of the TLVs that are kept, in order, where these others stand before them
 abbrev pub kept_after : List TlvUnit → List TlvUnit → List TlvUnit

@@ -3,6 +3,7 @@ ghost use Rattle.std.specs.Prelude.{◌≡◌, ℕ, ◌+◌, ◌<◌, ◌≤◌,
 ghost use Rattle.std.specs.Result.{result_err};
 ghost use Rattle.arrayvec.specs.ArrayVec.{array_vec_len};
 ghost use Rattle.lldp_pdu.specs.Tlv.{TlvUnit, spelling};
+ghost use Rattle.lldp_pdu.specs.TlvType.{port_description_type, organizationally_specific_type};
 ghost use Rattle.lldp_pdu.specs.Range.{is_between};
 ghost use Rattle.lldp_pdu.specs.Fault.{fault_of};
 ghost use Rattle.lldp_pdu.specs.Lldpdu.{msap_of, ttl_of};
@@ -54,7 +55,7 @@ fn append_tlv(octets: &mut ArrayVec<u8, 1500>, kind: u8, body: &[u8])
 
 /// Whether TLVs of the type stand behind the mandatory ones.
 fn is_optional_type(kind: u8) -> bool
-    ensures { result ≡ is_between 4 kind 127 }
+    ensures { result ≡ is_between port_description_type kind organizationally_specific_type }
 {
     (PORT_DESCRIPTION..=ORGANIZATIONALLY_SPECIFIC).contains(&kind)
 }

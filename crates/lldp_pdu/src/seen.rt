@@ -1,6 +1,6 @@
 //! Which single TLVs were met.
 ghost use Rattle.std.specs.Prelude.{◌≡◌};
-ghost use Rattle.lldp_pdu.specs.Range.{is_between};
+ghost use Rattle.lldp_pdu.specs.Kept as kept;
 ghost use Rattle.lldp_pdu.specs.Code.Seen.{has_flag, with_flag, is_kept_seen, seen_after};
 ghost use Rattle.lldp_pdu.specs.View.{unit_of};
 
@@ -10,7 +10,7 @@ use crate::tlv_type::{PORT_DESCRIPTION, SYSTEM_CAPABILITIES};
 
 /// Whether one TLV of the type counts: Port Description to System Capabilities.
 fn is_single(kind: u8) -> bool
-    ensures { result ≡ is_between 4 kind 7 }
+    ensures { result ≡ kept.is_single kind }
 {
     (PORT_DESCRIPTION..=SYSTEM_CAPABILITIES).contains(&kind)
 }

@@ -1,12 +1,14 @@
 -- What a contract sees of a `Builder`, and what its fields keep.
-use Rattle.std.specs.Prelude.{◌≡◌, ℕ, ◌+◌, ◌-◌, ◌<◌, ◌≤◌, ◌^◌, Bool, true, false, List, [], ◌∷◌, length, drop, nat_lt, slice_index_or}
+use Rattle.std.specs.Prelude.{◌≡◌, ℕ, ◌+◌, ◌<◌, ◌≤◌, ◌^◌, Bool, true, List, [], ◌∷◌, length, drop, nat_lt}
 use Rattle.lldp_pdu.specs.declared.builder.Builder.TheInside.{Inside}
 use Rattle.lldp_pdu.specs.Tlv.{TlvUnit, spellings}
+use Rattle.lldp_pdu.specs.TlvType.{port_description_type, organizationally_specific_type}
 use Rattle.lldp_pdu.specs.Cut.{cut}
 use Rattle.lldp_pdu.specs.Msap.{IsIdentifier}
 use Rattle.lldp_pdu.specs.Lldpdu.{msap_of, ttl_of}
 use Rattle.lldp_pdu.specs.Kept.{is_kept}
 use Rattle.lldp_pdu.specs.Draft.{Draft, all_tlvs, was_put}
+use Rattle.lldp_pdu.specs.Code.Seen.{Flags}
 
 -- the draft that octets spell
 unfoldable pub draft_of : List ℕ → Draft
@@ -22,8 +24,8 @@ AllKept earlier (u ∷ us) = (is_kept earlier u ≡ true) × AllKept (u ∷ earl
 
 -- what a TLV that was put is
 pub record IsOptional (u : TlvUnit) : Type 0 where
-  pub least : 4 ≤ u.kind
-  pub greatest : u.kind ≤ 127
+  pub least : port_description_type ≤ u.kind
+  pub greatest : u.kind ≤ organizationally_specific_type
   pub body : length u.body < 512
 
 abbrev pub AllOptional : List TlvUnit → Type 0
@@ -37,14 +39,10 @@ pub record IsDraft (d : Draft) : Type 0 where
   pub tlvs : AllOptional d.tlvs
   pub kept : AllKept [] d.tlvs
 
--- which flags are set
-pub record Flags (met : List Bool) (us : List TlvUnit) : Type 0 where
-  pub four : length met ≡ 4
-  pub set : (kind : ℕ) → 4 ≤ kind → kind ≤ 7 → slice_index_or met (kind - 4) false ≡ was_put kind us
-
+-- the octets spell a draft that leaves room for the End Of LLDPDU, and the flags and the bit tell its types and whether it lives
 pub record Builds (octets : List ℕ) (met : List Bool) (lives : Bool) : Type 0 where
   pub spelled : octets ≡ spellings (all_tlvs (draft_of octets))
   pub draft : IsDraft (draft_of octets)
   pub room : length octets + 2 ≤ 1500
-  pub flags : Flags met (draft_of octets).tlvs
+  pub flags : Flags met (λ kind. was_put kind (draft_of octets).tlvs)
   pub lives_is : lives ≡ nat_lt 0 (draft_of octets).ttl

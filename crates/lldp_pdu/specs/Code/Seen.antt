@@ -1,19 +1,25 @@
--- The flags by which the code remembers which single TLVs it has met: one for each of the types 4 to 7.
-use Rattle.std.specs.Prelude.{ℕ, ◌-◌, Bool, true, false, not, ◌&&◌, List, [], ◌∷◌, slice_index_or, slice_set, if◌then◌else◌}
+-- The flags by which the code remembers which single TLVs it has met: one for each type from Port Description to System Capabilities.
+use Rattle.std.specs.Prelude.{◌≡◌, ℕ, ◌-◌, ◌≤◌, Bool, true, false, not, ◌&&◌, List, [], ◌∷◌, length, slice_index_or, slice_set, if◌then◌else◌}
 use Rattle.lldp_pdu.specs.Tlv.{TlvUnit}
-use Rattle.lldp_pdu.specs.Range.{is_between}
+use Rattle.lldp_pdu.specs.TlvType.{port_description_type, system_capabilities_type}
 use Rattle.lldp_pdu.specs.WellFormed.{is_well_formed}
+use Rattle.lldp_pdu.specs.Kept.{is_single}
 
 abbrev pub none_seen : List Bool
 none_seen = false ∷ false ∷ false ∷ false ∷ []
 
+-- the types that are met, of those with a flag, are the ones whose flag is set
+pub record Flags (seen : List Bool) (is_met : ℕ → Bool) : Type 0 where
+  pub four : length seen ≡ 4
+  pub set : (kind : ℕ) → port_description_type ≤ kind → kind ≤ system_capabilities_type → slice_index_or seen (kind - port_description_type) false ≡ is_met kind
+
 -- the type has a flag, and it is set
 unfoldable pub has_flag : List Bool → ℕ → Bool
-has_flag seen kind = is_between 4 kind 7 && slice_index_or seen (kind - 4) false
+has_flag seen kind = is_single kind && slice_index_or seen (kind - port_description_type) false
 
 -- the flags with that of the type set
 unfoldable pub with_flag : List Bool → ℕ → List Bool
-with_flag seen kind = if is_between 4 kind 7 then slice_set seen (kind - 4) true else seen
+with_flag seen kind = if is_single kind then slice_set seen (kind - port_description_type) true else seen
 
 -- whether the next TLV is kept
 abbrev pub is_kept_seen : List Bool → TlvUnit → Bool

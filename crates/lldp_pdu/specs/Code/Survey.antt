@@ -3,6 +3,7 @@ use Rattle.std.specs.Prelude.{◌≡◌, ℕ, ◌+◌, ◌&&◌, List, [], ◌�
 use Rattle.std.specs.List.{list_any}
 use Rattle.lldp_pdu.specs.declared.fault.PduFault.TheVariants.{Repeated}
 use Rattle.lldp_pdu.specs.Tlv.{TlvUnit, spellings}
+use Rattle.lldp_pdu.specs.TlvType.{chassis_id_type, port_id_type, time_to_live_type}
 use Rattle.lldp_pdu.specs.Cut.{cut}
 use Rattle.lldp_pdu.specs.Msap.{MsapId}
 use Rattle.lldp_pdu.specs.Lldpdu.{seconds, before_end, ended_incomplete, later_tlvs}
@@ -15,7 +16,11 @@ pub record OpensWith (octets : List ℕ) (msap : MsapId) (ttl : ℕ) (after : Li
   pub body : List ℕ
   pub seconds_are : seconds body ≡ ttl
   pub parts : cut octets ≡ record {
-    tlvs = record { kind = 1; body = msap.chassis } ∷ record { kind = 2; body = msap.port } ∷ record { kind = 3; body = body } ∷ (cut after).tlvs;
+    tlvs =
+        record { kind = chassis_id_type; body = msap.chassis }
+        ∷ record { kind = port_id_type; body = msap.port }
+        ∷ record { kind = time_to_live_type; body = body }
+        ∷ (cut after).tlvs;
     rest = (cut after).rest;
   }
   pub behind : (n : ℕ) × (after ≡ drop n octets)

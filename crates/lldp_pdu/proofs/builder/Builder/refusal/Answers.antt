@@ -2,11 +2,12 @@ use Rattle.std.proofs.Common.{◌≡◌, ℕ, ◌<◌, ◌≤◌, Bool, true, fa
 use Rattle.std.proofs.lemmas.Bool.{eq-eqb, ne_eqb, lt-ltb, le-ltb, ltb-true, ltb-false}
 use Rattle.lldp_pdu.specs.Tlv.{TlvUnit}
 use Rattle.lldp_pdu.specs.Kept.{is_single}
-use Rattle.lldp_pdu.specs.Code.Seen.{has_flag}
+use Rattle.lldp_pdu.specs.Code.Seen.{Flags, has_flag}
 use Rattle.lldp_pdu.specs.View.{unit_of}
 use Rattle.lldp_pdu.specs.Draft.{Draft, was_put}
-use Rattle.lldp_pdu.specs.Code.BuilderView.{draft_of, Builds, Flags}
-use Rattle.lldp_pdu.proofs.Drafts.{put_fault_is, flag_is, long}
+use Rattle.lldp_pdu.specs.Code.BuilderView.{draft_of, Builds}
+use Rattle.lldp_pdu.proofs.Keeping.{flag_is}
+use Rattle.lldp_pdu.proofs.Drafts.{put_fault_is, long}
 use Rattle.lldp_pdu.proofs.builder.Builder.refusal.Goals as goal
 
 -- what the fields say of the draft
@@ -22,8 +23,8 @@ alive d octets met lives v b h =
     let z : 0 < d.ttl = ltb-true 0 d.ttl e in
     ne_eqb d.ttl 0 (λ k. omega (arith, k, z))
 
-flagged : (d : Draft) (u : TlvUnit) (octets : List ℕ) (met : List Bool) (lives r : Bool) → draft_of octets ≡ d → Builds octets met lives → r ≡ has_flag met u.kind → (is_single u && was_put u.kind d.tlvs) ≡ r
-flagged d u octets met lives r v b h = sym (h ∙ flag_is met d.tlvs u (subst (λ (d : Draft). Flags met d.tlvs) v b.flags))
+flagged : (d : Draft) (u : TlvUnit) (octets : List ℕ) (met : List Bool) (lives r : Bool) → draft_of octets ≡ d → Builds octets met lives → r ≡ has_flag met u.kind → (is_single u.kind && was_put u.kind d.tlvs) ≡ r
+flagged d u octets met lives r v b h = sym (h ∙ flag_is met (λ kind. was_put kind d.tlvs) u.kind (subst (λ (d : Draft). Flags met (λ kind. was_put kind d.tlvs)) v b.flags))
 
 pub returns-then-not-is_optional_type : goal.returns-then-not-is_optional_type
 returns-then-not-is_optional_type c =
