@@ -111,12 +111,17 @@ fn optional_tlvs(after: &[u8]) -> Result<Optional<'_>, PduFault>
             unrecognized += 1;
         }
     }
-    if !tlvs.rest().is_empty() {
-        discarded += 1;
+    if tlvs.rest().is_empty() {
+        return Ok(Optional {
+            octets: &after[..len],
+            discarded,
+            unrecognized,
+        });
     }
+    // A TLV that is not complete is one more that is discarded; those before it stay.
     Ok(Optional {
         octets: &after[..len],
-        discarded,
+        discarded: discarded + 1,
         unrecognized,
     })
 }

@@ -1,10 +1,9 @@
-use Rattle.std.proofs.Common.{◌≡◌, ◌+◌, ◌<◌, cond, ltb, eqb, length, true, false, sym, ap, ◌∙◌, arith, ℕ}
+use Rattle.std.proofs.Common.{◌≡◌, ◌+◌, ◌<◌, cond, ltb, eqb, length, true, false, refl, sym, ap, ◌∙◌, arith, ℕ}
 use Rattle.std.proofs.lemmas.List.{length-take}
 use Rattle.std.proofs.lemmas.Bool.{eq-eqb, ne_eqb, eqb-true, eqb-false, lt-ltb, le-ltb}
 use Rattle.lldp_pdu.specs.View.{unit_of}
 use Rattle.lldp_pdu.proofs.Surveying.{bounds, one_more, survey_at_end, survey_at_rest}
 use Rattle.lldp_pdu.proofs.examination.optional_tlvs.Goals as goal
-use Rattle.lldp_pdu.proofs.examination.optional_tlvs.Goals.{then-not-is_empty, else-not-is_empty}
 
 pub slice_bounds-result-end : goal.slice_bounds-result-end
 slice_bounds-result-end c =
@@ -30,30 +29,39 @@ overflow_add-unrecognized c =
     let b = bounds c.args.after.now c.loop-tlv.tlvs c.loop-tlv.seen.types c.loop-tlv.len c.loop-tlv.discarded c.loop-tlv.unrecognized (λ i. omega (arith, c.type_inv.after i)) c.loop-tlv.invariant in
     omega (arith, b.unknown)
 
-pub overflow_add-discarded-then-not-is_empty : goal.overflow_add-discarded-then-not-is_empty
-overflow_add-discarded-then-not-is_empty c =
+pub slice_bounds-result-end-then-is_empty : goal.slice_bounds-result-end-then-is_empty
+slice_bounds-result-end-then-is_empty c =
     let b = bounds c.args.after.now c.loop-tlv.tlvs c.loop-tlv.seen.types c.loop-tlv.len c.loop-tlv.discarded c.loop-tlv.unrecognized (λ i. omega (arith, c.type_inv.after i)) c.loop-tlv.invariant in
-    omega (arith, b.lost)
+    omega (arith, length-take c.loop-tlv.len c.args.after.now, b.len)
+
+-- with no octets left none is counted, else one
+none_left : (n m k : ℕ) → n ≡ m → eqb n 0 ≡ true → k ≡ k + cond (ltb 0 m) 1 0
+none_left n m k e h = rw (le-ltb 0 m (omega (arith, e, eqb-true n 0 h))) (omega arith)
+
+some_left : (n m k : ℕ) → n ≡ m → eqb n 0 ≡ false → k + 1 ≡ k + cond (ltb 0 m) 1 0
+some_left n m k e h = rw (lt-ltb 0 m (some n m e (eqb-false n 0 h))) refl
+  where
+    some : (n m : ℕ) → n ≡ m → (n ≡ 0 → ⊥) → 0 < m
+    some n m e h = omega arith
+
+pub returns-then-is_empty-clause-ok : goal.returns-then-is_empty-clause-ok
+returns-then-is_empty-clause-ok c =
+    let same : length c.rest.result.now ≡ length c.loop-tlv.tlvs = ap length (c.rest.ensures ∙ c.in_default.ensures.steps.1) in
+    survey_at_rest c.args.after.now c.loop-tlv.tlvs c.loop-tlv.seen.types c.loop-tlv.len c.loop-tlv.discarded c.loop-tlv.unrecognized c.loop-tlv.discarded (λ i. omega (arith, c.type_inv.after i)) c.loop-tlv.invariant c.in_default.ensures.steps.0
+    (none_left (length c.rest.result.now) (length c.loop-tlv.tlvs) c.loop-tlv.discarded same (sym c.if-is_empty.ensures))
 
 pub slice_bounds-result-end-2 : goal.slice_bounds-result-end-2
 slice_bounds-result-end-2 c =
     let b = bounds c.args.after.now c.loop-tlv.tlvs c.loop-tlv.seen.types c.loop-tlv.len c.loop-tlv.discarded c.loop-tlv.unrecognized (λ i. omega (arith, c.type_inv.after i)) c.loop-tlv.invariant in
     omega (arith, length-take c.loop-tlv.len c.args.after.now, b.len)
 
-counted_one : (n m k x : ℕ) → n ≡ m → eqb n 0 ≡ false → x ≡ k + 1 → x ≡ k + cond (ltb 0 m) 1 0
-counted_one n m k x e h f = rw (lt-ltb 0 m (pos n m e (eqb-false n 0 h))) f
-  where
-    pos : (n m : ℕ) → n ≡ m → (n ≡ 0 → ⊥) → 0 < m
-    pos n m e h = omega arith
-
-counted_none : (n m k x : ℕ) → n ≡ m → eqb n 0 ≡ true → x ≡ k → x ≡ k + cond (ltb 0 m) 1 0
-counted_none n m k x e h f = rw (le-ltb 0 m (omega (arith, eqb-true n 0 h))) (omega arith)
+pub overflow_add-result : goal.overflow_add-result
+overflow_add-result c =
+    let b = bounds c.args.after.now c.loop-tlv.tlvs c.loop-tlv.seen.types c.loop-tlv.len c.loop-tlv.discarded c.loop-tlv.unrecognized (λ i. omega (arith, c.type_inv.after i)) c.loop-tlv.invariant in
+    omega (arith, b.lost)
 
 pub returns-clause-ok : goal.returns-clause-ok
 returns-clause-ok c =
     let same : length c.rest.result.now ≡ length c.loop-tlv.tlvs = ap length (c.rest.ensures ∙ c.in_default.ensures.steps.1) in
-    survey_at_rest c.args.after.now c.loop-tlv.tlvs c.loop-tlv.seen.types c.loop-tlv.len c.loop-tlv.discarded c.loop-tlv.unrecognized c.if-not-is_empty.discarded (λ i. omega (arith, c.type_inv.after i)) c.loop-tlv.invariant c.in_default.ensures.steps.0
-    (elim c.if-not-is_empty.branch [
-      | then-not-is_empty w ↦ counted_one (length c.rest.result.now) (length c.loop-tlv.tlvs) c.loop-tlv.discarded c.if-not-is_empty.discarded same (sym w.if-not-is_empty.ensures) w.discarded-is
-      | else-not-is_empty w ↦ counted_none (length c.rest.result.now) (length c.loop-tlv.tlvs) c.loop-tlv.discarded c.if-not-is_empty.discarded same (sym w.if-not-is_empty.ensures) w.discarded-is
-    ])
+    survey_at_rest c.args.after.now c.loop-tlv.tlvs c.loop-tlv.seen.types c.loop-tlv.len c.loop-tlv.discarded c.loop-tlv.unrecognized (c.loop-tlv.discarded + 1) (λ i. omega (arith, c.type_inv.after i)) c.loop-tlv.invariant c.in_default.ensures.steps.0
+    (some_left (length c.rest.result.now) (length c.loop-tlv.tlvs) c.loop-tlv.discarded same (sym c.if-is_empty.ensures))
