@@ -1,11 +1,11 @@
 //! The room for one neighbor.
-ghost use Rattle.std.specs.Prelude.{◌≡◌, ◌<◌, ◌≤◌, length};
+ghost use Rattle.std.specs.Prelude.{◌≡◌, ◌≤◌, length};
 ghost use Rattle.lldp_pdu.specs.Cut.{cut};
 ghost use Rattle.lldp_pdu.specs.Lldpdu.{msap_of, tlv_at};
 ghost use Rattle.lldp_pdu.specs.View.{msap_seen};
 ghost use Rattle.lldp_table.specs.Msap.{same_msap};
 ghost use Rattle.lldp_table.specs.Layout.{blank};
-ghost use Rattle.lldp_table.specs.Stored.{ending_of, tag_of as tag_of_name};
+ghost use Rattle.lldp_table.specs.Stored.{mixed as mixed_in, tag_of as tag_of_name};
 
 use arrayvec::ArrayVec;
 use lldp_pdu::{Msap, Tlvs};
@@ -53,23 +53,22 @@ fn msap_in(octets: &[u8]) -> Msap<'_>
     Msap { chassis, port }
 }
 
-/// The last two octets as a number.
-fn ending(body: &[u8]) -> u32
-    ensures value { result ≡ ending_of body.now }
-    ensures short { result < 65536 }
+/// These octets mixed into a tag, one after the other.
+fn mixed(tag: u32, octets: &[u8]) -> u32
+    ensures { result ≡ mixed_in tag octets.now }
 {
-    let len = body.len();
-    if len < 2 {
-        return 0;
+    let mut mix = tag;
+    for octet in octets {
+        mix = mix.wrapping_mul(16_777_619).wrapping_add(u32::from(*octet));
     }
-    u32::from(body[len - 2]) * 256 + u32::from(body[len - 1])
+    mix
 }
 
-/// The tag of a name.
+/// The tag of a name: a mix of all its octets.
 pub(crate) fn tag_of(name: &Msap<'_>) -> u32
     ensures { result ≡ tag_of_name (msap_seen name.now) }
 {
-    ending(name.chassis) * 65536 + ending(name.port)
+    mixed(mixed(0, name.chassis), name.port)
 }
 
 impl Slot {
