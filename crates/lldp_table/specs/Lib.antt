@@ -5,3 +5,4 @@ pub mod Contents
 pub mod Standing
 pub mod Positions
 pub mod Layout
+pub mod Queue

@@ -7,6 +7,7 @@ mod learned;
 mod places;
 mod slot;
 mod table;
+mod times;
 
 pub use entry::Entry;
 pub use laws::{
@@ -15,6 +16,7 @@ pub use laws::{
 };
 pub use learned::Learned;
 pub use table::Table;
+pub use times::Accesses;
 
 #[cfg(test)]
 mod tests;
