@@ -11,3 +11,6 @@ pub mod PlaceLemmas
 pub mod LayoutLemmas
 pub mod AgeLemmas
 pub mod LearnLemmas
+pub mod QueueLemmas
+pub mod QueueOrderLemmas
+pub mod DueLemmas

@@ -24,6 +24,10 @@ pub all-weaker : (P Q : ℕ → Type 0) → ((i : ℕ) → P i → Q i) → (is 
 all-weaker P Q h [] a = tt
 all-weaker P Q h (i ∷ is) a = (h i a.0, all-weaker P Q h is a.1)
 
+pub all-both : (P Q R : ℕ → Type 0) → ((i : ℕ) → P i → Q i → R i) → (is : List ℕ) → AllByRecursion P is → AllByRecursion Q is → AllByRecursion R is
+all-both P Q R h [] p q = tt
+all-both P Q R h (i ∷ is) p q = (h i p.0 q.0, all-both P Q R h is p.1 q.1)
+
 pub all-take : (P : ℕ → Type 0) (n : ℕ) (is : List ℕ) → AllByRecursion P is → AllByRecursion P (take n is)
 all-take P n is a = recursion_from_All P (take n is) (All-take P n is (All-from_recursion P is a))
 
@@ -31,6 +35,11 @@ pub any_at : (test : Neighbor → Bool) (xs : List Neighbor) (k : ℕ) (d : Neig
 any_at test [] k d h e = absurd (omega arith)
 any_at test (x ∷ xs) zero d h e = or_left (test x) (list_any test xs) e
 any_at test (x ∷ xs) (suc k) d h e = or_right (test x) (list_any test xs) (any_at test xs k d (omega arith) e)
+
+-- nothing that passes the test
+pub unheld : {X : Type 0} (test : X → Bool) (xs : List X) → list_any test xs ≡ false → AllByRecursion (λ x. test x ≡ false) xs
+unheld test [] h = tt
+unheld test (x ∷ xs) h = let p = or_parts (test x) (list_any test xs) h in (p.0, unheld test xs p.1)
 
 -- ## Neighbors by name
 
@@ -85,7 +94,7 @@ module _ (name : MsapId) where
 
 -- ## Places in an order
 
-nat_eq_sym : (i j : ℕ) → nat_eq i j ≡ nat_eq j i
+pub nat_eq_sym : (i j : ℕ) → nat_eq i j ≡ nat_eq j i
 nat_eq_sym i j = nat_eq_equiv.symm i j
 
 module _ (f g : ℕ → Neighbor) where
@@ -152,7 +161,7 @@ below_apart : (n : ℕ) (is : List ℕ) → AllByRecursion (λ i. i < n) is → 
 below_apart n [] a = refl
 below_apart n (i ∷ is) a = or_from (nat_eq n i) (list_any (nat_eq n) is) (ne_eqb n i (λ e. omega arith)) (below_apart n is a.1)
 
-all-push : (P : ℕ → Type 0) (is : List ℕ) (i : ℕ) → AllByRecursion P is → P i → AllByRecursion P (is ++ i ∷ [])
+pub all-push : (P : ℕ → Type 0) (is : List ℕ) (i : ℕ) → AllByRecursion P is → P i → AllByRecursion P (is ++ i ∷ [])
 all-push P [] i a p = (p, tt)
 all-push P (j ∷ is) i a p = (a.0, all-push P is i a.1 p)
 

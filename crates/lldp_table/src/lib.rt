@@ -5,6 +5,7 @@ mod entry;
 mod laws;
 mod learned;
 mod places;
+mod queue;
 mod slot;
 mod table;
 mod times;

@@ -1,0 +1,5 @@
+use Rattle.lldp_table.proofs.DueLemmas.{lefts_of}
+use Rattle.lldp_table.proofs.queue.Queue.lefts.Goals as goal
+
+pub returns : goal.returns
+returns c = lefts_of c.self.inside.times c.self.inside.slots.items c.lefts_in.result c.args.self.now c.self.view_is (rw c.as_slice.ensures.value at c.lefts_in.ensures)

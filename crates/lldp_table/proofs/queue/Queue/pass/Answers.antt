@@ -1,0 +1,24 @@
+use Rattle.std.proofs.Common.{◌≡◌, ◌∙◌, ap, length, length-set, refl}
+use Rattle.lldp_table.specs.Queue.{dues, less_first}
+use Rattle.lldp_table.proofs.DueLemmas.{lessened, within_times, queue_lessened, some_there}
+use Rattle.lldp_table.proofs.queue.Queue.pass.Goals as goal
+
+pub invariant_of-self : goal.invariant_of-self
+invariant_of-self g c =
+    let times = c.self.inside.times in
+    let slots = c.self.inside.slots.items in
+    let queue = c.self.invariant in
+    let some = some_there slots c.if-is_empty.ensures in
+    let all = ap length c.set.ensures.value ∙ length-set c.get-left.new.self _ _ ∙ ap length c.get-left.ensures.same ∙ queue.all in
+    queue_lessened times slots queue c.set.new.self slots all 1
+    (rw (c.set.ensures.value, c.get-left.ensures.same, c.get-left.ensures.value, c.deref.ensures.0)
+    (lessened times slots 0 some queue.distinct (within_times times slots queue 0 some) 1)) refl
+
+pub returns-clause-after : goal.returns-clause-after
+returns-clause-after g c =
+    let times = c.self.inside.times in
+    let slots = c.self.inside.slots.items in
+    let queue = c.self.invariant in
+    let some = some_there slots c.if-is_empty.ensures in
+    rw (c.set.ensures.value, c.get-left.ensures.same, c.get-left.ensures.value, c.deref.ensures.0)
+    (lessened times slots 0 some queue.distinct (within_times times slots queue 0 some) 1 ∙ ap (less_first 1) c.self.view_is)

@@ -1,0 +1,16 @@
+use Rattle.std.proofs.Common.{◌≡◌, ◌<◌, ◌≤◌, ◌∙◌, sym, arith, ℕ, get_or, length}
+use Rattle.lldp_table.proofs.DueLemmas.{enters_here, enters_behind, enters_last}
+use Rattle.lldp_table.proofs.queue.place_for.Goals as goal
+
+pub returns-then-gap-rest-clause-place : goal.returns-then-gap-rest-clause-place
+returns-then-gap-rest-clause-place c = λ slot.
+    let i = c.loop-at.invariant in
+    enters_here c.args.times.now c.args.slots.now c.loop-at.at slot c.args.left c.loop-at.rest (i.place slot) c.loop-at-test.true (omega (arith, c.if-gap-rest.true, c.look-gap.ensures))
+
+pub loop-at-preserved : goal.loop-at-preserved
+loop-at-preserved c =
+    let i = c.loop-at.invariant in
+    record {
+      place = λ slot. rw c.look-gap.ensures (enters_behind c.args.times.now c.args.slots.now c.loop-at.at slot c.args.left c.loop-at.rest (i.place slot) c.loop-at-test.true (omega (arith, c.if-gap-rest.false, c.look-gap.ensures)));
+      most = omega (arith, i.most);
+    }

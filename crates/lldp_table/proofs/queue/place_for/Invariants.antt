@@ -1,0 +1,10 @@
+-- The rest has to enter behind the places so far.
+use Rattle.std.proofs.Common.{◌≡◌, ◌≤◌, ℕ, ◌++◌, take, drop}
+use Rattle.lldp_table.specs.Queue.{enter, dues}
+use Rattle.lldp_table.proofs.queue.place_for.Given as goal
+
+abbrev pub invariant-loop-at : goal.invariant-loop-at
+invariant-loop-at l = record {
+  place : (slot : ℕ) → enter slot l.left (dues l.times l.slots) ≡ take l.at (dues l.times l.slots) ++ enter slot l.rest (drop l.at (dues l.times l.slots));
+  most : l.rest ≤ l.left;
+}

@@ -1,0 +1,10 @@
+use Rattle.std.proofs.Common.{refl, arith}
+use Rattle.lldp_table.specs.Queue.{dues, add_first}
+use Rattle.lldp_table.proofs.DueLemmas.{raised, beyond, within_times}
+use Rattle.lldp_table.proofs.queue.raise.Goals as goal
+
+pub returns-clause-after : goal.returns-clause-after
+returns-clause-after g c =
+    let q = c.requires.queue in
+    rw (c.set.ensures.value, c.get-gap.ensures.same, c.get-gap.ensures.value)
+    (raised c.args.times.now c.args.slots.now c.args.at c.if-at-slots.false q.distinct (within_times c.args.times.now c.args.slots.now q c.args.at c.if-at-slots.false) c.args.more)
