@@ -1,189 +1,183 @@
--- A tick for the slots in use, one after the other.
-use Rattle.std.proofs.Common.{◌≡◌, ℕ, zero, suc, ◌+◌, ◌-◌, ◌<◌, ◌≤◌, true, false, cond, nat_eq, nat_lt, List, [], ◌∷◌, ◌++◌, length, take, drop, set, get_or, Some, None, refl, inl, inr, ap, ◌∙◌, sym, subst, arith, length-set}
-use Rattle.std.specs.List.{filter_map, cons_option, AllByRecursion, IsDistinct, swap}
+-- A tick over the queue does to the neighbors what a tick does: what the loop keeps that takes the expired slots out of
+-- the queue and out of the order, one after the other.
+use Rattle.std.proofs.Common.{◌≡◌, ℕ, zero, suc, ◌+◌, ◌-◌, ◌<◌, ◌≤◌, ◌||◌, Bool, true, false, cond, nat_eq, nat_lt, List, [], ◌∷◌, ◌++◌, length, take, get_or, Some, None, refl, inl, inr, ap, ◌∙◌, sym, subst, arith, map, length-take-le}
+use Rattle.std.specs.List.{list_any, filter, filter_map, cons_option, AllByRecursion, IsDistinct, remove}
 use Rattle.std.specs.List.Sorted.{IsPermutation}
-use Rattle.std.proofs.lemmas.List.{take_more, map-append, take-set-le, drop-set-lt, get_or-drop, append-nil, get_or-set_same, get_or-set_other}
-use Rattle.std.proofs.lemmas.List.Edits.{swap_is}
-use Rattle.std.proofs.lemmas.List.Elements.{filter_map-append}
-use Rattle.std.proofs.lemmas.List.Sorted.{IsPermutation-swap, IsPermutation-trans, IsPermutation-refl, length_permutation}
-use Rattle.std.proofs.lemmas.Grind.{take-set_at, drop_more_same}
-use Rattle.std.proofs.Math.Seq.{drop-cons, take-append_seam}
-use Rattle.std.proofs.lemmas.Bool.{cases_lt, eqb-false}
+use Rattle.std.proofs.lemmas.Bool.{cases_Bool, lt-ltb, ltb-true, ltb-false, le-ltb, cond-true, cond-false, eq-eqb, or_left}
+use Rattle.std.proofs.lemmas.List.{get_or-take}
+use Rattle.std.proofs.lemmas.List.Sorted.{IsPermutation-refl, IsPermutation-trans, IsPermutation-remove, IsPermutation-append_comm, length_permutation}
+use Rattle.std.proofs.lemmas.Map.Keys.{IsDistinct-head, IsDistinct-tail}
 use Rattle.lldp_table.specs.Events.{Neighbor}
 use Rattle.lldp_table.specs.Contents.{Contents, aged, after_tick}
-use Rattle.lldp_table.specs.Layout.{neighbor_of, neighbor_at, neighbors_at, left_in, blank, contents_of, IsLaidOut}
 use Rattle.lldp_table.specs.Stored.{Stored}
-use Rattle.lldp_table.proofs.PlaceLemmas.{map-agree, all-weaker, not_before, not_behind, all-take, at_place, distinct-moved, IsOrder-moved}
+use Rattle.lldp_table.specs.Queue.{Due, due, holds, slots_of, ticks_left, less_first, is_spent, IsRunning, IsQueued, IsTimed}
+use Rattle.lldp_table.specs.Layout.{neighbor_of, neighbor_at, neighbors_at, blank, contents_of, IsLaidOut}
+use Rattle.lldp_table.proofs.PlaceLemmas.{nat_eq_sym, at_place, one-out, take-moved, distinct-take, distinct-moved, IsOrder-moved}
+use Rattle.lldp_table.proofs.QueueLemmas.{left-pass, left-positive, left-front_same, left-front_other}
+use Rattle.lldp_table.proofs.QueueOrderLemmas.{slots-less_first}
+use Rattle.lldp_table.proofs.TimedLemmas.{queued_less, all_queued, holds-slots}
 use Rattle.lldp_table.proofs.LayoutLemmas.{laid_out}
 use Rattle.lldp_table.proofs.SoundLemmas.{sound_ticked}
 
--- The slots before place `at` are done: those that live on come first. The others are as they were.
-pub record IsAged (lefts0 order0 lefts order : List ℕ) (kept at : ℕ) : Type 0 where
-  pub fewer : kept ≤ at
-  pub size : length lefts ≡ length lefts0
-  pub moved : IsPermutation order0 order
-  pub done : (slots : List Stored) → neighbors_at slots (left_in lefts) (take kept order) ≡ filter_map aged (neighbors_at slots (left_in lefts0) (take at order0))
-  pub rest : drop at order ≡ drop at order0
-  pub same : AllByRecursion (λ i. left_in lefts i ≡ left_in lefts0 i) (drop at order)
+-- ## One neighbor
 
-pub none_aged : (lefts order : List ℕ) → IsAged lefts order lefts order 0 0
-none_aged lefts order = record { fewer = omega arith; size = refl; moved = IsPermutation-refl order; done = λ slots. refl; rest = refl; same = all_same order }
-  where
-    all_same : (is : List ℕ) → AllByRecursion (λ i. left_in lefts i ≡ left_in lefts i) is
-    all_same [] = tt
-    all_same (i ∷ is) = (refl, all_same is)
+abbrev older : Neighbor → Neighbor
+older x = record x { left = x.left - 1 }
 
--- ## Places
+abbrev pub lives : Neighbor → Bool
+lives x = nat_lt 0 x.left
 
--- what a swap puts at the first of two places, and leaves behind the second
-take-swap : (order : List ℕ) (kept at : ℕ) → kept ≤ at → at < length order → take (kept + 1) (swap order kept at) ≡ take kept order ++ get_or order at 0 ∷ []
-take-swap order kept at h l =
-    let x : ℕ = get_or order at 0 in
-    let y : ℕ = get_or order kept 0 in
-    ap (take (kept + 1)) (sym (swap_is order kept at 0 (omega arith) l))
-    ∙ elim (cases_lt kept at) [
-      | inl w ↦ take-set-le (kept + 1) (set order kept x) at y (omega arith) ∙ take-set_at order kept (kept + 1) x refl (omega arith)
-      | inr w ↦
-          let e : kept ≡ at = omega arith in
-          take-set_at (set order kept x) at (kept + 1) y (omega arith) (omega (arith, length-set order kept x))
-          ∙ ap (λ is. is ++ y ∷ []) (take-set-le at order kept x w)
-          ∙ ap (λ n. take n order ++ y ∷ []) (sym e) ∙ ap (λ n. take kept order ++ get_or order n 0 ∷ []) e
+living_one : (x : Neighbor) (xs : List Neighbor) → cond (lives (older x)) (older x ∷ xs) xs ≡ cons_option (aged x) xs
+living_one x xs =
+    elim (cases_Bool (nat_lt 1 x.left)) [
+      | inl t ↦
+          let m : 1 < x.left = ltb-true 1 x.left t in
+          let l : 0 < x.left - 1 = omega arith in
+          cond-true (lives (older x)) (older x ∷ xs) xs (lt-ltb 0 (x.left - 1) l) ∙ ap (λ b. cons_option (cond b (Some (older x)) None) xs) (sym t)
+      | inr f ↦
+          let m : x.left ≤ 1 = ltb-false 1 x.left f in
+          let l : x.left - 1 ≤ 0 = omega arith in
+          cond-false (lives (older x)) (older x ∷ xs) xs (le-ltb 0 (x.left - 1) l) ∙ ap (λ b. cons_option (cond b (Some (older x)) None) xs) (sym f)
     ]
 
-drop-swap : (order : List ℕ) (kept at : ℕ) → kept ≤ at → at < length order → drop (at + 1) (swap order kept at) ≡ drop (at + 1) order
-drop-swap order kept at h l =
-    ap (drop (at + 1)) (sym (swap_is order kept at 0 (omega arith) l))
-    ∙ drop-set-lt (at + 1) (set order kept (get_or order at 0)) at (get_or order kept 0) (omega arith)
-    ∙ drop-set-lt (at + 1) order kept (get_or order at 0) (omega arith)
+-- taking one from each and leaving out those with nothing left is ageing
+living-older : (xs : List Neighbor) → filter lives (map older xs) ≡ filter_map aged xs
+living-older [] = refl
+living-older (x ∷ xs) = ap (λ ys. cond (lives (older x)) (older x ∷ ys) ys) (living-older xs) ∙ living_one x (filter_map aged xs)
 
-drop-more : (order : List ℕ) (at : ℕ) → at < length order → drop at order ≡ get_or order at 0 ∷ drop (at + 1) order
-drop-more order at l = let e : suc at ≡ at + 1 = omega arith in drop-cons order at 0 l ∙ ap (λ n. get_or order at 0 ∷ drop n order) e
+-- ## The neighbors in slots
 
-take-take-le : (n m : ℕ) (is : List ℕ) → n ≤ m → take n (take m is) ≡ take n is
-take-take-le zero m is h = refl
-take-take-le (suc n) zero is h = absurd (omega arith)
-take-take-le (suc n) (suc m) [] h = refl
-take-take-le (suc n) (suc m) (i ∷ is) h = ap (λ js. i ∷ js) (take-take-le n m is (omega arith))
+module _ (slots : List Stored) where
+  -- the neighbors in these slots, by the queue
+  abbrev in_queue : List Due → List ℕ → List Neighbor
+  in_queue queue indices = neighbors_at slots (ticks_left queue) indices
 
-all-both : (P Q R : ℕ → Type 0) → ((i : ℕ) → P i → Q i → R i) → (is : List ℕ) → AllByRecursion P is → AllByRecursion Q is → AllByRecursion R is
-all-both P Q R h [] p q = tt
-all-both P Q R h (i ∷ is) p q = (h i p.0 q.0, all-both P Q R h is p.1 q.1)
+  abbrev with_left : ℕ → ℕ → Neighbor
+  with_left i n = neighbor_of (get_or slots i blank) n
 
--- ## One slot
+  -- one less for the first is one less for each
+  neighbors-pass : (queue : List Due) → IsRunning queue → (order : List ℕ) → AllByRecursion (λ i. holds i queue ≡ true) order → in_queue (less_first 1 queue) order ≡ map older (in_queue queue order)
+  neighbors-pass queue r [] a = refl
+  neighbors-pass queue r (i ∷ order) a =
+      ap (λ n. with_left i n ∷ in_queue (less_first 1 queue) order) (left-pass i queue r a.0) ∙ ap (λ xs. with_left i (ticks_left queue i - 1) ∷ xs) (neighbors-pass queue r order a.1)
 
--- what is left of a slot's neighbor
-aged_lives : (slot : Stored) (left n : ℕ) → nat_lt 1 left ≡ true → n ≡ left - 1 → aged (neighbor_of slot left) ≡ Some (neighbor_of slot n)
-aged_lives slot left n e m = ap (λ b. cond b (Some (neighbor_of slot (left - 1))) None) e ∙ ap (λ k. Some (neighbor_of slot k)) (sym m)
+  -- where a slot has nothing left and is first, the others don't change without it
+  others_same : (slot : ℕ) (queue : List Due) (order : List ℕ) → AllByRecursion (λ i. nat_eq slot i ≡ false) order → in_queue (due slot 0 ∷ queue) order ≡ in_queue queue order
+  others_same slot queue [] a = refl
+  others_same slot queue (i ∷ order) a =
+      ap (λ n. with_left i n ∷ in_queue (due slot 0 ∷ queue) order) (left-front_other slot i queue a.0) ∙ ap (λ xs. with_left i (ticks_left queue i) ∷ xs) (others_same slot queue order a.1)
 
-aged_gone : (slot : Stored) (left : ℕ) → nat_lt 1 left ≡ false → aged (neighbor_of slot left) ≡ None
-aged_gone slot left e = ap (λ b. cond b (Some (neighbor_of slot (left - 1))) None) e
+  -- it is taken out of the queue and out of the order
+  living-expired : (slot : ℕ) (queue : List Due) (order : List ℕ) (at : ℕ) → at < length order → get_or order at 0 ≡ slot → IsDistinct nat_eq order → filter lives (in_queue (due slot 0 ∷ queue) order) ≡ filter lives (in_queue queue (remove order at))
+  living-expired slot queue [] at h e u = absurd (omega arith)
+  living-expired slot queue (i ∷ order) zero h e u =
+      let gone : ticks_left (due slot 0 ∷ queue) i ≡ 0 = ap (ticks_left (due slot 0 ∷ queue)) e ∙ left-front_same slot queue in
+      let rest : List Neighbor = in_queue (due slot 0 ∷ queue) order in
+      ap (λ n. cond (nat_lt 0 n) (with_left i n ∷ filter lives rest) (filter lives rest)) gone
+      ∙ ap (filter lives) (others_same slot queue order (subst (λ s. AllByRecursion (λ j. nat_eq s j ≡ false) order) e (IsDistinct-head nat_eq i order u)))
+  living-expired slot queue (i ∷ order) (suc at) h e u =
+      let differs : nat_eq slot i ≡ false = nat_eq_sym slot i ∙ ap (nat_eq i) (sym e) ∙ at_place (λ j. nat_eq i j ≡ false) order at 0 (omega arith) (IsDistinct-head nat_eq i order u) in
+      let rest : List Neighbor = in_queue (due slot 0 ∷ queue) order in
+      ap (λ n. cond (nat_lt 0 n) (with_left i n ∷ filter lives rest) (filter lives rest)) (left-front_other slot i queue differs)
+      ∙ ap (λ xs. cond (nat_lt 0 (ticks_left queue i)) (with_left i (ticks_left queue i) ∷ xs) xs) (living-expired slot queue order at (omega arith) e (IsDistinct-tail nat_eq i order u))
 
-module _ (lefts0 order0 lefts order : List ℕ) (kept at : ℕ) (within : AllByRecursion (λ i. i < length lefts0) order0) (distinct : IsDistinct nat_eq order0) (h : IsAged lefts0 order0 lefts order kept at) (l : at < length order0) where
-  abbrev s : ℕ
-  s = get_or order at 0
+  -- once the first has some ticks left, all live
+  all_live : (queue : List Due) → IsRunning queue → (order : List ℕ) → AllByRecursion (λ i. holds i queue ≡ true) order → filter lives (in_queue queue order) ≡ in_queue queue order
+  all_live queue r [] a = refl
+  all_live queue r (i ∷ order) a =
+      cond-true (nat_lt 0 (ticks_left queue i)) (with_left i (ticks_left queue i) ∷ filter lives (in_queue queue order)) (filter lives (in_queue queue order)) (lt-ltb 0 (ticks_left queue i) (left-positive i queue r a.0))
+      ∙ ap (λ xs. with_left i (ticks_left queue i) ∷ xs) (all_live queue r order a.1)
 
-  long : length order ≡ length order0
-  long = length_permutation order0 order h.moved
+-- ## The loop
 
-  short : at < length order
-  short = omega (arith, long)
+-- Of the neighbors before the tick those live that have some ticks left by the queue, in the order of the first `kept`.
+pub record IsAging (queue0 : List Due) (order0 : List ℕ) (used : ℕ) (queue : List Due) (order : List ℕ) (kept : ℕ) (spent : Bool) : Type 0 where
+  pub fewer : kept ≤ used
+  pub moved : IsPermutation order0 order
+  pub queued : IsQueued queue (take kept order)
+  pub living : (slots : List Stored) → filter lives (neighbors_at slots (ticks_left queue) (take kept order)) ≡ filter_map aged (neighbors_at slots (ticks_left queue0) (take used order0))
+  pub told : spent ≡ is_spent queue
 
-  same_index : s ≡ get_or order0 at 0
-  same_index =
-      let e : at ≡ at + 0 = omega arith in
-      ap (λ n. get_or order n 0) e ∙ sym (get_or-drop at order 0 0) ∙ ap (λ is. get_or is 0 0) h.rest ∙ get_or-drop at order0 0 0 ∙ ap (λ n. get_or order0 n 0) (sym e)
+module _ (queue0 : List Due) (order0 : List ℕ) (used : ℕ) (timed : IsTimed queue0 (take used order0)) (distinct : IsDistinct nat_eq order0) (within : used ≤ length order0) where
+  pub aging_begins : (spent : Bool) → spent ≡ is_spent (less_first 1 queue0) → IsAging queue0 order0 used (less_first 1 queue0) order0 used spent
+  aging_begins spent e =
+      let queue : List Due = less_first 1 queue0 in
+      record {
+        fewer = omega arith;
+        moved = IsPermutation-refl order0;
+        queued = record {
+          same = λ i. holds-slots i queue ∙ ap (list_any (nat_eq i)) (slots-less_first 1 queue0) ∙ sym (holds-slots i queue0) ∙ timed.queued.same i;
+          count = less_count queue0 ∙ timed.queued.count;
+          distinct = subst (IsDistinct nat_eq) (sym (slots-less_first 1 queue0)) timed.queued.distinct;
+        };
+        living = λ slots.
+            ap (filter lives) (neighbors-pass slots queue0 timed.running (take used order0) (all_queued queue0 (take used order0) timed.queued))
+            ∙ living-older (neighbors_at slots (ticks_left queue0) (take used order0));
+        told = e;
+      }
+    where
+      less_count : (queue : List Due) → length (less_first 1 queue) ≡ length queue
+      less_count [] = refl
+      less_count (e ∷ queue) = refl
 
-  pub index_within : s < length lefts
-  index_within =
-      let p : get_or order0 at 0 < length lefts0 = at_place (λ i. i < length lefts0) order0 at 0 l within in
-      omega (arith, same_index, h.size)
+  module _ (queue : List Due) (order : List ℕ) (kept : ℕ) (spent : Bool) (h : IsAging queue0 order0 used queue order kept spent) where
+    short : length (take kept order) ≡ kept
+    short = length-take-le kept order (omega (arith, h.fewer, within, length_permutation order0 order h.moved))
 
-  -- what is left of the slot at this place is as it was
-  unchanged : left_in lefts s ≡ left_in lefts0 s
-  unchanged = (subst (AllByRecursion (λ i. left_in lefts i ≡ left_in lefts0 i)) (drop-more order at short) h.same).0
+    -- the slot that was taken out of the queue
+    module _ (slot : ℕ) (queue' : List Due) (e : queue ≡ due slot 0 ∷ queue') where
+      pub used_slot : list_any (nat_eq slot) (take kept order) ≡ true
+      used_slot = sym (h.queued.same slot) ∙ ap (holds slot) e ∙ or_left (nat_eq slot slot) (holds slot queue') (eq-eqb slot slot refl)
 
-  rest_same : AllByRecursion (λ i. left_in lefts i ≡ left_in lefts0 i) (drop (at + 1) order)
-  rest_same = (subst (AllByRecursion (λ i. left_in lefts i ≡ left_in lefts0 i)) (drop-more order at short) h.same).1
+      pub kept_some : 0 < kept
+      kept_some = omega (arith, short, h.queued.count, ap length e)
 
-  order_distinct : IsDistinct nat_eq order
-  order_distinct = distinct-moved order0 order h.moved distinct
+      pub aging_goes_on : (at x : ℕ) → at < length (take kept order) → get_or (take kept order) at 0 ≡ slot → x ≡ get_or order at x → (spent' : Bool) → spent' ≡ is_spent queue'
+          → IsAging queue0 order0 used queue' (remove order at ++ x ∷ []) (kept - 1) spent'
+      aging_goes_on at x l g r spent' s =
+          let xs : List ℕ = take kept order in
+          let all : length order ≡ length order0 = length_permutation order0 order h.moved in
+          let place : at < kept = omega (arith, l, short) in
+          let fits : at < length order = omega (arith, place, h.fewer, within, all) in
+          let one : suc (kept - 1) ≡ kept = let k = kept_some in omega (arith, k) in
+          let out : take (kept - 1) (remove order at ++ x ∷ []) ≡ remove xs at =
+              take-moved order x at (kept - 1) (omega (arith, one, place)) (omega (arith, one, h.fewer, within, all)) ∙ ap (λ n. remove (take n order) at) one in
+          let apart : IsDistinct nat_eq xs = distinct-take kept order (distinct-moved order0 order h.moved distinct) in
+          let parted : IsPermutation xs (slot ∷ remove xs at) = subst (λ i. IsPermutation xs (i ∷ remove xs at)) g (one-out xs at l) in
+          let first : IsPermutation (slots_of queue) (slot ∷ slots_of queue') = subst (λ (q : List Due). IsPermutation (slots_of q) (slot ∷ slots_of queue')) (sym e) (IsPermutation-refl (slot ∷ slots_of queue')) in
+          record {
+            fewer = omega (arith, h.fewer);
+            moved = IsPermutation-trans order0 order (remove order at ++ x ∷ []) h.moved
+                (IsPermutation-trans order (x ∷ remove order at) (remove order at ++ x ∷ []) (IsPermutation-remove order at x fits r) (IsPermutation-append_comm (x ∷ []) (remove order at)));
+            queued = subst (IsQueued queue') (sym out) (queued_less queue queue' slot xs (remove xs at) h.queued apart parted first);
+            living = λ slots.
+                ap (λ is. filter lives (neighbors_at slots (ticks_left queue') is)) out
+                ∙ sym (living-expired slots slot queue' xs at l g apart)
+                ∙ ap (λ (q : List Due). filter lives (neighbors_at slots (ticks_left q) xs)) (sym e) ∙ h.living slots;
+            told = s;
+          }
 
-  before : (slots : List Stored) → filter_map aged (neighbors_at slots (left_in lefts0) (take (at + 1) order0)) ≡ neighbors_at slots (left_in lefts) (take kept order) ++ cons_option (aged (neighbor_at slots (left_in lefts) s)) []
-  before slots =
-      let f : ℕ → Neighbor = neighbor_at slots (left_in lefts0) in
-      let first : List Neighbor = neighbors_at slots (left_in lefts) (take kept order) in
-      ap (λ is. filter_map aged (neighbors_at slots (left_in lefts0) is)) (take_more order0 at 0 l)
-      ∙ ap (filter_map aged) (map-append f (take at order0) (get_or order0 at 0 ∷ []))
-      ∙ filter_map-append aged (neighbors_at slots (left_in lefts0) (take at order0)) (f (get_or order0 at 0) ∷ [])
-      ∙ ap (λ xs. xs ++ cons_option (aged (f (get_or order0 at 0))) []) (sym (h.done slots))
-      ∙ ap (λ i. first ++ cons_option (aged (f i)) []) (sym same_index)
-      ∙ ap (λ n. first ++ cons_option (aged (neighbor_of (get_or slots s blank) n)) []) (sym unchanged)
+    -- nothing is left to take out
+    module _ (done : spent ≡ false) where
+      runs : IsRunning queue
+      runs = sym h.told ∙ done
 
-  module _ (n : ℕ) where
-    abbrev written : List ℕ
-    written = set lefts s n
+      pub aging_ends : (slots : List Stored) → neighbors_at slots (ticks_left queue) (take kept order) ≡ filter_map aged (neighbors_at slots (ticks_left queue0) (take used order0))
+      aging_ends slots = sym (all_live slots queue runs (take kept order) (all_queued queue (take kept order) h.queued)) ∙ h.living slots
 
-    other : (i : ℕ) → nat_eq s i ≡ false → left_in written i ≡ left_in lefts i
-    other i d = get_or-set_other lefts s i n 0 (λ e. eqb-false s i d (sym e))
-
-    -- the write leaves those that are done, and the rest
-    unwritten : (slots : List Stored) → neighbors_at slots (left_in written) (take kept order) ≡ neighbors_at slots (left_in lefts) (take kept order)
-    unwritten slots =
-        map-agree (neighbor_at slots (left_in lefts)) (neighbor_at slots (left_in written)) (take kept order)
-        (all-weaker (λ i. nat_eq s i ≡ false) (λ i. neighbor_at slots (left_in written) i ≡ neighbor_at slots (left_in lefts) i) (λ i d. ap (neighbor_of (get_or slots i blank)) (other i d)) (take kept order)
-        (subst (AllByRecursion (λ i. nat_eq s i ≡ false)) (take-take-le kept at order h.fewer) (all-take (λ i. nat_eq s i ≡ false) kept (take at order) (not_before order at short order_distinct))))
-
-    unwritten_rest : AllByRecursion (λ i. left_in written i ≡ left_in lefts0 i) (drop (at + 1) order)
-    unwritten_rest =
-        let one : suc at ≡ at + 1 = omega arith in
-        all-both (λ i. nat_eq s i ≡ false) (λ i. left_in lefts i ≡ left_in lefts0 i) (λ i. left_in written i ≡ left_in lefts0 i)
-        (λ i d e. other i d ∙ e) (drop (at + 1) order) (subst (λ k. AllByRecursion (λ i. nat_eq s i ≡ false) (drop k order)) one (not_behind order at short order_distinct)) rest_same
-
-    -- its neighbor lives on
-    pub lives_on : nat_lt 1 (left_in lefts s) ≡ true → n ≡ left_in lefts s - 1 → IsAged lefts0 order0 written (swap order kept at) (kept + 1) (at + 1)
-    lives_on lives less = record {
-      fewer = omega (arith, h.fewer);
-      size = length-set lefts s n ∙ h.size;
-      moved = IsPermutation-trans order0 order (swap order kept at) h.moved (IsPermutation-swap order (swap order kept at) kept at (omega (arith, h.fewer, short)) short refl);
-      done = λ slots.
-          let f : ℕ → Neighbor = neighbor_at slots (left_in written) in
-          let first : List Neighbor = neighbors_at slots (left_in lefts) (take kept order) in
-          let slot : Stored = get_or slots s blank in
-          ap (neighbors_at slots (left_in written)) (take-swap order kept at h.fewer short) ∙ map-append f (take kept order) (s ∷ [])
-          ∙ ap (λ xs. xs ++ f s ∷ []) (unwritten slots) ∙ ap (λ k. first ++ neighbor_of slot k ∷ []) (get_or-set_same lefts s n 0 index_within)
-          ∙ ap (λ o. first ++ cons_option o []) (sym (aged_lives slot (left_in lefts s) n lives less)) ∙ sym (before slots);
-      rest = drop-swap order kept at h.fewer short ∙ drop_more_same order order0 at h.rest;
-      same = subst (AllByRecursion (λ i. left_in written i ≡ left_in lefts0 i)) (sym (drop-swap order kept at h.fewer short)) unwritten_rest;
-    }
-
-    -- its neighbor aged out, whatever is written
-    pub aged_out : nat_lt 1 (left_in lefts s) ≡ false → IsAged lefts0 order0 written order kept (at + 1)
-    aged_out gone = record {
-      fewer = omega (arith, h.fewer);
-      size = length-set lefts s n ∙ h.size;
-      moved = h.moved;
-      done = λ slots.
-          let first : List Neighbor = neighbors_at slots (left_in lefts) (take kept order) in
-          unwritten slots ∙ sym (append-nil first) ∙ ap (λ o. first ++ cons_option o []) (sym (aged_gone (get_or slots s blank) (left_in lefts s) gone)) ∙ sym (before slots);
-      rest = drop_more_same order order0 at h.rest;
-      same = unwritten_rest;
-    }
+      pub timed_ends : IsTimed queue (take kept order)
+      timed_ends = record { queued = h.queued; running = runs }
 
 -- ## Tables
 
--- a list that is written back whole
-pub written_back : {X : Type 0} (n : ℕ) (xs ys : List X) → n ≡ length xs → take n (xs ++ ys) ≡ xs
-written_back n xs ys e = ap (λ k. take k (xs ++ ys)) e ∙ take-append_seam xs ys
-
 -- the table after a tick
-pub after_ticked : (slots : List Stored) (left left' : ℕ → ℕ) (order order' : List ℕ) (used used' limit too_many timer : ℕ) → neighbors_at slots left' (take used' order') ≡ filter_map aged (neighbors_at slots left (take used order)) → timer ≡ too_many - 1
-    → contents_of slots left' order' used' limit timer ≡ after_tick (contents_of slots left order used limit too_many)
-after_ticked slots left left' order order' used used' limit too_many timer n t =
-    let table : List Neighbor → ℕ → Contents = λ xs k. record { capacity = length slots; limit = limit; neighbors = xs; too_many_left = k } in
-    ap (λ xs. table xs timer) n ∙ ap (table (filter_map aged (neighbors_at slots left (take used order)))) t
+module _ (capacity : ℕ) (slots : List Stored) (left left' : ℕ → ℕ) (order order' : List ℕ) (used used' limit too_many timer : ℕ) (n : neighbors_at slots left' (take used' order') ≡ filter_map aged (neighbors_at slots left (take used order))) (t : timer ≡ too_many - 1) where
+  pub after_ticked : contents_of capacity slots left' order' used' limit timer ≡ after_tick (contents_of capacity slots left order used limit too_many)
+  after_ticked =
+      let table : List Neighbor → ℕ → Contents = λ xs k. record { capacity = capacity; limit = limit; neighbors = xs; too_many_left = k } in
+      ap (λ xs. table xs timer) n ∙ ap (table (filter_map aged (neighbors_at slots left (take used order)))) t
 
-pub laid_ticked : (slots : List Stored) (left left' : ℕ → ℕ) (order order' : List ℕ) (used used' limit too_many timer : ℕ) → IsLaidOut slots left order used limit too_many → IsPermutation order order' → used' ≤ used
-    → neighbors_at slots left' (take used' order') ≡ filter_map aged (neighbors_at slots left (take used order)) → timer ≡ too_many - 1 → IsLaidOut slots left' order' used' limit timer
-laid_ticked slots left left' order order' used used' limit too_many timer h p f n t =
-    laid_out slots left' order' used' limit timer (after_tick (contents_of slots left order used limit too_many)) (IsOrder-moved (length slots) order order' p h.indices) (omega (arith, h.held))
-    (after_ticked slots left left' order order' used used' limit too_many timer n t) (sound_ticked (contents_of slots left order used limit too_many) h.sound)
+  pub laid_ticked : IsLaidOut capacity slots left order used limit too_many → IsPermutation order order' → used' ≤ used → IsLaidOut capacity slots left' order' used' limit timer
+  laid_ticked h p f =
+      laid_out capacity slots left' order' used' limit timer (after_tick (contents_of capacity slots left order used limit too_many)) (IsOrder-moved (length slots) order order' p h.indices)
+      h.written (omega (arith, f, h.fits)) (omega (arith, f, h.held)) after_ticked (sound_ticked (contents_of capacity slots left order used limit too_many) h.sound)

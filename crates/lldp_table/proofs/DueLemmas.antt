@@ -287,8 +287,17 @@ module _ (times slots : List ℕ) (h : IsQueue times slots) (k left : ℕ) (l : 
 pub some_there : (slots : List ℕ) → false ≡ nat_eq (length slots) 0 → 0 < length slots
 some_there slots h = let n = eqb-false (length slots) 0 (sym h) in omega (arith, n)
 
-pub lefts_of : (times slots lefts : List ℕ) (queue : List Due) → dues times slots ≡ queue → AllByRecursion (λ i. get_or lefts i 0 ≡ ticks_left (dues times slots) i) slots
-    → AllByRecursion (λ i. get_or lefts i 0 ≡ ticks_left queue i) (slots_of queue)
-lefts_of times slots lefts queue e a =
-    subst (λ (q : List Due). AllByRecursion (λ i. get_or lefts i 0 ≡ ticks_left q i) (slots_of q)) e
-    (subst (AllByRecursion (λ i. get_or lefts i 0 ≡ ticks_left (dues times slots) i)) (sym (slots_of-dues times slots)) a)
+-- what holds of each index holds of one
+all_of : (P : ℕ → Type 0) (slot : ℕ) (is : List ℕ) → AllByRecursion P is → list_any (nat_eq slot) is ≡ true → P slot
+all_of P slot [] a h = cc
+all_of P slot (i ∷ is) a h =
+    elim (cases_Bool (nat_eq slot i)) [
+      | inl t ↦ subst P (sym (eqb-true slot i t)) a.0
+      | inr f ↦ all_of P slot is a.1 (ap (λ b. b || list_any (nat_eq slot) is) (sym f) ∙ h)
+    ]
+
+pub lefts_of : (times slots lefts : List ℕ) (shown : List Due) → dues times slots ≡ shown → AllByRecursion (λ i. get_or lefts i 0 ≡ ticks_left (dues times slots) i) slots
+    → (slot : ℕ) → holds slot shown ≡ true → get_or lefts slot 0 ≡ ticks_left shown slot
+lefts_of times slots lefts shown e a slot h =
+    all_of (λ i. get_or lefts i 0 ≡ ticks_left (dues times slots) i) slot slots a (sym (holds-dues times slot slots) ∙ ap (holds slot) e ∙ h)
+    ∙ ap (λ (q : List Due). ticks_left q slot) e

@@ -9,6 +9,7 @@ pub mod ListLemmas
 pub mod Rows
 pub mod PlaceLemmas
 pub mod LayoutLemmas
+pub mod TimedLemmas
 pub mod AgeLemmas
 pub mod LearnLemmas
 pub mod QueueLemmas

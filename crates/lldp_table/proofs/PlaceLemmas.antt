@@ -1,9 +1,9 @@
 -- Places in a list of neighbors, and in an order of slot indices.
 use Rattle.std.proofs.Common.{◌≡◌, ℕ, zero, suc, ◌+◌, ◌<◌, ◌≤◌, Bool, true, false, not, cond, nat_eq, List, [], ◌∷◌, ◌++◌, length, take, drop, set, get_or, refl, ap, ◌∙◌, sym, arith, map, length-append}
 use Rattle.std.specs.List.{list_any, filter, AllByRecursion, IsDistinct, remove}
-use Rattle.std.proofs.lemmas.Bool.{or_parts, or_from, or_left, or_right, ne_eqb}
+use Rattle.std.proofs.lemmas.Bool.{or_parts, or_from, or_left, or_right, ne_eqb, eq-eqb}
 use Rattle.std.proofs.lemmas.Cmp.{nat_eq_equiv}
-use Rattle.std.proofs.lemmas.List.{take-map, drop-map, take-append-le, map-append}
+use Rattle.std.proofs.lemmas.List.{get_or_default, take-map, drop-map, take-append-le, map-append}
 use Rattle.std.proofs.lemmas.List.Elements.{All-from_recursion, recursion_from_All, All-get_or, All-take}
 use Rattle.std.proofs.lemmas.List.Sorted.{All-permutation, length_permutation, IsPermutation-trans, IsPermutation-remove, IsPermutation-append_comm}
 use Rattle.std.proofs.lemmas.Map.Keys.{IsDistinct-head, IsDistinct-tail, IsDistinct-push, IsDistinct-IsPermutation}
@@ -30,11 +30,6 @@ all-both P Q R h (i ∷ is) p q = (h i p.0 q.0, all-both P Q R h is p.1 q.1)
 
 pub all-take : (P : ℕ → Type 0) (n : ℕ) (is : List ℕ) → AllByRecursion P is → AllByRecursion P (take n is)
 all-take P n is a = recursion_from_All P (take n is) (All-take P n is (All-from_recursion P is a))
-
-pub any_at : (test : Neighbor → Bool) (xs : List Neighbor) (k : ℕ) (d : Neighbor) → k < length xs → test (get_or xs k d) ≡ true → list_any test xs ≡ true
-any_at test [] k d h e = absurd (omega arith)
-any_at test (x ∷ xs) zero d h e = or_left (test x) (list_any test xs) e
-any_at test (x ∷ xs) (suc k) d h e = or_right (test x) (list_any test xs) (any_at test xs k d (omega arith) e)
 
 -- nothing that passes the test
 pub unheld : {X : Type 0} (test : X → Bool) (xs : List X) → list_any test xs ≡ false → AllByRecursion (λ x. test x ≡ false) xs
@@ -64,13 +59,9 @@ module _ (name : MsapId) where
   refreshed-unnamed ttl octets [] a = refl
   refreshed-unnamed ttl octets (x ∷ xs) a = ap (λ b. cond b (fresh name ttl octets) x ∷ map (refreshed name ttl octets) xs) a.0 ∙ ap (λ ys. x ∷ ys) (refreshed-unnamed ttl octets xs a.1)
 
-  none_named : (xs : List Neighbor) → list_any (is_named name) xs ≡ false → AllByRecursion (λ y. is_named name y ≡ false) xs
-  none_named [] h = tt
-  none_named (x ∷ xs) h = let p = or_parts (is_named name x) (list_any (is_named name) xs) h in (p.0, none_named xs p.1)
-
   -- to forget a name that isn't held changes nothing
   pub forgets_none : (xs : List Neighbor) → list_any (is_named name) xs ≡ false → filter (λ x. not (is_named name x)) xs ≡ xs
-  forgets_none xs h = filter-unnamed xs (none_named xs h)
+  forgets_none xs h = filter-unnamed xs (unheld (is_named name) xs h)
 
   -- to forget a name is to remove its neighbor
   pub forgets_place : (xs : List Neighbor) (k : ℕ) (d : Neighbor) → k < length xs → is_named name (get_or xs k d) ≡ true → IsDistinct same_msap (names_of xs) → filter (λ x. not (is_named name x)) xs ≡ remove xs k
@@ -103,14 +94,14 @@ module _ (f g : ℕ → Neighbor) where
   map-agree (i ∷ is) a = ap (λ x. x ∷ map g is) a.0 ∙ ap (λ xs. f i ∷ xs) (map-agree is a.1)
 
   -- a write at the index that stands at place k
-  pub map-at_place : (s : ℕ) → ((i : ℕ) → nat_eq s i ≡ false → g i ≡ f i) → (is : List ℕ) (k : ℕ) → k < length is → get_or is k 0 ≡ s → IsDistinct nat_eq is → map g is ≡ set (map f is) k (g s)
-  map-at_place s same [] k h e u = absurd (omega arith)
-  map-at_place s same (i ∷ is) zero h e u =
+  pub map-at_place : (s : ℕ) (is : List ℕ) → AllByRecursion (λ i. nat_eq s i ≡ false → g i ≡ f i) is → (k : ℕ) → k < length is → get_or is k 0 ≡ s → IsDistinct nat_eq is → map g is ≡ set (map f is) k (g s)
+  map-at_place s [] same k h e u = absurd (omega arith)
+  map-at_place s (i ∷ is) same zero h e u =
       ap (λ j. g j ∷ map g is) e
-      ∙ ap (λ xs. g s ∷ xs) (map-agree is (all-weaker (λ j. nat_eq i j ≡ false) (λ j. g j ≡ f j) (λ j d. same j (ap (λ n. nat_eq n j) (sym e) ∙ d)) is (IsDistinct-head nat_eq i is u)))
-  map-at_place s same (i ∷ is) (suc k) h e u =
-      ap (λ x. x ∷ map g is) (same i (nat_eq_sym s i ∙ ap (nat_eq i) (sym e) ∙ at_place (λ j. nat_eq i j ≡ false) is k 0 (omega arith) (IsDistinct-head nat_eq i is u)))
-      ∙ ap (λ xs. f i ∷ xs) (map-at_place s same is k (omega arith) e (IsDistinct-tail nat_eq i is u))
+      ∙ ap (λ xs. g s ∷ xs) (map-agree is (all-both (λ j. nat_eq i j ≡ false) (λ j. nat_eq s j ≡ false → g j ≡ f j) (λ j. g j ≡ f j) (λ j d q. q (ap (λ n. nat_eq n j) (sym e) ∙ d)) is (IsDistinct-head nat_eq i is u) same.1))
+  map-at_place s (i ∷ is) same (suc k) h e u =
+      ap (λ x. x ∷ map g is) (same.0 (nat_eq_sym s i ∙ ap (nat_eq i) (sym e) ∙ at_place (λ j. nat_eq i j ≡ false) is k 0 (omega arith) (IsDistinct-head nat_eq i is u)))
+      ∙ ap (λ xs. f i ∷ xs) (map-at_place s is same.1 k (omega arith) e (IsDistinct-tail nat_eq i is u))
 
 -- an index of the order isn't among those before its place
 pub not_before : (is : List ℕ) (k : ℕ) → k < length is → IsDistinct nat_eq is → AllByRecursion (λ i. nat_eq (get_or is k 0) i ≡ false) (take k is)
@@ -175,3 +166,23 @@ IsOrder-push n order h = record {
 pub IsOrder-none : IsOrder 0 []
 unfolding IsDistinct
 IsOrder-none = record { all = refl; within = tt; distinct = tt }
+
+-- ## One index taken out
+
+pub one-out : (is : List ℕ) (k : ℕ) → k < length is → IsPermutation is (get_or is k 0 ∷ remove is k)
+one-out is k h = IsPermutation-remove is k (get_or is k 0) h (get_or_default is k 0 (get_or is k 0) h)
+
+pub all-out : (P : ℕ → Type 0) (is : List ℕ) (k : ℕ) → k < length is → AllByRecursion P is → AllByRecursion P (remove is k)
+all-out P is k h a = (recursion_from_All P (get_or is k 0 ∷ remove is k) (All-permutation P is (get_or is k 0 ∷ remove is k) (one-out is k h) (All-from_recursion P is a))).1
+
+pub others-out : (is : List ℕ) (k : ℕ) → k < length is → IsDistinct nat_eq is → AllByRecursion (λ i. nat_eq (get_or is k 0) i ≡ false) (remove is k)
+others-out is k h u = IsDistinct-head nat_eq (get_or is k 0) (remove is k) (distinct-moved is (get_or is k 0 ∷ remove is k) (one-out is k h) u)
+
+-- each index of a list is in it
+pub all-with : (is : List ℕ) → AllByRecursion (λ i. list_any (nat_eq i) is ≡ true) is
+all-with [] = tt
+all-with (i ∷ is) = (or_left (nat_eq i i) (list_any (nat_eq i) is) (eq-eqb i i refl), all-weaker (λ j. list_any (nat_eq j) is ≡ true) (λ j. list_any (nat_eq j) (i ∷ is) ≡ true) (λ j h. or_right (nat_eq j i) (list_any (nat_eq j) is) h) is (all-with is))
+
+pub none-with : (s : ℕ) (is : List ℕ) → AllByRecursion (λ i. nat_eq s i ≡ false) is → list_any (nat_eq s) is ≡ false
+none-with s [] a = refl
+none-with s (i ∷ is) a = or_from (nat_eq s i) (list_any (nat_eq s) is) a.0 (none-with s is a.1)

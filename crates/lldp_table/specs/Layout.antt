@@ -1,12 +1,13 @@
--- How the code keeps a table: slots that stay in their places, the ticks left of each, and the list of their indices.
+-- How the code keeps a table: slots that stay in their places, the list of their indices, and the queue of their times.
 -- Nothing here need be believed: no public contract cites it.
-use Rattle.std.specs.Prelude.{◌≡◌, ℕ, ◌<◌, ◌≤◌, List, [], length, map, take, slice_index, slice_index_or, nat_eq}
+use Rattle.std.specs.Prelude.{◌≡◌, ℕ, ◌<◌, ◌≤◌, if◌then◌else◌, ◌==◌, List, [], ◌∷◌, ◌++◌, length, map, take, slice_index_or, nat_eq}
 use Rattle.std.specs.List.{IsDistinct, AllByRecursion}
 use Rattle.lldp_pdu.specs.Msap.{MsapId}
 use Rattle.lldp_pdu.specs.Lldpdu.{msap_of}
 use Rattle.lldp_table.specs.Events.{Neighbor}
 use Rattle.lldp_table.specs.Contents.{Contents, IsSound}
 use Rattle.lldp_table.specs.Stored.{Stored}
+use Rattle.lldp_table.specs.Queue.{Due, ticks_left, IsTimed}
 
 -- a slot that stores nothing
 abbrev pub blank : Stored
@@ -31,9 +32,9 @@ neighbor_at slots left i = neighbor_of (slice_index_or slots i blank) (left i)
 abbrev pub neighbors_at : List Stored → (ℕ → ℕ) → List ℕ → List Neighbor
 neighbors_at slots left indices = map (neighbor_at slots left) indices
 
--- the ticks left of each slot, from the list of them
-abbrev pub left_in : List ℕ → ℕ → ℕ
-left_in lefts i = slice_index lefts i
+-- a list of n, with one more, and any other list as it is
+abbrev pub with_next : {X : Type 0} → ℕ → X → List X → List X
+with_next n x xs = if length xs == n then xs ++ x ∷ [] else xs
 
 -- each slot's index stands once in the order
 pub record IsOrder (size : ℕ) (order : List ℕ) : Type 0 where
@@ -42,11 +43,18 @@ pub record IsOrder (size : ℕ) (order : List ℕ) : Type 0 where
   pub distinct : IsDistinct nat_eq order
 
 -- what a table shows
-abbrev pub contents_of : List Stored → (ℕ → ℕ) → List ℕ → ℕ → ℕ → ℕ → Contents
-contents_of slots left order used limit too_many = record { capacity = length slots; limit = limit; neighbors = neighbors_at slots left (take used order); too_many_left = too_many }
+abbrev pub contents_of : ℕ → List Stored → (ℕ → ℕ) → List ℕ → ℕ → ℕ → ℕ → Contents
+contents_of capacity slots left order used limit too_many = record { capacity = capacity; limit = limit; neighbors = neighbors_at slots left (take used order); too_many_left = too_many }
+
+-- what is true of a table's parts, whatever keeps its times
+pub record IsLaidOut (capacity : ℕ) (slots : List Stored) (left : ℕ → ℕ) (order : List ℕ) (used limit too_many : ℕ) : Type 0 where
+  pub indices : IsOrder (length slots) order
+  pub written : length slots ≤ capacity
+  pub fits : used ≤ length slots
+  pub held : used ≤ limit
+  pub sound : IsSound (contents_of capacity slots left order used limit too_many)
 
 -- what is true of a table's parts
-pub record IsLaidOut (slots : List Stored) (left : ℕ → ℕ) (order : List ℕ) (used limit too_many : ℕ) : Type 0 where
-  pub indices : IsOrder (length slots) order
-  pub held : used ≤ limit
-  pub sound : IsSound (contents_of slots left order used limit too_many)
+pub record IsTable (capacity : ℕ) (slots : List Stored) (queue : List Due) (order : List ℕ) (used limit too_many : ℕ) : Type 0 where
+  pub laid : IsLaidOut capacity slots (ticks_left queue) order used limit too_many
+  pub timed : IsTimed queue (take used order)

@@ -4,5 +4,5 @@ pub mod Events
 pub mod Contents
 pub mod Standing
 pub mod Positions
-pub mod Layout
 pub mod Queue
+pub mod Layout

@@ -2,7 +2,6 @@
 -- ticks left to those of the slot before it. Nothing here need be believed: no public contract cites it.
 use Rattle.std.specs.Prelude.{◌≡◌, ℕ, ◌+◌, ◌-◌, ◌<◌, ◌^◌, Bool, false, if◌then◌else◌, ◌==◌, nat_le, nat_eq, List, [], ◌∷◌, length, map, slice_index}
 use Rattle.std.specs.List.{list_any, sum_by, AllByRecursion, IsDistinct}
-use Rattle.std.specs.List.Sorted.{IsPermutation}
 
 -- a slot in the queue, and its difference
 pub record Due : Type 0 where
@@ -71,7 +70,13 @@ pub record IsQueue (times slots : List ℕ) : Type 0 where
   pub distinct : IsDistinct nat_eq slots
   pub fits : total (dues times slots) < 2 ^ 16
 
+-- the queue has exactly these slots, each once
+pub record IsQueued (queue : List Due) (used : List ℕ) : Type 0 where
+  pub same : (i : ℕ) → holds i queue ≡ list_any (nat_eq i) used
+  pub count : length queue ≡ length used
+  pub distinct : IsDistinct nat_eq (slots_of queue)
+
 -- the queue of a table: the slots in use, each with some ticks left
 pub record IsTimed (queue : List Due) (used : List ℕ) : Type 0 where
-  pub slots : IsPermutation used (slots_of queue)
+  pub queued : IsQueued queue used
   pub running : IsRunning queue

@@ -1,14 +1,20 @@
 //! The slots of a table by their places in its order.
-ghost use Rattle.std.specs.Prelude.{◌≡◌, ◌≤◌, ◌<◌, ◌*◌, List, true, false, length, take, map, MatchOption, slice_index_or, sum_by, IsPermutation, nat_eq, nat_lt, if◌then◌else◌, ◌-◌};
+ghost use Rattle.std.specs.Prelude.{◌≡◌, ◌≤◌, ◌<◌, ◌+◌, ◌*◌, true, false, List, length, take, map, MatchOption, slice_index_or, sum_by, IsPermutation, nat_eq, vec_capacity};
 ghost use Rattle.std.specs.List.{list_any, filter_map, AllByRecursion, IsDistinct};
 ghost use Rattle.lldp_pdu.specs.View.{msap_seen};
 ghost use Rattle.lldp_table.specs.Stored.{Stored};
 ghost use Rattle.lldp_table.specs.Msap.{same_msap};
 ghost use Rattle.lldp_table.specs.Contents.{aged};
-ghost use Rattle.lldp_table.specs.Layout.{msap_at, octets_at, neighbors_at, left_in};
+ghost use Rattle.lldp_table.specs.Queue.{holds, ticks_left, IsTimed};
+ghost use Rattle.lldp_table.specs.Layout.{blank, msap_at, octets_at, neighbors_at, with_next};
 
+use crate::queue::{Queue, place_in};
 use crate::slot::{Slot, tag_of};
+use crate::times::Accesses;
+use arrayvec::ArrayVec;
 use lldp_pdu::Msap;
+use std::alloc::Allocator;
+use std::sync::ledger::Ledger;
 
 /// The place of the slot whose frame has this MSAP identifier.
 pub(crate) fn place_of(slots: &[Slot], order: &[u8], name: &Msap<'_>) -> Option<usize>
@@ -26,35 +32,69 @@ pub(crate) fn place_of(slots: &[Slot], order: &[u8], name: &Msap<'_>) -> Option<
     None
 }
 
-/// A tick for one slot. Tells whether its neighbor lives on.
-fn age(left: &mut u16) -> bool
-    ensures lives { result ≡ nat_lt 1 left.old }
-    ensures one_less { left.new ≡ (if nat_lt 1 left.old then left.old - 1 else left.old) }
+/// Writes one more slot where all that were written are in use. The room was made at opening.
+pub(crate) fn write_next<A: Allocator>(
+    slots: &mut Vec<Slot, A>,
+    order: &mut ArrayVec<u8, 128>,
+    used: usize,
+)
+    requires same { length order.old.items ≡ length slots.old.items }
+    requires fits { used ≤ length slots.old.items }
+    requires room { used < vec_capacity slots.old }
+    requires few { used < 128 }
+    ensures slots { slots.new.items ≡ with_next used blank slots.old.items }
+    ensures order { order.new.items ≡ with_next used used order.old.items }
+    ensures room { vec_capacity slots.new ≡ vec_capacity slots.old }
 {
-    let lives = *left > 1;
-    if lives {
-        *left -= 1;
+    if slots.len() == used {
+        slots.push_reserved(Slot::blank());
+        order.push(used as u8);
     }
-    lives
 }
 
-/// A tick for the slots in use, and puts those that live on first, in their order. Tells how many those are.
-pub(crate) fn age_all(lefts: &mut [u16], order: &mut [u8], used: usize) -> usize
-    requires within { AllByRecursion (λ i. i < length lefts.old) order.old }
-    requires distinct { IsDistinct nat_eq order.old }
-    requires used { used ≤ length order.old }
-    ensures neighbors { (slots : List Stored) → neighbors_at slots (left_in lefts.new) (take result order.new) ≡ filter_map aged (neighbors_at slots (left_in lefts.old) (take used order.old)) }
-    ensures moved { IsPermutation order.old order.new }
+/// A tick. Takes the slots whose neighbors expire out of the queue, and puts them behind the others in the order. Tells how
+/// many slots are still in use.
+pub(crate) fn age_out<L: Ledger>(
+    queue: &mut Queue,
+    order: &mut ArrayVec<u8, 128>,
+    used: usize,
+    accesses: &mut Accesses<L>,
+) -> usize
+    requires timed { IsTimed queue.old (take used order.old.items) }
+    requires distinct { IsDistinct nat_eq order.old.items }
+    requires used { used ≤ length order.old.items }
+    ensures neighbors { (slots : List Stored) → neighbors_at slots (ticks_left queue.new) (take result order.new.items) ≡ filter_map aged (neighbors_at slots (ticks_left queue.old) (take used order.old.items)) }
+    ensures timed { IsTimed queue.new (take result order.new.items) }
+    ensures moved { IsPermutation order.old.items order.new.items }
     ensures fewer { result ≤ used }
+    ensures counted { accesses.new + result ≤ accesses.old + used + 2 }
 {
-    let mut kept = 0;
-    for at in 0..used {
-        if age(&mut lefts[order[at] as usize]) {
-            order.swap(kept, at);
-            kept += 1;
-        }
+    let mut kept = used;
+    let mut spent = queue.pass(accesses);
+    while spent {
+        let slot = queue.pop();
+        let at = place_in(&order[..kept], slot);
+        let gone = order.remove(at);
+        order.push(gone);
+        kept -= 1;
+        spent = queue.is_spent(accesses);
     }
     kept
+}
+
+/// The ticks left of the neighbors in these slots.
+pub(crate) fn lefts_of(queue: &Queue, order: &[u8]) -> ArrayVec<u16, 128>
+    requires few { length order.now ≤ 128 }
+    requires within { AllByRecursion (λ i. i < 128) order.now }
+    requires queued { AllByRecursion (λ i. holds i queue.now ≡ true) order.now }
+    ensures { result.items ≡ map (ticks_left queue.now) order.now }
+{
+    let each = queue.lefts();
+    let mut lefts = ArrayVec::new();
+    for slot in order {
+        lefts.push(each[*slot as usize]);
+    }
+    lefts
 }
 
 /// How many octets these slots store.

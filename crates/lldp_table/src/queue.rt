@@ -1,7 +1,7 @@
 //! The slots in use, in the order in which their neighbors expire.
 ghost use Rattle.std.specs.Prelude.{◌≡◌, ℕ, true, false, ◌≤◌, ◌<◌, ◌+◌, ◌^◌, [], ◌∷◌, ◌++◌, length, take, drop, slice_index, nat_eq};
 ghost use Rattle.std.specs.List.{list_any, AllByRecursion};
-ghost use Rattle.lldp_table.specs.Queue.{due, dues, holds, ticks_left, slots_of, put, enter, leave, less_first, add_first, is_spent, IsRunning, IsQueue};
+ghost use Rattle.lldp_table.specs.Queue.{due, dues, holds, ticks_left, put, enter, leave, less_first, add_first, is_spent, IsRunning, IsQueue};
 
 use crate::times::{Accesses, Times};
 use arrayvec::ArrayVec;
@@ -235,7 +235,7 @@ impl Queue {
 
     /// The ticks left of each slot.
     pub(crate) fn lefts(&self) -> [u16; 128]
-        ensures { AllByRecursion (λ i. slice_index result i ≡ ticks_left self.now i) (slots_of self.now) }
+        ensures { (slot : ℕ) → holds slot self.now ≡ true → slice_index result slot ≡ ticks_left self.now slot }
     {
         lefts_in(self.slots.as_slice(), &self.times)
     }

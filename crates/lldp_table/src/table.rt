@@ -1,5 +1,5 @@
 //! The neighbors of one port.
-ghost use Rattle.std.specs.Prelude.{◌≡◌, ℕ, List, ◌≤◌, ◌<◌, ◌↔◌, ◌+◌, ◌*◌, [], ◌∷◌, length, IfOk, IsTrue, sum_by, slice_get, Some, is_some};
+ghost use Rattle.std.specs.Prelude.{◌≡◌, ℕ, List, ◌≤◌, ◌<◌, ◌↔◌, ◌+◌, ◌*◌, [], ◌∷◌, length, map, IfOk, IsTrue, sum_by, slice_index, slice_get, Some, is_some};
 ghost use Rattle.lldp_pdu.specs.Kept.{kept_of};
 ghost use Rattle.lldp_pdu.specs.View.{msap_seen};
 ghost use Rattle.lldp_table.specs.Contents.{IsExtent, IsHeld, IsSound, holds_name, learn_answer, after_learn, after_forget, after_purge, after_tick, after_set_limit, newly_opened};
@@ -8,24 +8,27 @@ ghost use Rattle.lldp_table.specs.Standing.{Stands};
 
 use crate::entry::Entry;
 use crate::learned::Learned;
-use crate::places::{age_all, octets_of, place_of};
+use crate::places::{age_out, lefts_of, octets_of, place_of, write_next};
+use crate::queue::Queue;
 use crate::slot::Slot;
+use crate::times::Accesses;
 use arrayvec::ArrayVec;
 use lldp_pdu::{Info, Msap};
 use std::alloc::{AllocError, Allocator};
-use std::marker::Model;
+use std::marker::{Brand, Model};
+use std::sync::ledger::{Blank, Ledger};
 
 /// The neighbors of one port. Only `open` takes memory, and no other call is ever refused.
 #[derive(Drop)]
 pub struct Table<A: Allocator> {
-    /// The room for each neighbor that may be held. No slot is ever moved.
+    /// The slots that were ever used. The room for all that may be held is taken at opening, and no slot is ever moved.
     slots: Vec<Slot, A>,
-    /// The ticks left of the neighbor in each slot.
-    lefts: [u16; 128],
-    /// The index of each slot: first those in use, in the order in which their neighbors were last new.
+    /// The index of each of these: first those in use, in the order in which their neighbors were last new.
     order: ArrayVec<u8, 128>,
     /// How many slots are in use.
     used: u8,
+    /// The slots in use, in the order in which their neighbors expire.
+    queue: Queue,
     limit: u8,
     /// The ticks left of the too-many timer.
     too_many: u16,
@@ -36,11 +39,13 @@ impl<A: Allocator> Model for Table<A> {
 
     ghost Value = { Contents };
 
-    ghost use Rattle.lldp_table.specs.Layout.{contents_of, left_in, IsLaidOut};
+    ghost use Rattle.std.specs.Prelude.{vec_capacity};
+    ghost use Rattle.lldp_table.specs.Queue.{ticks_left};
+    ghost use Rattle.lldp_table.specs.Layout.{contents_of, IsTable};
 
-    ghost view = { λ t. contents_of t.slots.items (left_in t.lefts) t.order.items t.used t.limit t.too_many };
+    ghost view = { λ t. contents_of (vec_capacity t.slots) t.slots.items (ticks_left t.queue) t.order.items t.used t.limit t.too_many };
 
-    ghost invariant = { λ t. IsLaidOut t.slots.items (left_in t.lefts) t.order.items t.used t.limit t.too_many };
+    ghost invariant = { λ t. IsTable (vec_capacity t.slots) t.slots.items t.queue t.order.items t.used t.limit t.too_many };
 }
 
 impl<A: Allocator> Table<A> {
@@ -52,17 +57,11 @@ impl<A: Allocator> Table<A> {
         ensures empty { IfOk result (λ table. table ≡ newly_opened limit) }
         ensures stands { IfOk result (λ table. Stands table limit []) }
     {
-        let mut slots = Vec::with_capacity(alloc, limit as usize)?;
-        let mut order = ArrayVec::new();
-        for index in 0..limit {
-            slots.push(Slot::blank())?;
-            order.push(index);
-        }
         Ok(Table {
-            slots,
-            lefts: [0; 128],
-            order,
+            slots: Vec::with_capacity(alloc, limit as usize)?,
+            order: ArrayVec::new(),
             used: 0,
+            queue: Queue::new(),
             limit,
             too_many: 0,
         })
@@ -83,15 +82,17 @@ impl<A: Allocator> Table<A> {
         let octets = info.octets();
         let used = self.used as usize;
         if let Some(at) = place_of(&self.slots, &self.order[..used], &name) {
-            let slot = self.order[at] as usize;
-            self.slots[slot].store(octets, ttl);
-            self.lefts[slot] = ttl;
+            let slot = self.order[at];
+            self.slots[slot as usize].store(octets, ttl);
+            self.queue.leave(slot);
+            self.queue.enter(slot, ttl);
             return Learned::Refreshed;
         }
         if self.used < self.limit {
-            let slot = self.order[used] as usize;
-            self.slots[slot].store(octets, ttl);
-            self.lefts[slot] = ttl;
+            write_next(&mut self.slots, &mut self.order, used);
+            let slot = self.order[used];
+            self.slots[slot as usize].store(octets, ttl);
+            self.queue.enter(slot, ttl);
             self.used += 1;
             return Learned::New;
         }
@@ -113,6 +114,7 @@ impl<A: Allocator> Table<A> {
                 let slot = self.order.remove(at);
                 self.order.push(slot);
                 self.used -= 1;
+                self.queue.leave(slot);
                 true
             }
         }
@@ -124,6 +126,7 @@ impl<A: Allocator> Table<A> {
         ensures stands { (opened : ℕ) (calls : List Call) → Stands self.old opened calls → Stands self.new opened (purge ∷ calls) }
     {
         self.used = 0;
+        self.queue.clear();
         self.too_many = 0;
     }
 
@@ -135,7 +138,33 @@ impl<A: Allocator> Table<A> {
         ensures answers { (opened : ℕ) (calls : List Call) → Stands self.old opened calls → result ≡ aged_out (events_of opened calls) }
         ensures stands { (opened : ℕ) (calls : List Call) → Stands self.old opened calls → Stands self.new opened (tick ∷ calls) }
     {
-        let kept = age_all(&mut self.lefts, &mut self.order, self.used as usize) as u8;
+        self.tick_from::<Brand>(Blank::new(1))
+    }
+
+    /// A tick that counts from none.
+    fn tick_from<L: Ledger>(&mut self, blank: Blank) -> u8
+        requires name { blank.name ≡ L.name }
+        requires parts { blank.parts ≡ L.parts }
+        requires some { 0 < L.parts }
+        ensures answer { result + length self.new.neighbors ≡ length self.old.neighbors }
+        ensures after { self.new ≡ after_tick self.old }
+    {
+        self.tick_counted(&mut Accesses::<L>::open(blank))
+    }
+
+    /// A tick that counts its accesses to stored times: at most two for each neighbor that ages out, and two more. It does
+    /// what `tick` does, which is this call with a count of its own.
+    pub fn tick_counted<L: Ledger>(&mut self, accesses: &mut Accesses<L>) -> u8
+        ensures answer { result + length self.new.neighbors ≡ length self.old.neighbors }
+        ensures after { self.new ≡ after_tick self.old }
+        ensures accesses { accesses.new ≤ accesses.old + 2 * result + 2 }
+    {
+        let kept = age_out(
+            &mut self.queue,
+            &mut self.order,
+            self.used as usize,
+            accesses,
+        ) as u8;
         let gone = self.used - kept;
         self.used = kept;
         self.too_many = self.too_many.saturating_sub(1);
@@ -174,7 +203,7 @@ impl<A: Allocator> Table<A> {
         ensures value { result ≡ self.now.capacity }
         ensures sound { IsSound self.now }
     {
-        self.slots.len() as u8
+        self.slots.capacity() as u8
     }
 
     /// How many octets are stored, for all neighbors together.
@@ -192,9 +221,17 @@ impl<A: Allocator> Table<A> {
         self.too_many > 0
     }
 
-    /// The neighbor at place `i` of the order, from 0.
-    pub fn entry(&self, i: u8) -> Entry<'_>
-        requires { i < length self.now.neighbors }
+    /// The ticks left of each neighbor, in the order of the table. It goes over all of them once.
+    pub fn lefts(&self) -> ArrayVec<u16, 128>
+        ensures { result.items ≡ map (λ neighbor. neighbor.left) self.now.neighbors }
+    {
+        lefts_of(&self.queue, &self.order[..self.used as usize])
+    }
+
+    /// The neighbor at place `i` of the order, from 0, by what `lefts` gave for it.
+    pub fn entry_with(&self, i: u8, left: u16) -> Entry<'_>
+        requires within { i < length self.now.neighbors }
+        requires left { slice_index (map (λ neighbor. neighbor.left) self.now.neighbors) i ≡ left }
         ensures value { slice_get self.now.neighbors i ≡ Some result }
         ensures held { IsHeld result }
         ensures sound { IsSound self.now }
@@ -202,7 +239,19 @@ impl<A: Allocator> Table<A> {
         let slot = self.order[i as usize] as usize;
         Entry {
             slot: &self.slots[slot],
-            left: self.lefts[slot],
+            left,
         }
+    }
+
+    /// The neighbor at place `i` of the order, from 0. It goes over all neighbors: whoever reads each of them calls `lefts`
+    /// once, and `entry_with`.
+    pub fn entry(&self, i: u8) -> Entry<'_>
+        requires { i < length self.now.neighbors }
+        ensures value { slice_get self.now.neighbors i ≡ Some result }
+        ensures held { IsHeld result }
+        ensures sound { IsSound self.now }
+    {
+        let lefts = self.lefts();
+        self.entry_with(i, lefts[i as usize])
     }
 }

@@ -1,0 +1,17 @@
+use Rattle.std.proofs.Common.{map, sym, ap, ◌∙◌}
+use Rattle.lldp_table.specs.Events.{Neighbor}
+use Rattle.lldp_table.specs.Contents.{Contents}
+use Rattle.lldp_table.specs.Queue.{ticks_left}
+use Rattle.lldp_table.proofs.LayoutLemmas.{lefts_held}
+use Rattle.lldp_table.proofs.TimedLemmas.{all_queued}
+use Rattle.lldp_table.proofs.table.Table.lefts.Goals as goal
+
+pub lefts_of-requires-clause-queued : goal.lefts_of-requires-clause-queued
+lefts_of-requires-clause-queued g c = let t = c.self.inside in rw c.deref.ensures.0 (all_queued t.queue _ c.self.invariant.timed.queued)
+
+pub returns : goal.returns
+returns g c =
+    let t = c.self.inside in
+    rw c.deref.ensures.0 at c.lefts_of.ensures
+    ∙ sym (lefts_held t.slots.cap t.slots.items (ticks_left t.queue) t.order.items t.used t.limit t.too_many c.self.invariant.laid)
+    ∙ ap (λ (table : Contents). map (λ (x : Neighbor). x.left) table.neighbors) c.self.view_is
