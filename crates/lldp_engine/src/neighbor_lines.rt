@@ -130,11 +130,13 @@ fn put_port<A: Allocator, S: LineSink>(sink: &mut S, line: &mut Writer, port: &P
 {
     put_counts(sink, line, port);
     let table = port.table();
+    let lefts = table.lefts();
     for i in 0..table.len() {
         if sink.is_done() {
             return;
         }
-        put_neighbor(sink, line, port.name(), i + 1, table.entry(i));
+        let entry = table.entry_with(i, lefts[i as usize]);
+        put_neighbor(sink, line, port.name(), i + 1, entry);
     }
 }
 

@@ -9,5 +9,5 @@ returns-then-is_done g c = takes_left _ _ _ _ _ c.loop-i.invariant (c.is_done.en
 
 pub loop-i-preserved : goal.loop-i-preserved
 loop-i-preserved g c =
-    let at = sym (ap (λ (t : Contents). slice_get t.neighbors c.loop-i.i) c.table-table.ensures) ∙ c.entry.ensures.value in
+    let at = sym (ap (λ (t : Contents). slice_get t.neighbors c.loop-i.i) c.table-table.ensures) ∙ c.entry_with-entry.ensures.value in
     takes_more _ _ _ _ _ _ _ (rw (drop_at _ _ _ at) at c.loop-i.invariant) (rw c.name.ensures.value at c.put_neighbor.ensures)
