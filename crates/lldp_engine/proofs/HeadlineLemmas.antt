@@ -21,6 +21,7 @@ use Rattle.lldp_engine.specs.Standing.{Stands}
 use Rattle.lldp_engine.specs.Headline.{HoldsLastStored, SendsExactly, HasSentExactly, Promised}
 use Rattle.lldp_engine.proofs.AllowedLemmas.{table_stands}
 use Rattle.lldp_engine.proofs.StandingLemmas.{up_is, settings_in_range}
+use Rattle.lldp_engine.proofs.RightLemmas.{follows_status}
 use Rattle.lldp_engine.proofs.ReaderLemmas.{port_reads, number_reads}
 
 -- ## The fields of the port at a place
@@ -78,7 +79,7 @@ get_of (x ∷ xs) (suc i) p h = let b = get_of xs i p h in (omega (arith, b.0), 
 
 -- ## What is sent
 
-sends_exactly : (past : Past) (i : ℕ) (event : Event) (earlier : List Event) → InRange past.options → SendsExactly past i event earlier
+pub sends_exactly : (past : Past) (i : ℕ) (event : Event) (earlier : List Event) → InRange past.options → SendsExactly past i event earlier
 sends_exactly past i event earlier r =
     let s = settings_of past.options in
     let h = causes_after past.options i earlier in
@@ -93,8 +94,10 @@ has_sent_exactly past i r =
     let w = windows_hold (settings_of past.options) (causes_of past i) (settings_in_range past.options r) in
     record {
       exactly = λ later earlier event split. sends_exactly past i event earlier r;
+      follows = λ later earlier split. follows_status past.options i earlier;
       bounded = w.bounded;
       few_stops = w.few_stops;
+      earliest = λ later earlier split. (windows_hold (settings_of past.options) (causes_after past.options i earlier) (settings_in_range past.options r)).earliest [] (causes_after past.options i earlier) refl;
     }
 
 pub promised : (past : Past) (agent : AgentState) → Stands past agent → Promised past agent

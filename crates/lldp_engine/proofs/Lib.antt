@@ -6,7 +6,10 @@ pub mod OpenLemmas
 pub mod ReaderLemmas
 pub mod PortsLemmas
 pub mod StepLemmas
+pub mod RightLemmas
 pub mod HeadlineLemmas
+pub mod AnswerLemmas
+pub mod LastSetLemmas
 pub mod SoundLemmas
 pub mod FormsOrder
 pub mod NumberDigits

@@ -1,5 +1,5 @@
 -- The ports of an agent stay sound.
-use Rattle.std.proofs.Common.{◌≡◌, ℕ, ◌+◌, ◌<◌, ◌≤◌, Bool, true, false, ◌&&◌, List, [], ◌∷◌, length, map, Option, Some, None, refl, sym, ◌∙◌, subst, arith}
+use Rattle.std.proofs.Common.{◌≡◌, ℕ, ◌+◌, ◌≤◌, Bool, true, false, ◌&&◌, List, [], ◌∷◌, length, map, Option, Some, None, refl, sym, ◌∙◌, subst, arith}
 use Rattle.std.specs.Prelude.{IfSome, nat_le}
 use Rattle.std.specs.List.{AllByRecursion, list_all}
 use Rattle.std.proofs.lemmas.List.{length-map}
@@ -13,7 +13,7 @@ use Rattle.lldp_table.specs.Standing.{IsTold, IsNewLimit}
 use Rattle.lldp_table.proofs.SoundLemmas.{sound_open, sound_after}
 use Rattle.lldp_engine.specs.Options.{Options, InRange, is_port_name}
 use Rattle.lldp_engine.specs.Event.{Event, tick, frame, link, configure, hostname, description, interval, hold, limit, status, update, HasOctets}
-use Rattle.lldp_engine.specs.PortEvent.{call_at, port_of}
+use Rattle.lldp_engine.specs.PortEvent.{call_at}
 use Rattle.lldp_engine.specs.AgentState.{AgentState, PortState, Allows, fits}
 use Rattle.lldp_engine.specs.Sound.{IsSoundPort, AreSound}
 use Rattle.lldp_engine.specs.Step.{opened_port, told, port_step, ports_step}

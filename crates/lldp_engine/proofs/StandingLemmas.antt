@@ -157,7 +157,7 @@ unfolding moment
 is_up-cons s c n h = refl
 
 -- whether its machine's link is up is what the link events say
-links_are : (o : Options) (i : ℕ) (events : List Event) → is_up (moments (settings_of o) (causes_after o i events)) ≡ up_after i events
+pub links_are : (o : Options) (i : ℕ) (events : List Event) → is_up (moments (settings_of o) (causes_after o i events)) ≡ up_after i events
 links_are o i [] = refl
 links_are o i (event ∷ events) =
     let answers = λ (name : MsapId). answer o.max_neighbors name (events_of o.max_neighbors (calls_after o i events)) in

@@ -12,6 +12,7 @@ pub mod Place
 pub mod Past
 pub mod Step
 pub mod Standing
+pub mod LastSet
 pub mod Headline
 pub mod Fault
 pub mod Words

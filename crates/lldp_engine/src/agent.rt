@@ -14,7 +14,7 @@ ghost use Rattle.lldp_engine.specs.Frames.{IsSent};
 ghost use Rattle.lldp_engine.specs.Sound.{AreSound};
 ghost use Rattle.lldp_engine.specs.Standing.{Stands};
 ghost use Rattle.lldp_engine.specs.Step.{agent_after, agent_marks};
-ghost use Rattle.lldp_engine.specs.Headline.{Promised};
+ghost use Rattle.lldp_engine.specs.Headline.{PromisedStep};
 
 use crate::configuration::Configuration;
 use crate::counters::Counters;
@@ -193,9 +193,9 @@ impl<A: Allocator> Agent<A> {
         // Whatever past the agent stood for, it now stands for that past with the event.
         ensures stands { (past : Past) → Stands past self.old → Stands (with_event past (event_of event.entry)) self.new }
         ensures marks_past { (past : Past) → Stands past self.old → result.items ≡ marks_of (with_event past (event_of event.entry)) }
-        // Each table holds the last stored frames that have not expired, and each port sends exactly what is due while
-        // its credit window is open.
-        ensures headline { (past : Past) → Stands past self.old → Promised (with_event past (event_of event.entry)) self.new }
+        // Each table holds the last stored frames that have not expired, and each port sends, as is answered, exactly
+        // what is due while its credit window is open, which no other choice does sooner.
+        ensures headline { (past : Past) → Stands past self.old → PromisedStep past (event_of event.entry) result.items self.new }
     {
         self.configuration.take(&event);
         let interval = self.configuration.interval();

@@ -41,7 +41,10 @@ pub use counters::Counters;
 pub use event::{Event, Setting};
 pub use fault::CommandFault;
 pub use frame::Frame;
-pub use laws::{every_standing_agent_is_promised, step_carries_standing};
+pub use laws::{
+    every_standing_agent_is_promised, last_events_decide, step_carries_standing,
+    the_right_follows_the_status,
+};
 pub use line_sink::LineSink;
 pub use lines::MOST_LINES;
 pub use lldp_transmit::Mark;

@@ -78,7 +78,7 @@ fn expect_same(rt: &impl Abort, agent: &Agent, show: Show, step: u32, lines: u32
     assert!(rt; agent.show_line(&show, lines).is_none());
 }
 
-/// All shows. Of the neighbors, 642 lines a port, each 29th line is compared, since `show_line` costs all lines before it.
+/// All shows. Of the neighbors, 642 lines a port, each 11th line is compared, since `show_line` costs all lines before it.
 #[test]
 fn every_table_full(rt: HostRuntime) -> Result<(), Fail> {
     let mut agent = open(&rt, rt.alloc(), &NAMES, 128)?;
@@ -87,7 +87,7 @@ fn every_table_full(rt: HostRuntime) -> Result<(), Fail> {
         &rt,
         &agent,
         Show::Neighbors,
-        29,
+        11,
         64 * (3 + 128 * 4 + 43 + 2 * 42),
     );
     expect_same(&rt, &agent, Show::Statistics, 1, 64 * 9);

@@ -11,7 +11,7 @@ use Rattle.lldp_engine.specs.Sound.{AreSound}
 use Rattle.lldp_engine.specs.Standing.{Stands}
 use Rattle.lldp_engine.specs.Step.{agent_after, agent_marks, ports_step}
 use Rattle.lldp_engine.proofs.AllowedLemmas.{configured-capacity}
-use Rattle.lldp_engine.proofs.HeadlineLemmas.{promised}
+use Rattle.lldp_engine.proofs.AnswerLemmas.{promised_step}
 use Rattle.lldp_engine.proofs.SoundLemmas.{allowed_fits, stay_sound, ports_number}
 use Rattle.lldp_engine.proofs.StandingLemmas.{carries, marks_carry}
 use Rattle.lldp_engine.proofs.StepLemmas.{allowed_short, steps_to, marks_to, marks_sent}
@@ -59,7 +59,7 @@ pub returns-clause-marks_past : goal.returns-clause-marks_past
 returns-clause-marks_past g c = λ past h. returns-clause-marks g c ∙ marks_carry past (event_of c.args.event) c.args.self.now h c.requires c.take_event.ensures.octets
 
 pub returns-clause-headline : goal.returns-clause-headline
-returns-clause-headline g c = λ past h. promised _ _ (returns-clause-stands g c past h)
+returns-clause-headline g c = λ past h. promised_step past (event_of c.args.event) c.take_event.result.items _ (returns-clause-marks_past g c past h) (returns-clause-stands g c past h)
 
 pub invariant_of-self : goal.invariant_of-self
 invariant_of-self g c =

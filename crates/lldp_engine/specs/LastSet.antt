@@ -1,0 +1,41 @@
+-- What the last event that set something set, said of positions. A position of the events is a split of them: the events
+-- after it (newest first), the event there, and the events before it.
+use Rattle.std.specs.Prelude.{◌≡◌, ◌⊎◌, ℕ, Bool, true, List, ◌∷◌, ◌++◌, codes}
+use Rattle.lldp_engine.specs.declared.status.Status.{Status as PortStatus}
+use Rattle.lldp_engine.specs.Options.{Options}
+use Rattle.lldp_engine.specs.Status.{status_at_opening}
+use Rattle.lldp_engine.specs.Event.{Event, link, configure, hostname, description, interval, hold, limit, status}
+use Rattle.lldp_engine.specs.Configuration.{Configuration, configuration_at_opening}
+
+-- none of these events sets it; `set` is the event that sets it to a value
+abbrev pub NoneSets : {X : Type 0} → (X → Event) → List Event → Type 0
+NoneSets set events = (later earlier : List Event) (value : _) → events ≡ later ++ set value ∷ earlier → ⊥
+
+-- The value is what the last event that sets it set; where none does, the first value.
+abbrev pub IsLastSet : {X : Type 0} → (X → Event) → X → List Event → X → Type 0
+IsLastSet set first events value =
+    ((later earlier : List Event) × (events ≡ later ++ set value ∷ earlier) × NoneSets set later)
+    ⊎ (NoneSets set events × (value ≡ first))
+
+-- the status of port i: by its last status command
+abbrev pub IsLastStatus : Options → ℕ → List Event → PortStatus → Type 0
+IsLastStatus o i events value = IsLastSet (λ given. configure (status i given)) (status_at_opening o) events value
+
+-- the link of port i: by its last link event
+abbrev pub IsLastLink : ℕ → List Event → Bool → Type 0
+IsLastLink i events value = IsLastSet (link i) true events value
+
+-- the same with what commands set as it was opened
+abbrev pub without_commands : Options → Configuration → Configuration
+without_commands o c =
+    let first = configuration_at_opening o in
+    record c { hostname = first.hostname; description = first.description; interval = first.interval; hold = first.hold; limit = first.limit }
+
+-- The configuration: each part that a command sets by the last such command, and the others as they were opened.
+pub record IsLastConfiguration (o : Options) (events : List Event) (c : Configuration) : Type 0 where
+  pub by_hostname : IsLastSet (λ text. configure (hostname text)) o.hostname events c.hostname
+  pub by_description : IsLastSet (λ text. configure (description text)) (codes "lldpa") events c.description
+  pub by_interval : IsLastSet (λ seconds. configure (interval seconds)) 30 events c.interval
+  pub by_hold : IsLastSet (λ times. configure (hold times)) 4 events c.hold
+  pub by_limit : IsLastSet (λ neighbors. configure (limit neighbors)) o.max_neighbors events c.limit
+  pub others : without_commands o c ≡ configuration_at_opening o
