@@ -141,7 +141,7 @@ module _ (queue0 : List Due) (order0 : List ℕ) (used : ℕ) (timed : IsTimed q
           let fits : at < length order = omega (arith, place, h.fewer, within, all) in
           let one : suc (kept - 1) ≡ kept = let k = kept_some in omega (arith, k) in
           let out : take (kept - 1) (remove order at ++ x ∷ []) ≡ remove xs at =
-              take-moved order x at (kept - 1) (omega (arith, one, place)) (omega (arith, one, h.fewer, within, all)) ∙ ap (λ n. remove (take n order) at) one in
+          take-moved order x at (kept - 1) (omega (arith, one, place)) (omega (arith, one, h.fewer, within, all)) ∙ ap (λ n. remove (take n order) at) one in
           let apart : IsDistinct nat_eq xs = distinct-take kept order (distinct-moved order0 order h.moved distinct) in
           let parted : IsPermutation xs (slot ∷ remove xs at) = subst (λ i. IsPermutation xs (i ∷ remove xs at)) g (one-out xs at l) in
           let first : IsPermutation (slots_of queue) (slot ∷ slots_of queue') = subst (λ (q : List Due). IsPermutation (slots_of q) (slot ∷ slots_of queue')) (sym e) (IsPermutation-refl (slot ∷ slots_of queue')) in

@@ -73,11 +73,11 @@ module _ (times : List ℕ) where
     gap = get_or times s 0
 
     module _ (l : k < length slots) (d : IsDistinct nat_eq slots) (h : s < length times) where
-      pub lessened : (n : ℕ) → dues (set times s (gap - n)) slots ≡ take k queue ++ less_first n (drop k queue)
-      lessened n = dues-set s (gap - n) slots k l refl d h ∙ ap (λ q. take k queue ++ q) (sym (ap (less_first n) (drop-dues slots k l)))
+      pub lessened : (n to : ℕ) → to ≡ gap - n → dues (set times s to) slots ≡ take k queue ++ less_first n (drop k queue)
+      lessened n to e = ap (λ m. dues (set times s m) slots) e ∙ dues-set s (gap - n) slots k l refl d h ∙ ap (λ q. take k queue ++ q) (sym (ap (less_first n) (drop-dues slots k l)))
 
-      pub raised : (n : ℕ) → dues (set times s (n + gap)) slots ≡ take k queue ++ add_first n (drop k queue)
-      raised n = dues-set s (n + gap) slots k l refl d h ∙ ap (λ q. take k queue ++ q) (sym (ap (add_first n) (drop-dues slots k l)))
+      pub raised : (n to : ℕ) → to ≡ n + gap → dues (set times s to) slots ≡ take k queue ++ add_first n (drop k queue)
+      raised n to e = ap (λ m. dues (set times s m) slots) e ∙ dues-set s (n + gap) slots k l refl d h ∙ ap (λ q. take k queue ++ q) (sym (ap (add_first n) (drop-dues slots k l)))
 
     -- ## Where a slot enters
 

@@ -116,7 +116,7 @@ neighbors-purged past =
     filter_map-agree (λ name. live name (purged ∷ past)) (λ name. None) (λ name. live-other name purged past refl) (arrivals past)
     ∙ none_live (arrivals past)
 
--- a neighbor that is after_forget
+-- a neighbor that is forgotten
 forgets_one : (b c : Bool) (x : Neighbor) → c ≡ b → cond b None (Some x) ≡ cond (not c) (Some x) None
 forgets_one true c x h = ap (λ d. cond (not d) (Some x) None) (sym h)
 forgets_one false c x h = ap (λ d. cond (not d) (Some x) None) (sym h)

@@ -37,22 +37,9 @@ extent_within pdu o = let front = extent_front pdu o in omega (arith, length-app
 pub lldpdu_is_extent : (pdu : List ℕ) → AreOctets pdu → fault_of pdu ≡ None → 0 < ttl_of pdu → length pdu ≤ 1500 → IsExtent (msap_of pdu) (ttl_of pdu) (extent pdu)
 lldpdu_is_extent pdu o f l s = info_is_extent (info_of pdu) (tells_itself pdu o f l).1 l (omega (arith, extent_within pdu o))
 
-module _ (msap : MsapId) (ttl : ℕ) (octets : List ℕ) (h : IsExtent msap ttl octets) where
-  told_again : IsInfo (info_of octets)
-  told_again = (tells_itself octets h.are_octets h.sound (subst (λ n. 0 < n) (sym h.ttl_is) h.lives)).0
-
-  pub extent_living : 0 < ttl_of octets
-  extent_living = subst (λ n. 0 < n) (sym h.ttl_is) h.lives
-
-  pub extent_kept_few : 12 + 2 * length (kept_of octets) ≤ length octets
-  extent_kept_few = subst (λ (os : List ℕ). 12 + 2 * length (kept_of octets) ≤ length os) h.extent_is told_again.few
-
-  pub extent_kept_each : AllByRecursion IsKeptTlv (kept_of octets)
-  extent_kept_each = told_again.kept
-
--- a held neighbor's frame has few kept TLVs, each of which is one
+-- a held neighbor's frame has few kept TLVs
 pub kept_is_short : (neighbor : Neighbor) → IsHeld neighbor → 12 + 2 * length (kept_of neighbor.octets) ≤ length neighbor.octets
-kept_is_short neighbor h = extent_kept_few neighbor.msap neighbor.ttl neighbor.octets h.told
-
-pub kept_are_kept : (neighbor : Neighbor) → IsHeld neighbor → AllByRecursion IsKeptTlv (kept_of neighbor.octets)
-kept_are_kept neighbor h = extent_kept_each neighbor.msap neighbor.ttl neighbor.octets h.told
+kept_is_short neighbor h =
+    let t = h.told in
+    let again : IsInfo (info_of neighbor.octets) = (tells_itself neighbor.octets t.are_octets t.sound (subst (λ n. 0 < n) (sym t.ttl_is) t.lives)).0 in
+    subst (λ (os : List ℕ). 12 + 2 * length (kept_of neighbor.octets) ≤ length os) t.extent_is again.few

@@ -96,7 +96,7 @@ module _ (capacity : ℕ) (slots : List Stored) (left : ℕ → ℕ) (order : Li
       → neighbor_of slot value ≡ neighbor_at slots left (get_or order at 0)
   entry_with_at at read slot value r e l v =
       let told : get_or (map (λ (x : Neighbor). x.left) held) at 0 ≡ left (get_or order at 0) =
-          get_or-map (λ (x : Neighbor). x.left) held at (neighbor_of blank 0) 0 (omega (arith, count)) ∙ ap (λ (x : Neighbor). x.left) (place at (neighbor_of blank 0) l) in
+      get_or-map (λ (x : Neighbor). x.left) held at (neighbor_of blank 0) 0 (omega (arith, count)) ∙ ap (λ (x : Neighbor). x.left) (place at (neighbor_of blank 0) l) in
       ap (neighbor_of slot) (sym v ∙ told ∙ ap (λ (is : List ℕ). left (get_or is at 0)) (sym r)) ∙ entry_at at read slot r e l
 
   -- the ticks left of all, in order
@@ -247,10 +247,10 @@ module _ (capacity : ℕ) (slots : List Stored) (left : ℕ → ℕ) (order : Li
       let more : length (slots ++ blank ∷ []) ≡ length slots + 1 = length-append slots (blank ∷ []) in
       let front : take used (order ++ used ∷ []) ≡ take used order = take-append-le used order (used ∷ []) fits in
       let same : contents_of capacity (slots ++ blank ∷ []) left (order ++ used ∷ []) used limit too_many ≡ shown =
-          ap with_held (ap (neighbors_at (slots ++ blank ∷ []) left) front
-          ∙ map-agree (neighbor_at slots left) (neighbor_at (slots ++ blank ∷ []) left) (take used order)
-          (all-weaker (λ i. i < length slots) (λ i. neighbor_at (slots ++ blank ∷ []) left i ≡ neighbor_at slots left i) (λ i w. ap (λ (y : Stored). neighbor_of y (left i)) (get_or_append_left slots (blank ∷ []) blank i w)) (take used order)
-          (all-take (λ i. i < length slots) used order h.indices.within))) in
+      ap with_held (ap (neighbors_at (slots ++ blank ∷ []) left) front
+      ∙ map-agree (neighbor_at slots left) (neighbor_at (slots ++ blank ∷ []) left) (take used order)
+      (all-weaker (λ i. i < length slots) (λ i. neighbor_at (slots ++ blank ∷ []) left i ≡ neighbor_at slots left i) (λ i w. ap (λ (y : Stored). neighbor_of y (left i)) (get_or_append_left slots (blank ∷ []) blank i w)) (take used order)
+      (all-take (λ i. i < length slots) used order h.indices.within))) in
       let indices : IsOrder (length slots + 1) (order ++ used ∷ []) = subst (λ n. IsOrder (length slots + 1) (order ++ n ∷ [])) all (IsOrder-push (length slots) order h.indices) in
       record {
         laid = laid_out capacity (slots ++ blank ∷ []) left (order ++ used ∷ []) used limit too_many shown (subst (λ n. IsOrder n (order ++ used ∷ [])) (sym more) indices)

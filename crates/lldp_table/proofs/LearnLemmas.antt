@@ -19,6 +19,10 @@ timed_none : IsTimed [] []
 unfolding IsDistinct
 timed_none = record { queued = record { same = λ i. refl; count = refl; distinct = tt }; running = refl }
 
+-- a slot that leaves and enters again
+pub then_enters : (s left : ℕ) (queue between queue' : List Due) → between ≡ leave s queue → queue' ≡ enter s left between → queue' ≡ enter s left (leave s queue)
+then_enters s left queue between queue' l e = e ∙ ap (enter s left) l
+
 module _ (capacity : ℕ) (slots : List Stored) (queue : List Due) (order : List ℕ) (used limit too_many : ℕ) (h : IsTable capacity slots queue order used limit too_many) where
   -- what `place_of` finds under an equal name
   pub found_as : (told name : MsapId) (at : ℕ) → told ≡ name → (at < length (take used order)) × (same_msap told (msap_at slots (get_or (take used order) at 0)) ≡ true) → (at < used) × (same_msap name (msap_at slots (get_or order at 0)) ≡ true)
@@ -106,12 +110,12 @@ module _ (capacity : ℕ) (slots : List Stored) (queue : List Due) (order : List
 
         pub forgotten_table : IsTable capacity slots queue' (remove order at ++ x ∷ []) (used - 1) limit too_many
         forgotten_table = rw q_s (record {
-            laid = laid_forgotten capacity slots (ticks_left queue) order used limit too_many h.laid name at x _ l e (leave_others queue in_use h.timed.queued s apart others parted) i;
-            timed = record {
-              queued = subst (IsQueued (leave s queue)) (sym (moved_out capacity slots (ticks_left queue) order used limit too_many h.laid name at x (ticks_left (leave s queue)) l e (leave_others queue in_use h.timed.queued s apart others parted))) left_queued;
-              running = running-leave s queue h.timed.running;
-            };
-          })
+          laid = laid_forgotten capacity slots (ticks_left queue) order used limit too_many h.laid name at x _ l e (leave_others queue in_use h.timed.queued s apart others parted) i;
+          timed = record {
+            queued = subst (IsQueued (leave s queue)) (sym (moved_out capacity slots (ticks_left queue) order used limit too_many h.laid name at x (ticks_left (leave s queue)) l e (leave_others queue in_use h.timed.queued s apart others parted))) left_queued;
+            running = running-leave s queue h.timed.running;
+          };
+        })
 
   -- ## A new name
 
@@ -144,9 +148,9 @@ module _ (capacity : ℕ) (slots : List Stored) (queue : List Due) (order : List
           let f = free in
           subst (λ is. IsStored is (ticks_left queue) next slot (ticks_left (enter next ttl queue)) (fresh name ttl octets)) (sym f.order_same)
           (record {
-              here = ap (neighbor_of slot) (enter_here queue (take used order) h.timed.queued next ttl not_used) ∙ fresh_in slot name ttl octets o n t;
-              others = enter_others queue (take used order) h.timed.queued next ttl not_used;
-            })
+            here = ap (neighbor_of slot) (enter_here queue (take used order) h.timed.queued next ttl not_used) ∙ fresh_in slot name ttl octets o n t;
+            others = enter_others queue (take used order) h.timed.queued next ttl not_used;
+          })
 
       timed_new : IsTimed (enter next ttl queue) (take (used + 1) order')
       timed_new =

@@ -39,7 +39,7 @@ again : shown (neighbors (events_of 3 (frame 0 120 ∷ tick ∷ frame 0 1 ∷ fr
 unfolding neighbors live events_of
 again = refl
 
--- what is answered where a table is full, after a purge, and of a name that was after_forget
+-- what is answered where a table is full, after a purge, and of a name that was forgotten
 answers : answer 1 (eth 1) (events_of 1 (frame 0 120 ∷ [])) ≡ Dropped
 unfolding neighbors live events_of
 answers = refl

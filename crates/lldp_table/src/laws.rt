@@ -1,10 +1,14 @@
 //! Laws of the definitions, for every list of calls.
-ghost use Rattle.std.specs.Prelude.{◌≡◌, ℕ, ◌<◌, ◌≤◌, ◌↔◌, List, ◌∷◌};
+ghost use Rattle.std.specs.Prelude.{◌≡◌, ℕ, ◌+◌, ◌*◌, ◌<◌, ◌≤◌, ◌↔◌, List, [], ◌∷◌, length, None};
 ghost use Rattle.std.specs.List.{Contains, AllPairs};
+ghost use Rattle.lldp_pdu.specs.Tlv.{AreOctets};
 ghost use Rattle.lldp_pdu.specs.Msap.{MsapId};
+ghost use Rattle.lldp_pdu.specs.Lldpdu.{extent, ttl_of, msap_of};
+ghost use Rattle.lldp_pdu.specs.Fault.{fault_of};
+ghost use Rattle.lldp_pdu.specs.Kept.{kept_of};
 ghost use Rattle.lldp_table.specs.declared.learned.Learned.TheVariants.{New, Refreshed, Dropped};
-ghost use Rattle.lldp_table.specs.Events.{Call, Neighbor, TableEvent, answer, events_of, neighbors, too_many_left};
-ghost use Rattle.lldp_table.specs.Contents.{Contents, IsSound, table_after};
+ghost use Rattle.lldp_table.specs.Events.{Call, Neighbor, TableEvent, ticked, aged_out, answer, event_of, events_of, neighbors, too_many_left};
+ghost use Rattle.lldp_table.specs.Contents.{Contents, IsExtent, IsHeld, IsSound, learn_answer, newly_opened, table_after};
 ghost use Rattle.lldp_table.specs.Standing.{Stands, IsTold, AreTold, table_of};
 ghost use Rattle.lldp_table.specs.Positions.{IsLastStored, IsLive, HasRoom, IsNewBefore, WasDropped};
 
@@ -12,6 +16,31 @@ ghost use Rattle.lldp_table.specs.Positions.{IsLastStored, IsLive, HasRoom, IsNe
 pub fn carries_standing()
     ensures { (table : Contents) (opened : ℕ) (calls : List Call) (call : Call) → Stands table opened calls →
         IsTold table call → Stands (table_after table call) opened (call ∷ calls) }
+{}
+
+/// A table that stands for a list of calls is the one that they leave, an empty one where there was none; and it answers as
+/// the definitions do of the list.
+pub fn standing_tells_the_table()
+    ensures opened { (opened : ℕ) → 0 < opened → opened ≤ 128 → Stands (newly_opened opened) opened [] }
+    ensures is { (table : Contents) (opened : ℕ) (calls : List Call) → Stands table opened calls → table ≡ table_of opened calls }
+    ensures learned { (table : Contents) (opened : ℕ) (calls : List Call) (name : MsapId) → Stands table opened calls →
+        learn_answer table name ≡ answer opened name (events_of opened calls) }
+    ensures event { (opened : ℕ) (call : Call) (calls : List Call) →
+        events_of opened (call ∷ calls) ≡ event_of opened call (events_of opened calls) ∷ events_of opened calls }
+    ensures aged { (past : List TableEvent) → aged_out past + length (neighbors (ticked ∷ past)) ≡ length (neighbors past) }
+{}
+
+/// An empty table is sound, and each call leaves a sound table sound.
+pub fn calls_leave_sound_tables()
+    ensures opened { (limit : ℕ) → 0 < limit → limit ≤ 128 → IsSound (newly_opened limit) }
+    ensures after { (table : Contents) (call : Call) → IsSound table → IsTold table call → IsSound (table_after table call) }
+{}
+
+/// The extent of a sound LLDPDU of at most 1,500 octets can be stored, and a stored one has few kept TLVs.
+pub fn extents_can_be_stored()
+    ensures stored { (pdu : List ℕ) → AreOctets pdu → fault_of pdu ≡ None → 0 < ttl_of pdu → length pdu ≤ 1500 →
+        IsExtent (msap_of pdu) (ttl_of pdu) (extent pdu) }
+    ensures few { (neighbor : Neighbor) → IsHeld neighbor → 12 + 2 * length (kept_of neighbor.octets) ≤ length neighbor.octets }
 {}
 
 /// A table that stands for a list of calls holds for each name its last stored frame that has not expired, and nothing

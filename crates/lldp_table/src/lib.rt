@@ -12,8 +12,9 @@ mod times;
 
 pub use entry::Entry;
 pub use laws::{
-    answers_by_what_is_live, carries_standing, holds_last_stored_frames,
-    keeps_the_greatest_dropped, lists_leave_last_stored_frames,
+    answers_by_what_is_live, calls_leave_sound_tables, carries_standing, extents_can_be_stored,
+    holds_last_stored_frames, keeps_the_greatest_dropped, lists_leave_last_stored_frames,
+    standing_tells_the_table,
 };
 pub use learned::Learned;
 pub use table::Table;

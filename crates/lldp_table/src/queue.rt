@@ -109,12 +109,7 @@ fn enter_into<L: Ledger>(
 }
 
 /// A slot leaves, and the one behind it has its difference too.
-fn leave_from<L: Ledger>(
-    slots: &mut ArrayVec<u8, 128>,
-    times: &mut Times,
-    slot: u8,
-    blank: Blank,
-)
+fn leave_from<L: Ledger>(slots: &mut ArrayVec<u8, 128>, times: &mut Times, slot: u8, blank: Blank)
     requires queue { IsQueue times.old slots.old.items }
     requires there { holds slot (dues times.old slots.old.items) ≡ true }
     requires name { blank.name ≡ L.name }

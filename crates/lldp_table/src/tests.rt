@@ -1,6 +1,8 @@
 //! Worked examples of calls. The frames A to D differ in their port and their time to live.
 ghost use Rattle.std.specs.Prelude.{◌≤◌, length};
 
+mod expiries;
+
 use super::*;
 use linked_list_allocator::LocalHeap;
 use lldp_pdu::{Examined, Info, examine};
@@ -88,6 +90,21 @@ fn full_table(rt: HostRuntime) -> Result<(), Fail> {
     );
     expect_entry(&rt, &table, 0, &a, 111);
     expect_entry(&rt, &table, 1, &b, 111);
+    Ok(())
+}
+
+#[test]
+fn room_after_expiry(rt: HostRuntime) -> Result<(), Fail> {
+    let (a1, b) = (lldpdu(b'0', 1), lldpdu(b'1', 120));
+    let mut table = Table::open(rt.alloc(), 1)?;
+    assert_eq!(rt; table.learn(&told(&rt, &a1)), Learned::New);
+    assert_eq!(rt; table.tick(), 1);
+    assert_eq!(rt; table.learn(&told(&rt, &b)), Learned::New);
+    assert_eq!(rt;
+        (table.len(), table.octets(), table.too_many()),
+        (1, 20, false)
+    );
+    expect_entry(&rt, &table, 0, &b, 120);
     Ok(())
 }
 
@@ -180,22 +197,35 @@ fn kept_tlvs(rt: HostRuntime) -> Result<(), Fail> {
     Ok(())
 }
 
-/// The one allocation is for all neighbors, and is refused where there is less room.
+/// The one allocation is for all neighbors, and is refused where there is less room. No call after it takes any, where
+/// there is room for twice as many.
 #[test]
 fn memory(rt: HostRuntime) -> Result<(), Fail> {
-    let a = lldpdu(b'0', 120);
     for limit in [1u8, 32, 128] {
         let scarce = LocalHeap::new(rt.alloc(), usize::from(limit) * 1500)?;
         assert!(rt; Table::open(&scarce, limit).is_err());
         assert_eq!(rt; scarce.used(), 0);
-        let ample = LocalHeap::new(rt.alloc(), usize::from(limit) * 1600)?;
+        let ample = LocalHeap::new(rt.alloc(), usize::from(limit) * 3200)?;
         let mut table = Table::open(&ample, limit)?;
         let used = ample.used();
         assert!(rt; used >= usize::from(limit) * 1500);
-        assert_eq!(rt; table.learn(&told(&rt, &a)), Learned::New);
-        assert_eq!(rt; table.learn(&told(&rt, &a)), Learned::Refreshed);
-        assert_eq!(rt; table.tick(), 0);
-        assert!(rt; table.forget(&told(&rt, &a).msap()));
+        for port in 0..limit {
+            assert_eq!(rt; table.learn(&told(&rt, &lldpdu(port, 9))), Learned::New);
+            assert_eq!(rt; ample.used(), used);
+        }
+        assert_eq!(rt;
+            table.learn(&told(&rt, &lldpdu(limit, 9))),
+            Learned::Dropped
+        );
+        assert_eq!(rt; table.learn(&told(&rt, &lldpdu(0, 1))), Learned::Refreshed);
+        assert_eq!(rt; ample.used(), used);
+        assert!(rt; table.len() <= limit && table.capacity() == limit);
+        table.set_limit(limit);
+        assert_eq!(rt; ample.used(), used);
+        assert_eq!(rt; table.tick(), 1);
+        assert_eq!(rt; ample.used(), used);
+        assert_eq!(rt; table.forget(&told(&rt, &lldpdu(1, 9)).msap()), limit > 1);
+        assert_eq!(rt; ample.used(), used);
         table.purge();
         assert_eq!(rt; ample.used(), used);
     }

@@ -24,7 +24,7 @@ returns-clause-after g c =
     let there = rw c.as_slice.ensures.value at c.place_in-at.ensures in
     let more = rw (c.as_slice-2.ensures.value, c.get-gap.ensures.same) at c.raise.ensures in
     rw c.remove.ensures.items
-    (left_at times c.raise.new.times slots c.place_in-at.result c.args.slot c.get-gap.result there.within there.there c.requires.queue.distinct c.get-gap.ensures.value more.after)
+    (left_at times c.raise.new.times slots c.place_in-at.result c.args.slot _ there.within there.there c.requires.queue.distinct (omega (arith, c.get-gap.ensures.value)) more.after)
 
 pub returns-clause-queue : goal.returns-clause-queue
 returns-clause-queue g c =

@@ -6,5 +6,5 @@ use Rattle.lldp_table.proofs.queue.lessen.Goals as goal
 pub returns-clause-after : goal.returns-clause-after
 returns-clause-after g c =
     let q = c.requires.queue in
-    rw (c.set.ensures.value, c.get-gap.ensures.same, c.get-gap.ensures.value)
-    (lessened c.args.times.now c.args.slots.now c.args.at c.if-at-slots.false q.distinct (within_times c.args.times.now c.args.slots.now q c.args.at c.if-at-slots.false) c.args.less)
+    rw (c.set.ensures.value, c.get-gap.ensures.same)
+    (lessened c.args.times.now c.args.slots.now c.args.at c.if-at-slots.false q.distinct (within_times c.args.times.now c.args.slots.now q c.args.at c.if-at-slots.false) c.args.less _ (omega (arith, c.get-gap.ensures.value)))

@@ -1,11 +1,11 @@
-use Rattle.std.proofs.Common.{get_or, sym, ap, ◌∙◌, max}
+use Rattle.std.proofs.Common.{sym, ap, ◌∙◌, max, arith}
 use Rattle.lldp_table.specs.Events.{learn}
 use Rattle.lldp_table.specs.Contents.{Contents, after_learn, learn_answer}
-use Rattle.lldp_table.specs.Queue.{ticks_left, enter}
+use Rattle.lldp_table.specs.Queue.{ticks_left}
 use Rattle.lldp_table.proofs.ExtentLemmas.{info_is_extent}
 use Rattle.lldp_table.proofs.StandingLemmas.{stands_after, learn_answers}
 use Rattle.lldp_table.proofs.LayoutLemmas.{not_found, answer_refreshed, answer_new, answer_dropped, after_dropped}
-use Rattle.lldp_table.proofs.LearnLemmas.{found_as, refreshed_after, refreshed_table, is_out, room_again, next_queued, new_after, new_table}
+use Rattle.lldp_table.proofs.LearnLemmas.{found_as, then_enters, refreshed_after, refreshed_table, is_out, room_again, next_queued, new_after, new_table}
 use Rattle.lldp_table.proofs.table.Table.learn.Goals as goal
 
 -- ## A neighbor that is held
@@ -40,7 +40,7 @@ invariant_of-self g c =
     let f = found_as t.slots.cap t.slots.items t.queue t.order.items t.used t.limit t.too_many c.self.invariant _ info.msap c.in-Some.at c.msap-name.ensures.value p in
     let told = info_is_extent info c.octets-octets.ensures.again (rw (← c.ttl-ttl.ensures.value) c.ttl-ttl.ensures.lives) c.requires in
     refreshed_table t.slots.cap t.slots.items t.queue t.order.items t.used t.limit t.too_many c.self.invariant c.in-Some.at f.0 info.msap info.ttl info.octets c.store.new.self (c.store.ensures.octets ∙ c.octets-octets.ensures.value) (c.store.ensures.ttl ∙ c.ttl-ttl.ensures.value) told f.1
-    _ _ c.enter.new.self c.deref-in-Some.ensures.0 c.ttl-ttl.ensures.value (c.enter.ensures ∙ ap (enter (get_or c.deref-in-Some.result.now c.in-Some.at 0) c.ttl-ttl.result) c.leave.ensures)
+    _ _ c.enter.new.self c.deref-in-Some.ensures.0 (omega (arith, c.ttl-ttl.ensures.value)) (then_enters _ _ _ _ _ c.leave.ensures c.enter.ensures)
 
 pub returns-in-Some-clause-after : goal.returns-in-Some-clause-after
 returns-in-Some-clause-after g c =
@@ -50,7 +50,7 @@ returns-in-Some-clause-after g c =
     let p = rw (c.deref.ensures.value, c.deref-2.ensures.0) at c.in-Some.ensures in
     let f = found_as t.slots.cap t.slots.items t.queue t.order.items t.used t.limit t.too_many c.self.invariant _ info.msap c.in-Some.at c.msap-name.ensures.value p in
     refreshed_after t.slots.cap t.slots.items t.queue t.order.items t.used t.limit t.too_many c.self.invariant c.in-Some.at f.0 info.msap info.ttl info.octets c.store.new.self (c.store.ensures.octets ∙ c.octets-octets.ensures.value) (c.store.ensures.ttl ∙ c.ttl-ttl.ensures.value) (returns-in-Some-clause-told g c) f.1
-    _ _ c.enter.new.self c.deref-in-Some.ensures.0 c.ttl-ttl.ensures.value (c.enter.ensures ∙ ap (enter (get_or c.deref-in-Some.result.now c.in-Some.at 0) c.ttl-ttl.result) c.leave.ensures)
+    _ _ c.enter.new.self c.deref-in-Some.ensures.0 (omega (arith, c.ttl-ttl.ensures.value)) (then_enters _ _ _ _ _ c.leave.ensures c.enter.ensures)
     ∙ ap (λ (table : Contents). after_learn table info.msap info.ttl info.octets) c.self.view_is
 
 pub returns-in-Some-clause-answer : goal.returns-in-Some-clause-answer
@@ -92,7 +92,7 @@ invariant_of-self-then-self g c =
     let told = info_is_extent info c.octets-octets.ensures.again (rw (← c.ttl-ttl.ensures.value) c.ttl-ttl.ensures.lives) c.requires in
     rw c.write_next.ensures.room
     (new_table t.slots.cap t.slots.items t.queue t.order.items t.used t.limit t.too_many c.self.invariant c.if-self.true _ _ c.write_next.ensures.slots c.write_next.ensures.order info.msap info.ttl info.octets c.store-then-self.new.self (c.store-then-self.ensures.octets ∙ c.octets-octets.ensures.value) (c.store-then-self.ensures.ttl ∙ c.ttl-ttl.ensures.value) told none
-    _ _ c.enter-then-self.new.self c.deref-then-self.ensures.0 c.ttl-ttl.ensures.value c.enter-then-self.ensures)
+    _ _ c.enter-then-self.new.self c.deref-then-self.ensures.0 (omega (arith, c.ttl-ttl.ensures.value)) c.enter-then-self.ensures)
 
 pub returns-then-self-clause-after : goal.returns-then-self-clause-after
 returns-then-self-clause-after g c =
@@ -103,7 +103,7 @@ returns-then-self-clause-after g c =
     let none = not_found t.slots.cap t.slots.items left t.order.items t.used t.limit t.too_many c.self.invariant.laid info.msap p in
     rw c.write_next.ensures.room
     (new_after t.slots.cap t.slots.items t.queue t.order.items t.used t.limit t.too_many c.self.invariant c.if-self.true _ _ c.write_next.ensures.slots c.write_next.ensures.order info.msap info.ttl info.octets c.store-then-self.new.self (c.store-then-self.ensures.octets ∙ c.octets-octets.ensures.value) (c.store-then-self.ensures.ttl ∙ c.ttl-ttl.ensures.value) (returns-then-self-clause-told g c) none
-    _ _ c.enter-then-self.new.self c.deref-then-self.ensures.0 c.ttl-ttl.ensures.value c.enter-then-self.ensures
+    _ _ c.enter-then-self.new.self c.deref-then-self.ensures.0 (omega (arith, c.ttl-ttl.ensures.value)) c.enter-then-self.ensures
     ∙ ap (λ (table : Contents). after_learn table info.msap info.ttl info.octets) c.self.view_is)
 
 pub returns-then-self-clause-answer : goal.returns-then-self-clause-answer

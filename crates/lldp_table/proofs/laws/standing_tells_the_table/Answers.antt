@@ -1,0 +1,18 @@
+use Rattle.lldp_table.proofs.StandingLemmas.{stands_open, stands_is, learn_answers, events-more}
+use Rattle.lldp_table.proofs.LiveLemmas.{aged_out-count}
+use Rattle.lldp_table.proofs.laws.standing_tells_the_table.Goals as goal
+
+pub returns-clause-opened : goal.returns-clause-opened
+returns-clause-opened c = stands_open
+
+pub returns-clause-is : goal.returns-clause-is
+returns-clause-is c = stands_is
+
+pub returns-clause-learned : goal.returns-clause-learned
+returns-clause-learned c = learn_answers
+
+pub returns-clause-event : goal.returns-clause-event
+returns-clause-event c = events-more
+
+pub returns-clause-aged : goal.returns-clause-aged
+returns-clause-aged c = aged_out-count
