@@ -3,9 +3,11 @@ use super::*;
 use arrayvec::ArrayVec;
 use std::process::Abort;
 
+mod altered;
 mod building;
 mod frames;
 mod reading;
+mod slow_reader;
 
 /// The Ethernet header of a frame to nearest bridge.
 const HEADER: &[u8] = &[
@@ -25,6 +27,13 @@ const END: &[u8] = &[0x00, 0x00];
 const SW1: &[u8] = &[0x0a, 0x03, 0x73, 0x77, 0x31];
 
 const SW2: &[u8] = &[0x0a, 0x03, 0x73, 0x77, 0x32];
+/// A System Name of length 20 with 3 octets left.
+const OVERRUNNING: &[u8] = &[0x0a, 0x14, 0x61, 0x62, 0x63];
+/// System Capabilities of length 5, then with a bit enabled that is not available, then well formed.
+const CAPABILITIES: &[u8] = &[
+    0x0e, 0x05, 0x00, 0x04, 0x00, 0x04, 0x00, 0x0e, 0x04, 0x00, 0x04, 0x00, 0x14, 0x0e, 0x04, 0x00,
+    0x14, 0x00, 0x04,
+];
 
 /// The parts, one after the other.
 fn joined(rt: &impl Abort, parts: &[&[u8]]) -> ArrayVec<u8, 1600> {

@@ -126,17 +126,12 @@ fn discarded_tlvs(rt: HostRuntime) {
         &[CHASSIS, PORT, TTL_120, short_organizational, END],
         &bare(25, 1),
     );
-    let overrunning = &[0x0a, 0x14, 0x61, 0x62, 0x63];
-    expect_info(&rt, &[CHASSIS, PORT, TTL_120, overrunning], &bare(20, 1));
-    let capabilities = &[
-        0x0e, 0x05, 0x00, 0x04, 0x00, 0x04, 0x00, 0x0e, 0x04, 0x00, 0x04, 0x00, 0x14, 0x0e, 0x04,
-        0x00, 0x14, 0x00, 0x04,
-    ];
+    expect_info(&rt, &[CHASSIS, PORT, TTL_120, OVERRUNNING], &bare(20, 1));
     let bridge_on = &Told {
         kept: &[(7, &[0x00, 0x14, 0x00, 0x04])],
         ..bare(39, 2)
     };
-    expect_info(&rt, &[CHASSIS, PORT, TTL_120, capabilities, END], bridge_on);
+    expect_info(&rt, &[CHASSIS, PORT, TTL_120, CAPABILITIES, END], bridge_on);
 }
 
 #[test]
