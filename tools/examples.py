@@ -1,12 +1,12 @@
 #!/usr/bin/env python3
-"""Runs the examples of the manual and of the manual page, and compares what they show.
+"""Runs the examples of the documents and of the manual page, and compares what they show.
 
     python3 tools/examples.py PROGRAM
 
 An example is a block whose first line begins with `$ `. Each such line is a command, with its input up to
-the line EOF where it ends with <<'EOF'; what stands below is what it writes, up to the next command. A
-status other than 0 is shown by the command `echo $?`. Nothing may come on standard error. The last line
-counts the examples.
+the line EOF where it ends with <<'EOF' or <<EOF; what stands below is what it writes, up to the next command.
+A status other than 0 is shown by the command `echo $?`. Nothing may come on standard error. Sessions on a
+link are left to tools/try-live.sh. The last line counts the examples.
 """
 import pathlib
 import re
@@ -16,12 +16,16 @@ import tempfile
 
 TOP = pathlib.Path(__file__).resolve().parent.parent
 
+# what a session on a link begins with
+ON_A_LINK = ("$ sudo ", "$ lldpcli ", "$ tools/", "$ head ")
+
 
 def blocks():
-    """The name and the lines of each block of the two documents."""
-    manual = (TOP / "docs" / "MANUAL.md").read_text()
-    for place, block in enumerate(re.findall(r"^```\w*\n(.*?)^```$", manual, re.M | re.S), 1):
-        yield f"manual, block {place}", block.splitlines()
+    """The name and the lines of each block of the documents and of the manual page."""
+    for name in ("README.md", "docs/MANUAL.md", "docs/LLDPCLI.md"):
+        text = (TOP / name).read_text()
+        for place, block in enumerate(re.findall(r"^```\w*\n(.*?)^```$", text, re.M | re.S), 1):
+            yield f"{name}, block {place}", block.splitlines()
     page = (TOP / "man" / "lldpa.1").read_text().replace("\\e", "\\").replace("\\-", "-").replace("\\&", "")
     for place, block in enumerate(re.findall(r"^\.Bd -literal\n(.*?)^\.Ed$", page, re.M | re.S), 1):
         yield f"manual page, block {place}", block.splitlines()
@@ -36,7 +40,7 @@ def script_and_output(lines):
             is_input = line != "EOF"
         elif line.startswith("$ "):
             script.append(line[2:])
-            is_input = line.endswith("<<'EOF'")
+            is_input = line.endswith(("<<'EOF'", "<<EOF"))
         else:
             wanted.append(line)
     return "".join(f"{line}\n" for line in script), "".join(f"{line}\n" for line in wanted)
@@ -65,7 +69,7 @@ def main():
     with tempfile.TemporaryDirectory() as folder:
         (pathlib.Path(folder) / "lldpa").symlink_to(program)
         for name, lines in blocks():
-            if not lines or not lines[0].startswith("$ "):
+            if not lines or not lines[0].startswith("$ ") or lines[0].startswith(ON_A_LINK):
                 continue
             fault = fault_of(lines, folder)
             passed, failed = passed + (fault is None), failed + (fault is not None)
