@@ -239,7 +239,7 @@ def port_name(word):
 
 
 def main():
-    parser = argparse.ArgumentParser(prog="capture.py", description=__doc__, allow_abbrev=False)
+    parser = argparse.ArgumentParser(description=__doc__, allow_abbrev=False)
     parser.add_argument("file", metavar="FILE", help="the capture, or - for standard input")
     parser.add_argument("--port", type=port_name, default="eth0", metavar="NAME", help="the port that all frames came in at (eth0)")
     parser.add_argument("--show", action="store_true", help="end the trace with show neighbors and show statistics")
