@@ -77,6 +77,13 @@ credit_reads s h most =
     let paid = paid_moments s h most in
     subst (IsLeastRoom s (moments s h)) (sym (credit_is s (moments s h) paid)) (least_bucket s (moments s h) paid)
 
+-- the least room is one number
+pub least_once : (s : Settings) (ms : List Moment) (credit other : ℕ) → IsLeastRoom s ms credit → IsLeastRoom s ms other → credit ≡ other
+least_once s ms credit other c d =
+    let (run, before, e, n) = c.one in
+    let (front, behind, f, k) = d.one in
+    omega (arith, c.each front behind f, d.each run before e, n, k)
+
 -- ---- a frame that waits
 
 wanted : (ms : List Moment) → IsTrue (is_waiting ms) → HasWanted ms
@@ -118,24 +125,41 @@ waiting_reads ms = (wanted ms, back)
 same_active : (past : List Moment) (m : Moment) → is_active (record m { sent = false } ∷ past) ≡ is_active (m ∷ past)
 same_active past m = is_active-cons (record m { sent = false }) past ∙ sym (is_active-cons m past)
 
+-- a frame is due on an active port on which one waits
+pub due_reads : (s : Settings) (h : History) (e : Event) → IsTrue (due (moments s h) (moment s (moments s h) e)) ↔ IsDue (moments s h) (moment s (moments s h) e)
+due_reads s h e = (forth, back)
+  where
+    past : List Moment
+    past = moments s h
+
+    m : Moment
+    m = moment s past e
+
+    forth : IsTrue (due past m) → IsDue past m
+    forth p =
+        let d = and_parts (is_active (record m { sent = false } ∷ past)) (is_waiting (record m { sent = false } ∷ past)) p in
+        ((active_reads s (e ∷ h)).0 (sym (same_active past m) ∙ d.0), (waiting_reads (record m { sent = false } ∷ past)).0 d.1)
+
+    back : IsDue past m → IsTrue (due past m)
+    back (a, w) =
+        and_from (is_active (record m { sent = false } ∷ past)) (is_waiting (record m { sent = false } ∷ past)) (same_active past m ∙ (active_reads s (e ∷ h)).1 a) ((waiting_reads (record m { sent = false } ∷ past)).1 w)
+
 -- An ordinary frame goes exactly where one is due and the window open.
 pub sent_reads : (s : Settings) (h : History) (e : Event) → 1 ≤ s.credit_max →
     IsTrue (moment s (moments s h) e).sent ↔ (IsDue (moments s h) (moment s (moments s h) e) × IsOpen s (moments s h) (moment s (moments s h) e))
 unfolding moment
 sent_reads s h e most = (forth, back)
   where
-    forth : IsTrue (moment s (moments s h) e).sent → IsDue (moments s h) (moment s (moments s h) e) × IsOpen s (moments s h) (moment s (moments s h) e)
-    forth p =
-        let past = moments s h in
-        let m = moment s past e in
-        let parts = and_parts (due past m) (open_at s past m) p in
-        let d = and_parts (is_active (record m { sent = false } ∷ past)) (is_waiting (record m { sent = false } ∷ past)) parts.0 in
-        (((active_reads s (e ∷ h)).0 (sym (same_active past m) ∙ d.0), (waiting_reads (record m { sent = false } ∷ past)).0 d.1), (open_reads s past m most).0 parts.1)
+    past : List Moment
+    past = moments s h
 
-    back : IsDue (moments s h) (moment s (moments s h) e) × IsOpen s (moments s h) (moment s (moments s h) e) → IsTrue (moment s (moments s h) e).sent
-    back p =
-        let past = moments s h in
-        let m = moment s past e in
-        and_from (due past m) (open_at s past m)
-        (and_from (is_active (record m { sent = false } ∷ past)) (is_waiting (record m { sent = false } ∷ past)) (same_active past m ∙ (active_reads s (e ∷ h)).1 p.0.0) ((waiting_reads (record m { sent = false } ∷ past)).1 p.0.1))
-        ((open_reads s past m most).1 p.1)
+    m : Moment
+    m = moment s past e
+
+    forth : IsTrue m.sent → IsDue past m × IsOpen s past m
+    forth p =
+        let parts = and_parts (due past m) (open_at s past m) p in
+        ((due_reads s h e).0 parts.0, (open_reads s past m most).0 parts.1)
+
+    back : IsDue past m × IsOpen s past m → IsTrue m.sent
+    back (d, o) = and_from (due past m) (open_at s past m) ((due_reads s h e).1 d) ((open_reads s past m most).1 o)

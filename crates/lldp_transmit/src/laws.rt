@@ -2,9 +2,9 @@
 
 ghost use Rattle.std.specs.Prelude.{◌≡◌, ◌↔◌, IsTrue, ℕ, List, [], ◌∷◌, map};
 ghost use Rattle.lldp_transmit.specs.History.{Settings, Event, History, event};
-ghost use Rattle.lldp_transmit.specs.Moments.{Moment, moment, moments, mark_at, is_active, is_waiting, rested, signals_left, distance, open_at};
+ghost use Rattle.lldp_transmit.specs.Moments.{Moment, moment, moments, mark_at, is_active, is_waiting, rested, signals_left, distance, timer_ends, due, open_at};
 ghost use Rattle.lldp_transmit.specs.Remaining.{credit_left};
-ghost use Rattle.lldp_transmit.specs.Positions.{HasStarted, HasRested, IsStart, IsStop, IsSignal, IsOpening, AreLeft, IsDistance, HasWanted, IsDue, IsOpen, IsLeastRoom};
+ghost use Rattle.lldp_transmit.specs.Positions.{HasStarted, HasRested, IsStart, IsStop, IsTimerEnd, IsSignal, IsOpening, AreLeft, IsDistance, HasWanted, IsDue, IsOpen, IsLeastRoom};
 ghost use Rattle.lldp_transmit.specs.Machine.{Machine, opened, stepped};
 ghost use Rattle.lldp_transmit.specs.Standing.{AreSettings, Stands};
 ghost use Rattle.lldp_transmit.specs.Windows.{AreTimely, WindowsHold};
@@ -55,7 +55,8 @@ pub fn activity_by_positions()
         IsTrue (moment s (moments s h) e).stop ↔ IsStop s (moments s h) (moment s (moments s h) e) }
 {}
 
-/// Signals, bursts and distances, said of positions: of the last signal and the last opening of a burst.
+/// Signals, bursts, distances and the end of the timer, said of positions: of the last signal and the last opening of a
+/// burst.
 pub fn signals_by_positions()
     ensures signal { (s : Settings) (h : History) (e : Event) →
         IsTrue (moment s (moments s h) e).signal ↔ IsSignal s (moments s h) (moment s (moments s h) e) }
@@ -64,17 +65,22 @@ pub fn signals_by_positions()
     ensures left { (s : Settings) (ms : List Moment) (n : ℕ) → (n ≡ signals_left s ms) ↔ AreLeft s ms n }
     ensures distance { (s : Settings) (m : Moment) (before : List Moment) (d : ℕ) →
         (d ≡ distance s (m ∷ before)) ↔ IsDistance s m before d }
+    ensures timer { (s : Settings) (past : List Moment) (m : Moment) → IsTrue (timer_ends s past m) ↔ IsTimerEnd s past m }
 {}
 
 /// Waiting, due, open, sent and the credit, said of positions: a frame waits where a signal since the start has had
-/// none; a window is open where, with one frame more, each run that ends now is within its bound; the credit is the
-/// least that any run leaves of its bound.
+/// none, and is due where the port is active too; a window is open where, with one frame more, each run that ends now is
+/// within its bound; the credit is the least that any run leaves of its bound, and no other number is.
 pub fn sending_by_positions()
     ensures waiting { (ms : List Moment) → IsTrue (is_waiting ms) ↔ HasWanted ms }
+    ensures due { (s : Settings) (h : History) (e : Event) →
+        IsTrue (due (moments s h) (moment s (moments s h) e)) ↔ IsDue (moments s h) (moment s (moments s h) e) }
     ensures open { (s : Settings) (past : List Moment) (m : Moment) →
         AreSettings s → IsTrue (open_at s past m) ↔ IsOpen s past m }
     ensures credit { (s : Settings) (h : History) →
         AreSettings s → IsLeastRoom s (moments s h) (credit_left s (moments s h)) }
+    ensures one_credit { (s : Settings) (ms : List Moment) (credit other : ℕ) →
+        IsLeastRoom s ms credit → IsLeastRoom s ms other → credit ≡ other }
     ensures sent { (s : Settings) (h : History) (e : Event) → AreSettings s → IsTrue (moment s (moments s h) e).sent
         ↔ (IsDue (moments s h) (moment s (moments s h) e) × IsOpen s (moments s h) (moment s (moments s h) e)) }
 {}

@@ -1,4 +1,4 @@
-use Rattle.lldp_transmit.proofs.Sending.{waiting_reads, open_reads, credit_reads, sent_reads}
+use Rattle.lldp_transmit.proofs.Sending.{waiting_reads, due_reads, open_reads, credit_reads, least_once, sent_reads}
 use Rattle.lldp_transmit.proofs.laws.sending_by_positions.Goals as goal
 
 pub returns-clause-waiting : goal.returns-clause-waiting
@@ -12,3 +12,9 @@ returns-clause-credit c = λ s h r. credit_reads s h r.some_credit
 
 pub returns-clause-sent : goal.returns-clause-sent
 returns-clause-sent c = λ s h e r. sent_reads s h e r.some_credit
+
+pub returns-clause-due : goal.returns-clause-due
+returns-clause-due c = due_reads
+
+pub returns-clause-one_credit : goal.returns-clause-one_credit
+returns-clause-one_credit c = least_once

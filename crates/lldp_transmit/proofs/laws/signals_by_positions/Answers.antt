@@ -1,4 +1,4 @@
-use Rattle.lldp_transmit.proofs.Signals.{signal_reads, opening_reads, left_reads, distance_reads}
+use Rattle.lldp_transmit.proofs.Signals.{signal_reads, opening_reads, left_reads, distance_reads, timer_reads}
 use Rattle.lldp_transmit.proofs.laws.signals_by_positions.Goals as goal
 
 pub returns-clause-signal : goal.returns-clause-signal
@@ -12,3 +12,6 @@ returns-clause-left c = left_reads
 
 pub returns-clause-distance : goal.returns-clause-distance
 returns-clause-distance c = distance_reads
+
+pub returns-clause-timer : goal.returns-clause-timer
+returns-clause-timer c = timer_reads
