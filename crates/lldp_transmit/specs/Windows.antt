@@ -42,11 +42,15 @@ StopsRarely s h =
 abbrev pub IsEarliest : Settings → History → Type 0
 IsEarliest s h = (marks : List Bool) → AreTimely s marks (moments s h) → marked marks ≤ frames (moments s h)
 
+-- and so it was after each event so far
+abbrev pub IsAlwaysEarliest : Settings → History → Type 0
+IsAlwaysEarliest s h = (later earlier : History) → h ≡ later ++ earlier → IsEarliest s earlier
+
 -- all three, the last after each event of the history
 pub record WindowsHold (s : Settings) (h : History) : Type 0 where
   pub bounded : IsBounded s h
   pub few_stops : StopsRarely s h
-  pub earliest : (later earlier : History) → h ≡ later ++ earlier → IsEarliest s earlier
+  pub earliest : IsAlwaysEarliest s h
 
 -- ---- the same of one event, with what a machine answered there
 
