@@ -67,6 +67,7 @@ impl Expiries {
 /// The next number of a fixed sequence, below so many.
 fn random(seed: &mut u32, below: u8) -> u8
     requires { 0 < below }
+    ensures { result < below }
 {
     *seed = seed.wrapping_mul(1_664_525).wrapping_add(1_013_904_223);
     ((*seed >> 16) % u32::from(below)) as u8
