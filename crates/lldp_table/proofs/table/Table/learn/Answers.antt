@@ -1,4 +1,4 @@
-use Rattle.std.proofs.Common.{sym, ap, ◌∙◌, max, arith}
+use Rattle.std.proofs.Common.{sym, ap, ◌∙◌, arith}
 use Rattle.lldp_table.specs.Events.{learn}
 use Rattle.lldp_table.specs.Contents.{Contents, after_learn, learn_answer}
 use Rattle.lldp_table.specs.Queue.{ticks_left}
@@ -39,7 +39,7 @@ invariant_of-self g c =
     let p = rw (c.deref.ensures.value, c.deref-2.ensures.0) at c.in-Some.ensures in
     let f = found_as t.slots.cap t.slots.items t.queue t.order.items t.used t.limit t.too_many c.self.invariant _ info.msap c.in-Some.at c.msap-name.ensures.value p in
     let told = info_is_extent info c.octets-octets.ensures.again (rw (← c.ttl-ttl.ensures.value) c.ttl-ttl.ensures.lives) c.requires in
-    refreshed_table t.slots.cap t.slots.items t.queue t.order.items t.used t.limit t.too_many c.self.invariant c.in-Some.at f.0 info.msap info.ttl info.octets c.store.new.self (c.store.ensures.octets ∙ c.octets-octets.ensures.value) (c.store.ensures.ttl ∙ c.ttl-ttl.ensures.value) told f.1
+    refreshed_table t.slots.cap t.slots.items t.queue t.order.items t.used t.limit t.too_many c.self.invariant c.in-Some.at f.0 info.msap info.ttl info.octets c.store.new.self (c.store.ensures.octets ∙ c.octets-octets.ensures.value) (omega (arith, c.store.ensures.ttl, c.ttl-ttl.ensures.value)) told f.1
     _ _ c.enter.new.self c.deref-in-Some.ensures.0 (omega (arith, c.ttl-ttl.ensures.value)) (then_enters _ _ _ _ _ c.leave.ensures c.enter.ensures)
 
 pub returns-in-Some-clause-after : goal.returns-in-Some-clause-after
@@ -49,7 +49,7 @@ returns-in-Some-clause-after g c =
     let info = c.args.info.now in
     let p = rw (c.deref.ensures.value, c.deref-2.ensures.0) at c.in-Some.ensures in
     let f = found_as t.slots.cap t.slots.items t.queue t.order.items t.used t.limit t.too_many c.self.invariant _ info.msap c.in-Some.at c.msap-name.ensures.value p in
-    refreshed_after t.slots.cap t.slots.items t.queue t.order.items t.used t.limit t.too_many c.self.invariant c.in-Some.at f.0 info.msap info.ttl info.octets c.store.new.self (c.store.ensures.octets ∙ c.octets-octets.ensures.value) (c.store.ensures.ttl ∙ c.ttl-ttl.ensures.value) (returns-in-Some-clause-told g c) f.1
+    refreshed_after t.slots.cap t.slots.items t.queue t.order.items t.used t.limit t.too_many c.self.invariant c.in-Some.at f.0 info.msap info.ttl info.octets c.store.new.self (c.store.ensures.octets ∙ c.octets-octets.ensures.value) (omega (arith, c.store.ensures.ttl, c.ttl-ttl.ensures.value)) (returns-in-Some-clause-told g c) f.1
     _ _ c.enter.new.self c.deref-in-Some.ensures.0 (omega (arith, c.ttl-ttl.ensures.value)) (then_enters _ _ _ _ _ c.leave.ensures c.enter.ensures)
     ∙ ap (λ (table : Contents). after_learn table info.msap info.ttl info.octets) c.self.view_is
 
@@ -91,7 +91,7 @@ invariant_of-self-then-self g c =
     let none = not_found t.slots.cap t.slots.items left t.order.items t.used t.limit t.too_many c.self.invariant.laid info.msap p in
     let told = info_is_extent info c.octets-octets.ensures.again (rw (← c.ttl-ttl.ensures.value) c.ttl-ttl.ensures.lives) c.requires in
     rw c.write_next.ensures.room
-    (new_table t.slots.cap t.slots.items t.queue t.order.items t.used t.limit t.too_many c.self.invariant c.if-self.true _ _ c.write_next.ensures.slots c.write_next.ensures.order info.msap info.ttl info.octets c.store-then-self.new.self (c.store-then-self.ensures.octets ∙ c.octets-octets.ensures.value) (c.store-then-self.ensures.ttl ∙ c.ttl-ttl.ensures.value) told none
+    (new_table t.slots.cap t.slots.items t.queue t.order.items t.used t.limit t.too_many c.self.invariant c.if-self.true _ _ c.write_next.ensures.slots c.write_next.ensures.order info.msap info.ttl info.octets c.store-then-self.new.self (c.store-then-self.ensures.octets ∙ c.octets-octets.ensures.value) (omega (arith, c.store-then-self.ensures.ttl, c.ttl-ttl.ensures.value)) told none
     _ _ c.enter-then-self.new.self c.deref-then-self.ensures.0 (omega (arith, c.ttl-ttl.ensures.value)) c.enter-then-self.ensures)
 
 pub returns-then-self-clause-after : goal.returns-then-self-clause-after
@@ -102,7 +102,7 @@ returns-then-self-clause-after g c =
     let p = rw (c.deref.ensures.value, c.deref-2.ensures.0, c.msap-name.ensures.value) at c.in_default.ensures in
     let none = not_found t.slots.cap t.slots.items left t.order.items t.used t.limit t.too_many c.self.invariant.laid info.msap p in
     rw c.write_next.ensures.room
-    (new_after t.slots.cap t.slots.items t.queue t.order.items t.used t.limit t.too_many c.self.invariant c.if-self.true _ _ c.write_next.ensures.slots c.write_next.ensures.order info.msap info.ttl info.octets c.store-then-self.new.self (c.store-then-self.ensures.octets ∙ c.octets-octets.ensures.value) (c.store-then-self.ensures.ttl ∙ c.ttl-ttl.ensures.value) (returns-then-self-clause-told g c) none
+    (new_after t.slots.cap t.slots.items t.queue t.order.items t.used t.limit t.too_many c.self.invariant c.if-self.true _ _ c.write_next.ensures.slots c.write_next.ensures.order info.msap info.ttl info.octets c.store-then-self.new.self (c.store-then-self.ensures.octets ∙ c.octets-octets.ensures.value) (omega (arith, c.store-then-self.ensures.ttl, c.ttl-ttl.ensures.value)) (returns-then-self-clause-told g c) none
     _ _ c.enter-then-self.new.self c.deref-then-self.ensures.0 (omega (arith, c.ttl-ttl.ensures.value)) c.enter-then-self.ensures
     ∙ ap (λ (table : Contents). after_learn table info.msap info.ttl info.octets) c.self.view_is)
 
@@ -135,8 +135,8 @@ returns-clause-after g c =
     let info = c.args.info.now in
     let p = rw (c.deref.ensures.value, c.deref-2.ensures.0, c.msap-name.ensures.value) at c.in_default.ensures in
     let none = not_found t.slots.cap t.slots.items left t.order.items t.used t.limit t.too_many c.self.invariant.laid info.msap p in
-    after_dropped t.slots.cap t.slots.items left t.order.items t.used t.limit t.too_many c.self.invariant.laid info.msap none c.if-self.false info.ttl info.octets c.max-self-inside.result
-    (c.max-self-inside.ensures ∙ ap (max t.too_many) c.ttl-ttl.ensures.value)
+    after_dropped t.slots.cap t.slots.items left t.order.items t.used t.limit t.too_many c.self.invariant.laid info.msap none c.if-self.false info.ttl info.octets _
+    (omega (arith, c.ttl-ttl.ensures.value))
     ∙ ap (λ (table : Contents). after_learn table info.msap info.ttl info.octets) c.self.view_is
 
 pub returns-clause-answer : goal.returns-clause-answer
