@@ -16,11 +16,11 @@ use Rattle.lldp_pdu.specs.WellFormed.{is_well_formed}
 use Rattle.lldp_pdu.specs.Lldpdu.{is_end, before_end, extent, ended_incomplete, tlv_at, seconds, ttl_of, msap_of, later_tlvs}
 use Rattle.lldp_pdu.specs.Msap.{MsapId, IsIdentifier}
 use Rattle.lldp_pdu.specs.Fault.{is_mandatory, fault_of}
-use Rattle.lldp_pdu.specs.Kept.{is_single, has_well_formed, kept_after, others_after, kept_of, discarded_of, count_unrecognized}
+use Rattle.lldp_pdu.specs.Kept.{is_single, has_well_formed, kept_after, others_after, kept_of, discarded_of, count_unrecognized, IsKeptTlv}
 use Rattle.lldp_pdu.specs.Info.{LldpInfo, info_of}
 use Rattle.lldp_pdu.specs.Code.Seen.{Flags, none_seen, with_flag}
 use Rattle.lldp_pdu.specs.Draft.{Draft, all_tlvs, end_of_lldpdu, lldpdu_octets, with_tlv, was_put, put_fault, told_by, CanPut}
-use Rattle.lldp_pdu.specs.Code.BuilderView.{draft_of, AllKept, IsOptional, AllOptional, IsDraft, Builds}
+use Rattle.lldp_pdu.specs.Code.BuilderView.{draft_of, AllKept, IsDraft, Builds}
 use Rattle.lldp_pdu.proofs.Cuts.{cut-spellings}
 use Rattle.lldp_pdu.proofs.Opening.{fault_from, sound_checks}
 use Rattle.lldp_pdu.proofs.Keeping.{flags_none, flags_more, flags_as}
@@ -29,9 +29,9 @@ use Rattle.lldp_pdu.proofs.Whole.{kept_is, discarded_is, info_is}
 
 -- ---- the TLVs of a draft
 
-optional_tlvs : (us : List TlvUnit) → AllOptional us → AllByRecursion IsTlv us
+optional_tlvs : (us : List TlvUnit) → AllByRecursion IsKeptTlv us → AllByRecursion IsTlv us
 optional_tlvs [] h = tt
-optional_tlvs (u ∷ us) h = (record { kind = omega (arith, h.0.greatest); body = h.0.body }, optional_tlvs us h.1)
+optional_tlvs (u ∷ us) h = (record { kind = omega (arith, h.0.greatest); body = h.0.short }, optional_tlvs us h.1)
 
 draft_tlvs : (d : Draft) → IsDraft d → AllByRecursion IsTlv (all_tlvs d)
 draft_tlvs d h =
@@ -153,7 +153,7 @@ long d u octets met lives v b = put_length d u ∙ ap (λ (n : ℕ). n + length 
 
 -- ---- one more TLV
 
-optional_more : (us : List TlvUnit) (u : TlvUnit) → AllOptional us → IsOptional u → AllOptional (us ++ u ∷ [])
+optional_more : (us : List TlvUnit) (u : TlvUnit) → AllByRecursion IsKeptTlv us → IsKeptTlv u → AllByRecursion IsKeptTlv (us ++ u ∷ [])
 optional_more [] u h k = (k, tt)
 optional_more (v ∷ us) u h k = (h.0, optional_more us u h.1 k)
 
@@ -186,18 +186,18 @@ puts d u old octets met lives v b h e =
       chassis = draft.chassis;
       port = draft.port;
       ttl = draft.ttl;
-      tlvs = optional_more d.tlvs u draft.tlvs (record { least = p.least; greatest = p.greatest; body = omega (arith, p.short) });
+      tlvs = optional_more d.tlvs u draft.tlvs (record { least = p.least; greatest = p.greatest; short = omega (arith, p.short); well_formed = p.well_formed });
       kept = kept_more [] d.tlvs u draft.kept p.well_formed (ap (λ (b : Bool). is_single u.kind && b) (or-false (was_put u.kind d.tlvs)) ∙ p.new);
     })
     (omega (arith, len, p.room)) (flags_put met d.tlvs u flags) (b.lives_is ∙ ap (λ (d : Draft). ltb 0 d.ttl) v)
 
 -- ---- finished
 
-no_mandatory : (us : List TlvUnit) → AllOptional us → list_any is_mandatory us ≡ false
+no_mandatory : (us : List TlvUnit) → AllByRecursion IsKeptTlv us → list_any is_mandatory us ≡ false
 no_mandatory [] h = refl
 no_mandatory (u ∷ us) h = rw (lt-leb u.kind 3 (omega (arith, h.0.least)), no_mandatory us h.1) (ap (λ (b : Bool). b || false) (and_right (leb 1 u.kind) false refl))
 
-before_end_more : (us : List TlvUnit) → AllOptional us → before_end (us ++ end_of_lldpdu ∷ []) ≡ us
+before_end_more : (us : List TlvUnit) → AllByRecursion IsKeptTlv us → before_end (us ++ end_of_lldpdu ∷ []) ≡ us
 before_end_more [] h = refl
 before_end_more (u ∷ us) h = rw (ne_eqb u.kind 0 (λ z. omega (arith, z, h.0.least)), before_end_more us h.1) refl
 

@@ -1,12 +1,12 @@
 -- What a contract sees of a `Builder`, and what its fields keep.
 use Rattle.std.specs.Prelude.{◌≡◌, ℕ, ◌+◌, ◌<◌, ◌≤◌, ◌^◌, Bool, true, List, [], ◌∷◌, length, drop, nat_lt}
+use Rattle.std.specs.List.{AllByRecursion}
 use Rattle.lldp_pdu.specs.declared.builder.Builder.TheInside.{Inside}
 use Rattle.lldp_pdu.specs.Tlv.{TlvUnit, spellings}
-use Rattle.lldp_pdu.specs.TlvType.{port_description_type, organizationally_specific_type}
 use Rattle.lldp_pdu.specs.Cut.{cut}
 use Rattle.lldp_pdu.specs.Msap.{IsIdentifier}
 use Rattle.lldp_pdu.specs.Lldpdu.{msap_of, ttl_of}
-use Rattle.lldp_pdu.specs.Kept.{is_kept}
+use Rattle.lldp_pdu.specs.Kept.{is_kept, IsKeptTlv}
 use Rattle.lldp_pdu.specs.Draft.{Draft, all_tlvs, was_put}
 use Rattle.lldp_pdu.specs.Code.Seen.{Flags}
 
@@ -22,21 +22,11 @@ abbrev pub AllKept : List TlvUnit → List TlvUnit → Type 0
 AllKept earlier [] = Unit {0}
 AllKept earlier (u ∷ us) = (is_kept earlier u ≡ true) × AllKept (u ∷ earlier) us
 
--- what a TLV that was put is
-pub record IsOptional (u : TlvUnit) : Type 0 where
-  pub least : port_description_type ≤ u.kind
-  pub greatest : u.kind ≤ organizationally_specific_type
-  pub body : length u.body < 512
-
-abbrev pub AllOptional : List TlvUnit → Type 0
-AllOptional [] = Unit {0}
-AllOptional (u ∷ us) = IsOptional u × AllOptional us
-
 pub record IsDraft (d : Draft) : Type 0 where
   pub chassis : IsIdentifier d.msap.chassis
   pub port : IsIdentifier d.msap.port
   pub ttl : d.ttl < 2 ^ 16
-  pub tlvs : AllOptional d.tlvs
+  pub tlvs : AllByRecursion IsKeptTlv d.tlvs
   pub kept : AllKept [] d.tlvs
 
 -- the octets spell a draft that leaves room for the End Of LLDPDU, and the flags and the bit tell its types and whether it lives
