@@ -2,7 +2,7 @@
 use Rattle.std.proofs.Common.{◌≡◌, ℕ, ◌+◌, ◌^◌, ◌<◌, ◌≤◌, Bool, true, false, cond, not, ◌&&◌, ◌||◌, ltb, leb, eqb, List, [], ◌∷◌, ◌++◌, length, drop, Option, Some, None, refl, sym, ap, subst, ◌∙◌, append_assoc, arith}
 use Rattle.std.specs.List.{list_any, AllByRecursion}
 use Rattle.std.specs.Int.{w16, to_be_bytes}
-use Rattle.std.proofs.lemmas.Bool.{le-leb, le-ltb, and_parts, leb-true, ne_eqb, and_right, or_right, lt-leb, ltb-false, true≢false}
+use Rattle.std.proofs.lemmas.Bool.{le-leb, le-ltb, and_parts, leb-true, eqb-false, ne_eqb, and_right, or_right, lt-leb, ltb-false, true≢false}
 use Rattle.std.proofs.lemmas.List.{length-append, append-nil, flat_map_more}
 use Rattle.std.proofs.lemmas.List.Folds.{list_any-append}
 use Rattle.std.proofs.Math.Bool.{or-false}
@@ -108,17 +108,8 @@ put_fault_is d u a b c e f g p q r s t v = six p q r s t v
     six : {a b c e f g a' b' c' e' f' g' : Bool} → a ≡ a' → b ≡ b' → c ≡ c' → e ≡ e' → f ≡ f' → g ≡ g' → decided a b c e f g ≡ decided a' b' c' e' f' g'
     six p q r s t v = cc
 
--- what passes the checks
-pub record Passes (d : Draft) (u : TlvUnit) : Type 0 where
-  pub least : 4 ≤ u.kind
-  pub greatest : u.kind ≤ 127
-  pub new : (is_single u.kind && was_put u.kind d.tlvs) ≡ false
-  pub short : length u.body ≤ 511
-  pub well_formed : is_well_formed u ≡ true
-  pub room : length (lldpdu_octets (with_tlv d u)) ≤ 1500
-
-decided_none : (a b c d e f : Bool) → decided a b c d e f ≡ None → (a ≡ true) × (c ≡ false) × (d ≡ false) × (e ≡ true) × (f ≡ false)
-decided_none true false false false true false h = (refl, refl, refl, refl, refl)
+decided_none : (a b c d e f : Bool) → decided a b c d e f ≡ None → (a ≡ true) × (b ≡ false) × (c ≡ false) × (d ≡ false) × (e ≡ true) × (f ≡ false)
+decided_none true false false false true false h = (refl, refl, refl, refl, refl, refl)
 decided_none false b c d e f h = absurd cc
 decided_none true true c d e f h = absurd cc
 decided_none true false true d e f h = absurd cc
@@ -126,7 +117,8 @@ decided_none true false false true e f h = absurd cc
 decided_none true false false false false f h = absurd cc
 decided_none true false false false true true h = absurd cc
 
-pub passes : (d : Draft) (u : TlvUnit) → put_fault d u ≡ None → Passes d u
+-- what passes each check, and the other way round
+pub passes : (d : Draft) (u : TlvUnit) → put_fault d u ≡ None → CanPut d u
 passes d u h =
     let n = length (lldpdu_octets (with_tlv d u)) in
     let p = decided_none (is_between 4 u.kind 127) (eqb d.ttl 0) (is_single u.kind && was_put u.kind d.tlvs) (ltb 511 (length u.body)) (is_well_formed u) (ltb 1500 n) (sym (put_fault_is d u _ _ _ _ _ _ refl refl refl refl refl refl) ∙ h) in
@@ -134,11 +126,15 @@ passes d u h =
     record {
       least = leb-true 4 u.kind k.0;
       greatest = leb-true u.kind 127 k.1;
-      new = p.1;
-      short = ltb-false 511 (length u.body) p.2;
-      well_formed = p.3;
-      room = ltb-false 1500 n p.4;
+      lives = above (eqb-false d.ttl 0 p.1);
+      new = p.2;
+      short = ltb-false 511 (length u.body) p.3;
+      well_formed = p.4;
+      room = omega (arith, put_length d u, ltb-false 1500 n p.5);
     }
+  where
+    above : (d.ttl ≡ 0 → ⊥) → 0 < d.ttl
+    above h = omega arith
 
 pub can_put : (d : Draft) (u : TlvUnit) → CanPut d u → put_fault d u ≡ None
 can_put d u h =
@@ -189,7 +185,7 @@ puts d u old octets met lives v b h e =
       tlvs = optional_more d.tlvs u draft.tlvs (record { least = p.least; greatest = p.greatest; short = omega (arith, p.short); well_formed = p.well_formed });
       kept = kept_more [] d.tlvs u draft.kept p.well_formed (ap (λ (b : Bool). is_single u.kind && b) (or-false (was_put u.kind d.tlvs)) ∙ p.new);
     })
-    (omega (arith, len, p.room)) (flags_put met d.tlvs u flags) (b.lives_is ∙ ap (λ (d : Draft). ltb 0 d.ttl) v)
+    (omega (arith, len, put_length d u, p.room)) (flags_put met d.tlvs u flags) (b.lives_is ∙ ap (λ (d : Draft). ltb 0 d.ttl) v)
 
 -- ---- finished
 

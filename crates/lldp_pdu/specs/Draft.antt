@@ -52,7 +52,7 @@ put_checks d u =
 unfoldable pub put_fault : Draft → TlvUnit → Option BuildFault
 put_fault d u = first_fault (put_checks d u)
 
--- what passes each of them
+-- what passes each of them (the law `put_succeeds`)
 pub record CanPut (d : Draft) (u : TlvUnit) : Type 0 where
   pub least : port_description_type ≤ u.kind
   pub greatest : u.kind ≤ organizationally_specific_type

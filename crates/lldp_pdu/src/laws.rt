@@ -40,9 +40,9 @@ pub fn frame_has_lldpdu()
     ensures { (source lldpdu : List ℕ) → length source ≡ 6 → length lldpdu ≤ 1500 → lldpdu_of (nearest_bridge ++ source ++ lldp_ethertype ++ lldpdu) ≡ Some lldpdu }
 {}
 
-/// A TLV that passes each check is put.
+/// A TLV is put exactly where it passes each check.
 pub fn put_succeeds()
-    ensures { (draft : Draft) (tlv : TlvUnit) → CanPut draft tlv → put_fault draft tlv ≡ None }
+    ensures { (draft : Draft) (tlv : TlvUnit) → CanPut draft tlv ↔ (put_fault draft tlv ≡ None) }
 {}
 
 /// A body is a well-formed Management Address with these fields exactly where it is their spelling.
