@@ -6,6 +6,7 @@ mod commands;
 mod devices;
 mod digits;
 mod failing;
+mod hostile;
 mod links;
 mod program;
 mod receiving;

@@ -1,10 +1,6 @@
 //! The worked examples of commands: numbers, texts, faults, and the limit of neighbors.
-use super::transcripts::{F, F15, PLAIN, RX_A, RX_B, RX_C, Step, expect, expect_text};
+use super::transcripts::{F, F15, PLAIN, RX_A, RX_A1, RX_B, RX_C, Step, expect, expect_text};
 use std::test::Fail;
-
-/// A frame of the neighbor eth0 for one second.
-const RX_A1: &str =
-    "rx eth0 0180c200000e00112233445588cc02070400112233445504050565746830060200010000";
 
 #[test]
 fn numbers_and_configuration(rt: HostRuntime) -> Result<(), Fail> {
@@ -117,8 +113,7 @@ fn lines_of_the_greatest_length(rt: HostRuntime) -> Result<(), Fail> {
         b"local-chassis.mac=02:00:00:00:00:01\nlocal-chassis.name=localhost\n",
     )?;
     output.extend_from_slice(b"local-chassis.descr=lldpa\nlocal-chassis.caps=Station:on\n")?;
-    expect_text(&rt, rt.alloc(), PLAIN, input.as_slice(), output.as_slice());
-    Ok(())
+    expect_text(&rt, rt.alloc(), PLAIN, input.as_slice(), output.as_slice())
 }
 
 #[test]

@@ -62,7 +62,7 @@ pub enum Burn {
     AtFlush,
 }
 
-/// Takes pieces of this size, and fails after so many octets, or where it is flushed.
+/// Takes pieces of this size, and fails once after so many octets, or where it is flushed. What is written after that shows.
 #[derive(Drop)]
 pub struct Fuse {
     octets: [u8; 4096],
@@ -99,8 +99,12 @@ impl Write for Fuse {
     fn write(&mut self, buf: &[u8]) -> Result<usize> {
         let room = self.burns_at.min(4096).saturating_sub(self.len);
         let n = self.piece.min(buf.len()).min(room);
-        if n == 0 && self.burn == Burn::Error {
-            return Err(Error::from(ErrorKind::Other));
+        if n == 0 {
+            self.burns_at = usize::MAX;
+            return match self.burn {
+                Burn::Error => Err(Error::from(ErrorKind::Other)),
+                _ => Ok(0),
+            };
         }
         let len = self.len;
         self.octets[len..len + n].copy_from_slice(&buf[..n]);

@@ -1,16 +1,13 @@
-//! Runs that send over devices that fail.
+//! Runs over devices that fail.
 use super::devices::{Burn, Drip, Fuse};
-use super::transcripts::{F, append_lines, open, sending};
-use crate::device::{FromReader, ToWriter};
-use crate::trace::{RunFault, run_trace};
-use lldp_engine::Agent;
+use super::only_receiving;
+use super::receiving::FULL_TABLE;
+use super::runs::{INPUT, OUTPUT};
+use super::transcripts::{F, append_line, append_lines, open, run, sending};
+use crate::trace::RunFault;
 use std::alloc::Global;
 use std::process::Abort;
 use std::test::Fail;
-
-fn run(agent: &mut Agent, drip: &mut Drip<'_>, fuse: &mut Fuse) -> Result<(), RunFault> {
-    run_trace(agent, &mut FromReader::new(drip), &mut ToWriter::new(fuse))
-}
 
 /// The tick whose LF was read was done, and the other one was not.
 #[test]
@@ -21,6 +18,7 @@ fn reader_that_fails_inside_a_line(rt: HostRuntime) -> Result<(), Fail> {
     let mut fuse = Fuse::endless();
     let mut drip = Drip::new(b"tick\ntick", 9, 9, Some(2));
     assert_eq!(rt; run(&mut agent, &mut drip, &mut fuse), Err(RunFault::Read));
+    assert_eq!(rt; drip.calls(), 2);
     assert_eq!(rt; fuse.taken(), output.as_slice());
     let mut fuse = Fuse::endless();
     assert_eq!(rt;
@@ -29,6 +27,46 @@ fn reader_that_fails_inside_a_line(rt: HostRuntime) -> Result<(), Fail> {
     );
     assert_eq!(rt; fuse.taken(), b"".as_slice());
     Ok(())
+}
+
+/// Runs the full table by a reader that gives an octet at each call and fails at one, and compares what was written until then.
+fn fails_at_call(
+    rt: &impl Abort,
+    alloc: Global,
+    input: &[u8],
+    call: u32,
+    output: &[u8],
+) -> Result<(), Fail> {
+    let mut options = only_receiving(&["eth0"]);
+    options.max_neighbors = 2;
+    let mut agent = open(rt, alloc, &options)?;
+    let mut drip = Drip::new(input, 1, 1, Some(call));
+    let mut fuse = Fuse::endless();
+    let ran = run(&mut agent, &mut drip, &mut fuse);
+    assert_eq!(rt; ran, Err(RunFault::Read), "at call {call}");
+    assert_eq!(rt; drip.calls(), call);
+    assert_eq!(rt; fuse.taken(), output, "at call {call}");
+    Ok(())
+}
+
+/// The lines whose LF came before the read that fails were done, no others, and the reader is not asked again.
+#[test]
+fn reader_that_fails(rt: HostRuntime) -> Result<(), Fail> {
+    let mut input = Vec::new(rt.alloc());
+    for &(line, _) in FULL_TABLE {
+        append_line(&mut input, line)?;
+    }
+    let mut output = Vec::new(rt.alloc());
+    let mut call = 1u32;
+    for &(line, lines) in FULL_TABLE {
+        for _octet in 0..=line.len() {
+            fails_at_call(&rt, rt.alloc(), &input, call, &output)?;
+            call = call.saturating_add(1);
+        }
+        append_lines(&mut output, lines)?;
+    }
+    // The call that would have answered the end.
+    fails_at_call(&rt, rt.alloc(), &input, call, &output)
 }
 
 /// Lines of which the first five and the eighth send a frame each.
@@ -42,7 +80,23 @@ const FRAMES: &[&str] = &[F, F, F, F, F, F];
 /// How many octets the line of a sent frame has, its LF among them.
 const SENT: usize = 141;
 
-/// Runs the lines with a writer that fails after so many octets, and then those that were not done.
+/// Lines behind them. There is credit for one frame, and seven were sent then.
+const MORE: &[&str] = &["update", "update", "show statistics"];
+
+const MORE_OUTPUT: &[&str] = &[
+    F,
+    "lldp.eth0.sent=7",
+    "lldp.eth0.shutdowns=0",
+    "lldp.eth0.received=0",
+    "lldp.eth0.discarded=0",
+    "lldp.eth0.errors=0",
+    "lldp.eth0.tlvs-discarded=0",
+    "lldp.eth0.unrecognized=0",
+    "lldp.eth0.ageouts=0",
+    "lldp.eth0.drops=0",
+];
+
+/// Runs the lines with a writer that fails after so many octets, and then those that were not done, and more.
 fn fails_at(rt: &impl Abort, alloc: Global, octets: usize, burn: Burn) -> Result<(), Fail> {
     let mut agent = open(rt, alloc, &sending(&["eth0"]))?;
     let mut input = Vec::new(alloc);
@@ -50,19 +104,22 @@ fn fails_at(rt: &impl Abort, alloc: Global, octets: usize, burn: Burn) -> Result
     let mut output = Vec::new(alloc);
     append_lines(&mut output, FRAMES)?;
     let mut fuse = Fuse::new(1, octets, burn);
-    let ran = run(&mut agent, &mut Drip::whole(input.as_slice()), &mut fuse);
+    let ran = run(&mut agent, &mut Drip::whole(&input), &mut fuse);
     assert_eq!(rt; ran, Err(RunFault::Write));
     assert_eq!(rt; Some(fuse.taken()), output.as_slice().get(..octets));
     let frames = octets / SENT;
     let done = if frames < 5 { frames + 1 } else { 8 };
     let mut rest = Vec::new(alloc);
     append_lines(&mut rest, &LINES[done..])?;
+    append_lines(&mut rest, MORE)?;
+    append_lines(&mut output, MORE_OUTPUT)?;
     let mut fuse = Fuse::endless();
-    let ran = run(&mut agent, &mut Drip::whole(rest.as_slice()), &mut fuse);
+    let ran = run(&mut agent, &mut Drip::whole(&rest), &mut fuse);
     assert_eq!(rt; ran, Ok(()));
     assert_eq!(rt;
         Some(fuse.taken()),
-        output.as_slice().get((frames + 1) * SENT..)
+        output.as_slice().get((frames + 1) * SENT..),
+        "after {octets} octets"
     );
     Ok(())
 }
@@ -73,6 +130,21 @@ fn writer_that_fails(rt: HostRuntime) -> Result<(), Fail> {
     for octets in 0..6 * SENT {
         fails_at(&rt, rt.alloc(), octets, Burn::Error)?;
         fails_at(&rt, rt.alloc(), octets, Burn::TakesNone)?;
+    }
+    Ok(())
+}
+
+/// The same of the lines of shows and faults.
+#[test]
+fn writer_that_fails_inside_a_show(rt: HostRuntime) -> Result<(), Fail> {
+    for octets in 0..OUTPUT.len() {
+        for burn in [Burn::Error, Burn::TakesNone] {
+            let mut agent = open(&rt, rt.alloc(), &only_receiving(&["eth0"]))?;
+            let mut fuse = Fuse::new(1, octets, burn);
+            let ran = run(&mut agent, &mut Drip::whole(INPUT), &mut fuse);
+            assert_eq!(rt; ran, Err(RunFault::Write));
+            assert_eq!(rt; fuse.taken(), &OUTPUT[..octets]);
+        }
     }
     Ok(())
 }

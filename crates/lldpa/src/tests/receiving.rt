@@ -1,377 +1,340 @@
-//! The worked examples of receiving, with what the specification shows for each.
-use super::devices::{Drip, Fuse};
-use crate::program::run_program;
+//! The worked examples of receiving, each with its counters.
+use super::devices::Drip;
+use super::only_receiving;
+use super::transcripts::{
+    RECEIVING, RX_A, RX_A1, RX_B, RX_C, Step, append_counters, append_line, append_lines, expect,
+    expect_counted, expect_run, expect_text,
+};
 use std::alloc::{AllocError, Global};
-use std::process::Abort;
 use std::test::Fail;
 
-/// Parts of frames in hexadecimal: the Ethernet header, Chassis ID 00:11:22:33:44:55, Port IDs, TTLs, the End Of LLDPDU.
-const HEADER: &[u8] = b"rx eth0 0180c200000e00112233445588cc";
+/// Frames of the neighbor eth3 for 5 seconds, and of eth0 with a TTL of 0, without more and with more behind it.
+const RX_D: &str =
+    "rx eth0 0180c200000e00112233445588cc02070400112233445504050565746833060200050000";
 
-const CHASSIS: &[u8] = b"020704001122334455";
+const RX_Z: &str =
+    "rx eth0 0180c200000e00112233445588cc02070400112233445504050565746830060200000000";
 
-const ETH0: &[u8] = b"04050565746830";
+const RX_Z2: &str =
+    "rx eth0 0180c200000e00112233445588cc02070400112233445504050565746830060200000207040011223344550000";
 
-const ETH1: &[u8] = b"04050565746831";
+/// Frames of the neighbor eth0 with a name, with a name that overruns, with a second Chassis ID, and with capabilities of which only the last are good.
+const RX_A5: &str =
+    "rx eth0 0180c200000e00112233445588cc02070400112233445504050565746830060200780a037377320000";
 
-const ETH2: &[u8] = b"04050565746832";
+const RX_A8: &str =
+    "rx eth0 0180c200000e00112233445588cc02070400112233445504050565746830060200780a14616263";
 
-const ETH3: &[u8] = b"04050565746833";
+const RX_A9: &str =
+    "rx eth0 0180c200000e00112233445588cc02070400112233445504050565746830060200780207040011223344550000";
 
-const TTL_0: &[u8] = b"06020000";
+const RX_A10: &str =
+    "rx eth0 0180c200000e00112233445588cc02070400112233445504050565746830060200780e0500040004000e04000400140e04001400040000";
 
-const TTL_1: &[u8] = b"06020001";
+/// What `show neighbors` gives where no neighbor is held.
+pub const NONE_HELD: &[&str] = &[
+    "lldp.eth0.neighbors=0",
+    "lldp.eth0.octets=0",
+    "lldp.eth0.too-many=no",
+];
 
-const TTL_5: &[u8] = b"06020005";
-
-const TTL_9: &[u8] = b"06020009";
-
-const TTL_120: &[u8] = b"06020078";
-
-const END: &[u8] = b"0000\n";
-
-const NEIGHBORS: &[u8] = b"show neighbors\n";
-
-const STATISTICS: &[u8] = b"show statistics\n";
-
-const TICK: &[u8] = b"tick\n";
-
-const NONE: &[u8] = b"lldp.eth0.neighbors=0\nlldp.eth0.octets=0\nlldp.eth0.too-many=no\n";
-
-const ONE: &[u8] = b"lldp.eth0.neighbors=1\nlldp.eth0.octets=20\nlldp.eth0.too-many=no\n";
-
-const FIRST: &[u8] = b"lldp.eth0.1.chassis.mac=00:11:22:33:44:55\nlldp.eth0.1.port.ifname=eth0\n";
-
-const FOR_120: &[u8] = b"lldp.eth0.1.ttl=120\nlldp.eth0.1.expires=120\n";
-
-/// The counters that stay 0 while nothing is sent.
-const UNSENT: &[u8] = b"lldp.eth0.sent=0\nlldp.eth0.shutdowns=0\n";
-
-fn append(text: &mut Vec<u8>, parts: &[&[u8]]) -> Result<(), AllocError> {
-    for part in parts {
-        text.extend_from_slice(part)?;
-    }
-    Ok(())
-}
-
-fn joined(alloc: Global, parts: &[&[u8]]) -> Result<Vec<u8>, AllocError> {
-    let mut text = Vec::new(alloc);
-    append(&mut text, parts)?;
-    Ok(text)
-}
-
-/// So many octets, each in hexadecimal.
-fn append_times(text: &mut Vec<u8>, octet: &[u8], times: usize) -> Result<(), AllocError> {
-    for _done in 0..times {
-        text.extend_from_slice(octet)?;
-    }
-    Ok(())
-}
-
-/// Runs the program with this limit of neighbors, as a word, over the input, and compares the output.
-fn expect_limited(
-    rt: &impl Abort,
-    alloc: Global,
-    limit: &str,
-    input: &[u8],
-    output: &[&[u8]],
-) -> Result<(), Fail> {
-    let mut writer = Fuse::endless();
-    let mut faults = Fuse::endless();
-    let status = run_program(
-        alloc,
-        &["lldpa", "--receive-only", "--max-neighbors", limit, "eth0"],
-        &mut Drip::whole(input),
-        &mut writer,
-        &mut faults,
-    );
-    assert_eq!(rt; writer.taken(), joined(alloc, output)?.as_slice());
-    assert_eq!(rt; faults.taken(), b"".as_slice());
-    assert_eq!(rt; status, 0);
-    Ok(())
-}
-
-/// The same of parts, with the default limit.
-fn expect(rt: &impl Abort, alloc: Global, input: &[&[u8]], output: &[&[u8]]) -> Result<(), Fail> {
-    expect_limited(rt, alloc, "32", joined(alloc, input)?.as_slice(), output)
-}
+/// What it gives where eth0 was just heard.
+pub const ONE_HELD: &[&str] = &[
+    "lldp.eth0.neighbors=1",
+    "lldp.eth0.octets=20",
+    "lldp.eth0.too-many=no",
+    "lldp.eth0.1.chassis.mac=00:11:22:33:44:55",
+    "lldp.eth0.1.port.ifname=eth0",
+    "lldp.eth0.1.ttl=120",
+    "lldp.eth0.1.expires=120",
+];
 
 #[test]
 fn expiry(rt: HostRuntime) -> Result<(), Fail> {
-    let input = &[
-        HEADER, CHASSIS, ETH0, TTL_1, END, NEIGHBORS, TICK, NEIGHBORS, STATISTICS,
+    let steps: &[Step] = &[
+        (RX_A1, &[]),
+        (
+            "show neighbors",
+            &[
+                "lldp.eth0.neighbors=1",
+                "lldp.eth0.octets=20",
+                "lldp.eth0.too-many=no",
+                "lldp.eth0.1.chassis.mac=00:11:22:33:44:55",
+                "lldp.eth0.1.port.ifname=eth0",
+                "lldp.eth0.1.ttl=1",
+                "lldp.eth0.1.expires=1",
+            ],
+        ),
+        ("tick", &[]),
+        ("show neighbors", NONE_HELD),
     ];
-    let output: &[&[u8]] = &[
-        ONE,
-        FIRST,
-        b"lldp.eth0.1.ttl=1\nlldp.eth0.1.expires=1\n",
-        NONE,
-        UNSENT,
-        b"lldp.eth0.received=1\nlldp.eth0.discarded=0\nlldp.eth0.errors=0\nlldp.eth0.tlvs-discarded=0\n",
-        b"lldp.eth0.unrecognized=0\nlldp.eth0.ageouts=1\nlldp.eth0.drops=0\n",
-    ];
-    expect(&rt, rt.alloc(), input, output)
+    expect_counted(&rt, rt.alloc(), RECEIVING, steps, [1, 0, 0, 0, 0, 1, 0])
 }
 
+/// Padding, and no end.
 #[test]
-fn padding(rt: HostRuntime) -> Result<(), Fail> {
-    let mut input = joined(rt.alloc(), &[HEADER, CHASSIS, ETH0, TTL_120, b"0000"])?;
-    append_times(&mut input, b"00", 24)?;
-    append(&mut input, &[b"\n", NEIGHBORS])?;
-    expect_limited(&rt, rt.alloc(), "32", &input, &[ONE, FIRST, FOR_120])?;
-    let without_end = &[HEADER, CHASSIS, ETH0, TTL_120, b"\n", NEIGHBORS];
-    expect(&rt, rt.alloc(), without_end, &[ONE, FIRST, FOR_120])
+fn one_neighbor(rt: HostRuntime) -> Result<(), Fail> {
+    let steps: &[Step] = &[
+        (
+            "rx eth0 0180c200000e00112233445588cc02070400112233445504050565746830060200780000000000000000000000000000000000000000000000000000",
+            &[],
+        ),
+        ("show neighbors", ONE_HELD),
+        (
+            "rx eth0 0180c200000e00112233445588cc0207040011223344550405056574683006020078",
+            &[],
+        ),
+        ("show neighbors", ONE_HELD),
+    ];
+    for rows in [&steps[..2], &steps[2..]] {
+        expect(&rt, rt.alloc(), RECEIVING, rows)?;
+    }
+    Ok(())
 }
 
 #[test]
 fn shutdown_received(rt: HostRuntime) -> Result<(), Fail> {
-    let input = &[
-        HEADER, CHASSIS, ETH0, TTL_0, END, NEIGHBORS, HEADER, CHASSIS, ETH0, TTL_120, END,
-        NEIGHBORS, HEADER, CHASSIS, ETH0, TTL_0, CHASSIS, END, NEIGHBORS,
+    let steps: &[Step] = &[
+        (RX_Z, &[]),
+        ("show neighbors", NONE_HELD),
+        (RX_A, &[]),
+        ("show neighbors", ONE_HELD),
+        (RX_Z2, &[]),
+        ("show neighbors", NONE_HELD),
     ];
-    expect(&rt, rt.alloc(), input, &[NONE, ONE, FIRST, FOR_120, NONE])
+    expect_counted(&rt, rt.alloc(), RECEIVING, steps, [3, 0, 0, 0, 0, 0, 0])
 }
 
 #[test]
 fn two_neighbors(rt: HostRuntime) -> Result<(), Fail> {
-    let input = &[
-        HEADER,
-        CHASSIS,
-        ETH0,
-        TTL_120,
-        END,
-        HEADER,
-        CHASSIS,
-        ETH1,
-        TTL_120,
-        END,
-        HEADER,
-        CHASSIS,
-        ETH0,
-        TTL_120,
-        b"0a03737732",
-        END,
-        NEIGHBORS,
+    let steps: &[Step] = &[
+        (RX_A, &[]),
+        (RX_B, &[]),
+        (RX_A5, &[]),
+        (
+            "show neighbors",
+            &[
+                "lldp.eth0.neighbors=2",
+                "lldp.eth0.octets=45",
+                "lldp.eth0.too-many=no",
+                "lldp.eth0.1.chassis.mac=00:11:22:33:44:55",
+                "lldp.eth0.1.port.ifname=eth0",
+                "lldp.eth0.1.ttl=120",
+                "lldp.eth0.1.expires=120",
+                "lldp.eth0.1.chassis.name=sw2",
+                "lldp.eth0.2.chassis.mac=00:11:22:33:44:55",
+                "lldp.eth0.2.port.ifname=eth1",
+                "lldp.eth0.2.ttl=120",
+                "lldp.eth0.2.expires=120",
+            ],
+        ),
     ];
-    let output: &[&[u8]] = &[
-        b"lldp.eth0.neighbors=2\nlldp.eth0.octets=45\nlldp.eth0.too-many=no\n",
-        FIRST,
-        FOR_120,
-        b"lldp.eth0.1.chassis.name=sw2\n",
-        b"lldp.eth0.2.chassis.mac=00:11:22:33:44:55\nlldp.eth0.2.port.ifname=eth1\n",
-        b"lldp.eth0.2.ttl=120\nlldp.eth0.2.expires=120\n",
-    ];
-    expect(&rt, rt.alloc(), input, output)
+    expect(&rt, rt.alloc(), RECEIVING, steps)
 }
 
-/// What is shown of the two neighbors of a full table, but for the too-many condition and the ticks left.
-const FULL: &[u8] = b"lldp.eth0.neighbors=2\nlldp.eth0.octets=40\n";
-
-const SECOND: &[u8] = b"lldp.eth0.2.chassis.mac=00:11:22:33:44:55\nlldp.eth0.2.port.ifname=eth1\n";
+/// Four neighbors where two are held at most.
+pub const FULL_TABLE: &[Step<'static>] = &[
+    (RX_A, &[]),
+    (RX_B, &[]),
+    (RX_C, &[]),
+    (RX_D, &[]),
+    (RX_A, &[]),
+    ("tick 8", &[]),
+    (
+        "show neighbors",
+        &[
+            "lldp.eth0.neighbors=2",
+            "lldp.eth0.octets=40",
+            "lldp.eth0.too-many=yes",
+            "lldp.eth0.1.chassis.mac=00:11:22:33:44:55",
+            "lldp.eth0.1.port.ifname=eth0",
+            "lldp.eth0.1.ttl=120",
+            "lldp.eth0.1.expires=112",
+            "lldp.eth0.2.chassis.mac=00:11:22:33:44:55",
+            "lldp.eth0.2.port.ifname=eth1",
+            "lldp.eth0.2.ttl=120",
+            "lldp.eth0.2.expires=112",
+        ],
+    ),
+    ("tick", &[]),
+    (
+        "show neighbors",
+        &[
+            "lldp.eth0.neighbors=2",
+            "lldp.eth0.octets=40",
+            "lldp.eth0.too-many=no",
+            "lldp.eth0.1.chassis.mac=00:11:22:33:44:55",
+            "lldp.eth0.1.port.ifname=eth0",
+            "lldp.eth0.1.ttl=120",
+            "lldp.eth0.1.expires=111",
+            "lldp.eth0.2.chassis.mac=00:11:22:33:44:55",
+            "lldp.eth0.2.port.ifname=eth1",
+            "lldp.eth0.2.ttl=120",
+            "lldp.eth0.2.expires=111",
+        ],
+    ),
+];
 
 #[test]
 fn full_table(rt: HostRuntime) -> Result<(), Fail> {
-    let input: &[&[u8]] = &[
-        HEADER,
-        CHASSIS,
-        ETH0,
-        TTL_120,
-        END,
-        HEADER,
-        CHASSIS,
-        ETH1,
-        TTL_120,
-        END,
-        HEADER,
-        CHASSIS,
-        ETH2,
-        TTL_9,
-        END,
-        HEADER,
-        CHASSIS,
-        ETH3,
-        TTL_5,
-        END,
-        HEADER,
-        CHASSIS,
-        ETH0,
-        TTL_120,
-        END,
-        b"tick 8\n",
-        NEIGHBORS,
-        TICK,
-        NEIGHBORS,
-        STATISTICS,
-    ];
-    let output: &[&[u8]] = &[
-        FULL,
-        b"lldp.eth0.too-many=yes\n",
-        FIRST,
-        b"lldp.eth0.1.ttl=120\nlldp.eth0.1.expires=112\n",
-        SECOND,
-        b"lldp.eth0.2.ttl=120\nlldp.eth0.2.expires=112\n",
-        FULL,
-        b"lldp.eth0.too-many=no\n",
-        FIRST,
-        b"lldp.eth0.1.ttl=120\nlldp.eth0.1.expires=111\n",
-        SECOND,
-        b"lldp.eth0.2.ttl=120\nlldp.eth0.2.expires=111\n",
-        UNSENT,
-        b"lldp.eth0.received=5\nlldp.eth0.discarded=0\nlldp.eth0.errors=0\nlldp.eth0.tlvs-discarded=0\n",
-        b"lldp.eth0.unrecognized=0\nlldp.eth0.ageouts=0\nlldp.eth0.drops=2\n",
-    ];
-    let text = joined(rt.alloc(), input)?;
-    expect_limited(&rt, rt.alloc(), "2", &text, output)
+    let words = &["lldpa", "--receive-only", "--max-neighbors", "2", "eth0"];
+    expect_counted(&rt, rt.alloc(), words, FULL_TABLE, [5, 0, 0, 0, 0, 0, 2])
 }
 
 #[test]
 fn room_after_expiry(rt: HostRuntime) -> Result<(), Fail> {
-    let input: &[&[u8]] = &[
-        HEADER, CHASSIS, ETH0, TTL_1, END, TICK, HEADER, CHASSIS, ETH1, TTL_120, END, NEIGHBORS,
+    let words = &["lldpa", "--receive-only", "--max-neighbors", "1", "eth0"];
+    let steps: &[Step] = &[
+        (RX_A1, &[]),
+        ("tick", &[]),
+        (RX_B, &[]),
+        (
+            "show neighbors",
+            &[
+                "lldp.eth0.neighbors=1",
+                "lldp.eth0.octets=20",
+                "lldp.eth0.too-many=no",
+                "lldp.eth0.1.chassis.mac=00:11:22:33:44:55",
+                "lldp.eth0.1.port.ifname=eth1",
+                "lldp.eth0.1.ttl=120",
+                "lldp.eth0.1.expires=120",
+            ],
+        ),
     ];
-    let output: &[&[u8]] = &[
-        ONE,
-        b"lldp.eth0.1.chassis.mac=00:11:22:33:44:55\nlldp.eth0.1.port.ifname=eth1\n",
-        FOR_120,
-    ];
-    let text = joined(rt.alloc(), input)?;
-    expect_limited(&rt, rt.alloc(), "1", &text, output)
+    expect_counted(&rt, rt.alloc(), words, steps, [2, 0, 0, 0, 0, 1, 0])
 }
 
 #[test]
 fn overrunning_tlv(rt: HostRuntime) -> Result<(), Fail> {
-    let input = &[
-        HEADER,
-        CHASSIS,
-        ETH0,
-        TTL_120,
-        b"0a14616263\n",
-        NEIGHBORS,
-        STATISTICS,
-    ];
-    let output: &[&[u8]] = &[
-        ONE,
-        FIRST,
-        FOR_120,
-        UNSENT,
-        b"lldp.eth0.received=1\nlldp.eth0.discarded=0\nlldp.eth0.errors=1\nlldp.eth0.tlvs-discarded=1\n",
-        b"lldp.eth0.unrecognized=0\nlldp.eth0.ageouts=0\nlldp.eth0.drops=0\n",
-    ];
-    expect(&rt, rt.alloc(), input, output)
+    let steps: &[Step] = &[(RX_A8, &[]), ("show neighbors", ONE_HELD)];
+    expect_counted(&rt, rt.alloc(), RECEIVING, steps, [1, 0, 1, 1, 0, 0, 0])
 }
 
 #[test]
 fn repeated_chassis(rt: HostRuntime) -> Result<(), Fail> {
-    let input = &[
-        HEADER, CHASSIS, ETH0, TTL_120, CHASSIS, END, NEIGHBORS, STATISTICS,
-    ];
-    let output: &[&[u8]] = &[
-        NONE,
-        UNSENT,
-        b"lldp.eth0.received=1\nlldp.eth0.discarded=1\nlldp.eth0.errors=1\nlldp.eth0.tlvs-discarded=0\n",
-        b"lldp.eth0.unrecognized=0\nlldp.eth0.ageouts=0\nlldp.eth0.drops=0\n",
-    ];
-    expect(&rt, rt.alloc(), input, output)
+    let steps: &[Step] = &[(RX_A9, &[]), ("show neighbors", NONE_HELD)];
+    expect_counted(&rt, rt.alloc(), RECEIVING, steps, [1, 1, 1, 0, 0, 0, 0])
 }
 
 #[test]
 fn bad_capabilities(rt: HostRuntime) -> Result<(), Fail> {
-    let input = &[
-        HEADER,
-        CHASSIS,
-        ETH0,
-        TTL_120,
-        b"0e050004000400",
-        b"0e0400040014",
-        b"0e0400140004",
-        END,
-        NEIGHBORS,
+    let steps: &[Step] = &[
+        (RX_A10, &[]),
+        (
+            "show neighbors",
+            &[
+                "lldp.eth0.neighbors=1",
+                "lldp.eth0.octets=39",
+                "lldp.eth0.too-many=no",
+                "lldp.eth0.1.chassis.mac=00:11:22:33:44:55",
+                "lldp.eth0.1.port.ifname=eth0",
+                "lldp.eth0.1.ttl=120",
+                "lldp.eth0.1.expires=120",
+                "lldp.eth0.1.chassis.caps=Bridge:on,Router:off",
+            ],
+        ),
     ];
-    let output: &[&[u8]] = &[
-        b"lldp.eth0.neighbors=1\nlldp.eth0.octets=39\nlldp.eth0.too-many=no\n",
-        FIRST,
-        FOR_120,
-        b"lldp.eth0.1.chassis.caps=Bridge:on,Router:off\n",
-    ];
-    expect(&rt, rt.alloc(), input, output)
-}
-
-#[test]
-fn all_kinds_of_tlvs(rt: HostRuntime) -> Result<(), Fail> {
-    let mut input = joined(rt.alloc(), &[HEADER, CHASSIS, ETH0, TTL_120])?;
-    append(
-        &mut input,
-        &[
-            b"1018110220010db80000000000000000000000010200000007",
-            b"00",
-            b"fe0400120f01",
-            b"ffff00120f02",
-        ],
-    )?;
-    append_times(&mut input, b"ab", 507)?;
-    append(&mut input, &[b"1200", b"0c04615c0062", END, NEIGHBORS])?;
-    let mut long = joined(rt.alloc(), &[b"lldp.eth0.1.org.00120f.2="])?;
-    append_times(&mut long, b"ab", 507)?;
-    let output: &[&[u8]] = &[
-        b"lldp.eth0.neighbors=1\nlldp.eth0.octets=573\nlldp.eth0.too-many=no\n",
-        FIRST,
-        FOR_120,
-        b"lldp.eth0.1.chassis.mgmt=2001:0db8:0000:0000:0000:0000:0000:0001,2,7,\n",
-        b"lldp.eth0.1.org.00120f.1=\n",
-        &long,
-        b"\nlldp.eth0.1.unknown.9=\n",
-        b"lldp.eth0.1.chassis.descr=a\\\\\\x00b\n",
-    ];
-    expect_limited(&rt, rt.alloc(), "32", &input, output)
+    expect_counted(&rt, rt.alloc(), RECEIVING, steps, [1, 0, 1, 2, 0, 0, 0])
 }
 
 #[test]
 fn address_and_local_identifiers(rt: HostRuntime) -> Result<(), Fail> {
-    let input = &[
-        HEADER,
-        b"02060501c0000201",
-        b"0403075c00",
-        TTL_120,
-        END,
-        NEIGHBORS,
+    let steps: &[Step] = &[
+        (
+            "rx eth0 0180c200000e00112233445588cc02060501c00002010403075c00060200780000",
+            &[],
+        ),
+        (
+            "show neighbors",
+            &[
+                "lldp.eth0.neighbors=1",
+                "lldp.eth0.octets=17",
+                "lldp.eth0.too-many=no",
+                "lldp.eth0.1.chassis.ip=192.0.2.1",
+                "lldp.eth0.1.port.local=\\\\\\x00",
+                "lldp.eth0.1.ttl=120",
+                "lldp.eth0.1.expires=120",
+            ],
+        ),
     ];
-    let output: &[&[u8]] = &[
-        b"lldp.eth0.neighbors=1\nlldp.eth0.octets=17\nlldp.eth0.too-many=no\n",
-        b"lldp.eth0.1.chassis.ip=192.0.2.1\nlldp.eth0.1.port.local=\\\\\\x00\n",
-        FOR_120,
-    ];
-    expect(&rt, rt.alloc(), input, output)
+    expect(&rt, rt.alloc(), RECEIVING, steps)
 }
 
-/// A frame that begins as the neighbor eth0 and has so many octets, its first 36 given.
-fn padded(alloc: Global, octets: usize) -> Result<Vec<u8>, AllocError> {
-    let mut input = joined(alloc, &[HEADER, CHASSIS, ETH0, TTL_120, b"0000"])?;
-    append_times(&mut input, b"00", octets.saturating_sub(36))?;
-    append(&mut input, &[b"\n", NEIGHBORS])?;
-    Ok(input)
+fn append_times(text: &mut Vec<u8>, part: &str, times: usize) -> Result<(), AllocError> {
+    for _done in 0..times {
+        text.extend_from_slice(part.as_bytes())?;
+    }
+    Ok(())
 }
 
+/// A Management Address, three organizationally specific TLVs (the second one of 511 octets), one of type 9, and a System Description.
+#[test]
+fn all_kinds_of_tlvs(rt: HostRuntime) -> Result<(), Fail> {
+    let mut input = Vec::new(rt.alloc());
+    append_times(
+        &mut input,
+        "rx eth0 0180c200000e00112233445588cc0207040011223344550405056574683006020078",
+        1,
+    )?;
+    append_times(
+        &mut input,
+        "1018110220010db80000000000000000000000010200000007",
+        1,
+    )?;
+    append_times(&mut input, "00fe0400120f01ffff00120f02", 1)?;
+    append_times(&mut input, "ab", 507)?;
+    append_line(&mut input, "12000c04615c00620000")?;
+    append_line(&mut input, "show neighbors")?;
+    let mut output = Vec::new(rt.alloc());
+    append_line(&mut output, "lldp.eth0.neighbors=1")?;
+    append_line(&mut output, "lldp.eth0.octets=573")?;
+    append_lines(&mut output, &ONE_HELD[2..])?;
+    append_line(
+        &mut output,
+        "lldp.eth0.1.chassis.mgmt=2001:0db8:0000:0000:0000:0000:0000:0001,2,7,",
+    )?;
+    append_line(&mut output, "lldp.eth0.1.org.00120f.1=")?;
+    append_times(&mut output, "lldp.eth0.1.org.00120f.2=", 1)?;
+    append_times(&mut output, "ab", 507)?;
+    append_lines(
+        &mut output,
+        &[
+            "",
+            "lldp.eth0.1.unknown.9=",
+            "lldp.eth0.1.chassis.descr=a\\\\\\x00b",
+        ],
+    )?;
+    expect_text(&rt, rt.alloc(), RECEIVING, &input, &output)?;
+    append_line(&mut input, "show statistics")?;
+    append_counters(&mut output, [1, 0, 0, 0, 3, 0, 0])?;
+    let options = only_receiving(&["eth0"]);
+    expect_run(&rt, rt.alloc(), &options, Drip::whole(&input), &output)
+}
+
+/// Frames of 13 octets and of more than 1,514 are no LLDP frames; one of 14 has an empty LLDPDU.
 #[test]
 fn frame_sizes(rt: HostRuntime) -> Result<(), Fail> {
-    let longest = padded(rt.alloc(), 1514)?;
-    expect_limited(&rt, rt.alloc(), "32", &longest, &[ONE, FIRST, FOR_120])?;
-    let too_long = padded(rt.alloc(), 1515)?;
-    expect_limited(&rt, rt.alloc(), "32", &too_long, &[NONE])?;
-    let too_short = &[
-        b"rx eth0 0180c200000e00112233445588\n".as_slice(),
-        NEIGHBORS,
+    let rows: &[(&str, usize, &[&str], [u8; 7])] = &[
+        ("rx eth0 0180c200000e00112233445588", 0, NONE_HELD, [0; 7]),
+        (
+            "rx eth0 0180c200000e00112233445588cc",
+            0,
+            NONE_HELD,
+            [1, 1, 1, 0, 0, 0, 0],
+        ),
+        (RX_A, 1514 - 36, ONE_HELD, [1, 0, 0, 0, 0, 0, 0]),
+        (RX_A, 1515 - 36, NONE_HELD, [0; 7]),
     ];
-    expect(&rt, rt.alloc(), too_short, &[NONE])?;
-    let output: &[&[u8]] = &[
-        NONE,
-        UNSENT,
-        b"lldp.eth0.received=1\nlldp.eth0.discarded=1\nlldp.eth0.errors=1\nlldp.eth0.tlvs-discarded=0\n",
-        b"lldp.eth0.unrecognized=0\nlldp.eth0.ageouts=0\nlldp.eth0.drops=0\n",
-    ];
-    expect(
-        &rt,
-        rt.alloc(),
-        &[HEADER, b"\n", NEIGHBORS, STATISTICS],
-        output,
-    )
+    let options = only_receiving(&["eth0"]);
+    for &(front, zeros, held, counters) in rows {
+        let mut input = Vec::new(rt.alloc());
+        append_times(&mut input, front, 1)?;
+        append_times(&mut input, "00", zeros)?;
+        append_lines(&mut input, &["", "show neighbors", "show statistics"])?;
+        let mut output = Vec::new(rt.alloc());
+        append_lines(&mut output, held)?;
+        append_counters(&mut output, counters)?;
+        expect_run(&rt, rt.alloc(), &options, Drip::whole(&input), &output)?;
+    }
+    Ok(())
 }
