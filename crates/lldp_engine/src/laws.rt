@@ -17,8 +17,8 @@ pub fn step_carries_standing()
     ensures stands { (past : Past) (event : Happening) (agent : AgentState) → Stands past agent → Allows agent event → HasOctets event → Stands (with_event past event) (agent_after event agent) }
 {}
 
-/// Each port's table holds the last stored frames that have not expired, and nothing else, and each port has sent exactly
-/// what was due while its credit window was open.
+/// Each port's table holds the last stored frames that have not expired, and nothing else; and each port has sent exactly
+/// what was due while its credit window was open, by the right of its status, and no other choice has sent more sooner.
 pub fn every_standing_agent_is_promised()
     ensures { (past : Past) (agent : AgentState) → Stands past agent → Promised past agent }
 {}
