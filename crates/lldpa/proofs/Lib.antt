@@ -13,5 +13,6 @@ pub mod SentLemmas
 pub mod Progress
 pub mod PieceLemmas
 pub mod GoesOnLemmas
+pub mod ServeLemmas
 mod Examples
 mod ArgumentLemmas

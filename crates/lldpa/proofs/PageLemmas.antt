@@ -1,5 +1,5 @@
 -- What takes the lines of a show took them.
-use Rattle.std.proofs.Common.{◌≡◌, ℕ, Bool, true, false, List, [], ◌∷◌, ◌++◌, refl, sym, ap, ◌∙◌, append_assoc, subst, Option, rules}
+use Rattle.std.proofs.Common.{◌≡◌, ℕ, true, false, List, [], ◌∷◌, ◌++◌, refl, sym, ap, ◌∙◌, append_assoc, subst, Option, rules}
 use Rattle.std.specs.Prelude.{Result, Ok, Err, is_ok, IsOk, OnOk, OnErr}
 use Rattle.std.specs.List.{flat_map}
 use Rattle.lldp_engine.specs.Takes.{Takes}

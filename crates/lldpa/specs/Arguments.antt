@@ -18,6 +18,7 @@ greatest_of name =
     else if bytes_eq name (codes "tx-credit-max") then Some 10
     else if bytes_eq name (codes "tx-fast-init") then Some 8
     else if bytes_eq name (codes "reinit-delay") then Some 10
+    else if bytes_eq name (codes "connections") then Some 65535
     else None
 
 -- the options that have a default
@@ -58,6 +59,7 @@ pub record ReadsOptions (c : Command) : Type 0 where
   pub credit_max : HasArgument (codes "tx-credit-max") c
   pub fast_init : HasArgument (codes "tx-fast-init") c
   pub reinit : HasArgument (codes "reinit-delay") c
+  pub connections : HasArgument (codes "connections") c
   pub mac : HasArgument (codes "mac") c
   pub hostname : HasArgument (codes "hostname") c
   pub role : HasArgument (codes "role") c
@@ -77,6 +79,7 @@ pub record GivesOptions (m : ArgMatches) : Type 0 where
   pub credit_max : GivesNumber 10 (codes "tx-credit-max") m
   pub fast_init : GivesNumber 8 (codes "tx-fast-init") m
   pub reinit : GivesNumber 10 (codes "reinit-delay") m
+  pub connections : GivesNumber 65535 (codes "connections") m
   pub mac : GivesText (codes "mac") m
   pub hostname : GivesText (codes "hostname") m
   pub role : GivesText (codes "role") m

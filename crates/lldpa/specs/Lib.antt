@@ -10,4 +10,5 @@ pub mod Output
 pub mod Page
 pub mod Told
 pub mod Runs
+pub mod Serving
 pub mod Arguments

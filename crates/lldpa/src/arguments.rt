@@ -28,6 +28,10 @@ const ROLE: &str = "role";
 
 const RECEIVE_ONLY: &str = "receive-only";
 
+const LISTEN: &str = "listen";
+
+const CONNECTIONS: &str = "connections";
+
 const PORT: &str = "PORT";
 
 const MAX_NEIGHBORS_HELP: &str = "How many neighbors each port holds, 1 to 128";
@@ -42,7 +46,17 @@ const TX_FAST_INIT_HELP: &str = "How many signals a new neighbor sets off, one e
 
 const REINIT_DELAY_HELP: &str = "Seconds from a shutdown frame to the next start, 1 to 10";
 
+const CONNECTIONS_HELP: &str =
+    "How many connections --listen serves, one after the other, 1 to 65535";
+
 const ROLES: &[&str] = &["station", "bridge", "router"];
+
+/// Where traces come over connections: a TCP port of 127.0.0.1, and how many connections are served. Both are from 1 on.
+#[derive(Clone, Copy, Debug, PartialEq, Eq)]
+pub struct Listening {
+    pub port: u16,
+    pub connections: u16,
+}
 
 /// An address that cannot be read.
 #[derive(Clone, Copy, Debug, PartialEq, Eq)]
@@ -55,7 +69,7 @@ pub enum AddressFault {
 fn number<'a>(
     alloc: Global,
     name: &'a str,
-    greatest: u8,
+    greatest: u16,
     default: &'a str,
     help: &'a str,
 ) -> Arg<'a>
@@ -64,7 +78,7 @@ fn number<'a>(
 {
     valued(alloc, name, default)
         .value_name("N")
-        .value_parser(value_parser!(u8).range(1..=i64::from(greatest)))
+        .value_parser(value_parser!(u16).range(1..=i64::from(greatest)))
         .help(help)
 }
 
@@ -121,6 +135,18 @@ fn receive_only<'a>(alloc: Global) -> Arg<'a>
         .help("Opens each port as one that never sends")
 }
 
+fn listen<'a>(alloc: Global) -> Arg<'a>
+    ensures { IsArgument (codes "listen") result }
+{
+    Arg::new(alloc, LISTEN)
+        .long(LISTEN)
+        .value_name("PORT")
+        .value_parser(value_parser!(u16).range(1..=65535))
+        .help(
+            "Serves connections to this TCP port of 127.0.0.1, 1 to 65535, in place of standard input",
+        )
+}
+
 fn ports<'a>(alloc: Global) -> Arg<'a>
     ensures { IsArgument (codes "PORT") result }
 {
@@ -153,6 +179,8 @@ fn command<'a>(alloc: Global) -> Result<Command<'a>, AllocError>
         .arg(number(alloc, TX_FAST_INIT, 8, "4", TX_FAST_INIT_HELP))?
         .arg(number(alloc, REINIT_DELAY, 10, "2", REINIT_DELAY_HELP))?
         .arg(receive_only(alloc))?
+        .arg(listen(alloc))?
+        .arg(number(alloc, CONNECTIONS, 65535, "1", CONNECTIONS_HELP))?
         .arg(ports(alloc))
 }
 
@@ -176,6 +204,26 @@ pub fn options_of<'m>(matches: &'m ArgMatches<'_>) -> Result<Options<'m>, Addres
         reinit: number_of(matches, REINIT_DELAY),
         receive_only: matches.get_flag(RECEIVE_ONLY),
     })
+}
+
+/// Where the words ask to listen, and for how many connections. None where they do not.
+pub fn listening_of(matches: &ArgMatches<'_>) -> Option<Listening>
+    requires given { GivesOptions matches.now }
+{
+    match matches.get_one::<u16>(LISTEN) {
+        None => None,
+        Some(port) => Some(Listening {
+            port,
+            connections: connections_of(matches),
+        }),
+    }
+}
+
+/// The number of connections.
+fn connections_of(matches: &ArgMatches<'_>) -> u16
+    requires given { GivesNumber 65535 (codes "connections") matches.now }
+{
+    matches.get_one::<u16>(CONNECTIONS).unwrap()
 }
 
 /// The text of an option that has a default.

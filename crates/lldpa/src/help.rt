@@ -3,7 +3,7 @@
 pub const VERSION: &str = "1.0.0";
 
 pub const ABOUT: &str =
-    "Runs an LLDP agent over a trace: reads received frames, seconds and commands from standard input,\nand writes the frames that are sent and what the commands show.";
+    "Runs an LLDP agent over a trace: reads received frames, seconds and commands from standard input\nor from connections, and writes the frames that are sent and what the commands show.";
 
 pub const MORE: &str = "Lines of a trace:
   tick                                          one second
@@ -26,5 +26,6 @@ pub const MORE: &str = "Lines of a trace:
 Examples:
   printf 'tick\\nshow statistics\\n' | lldpa eth0
   lldpa --receive-only --max-neighbors 4 eth0 eth1 < trace.txt
+  lldpa --listen 4711 --connections 10 eth0     then, for a conversation: nc 127.0.0.1 4711
 
 See lldpa(1) for the forms, the lines that are shown, the texts of faults and the statuses.";

@@ -1,4 +1,4 @@
-//! An LLDP agent over a trace: standard input to standard output.
+//! An LLDP agent over a trace: standard input to standard output, or over connections.
 #![tactic(auto)]
 
 pub mod addresses;
@@ -11,6 +11,7 @@ pub mod line;
 pub mod output;
 pub mod program;
 pub mod sent;
+pub mod serve;
 pub mod trace;
 
 use std::process::ExitCode;
@@ -29,6 +30,7 @@ fn run(rt: &HostRuntime) -> io::Result<u8> {
     let owned: Vec<String> = env::args(rt)?.collect(rt.alloc())?;
     let words: Vec<&str> = owned.iter().map(|word| word.as_str()).collect(rt.alloc())?;
     let status = program::run_program(
+        rt,
         rt.alloc(),
         &words,
         &mut rt.stdin(),

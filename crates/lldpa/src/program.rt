@@ -4,19 +4,21 @@ ghost use Rattle.std.specs.Io.KnownBytes.{Keeps};
 ghost use Rattle.clap.specs.Values.{kind_of};
 ghost use Rattle.lldpa.specs.Arguments.{GivesOptions};
 
-use crate::arguments::{AddressFault, options_of, parse};
+use crate::arguments::{AddressFault, Listening, listening_of, options_of, parse};
 use crate::device::{FromReader, ToWriter};
+use crate::serve::serve;
 use crate::trace::run_trace;
 use clap::error::ErrorKind;
 use clap::{ArgMatches, Error};
 use lldp_engine::{Agent, OpenFault};
 use std::alloc::Global;
 use std::io::{Read, Write};
+use std::net::{Ipv4Addr, Net, TcpListener, TcpStream};
 
 /// All went well.
 const DONE: u8 = 0;
 
-/// A stream failed, or the trace was too long.
+/// A stream or a socket failed, or the trace was too long.
 const FAILED: u8 = 1;
 
 /// The words are bad, an opening was refused, or there was no memory.
@@ -26,7 +28,12 @@ const REFUSED: u8 = 2;
 /// run and its text was written, or the help or version that the words ask for; 1 where a stream failed or the trace was too long; 2
 /// where the words are bad, an opening was refused, or there is no memory. A fault is told on `faults`; that this fails changes no
 /// status. With status 2 nothing was written on the writer. It takes memory for its words and for opening alone.
+///
+/// Where the words ask to listen, the traces come over connections to a port of 127.0.0.1, and reader and writer are left alone. The
+/// port is bound after opening. Status 1 is then that it could not be bound, that a connection could not be accepted, or that one of
+/// them ended with a fault.
 pub fn run_program<R: Read, W: Write, E: Write>(
+    rt: &impl Net<Listener = TcpListener, Stream = TcpStream>,
     alloc: Global,
     words: &[&str],
     reader: &mut R,
@@ -37,13 +44,14 @@ pub fn run_program<R: Read, W: Write, E: Write>(
     ensures silent { result ≡ REFUSED → Keeps (W.contents writer.old) (W.contents writer.new) }
 {
     match parse(alloc, words) {
-        Ok(matches) => run_matches(alloc, &matches, reader, writer, faults),
+        Ok(matches) => run_matches(rt, alloc, &matches, reader, writer, faults),
         Err(error) => answer_words(&error, writer, faults),
     }
 }
 
 /// Runs the program with the options that its words gave.
 fn run_matches<R: Read, W: Write, E: Write>(
+    rt: &impl Net<Listener = TcpListener, Stream = TcpStream>,
     alloc: Global,
     matches: &ArgMatches<'_>,
     reader: &mut R,
@@ -59,7 +67,10 @@ fn run_matches<R: Read, W: Write, E: Write>(
         Err(fault) => return refuse_address(fault, faults),
     };
     match Agent::open(alloc, &options) {
-        Ok(mut agent) => run_streams(&mut agent, reader, writer, faults),
+        Ok(mut agent) => match listening_of(matches) {
+            None => run_streams(&mut agent, reader, writer, faults),
+            Some(listening) => run_sockets(rt, &mut agent, listening, faults),
+        },
         Err(fault) => refuse_opening(fault, faults),
     }
 }
@@ -106,6 +117,28 @@ fn run_streams<R: Read, W: Write, E: Write>(
     flush(writer, faults)
 }
 
+/// Runs the traces that come over connections to a port of this host.
+fn run_sockets<E: Write>(
+    rt: &impl Net<Listener = TcpListener, Stream = TcpStream>,
+    agent: &mut Agent,
+    listening: Listening,
+    faults: &mut E,
+) -> u8
+    ensures status { result ≤ FAILED }
+{
+    let Ok(listener) = TcpListener::bind(rt, (Ipv4Addr::LOCALHOST, listening.port)) else {
+        return socket_failed(faults);
+    };
+    match serve(agent, &listener, listening.connections) {
+        Ok(0) => DONE,
+        Ok(_) => socket_failed(faults),
+        Err(fault) => {
+            let _ = writeln!(faults, "{fault}");
+            FAILED
+        }
+    }
+}
+
 /// Flushes the writer at the end.
 fn flush<W: Write, E: Write>(writer: &mut W, faults: &mut E) -> u8
     ensures status { result ≤ FAILED }
@@ -114,6 +147,13 @@ fn flush<W: Write, E: Write>(writer: &mut W, faults: &mut E) -> u8
         Ok(()) => DONE,
         Err(_) => write_fault(faults, b"lldpa: write failed\n", FAILED),
     }
+}
+
+/// Tells that the port could not be bound, or that a connection ended with a fault.
+fn socket_failed<E: Write>(faults: &mut E) -> u8
+    ensures { result ≡ FAILED }
+{
+    write_fault(faults, b"lldpa: socket failed\n", FAILED)
 }
 
 /// Tells which address cannot be read.

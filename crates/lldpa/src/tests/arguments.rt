@@ -1,7 +1,7 @@
 //! The words of the program.
-use super::devices::{Burn, Drip, Fuse};
+use super::devices::{Burn, Drip, Fuse, NoNetwork};
 use crate::addresses::{read_ipv4, read_mac};
-use crate::arguments::{AddressFault, options_of, parse};
+use crate::arguments::{AddressFault, listening_of, options_of, parse};
 use crate::help::{MORE, VERSION};
 use crate::program::run_program;
 use lldp_engine::Role;
@@ -24,6 +24,7 @@ fn run(alloc: Global, words: &[&str]) -> (u8, Fuse, Fuse) {
     let mut writer = Fuse::endless();
     let mut faults = Fuse::endless();
     let status = run_program(
+        &NoNetwork,
         alloc,
         words,
         &mut Drip::whole(b""),
@@ -98,6 +99,7 @@ const OPTIONS: &[(&str, &str, &str)] = &[
     ("--tx-fast-init", "1", "1.0"),
     ("--reinit-delay", "1", "0x1"),
     ("--role", "bridge", "Bridge"),
+    ("--connections", "1", "one"),
 ];
 
 #[test]
@@ -122,6 +124,8 @@ fn options_given_twice(rt: HostRuntime) {
         ("--tx-credit-max", "1"),
         ("--tx-fast-init", "1"),
         ("--reinit-delay", "1"),
+        ("--listen", "1"),
+        ("--connections", "1"),
     ];
     for &(option, value) in rows {
         let words = ["lldpa", option, value, "eth0", option, value];
@@ -133,7 +137,7 @@ fn options_given_twice(rt: HostRuntime) {
 
 #[test]
 fn words_that_are_no_option(rt: HostRuntime) {
-    for option in ["--listen", "--connections", "--no-such", "-p"] {
+    for option in ["--listening", "--no-such", "-p"] {
         let words = ["lldpa", option, "1", "eth0"];
         misread(&rt, rt.alloc(), &words, "unexpected argument");
     }
@@ -153,6 +157,7 @@ fn ranges(rt: HostRuntime) {
         ("--tx-credit-max", "10", "11"),
         ("--tx-fast-init", "8", "9"),
         ("--reinit-delay", "10", "11"),
+        ("--connections", "65535", "65536"),
     ];
     for &(option, greatest, beyond) in rows {
         for value in ["1", "01", "+1", greatest] {
@@ -160,10 +165,37 @@ fn ranges(rt: HostRuntime) {
             assert_eq!(rt; status, 0);
             assert_eq!(rt; faults.taken(), NOTHING);
         }
-        for value in ["0", beyond, "256", "99999999999999999999"] {
+        for value in ["0", beyond, "99999999999999999999"] {
             misread(&rt, rt.alloc(), &["lldpa", option, value, "eth0"], option);
         }
     }
+}
+
+#[test]
+fn listening(rt: HostRuntime) -> Result<(), Fail> {
+    for value in ["0", "65536", "70000", "x", ""] {
+        misread(
+            &rt,
+            rt.alloc(),
+            &["lldpa", "--listen", value, "eth0"],
+            "--listen",
+        );
+    }
+    let rows: &[(&[&str], Option<(u16, u16)>)] = &[
+        (&["lldpa"], None),
+        (&["lldpa", "--connections", "7"], None),
+        (&["lldpa", "--listen", "1"], Some((1, 1))),
+        (
+            &["lldpa", "--listen=65535", "--connections=65535"],
+            Some((65535, 65535)),
+        ),
+    ];
+    for &(words, wanted) in rows {
+        let matches = parse(rt.alloc(), words)?;
+        let found = listening_of(&matches).map(|found| (found.port, found.connections));
+        assert_eq!(rt; found, wanted);
+    }
+    Ok(())
 }
 
 #[test]
@@ -330,6 +362,7 @@ fn help_that_cannot_be_written(rt: HostRuntime) {
             let mut writer = Fuse::new(usize::MAX, burns_at, burn);
             let mut faults = Fuse::endless();
             let status = run_program(
+                &NoNetwork,
                 rt.alloc(),
                 &["lldpa", word],
                 &mut Drip::whole(b""),
@@ -351,6 +384,7 @@ fn faults_that_cannot_be_told(rt: HostRuntime) {
     ] {
         let mut writer = Fuse::endless();
         let status = run_program(
+            &NoNetwork,
             rt.alloc(),
             &words,
             &mut Drip::whole(b""),

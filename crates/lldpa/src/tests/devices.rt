@@ -1,7 +1,8 @@
-//! A reader that gives little at a time, a writer that takes little at a time, and that both fail.
+//! A reader that gives little at a time, a writer that takes little at a time, and that both fail; and no network.
 ghost use Rattle.std.specs.Prelude.{◌≤◌};
 
 use std::io::{Error, ErrorKind, Read, Result, Write};
+use std::net::{Net, SocketAddr, TcpListener, TcpStream};
 
 /// Gives its octets in pieces of these sizes, and fails at one call.
 #[derive(Drop)]
@@ -117,5 +118,23 @@ impl Write for Fuse {
             return Err(Error::from(ErrorKind::Other));
         }
         Ok(())
+    }
+}
+
+/// A network without sockets.
+#[derive(Drop)]
+pub struct NoNetwork;
+
+impl Net for NoNetwork {
+    type Stream = TcpStream;
+
+    type Listener = TcpListener;
+
+    fn bind(&self, _addr: SocketAddr) -> Result<TcpListener> {
+        Err(Error::from(ErrorKind::Unsupported))
+    }
+
+    fn connect(&self, _addr: SocketAddr) -> Result<TcpStream> {
+        Err(Error::from(ErrorKind::Unsupported))
     }
 }

@@ -1,5 +1,5 @@
 //! The program over words and streams.
-use super::devices::{Burn, Drip, Fuse};
+use super::devices::{Burn, Drip, Fuse, NoNetwork};
 use super::runs::{INPUT, OUTPUT};
 use crate::program::run_program;
 use std::alloc::{AllocError, Global};
@@ -8,7 +8,8 @@ use std::test::Fail;
 
 const WORDS: &[&str] = &["lldpa", "--receive-only", "eth0"];
 
-const NONE: &[u8] = b"lldp.eth0.neighbors=0\nlldp.eth0.octets=0\nlldp.eth0.too-many=no\n";
+/// What `show neighbors` gives where none is held.
+pub const NONE: &[u8] = b"lldp.eth0.neighbors=0\nlldp.eth0.octets=0\nlldp.eth0.too-many=no\n";
 
 /// Compares what the program answers and writes.
 pub fn expect(
@@ -23,6 +24,7 @@ pub fn expect(
     let mut writer = Fuse::endless();
     let mut errors = Fuse::endless();
     let ended = run_program(
+        &NoNetwork,
         alloc,
         words,
         &mut Drip::whole(input),
@@ -163,7 +165,14 @@ fn streams_that_fail(rt: HostRuntime) {
         let mut reader = Drip::new(INPUT, usize::MAX, usize::MAX, fails_at);
         let mut writer = Fuse::new(usize::MAX, burns_at, burn);
         let mut errors = Fuse::endless();
-        let ended = run_program(rt.alloc(), WORDS, &mut reader, &mut writer, &mut errors);
+        let ended = run_program(
+            &NoNetwork,
+            rt.alloc(),
+            WORDS,
+            &mut reader,
+            &mut writer,
+            &mut errors,
+        );
         assert_eq!(rt; ended, 1);
         assert_eq!(rt; writer.taken(), &OUTPUT[..taken]);
         assert_eq!(rt; errors.taken(), told);

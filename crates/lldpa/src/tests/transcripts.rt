@@ -1,5 +1,5 @@
 //! Transcripts: the lines of an input, each with the lines that it gives.
-use super::devices::{Drip, Fuse};
+use super::devices::{Drip, Fuse, NoNetwork};
 use super::only_receiving;
 use crate::arguments::{options_of, parse};
 use crate::device::{FromReader, ToWriter};
@@ -113,7 +113,14 @@ pub fn expect_run(
 fn compare(rt: &impl Abort, alloc: Global, words: &[&str], mut input: Drip<'_>, output: &[u8]) {
     let mut writer = Fuse::endless();
     let mut faults = Fuse::endless();
-    let status = run_program(alloc, words, &mut input, &mut writer, &mut faults);
+    let status = run_program(
+        &NoNetwork,
+        alloc,
+        words,
+        &mut input,
+        &mut writer,
+        &mut faults,
+    );
     assert_eq!(rt; writer.taken(), output);
     assert_eq!(rt; faults.taken(), b"".as_slice());
     assert_eq!(rt; status, 0);

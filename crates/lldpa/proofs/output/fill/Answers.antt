@@ -1,4 +1,3 @@
-use Rattle.lldp_engine.specs.Lines.{lines_of as show_lines}
 use Rattle.lldpa.specs.Told.{told}
 use Rattle.lldpa.proofs.PageLemmas.{show_went, goes_ok, goes_err}
 use Rattle.lldpa.proofs.output.fill.Goals as goal
