@@ -1,18 +1,18 @@
 -- A queue by its slots and their stored times: what a write to one time, and a slot that comes or goes, make of it.
-use Rattle.std.proofs.Common.{◌≡◌, ℕ, zero, suc, ◌+◌, ◌-◌, ◌^◌, ◌<◌, ◌≤◌, ◌||◌, true, false, cond, nat_eq, nat_le, max, List, [], ◌∷◌, ◌++◌, length, take, drop, set, get_or, refl, inl, inr, ap, ◌∙◌, sym, subst, arith, map, length-take-le}
+use Rattle.std.proofs.Common.{◌≡◌, ℕ, zero, suc, ◌+◌, ◌-◌, ◌^◌, ◌<◌, ◌≤◌, ◌||◌, true, false, cond, nat_eq, nat_le, List, [], ◌∷◌, ◌++◌, length, take, drop, set, get_or, refl, inl, inr, ap, ◌∙◌, sym, subst, arith, map, length-take-le}
 use Rattle.std.specs.List.{list_any, AllByRecursion, IsDistinct, remove, insert}
 use Rattle.std.specs.List.Sorted.{IsPermutation}
 use Rattle.std.proofs.Math.ListN.{drop_of_length-le}
 use Rattle.std.proofs.Math.Seq.{drop-cons, take-append_seam, drop-append_seam}
 use Rattle.std.proofs.lemmas.Bool.{cases_Bool, eqb-true, eqb-false, eq-eqb, le-leb, lt-leb, ltb-true, cond-true, cond-false}
-use Rattle.std.proofs.lemmas.List.{take_all, take_more, append_assoc, append-nil, map-append, take-map, drop-map, get_or-set_same, get_or-set_other, take-append-le}
+use Rattle.std.proofs.lemmas.List.{take_all, take_more, append_assoc, append-nil, map-append, take-map, drop-map, get_or-set_same, get_or-set_other}
 use Rattle.std.proofs.lemmas.List.Elements.{All-from_recursion, recursion_from_All}
-use Rattle.std.proofs.lemmas.List.Sorted.{All-permutation, IsPermutation-sym}
-use Rattle.std.proofs.lemmas.Map.Keys.{IsDistinct-head, IsDistinct-tail, IsDistinct-cons, IsDistinct-IsPermutation}
+use Rattle.std.proofs.lemmas.List.Sorted.{All-permutation}
+use Rattle.std.proofs.lemmas.Map.Keys.{IsDistinct-head, IsDistinct-tail, IsDistinct-cons}
 use Rattle.lldp_table.specs.Queue.{Due, due, dues, slots_of, holds, ticks_left, put, enter, leave, less_first, add_first, total, IsQueue}
 use Rattle.lldp_table.proofs.PlaceLemmas.{at_place, all-push, all-both, not_before, not_behind, nat_eq_sym, map-remove, unheld, distinct-moved}
 use Rattle.lldp_table.proofs.QueueLemmas.{at_first, behind, total-cons, total-enter, total-leave, total-less_first}
-use Rattle.lldp_table.proofs.QueueOrderLemmas.{slots-enter, slots-leave, slots-less_first}
+use Rattle.lldp_table.proofs.QueueOrderLemmas.{slots-enter, slots-leave}
 
 -- no slot at a place
 pub beyond : (f : List Due → List Due) → f [] ≡ [] → (k : ℕ) (queue : List Due) → length queue ≤ k → queue ≡ take k queue ++ f (drop k queue)

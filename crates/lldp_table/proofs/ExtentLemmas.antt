@@ -1,11 +1,10 @@
 -- What the extent of a learned frame tells.
 use Rattle.std.proofs.Common.{◌≡◌, ℕ, ◌+◌, ◌*◌, ◌<◌, ◌≤◌, List, length, length-append, None, sym, ap, subst, arith}
-use Rattle.std.specs.List.{AllByRecursion}
 use Rattle.lldp_pdu.specs.Tlv.{AreOctets}
 use Rattle.lldp_pdu.specs.Msap.{MsapId, IsIdentifier}
 use Rattle.lldp_pdu.specs.Lldpdu.{extent, ttl_of, msap_of}
 use Rattle.lldp_pdu.specs.Fault.{fault_of}
-use Rattle.lldp_pdu.specs.Kept.{kept_of, IsKeptTlv}
+use Rattle.lldp_pdu.specs.Kept.{kept_of}
 use Rattle.lldp_pdu.specs.Info.{LldpInfo, info_of, IsInfo, TellsItself}
 use Rattle.lldp_pdu.proofs.Telling.{tells_itself}
 use Rattle.lldp_pdu.proofs.Whole.{extent_front}

@@ -1,4 +1,4 @@
-use Rattle.std.proofs.Common.{◌≡◌, ◌+◌, ◌++◌, ◌∷◌, [], length, ap, ◌∙◌, sym, arith, length-take-le}
+use Rattle.std.proofs.Common.{sym, arith, length-take-le}
 use Rattle.std.proofs.lemmas.List.Sorted.{length_permutation}
 use Rattle.lldp_table.proofs.AgeLemmas.{aging_begins, aging_goes_on, aging_ends, kept_some}
 use Rattle.lldp_table.proofs.places.age_out.Goals as goal

@@ -1,5 +1,5 @@
 -- The slots taken out so far are those that expired first.
-use Rattle.std.proofs.Common.{◌≡◌, ◌≤◌, ◌+◌}
+use Rattle.std.proofs.Common.{◌≤◌, ◌+◌}
 use Rattle.lldp_table.proofs.AgeLemmas.{IsAging}
 use Rattle.lldp_table.proofs.places.age_out.Given as goal
 

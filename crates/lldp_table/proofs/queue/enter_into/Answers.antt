@@ -1,6 +1,5 @@
-use Rattle.std.proofs.Common.{◌≡◌, false, arith, sym, ◌∙◌, ap, length, length-set, nat_eq}
+use Rattle.std.proofs.Common.{◌≡◌, false, sym, ◌∙◌, ap, length, length-set, nat_eq}
 use Rattle.std.specs.List.{list_any}
-use Rattle.lldp_table.specs.Queue.{dues}
 use Rattle.lldp_table.proofs.DueLemmas.{entered, holds-dues, queue_entered}
 use Rattle.lldp_table.proofs.queue.enter_into.Goals as goal
 

@@ -1,6 +1,4 @@
-use Rattle.std.proofs.Common.{◌≡◌, ◌+◌, ◌<◌, ◌^◌, true, arith, sym, ◌∙◌, ap, nat_eq, length, get_or}
-use Rattle.std.specs.List.{list_any, remove}
-use Rattle.lldp_table.specs.Queue.{dues}
+use Rattle.std.proofs.Common.{◌+◌, ◌<◌, arith, sym, ◌∙◌, length}
 use Rattle.lldp_table.proofs.DueLemmas.{left_at, holds-dues, queue_left, two_fit}
 use Rattle.lldp_table.proofs.queue.leave_from.Goals as goal
 

@@ -1,6 +1,5 @@
-use Rattle.std.proofs.Common.{refl, arith}
-use Rattle.lldp_table.specs.Queue.{dues, less_first}
-use Rattle.lldp_table.proofs.DueLemmas.{lessened, beyond, within_times}
+use Rattle.std.proofs.Common.{arith}
+use Rattle.lldp_table.proofs.DueLemmas.{lessened, within_times}
 use Rattle.lldp_table.proofs.queue.lessen.Goals as goal
 
 pub returns-clause-after : goal.returns-clause-after

@@ -1,6 +1,5 @@
-use Rattle.std.proofs.Common.{refl, arith}
-use Rattle.lldp_table.specs.Queue.{dues, add_first}
-use Rattle.lldp_table.proofs.DueLemmas.{raised, beyond, within_times}
+use Rattle.std.proofs.Common.{arith}
+use Rattle.lldp_table.proofs.DueLemmas.{raised, within_times}
 use Rattle.lldp_table.proofs.queue.raise.Goals as goal
 
 pub returns-clause-after : goal.returns-clause-after

@@ -1,4 +1,4 @@
-use Rattle.std.proofs.Common.{◌≡◌, List, ℕ, [], refl, sym, ap}
+use Rattle.std.proofs.Common.{◌≡◌, [], refl}
 use Rattle.lldp_pdu.specs.Cut.{cut, cut_within}
 use Rattle.lldp_pdu.specs.Lldpdu.{msap_of}
 use Rattle.lldp_table.specs.Stored.{tag_of}
