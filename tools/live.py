@@ -2,8 +2,7 @@
 """Puts lldpa on real links: frames, seconds, link changes and commands (from standard input) go in as its trace, what its ports send
 goes out, and its answers go to standard output. Behind -- stand lldpa's own options; --mac and --hostname come from the first
 interface and the host unless they stand there. At the end of its input, SIGINT and SIGTERM each port is disabled first."""
-import argparse, ctypes, os, re, select, shlex, signal
-import socket, struct, subprocess, sys, time
+import argparse, ctypes, os, re, select, shlex, signal, socket, struct, subprocess, sys, time
 from contextlib import suppress
 
 SO_ATTACH_FILTER, SOL_PACKET, ADD_MEMBERSHIP, ETH_P_ALL, ETHERNET = 26, 263, 1, 3, 1
@@ -145,7 +144,8 @@ class Bridge:
             self.tell(b"configure ports %s lldp status disabled" % name)
         while self.to_user or not self.ended:
             if not (self.to_agent or self.ended):
-                self.agent.shutdown(socket.SHUT_WR)
+                with suppress(OSError):  # of a connection that has ended meanwhile
+                    self.agent.shutdown(socket.SHUT_WR)
             self.turn({} if self.ended else {self.agent: self.read_answers}, None)
         return self.ending
 
