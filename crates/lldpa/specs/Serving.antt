@@ -18,11 +18,15 @@ abbrev pub AreServed : List (Result (Unit {0}) RunFault) → AgentState → Agen
 AreServed [] before after = after ≡ before
 AreServed (result ∷ earlier) before after = (between : AgentState) × AreServed earlier before between × Served between after result
 
--- how many of them ended with a fault
+-- one for a run that ended with a fault
+abbrev pub faults_in : Result (Unit {0}) RunFault → ℕ
+faults_in (Ok done) = 0
+faults_in (Err fault) = 1
+
+-- how many of some runs ended with a fault
 abbrev pub faults_of : List (Result (Unit {0}) RunFault) → ℕ
 faults_of [] = 0
-faults_of (Ok done ∷ earlier) = faults_of earlier
-faults_of (Err fault ∷ earlier) = faults_of earlier + 1
+faults_of (result ∷ earlier) = faults_of earlier + faults_in result
 
 -- What the answer tells of the runs. Ok: all were made, and so many of them ended with a fault. Err: fewer were.
 abbrev pub Tells : ℕ → List (Result (Unit {0}) RunFault) → Result ℕ ServeFault → Type 0

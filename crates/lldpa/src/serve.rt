@@ -3,7 +3,7 @@ ghost use Rattle.std.specs.Prelude.{◌≡◌, ◌≤◌, IfOk};
 ghost use Rattle.lldp_engine.specs.Past.{Past};
 ghost use Rattle.lldp_engine.specs.Standing.{Stands};
 ghost use Rattle.lldpa.specs.Runs.{GoesOn, KeepsOn};
-ghost use Rattle.lldpa.specs.Serving.{HasServed, Served};
+ghost use Rattle.lldpa.specs.Serving.{HasServed, Served, faults_in};
 
 use crate::device::{FromReader, ToWriter};
 use crate::trace::{RunFault, run_trace};
@@ -33,6 +33,16 @@ fn run_connection(agent: &mut Agent, stream: &TcpStream) -> Result<(), RunFault>
     )
 }
 
+/// How many faults a run ended with: one or none.
+fn count_fault(ran: Result<(), RunFault>) -> u16
+    ensures { result ≡ faults_in ran }
+{
+    match ran {
+        Ok(()) => 0,
+        Err(_) => 1,
+    }
+}
+
 /// Runs a trace on so many connections, one after the other and the next one also after a fault, and answers how many ended with a
 /// fault. The agent goes from one connection to the next as it is. Where accepting failed it stands for the connections served so far.
 pub fn serve(agent: &mut Agent, listener: &TcpListener, connections: u16) -> Result<u16, ServeFault>
@@ -48,9 +58,7 @@ pub fn serve(agent: &mut Agent, listener: &TcpListener, connections: u16) -> Res
         let Ok((stream, _)) = listener.accept() else {
             return Err(ServeFault::Accept);
         };
-        if run_connection(agent, &stream).is_err() {
-            faulty += 1;
-        }
+        faulty += count_fault(run_connection(agent, &stream));
     }
     Ok(faulty)
 }

@@ -1,9 +1,10 @@
-use Rattle.std.proofs.Common.{rules, arith, refl, ◌∷◌, ◌∙◌, ap, ◌+◌, sym, [], ◌≡◌, true, false}
-use Rattle.std.specs.Prelude.{is_err}
+use Rattle.std.proofs.Common.{arith, refl, ◌∷◌, []}
 use Rattle.lldpa.proofs.GoesOnLemmas.{keeps_on}
-use Rattle.lldpa.proofs.ServeLemmas.{goes_on_then, one_fault, no_fault}
+use Rattle.lldpa.proofs.ServeLemmas.{goes_on_then, at_most_one}
 use Rattle.lldpa.proofs.serve.serve.Goals as goal
-use Rattle.lldpa.proofs.serve.serve.Goals.{then-is_err, else-is_err}
+
+pub overflow_add-faulty : goal.overflow_add-faulty
+overflow_add-faulty c = omega (arith, c.loop-served.invariant.few, at_most_one c.run_connection.result, c.count_fault-faulty.ensures)
 
 pub loop-served-init : goal.loop-served-init
 loop-served-init c = record { few = omega arith; runs = ([], refl, refl, refl); goes_on = λ past stands. ([], stands) }
@@ -13,15 +14,12 @@ loop-served-preserved c =
     let inv = c.loop-served.invariant in
     let r = c.run_connection.result in
     record {
-      few = elim c.if-is_err.branch [ then-is_err w ↦ omega arith | else-is_err w ↦ omega arith ];
+      few = omega (arith, inv.few, at_most_one r, c.count_fault-faulty.ensures);
       runs = (
         r ∷ inv.runs.0,
         (c.loop-served.agent, inv.runs.1, c.run_connection.ensures.run),
         omega (arith, inv.runs.2),
-        elim c.if-is_err.branch [
-          | then-is_err w ↦ let e : is_err r ≡ true = search (rules, w.if-is_err) in w.faulty-is ∙ (ap (λ n. n + 1) inv.runs.3 ∙ sym (one_fault r inv.runs.0 e))
-          | else-is_err w ↦ let e : is_err r ≡ false = search (rules, w.if-is_err) in w.faulty-is ∙ (inv.runs.3 ∙ sym (no_fault r inv.runs.0 e))
-        ],
+        omega (arith, inv.runs.3, c.count_fault-faulty.ensures),
       );
       goes_on = λ past stands. goes_on_then past _ _ (inv.goes_on past stands) c.run_connection.ensures.goes_on;
     }
