@@ -1,6 +1,6 @@
 #!/bin/sh
-# Checks the built program: the examples of the manual and the manual page, misuse of its words and streams,
-# refused memory, and half a minute of random traces beside the model.
+# Checks the built program: the examples of the pages, the links of the pages, the completion, misuse of its words and
+# streams, refused memory, and half a minute of random traces beside the model.
 #     tools/check.sh [PROGRAM]
 # PROGRAM is the one that the gate leaves unless given. It needs sh, python3 and cmp, and a C compiler for
 # refused memory; what had to be skipped is said and not counted. The last line is `N passed, M failed`.
@@ -176,7 +176,27 @@ sys.stdout.buffer.write(random.Random(1).randbytes(2000000))' > "$room/random"
     done
 }
 
-part "examples of the manual and the manual page" python3 tools/examples.py "$program"
+# The manual page is well formed, where there is mandoc or man.
+manual_page() {
+    echo "== manual page"
+    if command -v mandoc > /dev/null; then
+        mandoc -T lint man/lldpa.1 > "$room/out" 2>&1
+        judge $? "mandoc -T lint: $(cat "$room/out")"
+    else
+        echo "skipped: mandoc, which is not installed"
+    fi
+    if command -v groff > /dev/null; then
+        groff -mandoc -ww -z man/lldpa.1 > "$room/out" 2>&1 && [ ! -s "$room/out" ]
+        judge $? "groff: $(cat "$room/out")"
+    else
+        echo "skipped: groff, which is not installed"
+    fi
+}
+
+part "examples of the pages" python3 tools/examples.py "$program"
+part "links of the pages" python3 tools/check-links.py
+manual_page
+part "completion" tools/check-completion.sh "$program"
 misused_words
 misused_streams
 binary_input

@@ -1,5 +1,5 @@
 #!/bin/sh
-# Installs lldpa, its manual page, its completion for bash, and the scripts live.py and capture.py as lldpa-live and lldpa-capture
+# Installs lldpa, its manual page, the scripts live.py and capture.py as lldpa-live and lldpa-capture, and completions for bash
 # under a prefix, /usr/local unless given. With --uninstall it takes away what it installs. DESTDIR, where it is set, is put in front.
 set -eu
 usage() {
@@ -25,7 +25,9 @@ files() {
     echo "755 tools/live.py bin/lldpa-live"
     echo "755 tools/capture.py bin/lldpa-capture"
     echo "644 man/lldpa.1 share/man/man1/lldpa.1"
-    echo "644 share/bash-completion/completions/lldpa share/bash-completion/completions/lldpa"
+    for name in lldpa lldpa-live lldpa-capture; do
+        echo "644 share/bash-completion/completions/$name share/bash-completion/completions/$name"
+    done
 }
 
 if [ -n "$uninstall" ]; then

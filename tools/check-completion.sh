@@ -1,0 +1,120 @@
+#!/bin/bash
+# Drives the completion for bash as bash itself does, with words and the place of the cursor, and compares what it offers.
+#     tools/check-completion.sh [PROGRAM]
+# With a program each long option of its help must be offered too.
+# The last line is `N passed, M failed`.
+set -u
+cd "$(dirname "$0")/../share/bash-completion/completions" || exit 2
+passed=0
+failed=0
+for file in lldpa lldpa-live lldpa-capture; do
+    # shellcheck source=/dev/null
+    . "./$file"
+done
+
+# A host with these links, and a note where file names are left to bash.
+_lldpa_links() {
+    printf '%s\n' eth0 eth1 lo
+}
+compopt() {
+    COMPREPLY=(FILES)
+}
+
+# offers COMPLETED FUNCTION WORDS..: what is offered for the last word, where `|` stands behind a word for the cursor's.
+offers() {
+    local want=$1 function=$2 word i=0
+    shift 2
+    COMP_WORDS=()
+    COMP_CWORD=$(($# - 1))
+    for word in "$@"; do
+        if [[ $word == *'|' ]]; then
+            word=${word%|}
+            COMP_CWORD=$i
+        fi
+        COMP_WORDS+=("$word")
+        i=$((i + 1))
+    done
+    COMPREPLY=()
+    "$function"
+    if [ "${COMPREPLY[*]}" = "$want" ]; then
+        passed=$((passed + 1))
+    else
+        failed=$((failed + 1))
+        echo "FAILED: $*: offers ${COMPREPLY[*]}, and not $want"
+    fi
+}
+
+options='--max-neighbors --mac --hostname --management --role --tx-credit-max --tx-fast-init --reinit-delay --listen --connections'
+all="$options --receive-only --help --version"
+
+offers 'eth0 eth1 lo' _lldpa lldpa ''
+offers 'eth0 eth1' _lldpa lldpa e
+offers '' _lldpa lldpa x
+offers "$all" _lldpa lldpa -
+offers '--max-neighbors --mac --management' _lldpa lldpa --ma
+offers '--tx-credit-max --tx-fast-init' _lldpa lldpa eth0 --tx
+# no option and no port twice, wherever the first stands
+offers 'eth1 lo' _lldpa lldpa eth0 ''
+offers 'lo' _lldpa lldpa eth0 eth1 ''
+offers 'lo' _lldpa lldpa '|' eth0 eth1
+offers '' _lldpa lldpa eth0 eth1 lo ''
+offers '--mac --management' _lldpa lldpa --max-neighbors 4 --ma
+offers '--mac --management' _lldpa lldpa --max-neighbors = 4 --ma
+offers '--mac --management' _lldpa lldpa --max-neighbors=4 --ma
+offers '--mac --management' _lldpa lldpa '--ma|' --max-neighbors 4
+offers '--reinit-delay' _lldpa lldpa --receive-only --re
+# what an option takes is no port, and a port that is a value's text is still offered
+offers 'station bridge router' _lldpa lldpa --role ''
+offers 'bridge' _lldpa lldpa --role b
+offers 'bridge' _lldpa lldpa --role = b
+offers 'station bridge router' _lldpa lldpa --role =
+offers '--role=bridge' _lldpa lldpa --role=b
+offers '--role=station --role=bridge --role=router' _lldpa lldpa --role=
+offers '' _lldpa lldpa --mac ''
+offers '' _lldpa lldpa --mac = 02
+offers '' _lldpa lldpa --mac 02 : 0
+offers '' _lldpa lldpa --mac 02 : 00 :
+offers 'eth0 eth1' _lldpa lldpa --mac 02 : 00 e
+offers 'eth0 eth1 lo' _lldpa lldpa --hostname eth0 ''
+offers 'eth0 eth1 lo' _lldpa lldpa --hostname '"a<b"' ''
+offers '' _lldpa lldpa ge-0/0/0 :
+# behind `--` there are ports alone
+offers '' _lldpa lldpa -- -
+offers 'eth1 lo' _lldpa lldpa eth0 -- ''
+# files are left to bash
+offers FILES _lldpa lldpa eth0 '<' ''
+offers FILES _lldpa lldpa eth0 '<' tr
+offers FILES _lldpa lldpa eth0 '<'
+offers FILES _lldpa lldpa eth0 '>' o
+offers FILES _lldpa lldpa eth0 '>>' o
+offers FILES _lldpa lldpa eth0 2 '>' ''
+offers 'eth1 lo' _lldpa lldpa eth0 '<' trace ''
+offers "--listen" _lldpa lldpa eth0 '<' trace --l
+
+offers 'eth0 eth1 lo' _lldpa_live lldpa-live ''
+offers '--program --connect --log --stay --help' _lldpa_live lldpa-live -
+offers '--program --connect --stay --help' _lldpa_live lldpa-live --log f -
+offers FILES _lldpa_live lldpa-live --log f
+offers FILES _lldpa_live lldpa-live --program = f
+offers '' _lldpa_live lldpa-live --connect ''
+offers 'eth1 lo' _lldpa_live lldpa-live --log f eth0 ''
+offers FILES _lldpa_live lldpa-live eth0 '<>' ''
+offers "$all" _lldpa_live lldpa-live eth0 -- ''
+offers '--role' _lldpa_live lldpa-live eth0 -- --hostname h --ro
+offers 'router' _lldpa_live lldpa-live eth0 -- --role ro
+offers '' _lldpa_live lldpa-live eth0 -- --mac ''
+
+offers FILES _lldpa_capture lldpa-capture ''
+offers '--port --show --help' _lldpa_capture lldpa-capture -
+offers '--port --help' _lldpa_capture lldpa-capture f --show -
+offers 'eth0 eth1' _lldpa_capture lldpa-capture --port e
+offers FILES _lldpa_capture lldpa-capture --port eth0 f
+
+# the words of the completion are those of the program's help, where a program is given
+if [ $# -eq 1 ]; then
+    for word in $("$1" --help | sed -n 's/^ *\(-[a-zA-Z], \)\{0,1\}\(--[a-z-]*\).*/\2/p'); do
+        offers "$word" _lldpa lldpa "$word"
+    done
+fi
+echo "$passed passed, $failed failed"
+[ "$failed" -eq 0 ]
