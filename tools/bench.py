@@ -6,6 +6,8 @@ trace. Instructions are counted by valgrind's callgrind where there is one, on a
 read the frames of the mix too, where they are installed. Needs Python and a C compiler.
 """
 import argparse
+import html
+import json
 import os
 import platform
 import random
@@ -70,6 +72,22 @@ def greatest(names):
     return [frame(*name(i), [*said, tlv(127, b"\0\x80\xc2\x63" + bytes(room[i] - 6))]) for i in range(names)]
 
 
+# Two segments that the table's tag of a name does not tell apart; seven of them in a row make 128 names of one tag.
+ONE_TAG = bytes([70, 40, 10, 107]), bytes([98, 119, 110, 100])
+
+
+def one_tag():
+    """Frames of 128 senders whose names have one tag."""
+    chassis = [b"\x07" + b"".join(ONE_TAG[i >> k & 1] for k in range(7)) for i in range(128)]
+    return [frame(octets, b"\x05swp1", []) for octets in chassis]
+
+
+def own_tags():
+    """Frames of 128 senders with names as long, which have tags of their own."""
+    rng = random.Random(2)
+    return [frame(b"\x07" + rng.randbytes(28), b"\x05swp1", []) for _ in range(128)]
+
+
 # Traces
 
 def received(frames, port="eth0"):
@@ -114,6 +132,8 @@ def rows(room):
         Row("a frame of 36 octets", one, "", received(least(32)), 200_000, ["read", "32"]),
         Row("a frame of 1,514 octets", one, "", received(greatest(32)), 30_000, ["read", "32"]),
         Row("a frame of the mix, 128 held", [*many, "eth0"], "", received(mix(1024, 128)), 100_000, ["read", "128"]),
+        Row("a refresh, the last of 128", [*many, "eth0"], received(own_tags()), received(own_tags()[-1:]), 200_000, ["read", "128"]),
+        Row("the same, names of one tag", [*many, "eth0"], received(one_tag()), received(one_tag()[-1:]), 200_000, ["read", "128"]),
         Row("a tick of 64 ports, nothing due", PORTS, LONG, "tick\n", 300_000, None),
         Row("a tick of 64 ports of 128", [*many, *PORTS], held_everywhere(), "tick\n", 60_000, None),
         Row("a shown line, 64 ports of 128", [*many, *PORTS], held_everywhere(), "show neighbors\n", 8,
@@ -176,11 +196,12 @@ def counted(row, room):
 
 def start(room):
     """Milliseconds and kilobytes of a start with one port and with 64 ports of 128."""
-    empty = room / "empty"
+    empty, lines = room / "empty", []
     empty.write_text("")
     for title, words in (("one port", ["eth0"]), ("64 ports of 128", ["--max-neighbors=128", *PORTS])):
         least_time = min(seconds([program, *words], empty) for _ in range(20))
-        print(f"start with {title}: {1e3 * least_time:.2f} ms of processor time, {resident([program, *words])} KB resident")
+        lines.append(f"start with {title}: {1e3 * least_time:.2f} ms of processor time, {resident([program, *words])} KB resident")
+    return lines
 
 
 def write_pcap(path, frames, times):
@@ -196,29 +217,40 @@ def other_readers(room, times):
     frames, capture, nothing = mix(992, 32), room / "mix.pcap", room / "nothing"
     write_pcap(capture, frames, 20)
     nothing.write_text("")
+    lines = []
     for tool, words in (("tcpdump", ["-nnv", "-r"]), ("tshark", ["-V", "-r"])):
         if shutil.which(tool):
             used = min(seconds([tool, *words, str(capture)], nothing) for _ in range(times))
-            print(f"a frame of the mix, read and printed by {tool}: {1e9 * used / (20 * len(frames)):.0f} ns")
+            lines.append(f"a frame of the mix, read and printed by {tool}: {1e9 * used / (20 * len(frames)):.0f} ns")
+    return lines
 
 
-def picture(results):
-    """Bars of lldpa over C, one for each row."""
-    widest, high = 420, 26
-    scale = widest / max(max(pair) / pair[1] for _, pair in results)
-    out = [f'<svg xmlns="http://www.w3.org/2000/svg" width="860" height="{high * len(results) + 60}" '
+def picture(told):
+    """Bars of lldpa beside C, a pair for each row; C's are equally long, so ours show the ratio."""
+    left, widest, high, top = 250, 330, 40, 66
+    rows_of_c = [row for row in told["rows"] if len(row["time"]) == 2]
+    others = [row for row in told["rows"] if len(row["time"]) == 1]
+    end = top + high * len(rows_of_c)
+    foot = [f"{row['title']}: {row['time'][0]:.0f} ns" for row in others] + told["start"] + told["others"]
+    out = [f'<svg xmlns="http://www.w3.org/2000/svg" width="860" height="{end + 34 + 19 * len(foot)}" '
            'font-family="sans-serif" font-size="13">',
            '<rect width="100%" height="100%" fill="white"/>',
-           '<text x="10" y="20">Processor time of lldpa as a multiple of plain C doing the same work</text>']
-    for i, (title, (ours, theirs)) in enumerate(results):
-        y, ratio = 34 + high * i, ours / theirs
-        out.append(f'<text x="250" y="{y + 14}" text-anchor="end">{title}</text>'
-                   f'<rect x="260" y="{y}" width="{ratio * scale:.0f}" height="18" fill="#3b7dd8"/>'
-                   f'<text x="{266 + ratio * scale:.0f}" y="{y + 14}">{ratio:.2f}  ({ours:.0f} ns)</text>')
-    line = 260 + scale
-    out.append(f'<path d="M{line:.0f} 30 V{34 + high * len(results)}" stroke="#444" stroke-dasharray="4 3"/>'
-               f'<text x="{line:.0f}" y="{52 + high * len(results)}" text-anchor="middle">C</text></svg>')
-    return "\n".join(out) + "\n"
+           '<text x="16" y="24" font-size="16">lldpa beside plain C that does the same work</text>',
+           '<text x="16" y="44" fill="#555">processor time of one thing, on '
+           f'{html.escape(told["machine"])}; C is as long in each row</text>']
+    scale = widest / max(max(row["time"][0] / row["time"][1], 1) for row in rows_of_c)
+    for i, row in enumerate(rows_of_c):
+        y, (ours, theirs) = top + high * i, row["time"]
+        out.append(f'<text x="{left - 10}" y="{y + 18}" text-anchor="end">{html.escape(row["title"])}</text>')
+        for k, (name, value, fill) in enumerate((("lldpa", ours, "#3b7dd8"), ("C", theirs, "#a9b4c2"))):
+            width = scale * value / theirs
+            out.append(f'<rect x="{left}" y="{y + 2 + 15 * k}" width="{width:.0f}" height="13" fill="{fill}"/>'
+                       f'<text x="{left + 6 + width:.0f}" y="{y + 13 + 15 * k}" font-size="11">{name} {value:.0f} ns</text>')
+        out.append(f'<text x="844" y="{y + 20}" text-anchor="end">{ours / theirs:.2f} times C</text>')
+    out.append(f'<path d="M{left} {top - 6} V{end}" stroke="#444"/>')
+    for i, line in enumerate(foot):
+        out.append(f'<text x="16" y="{end + 24 + 19 * i}" fill="#555">{html.escape(line)}</text>')
+    return "\n".join(out) + "\n</svg>\n"
 
 
 def beside(pair, unit=""):
@@ -233,6 +265,23 @@ def machine():
     return f"{found.group(1) if found else platform.processor()}, {platform.system()} {platform.release()}"
 
 
+def measured(options, room):
+    """The table, printed as it comes, as what is saved and drawn."""
+    count = shutil.which("valgrind") and not options.no_instructions
+    print(f"machine: {machine()}")
+    heads = ["lldpa", "C", "ratio"] + (["instr.", "C", "ratio"] if count else [])
+    print(" " * 34 + "".join(f"{head:>11}" for head in heads))
+    told = {"machine": machine(), "rows": []}
+    for row in rows(room):
+        if options.only in row.title:
+            spent, ran = by_turns(row, room, options.times), counted(row, room) if count else []
+            print(f"{row.title:34}{beside(spent, ' ns')}{beside(ran) if count else ''}", flush=True)
+            told["rows"].append({"title": row.title, "time": spent, "instructions": ran})
+    told["start"], told["others"] = start(room), other_readers(room, options.times)
+    print("\n".join(told["start"] + told["others"]))
+    return told
+
+
 def main():
     global program, yardstick
     parser = argparse.ArgumentParser(description=__doc__.splitlines()[0])
@@ -240,29 +289,22 @@ def main():
     parser.add_argument("--times", type=int, default=5, help="runs of each side; the least counts (default: 5)")
     parser.add_argument("--only", default="", help="only rows with this text in their title")
     parser.add_argument("--no-instructions", action="store_true", help="count no instructions")
-    parser.add_argument("--svg", help="write a picture of the ratios to this file")
+    parser.add_argument("--save", metavar="FILE", help="keep the table in this file")
+    parser.add_argument("--saved", metavar="FILE", help="measure nothing: take the table that was kept in this file")
+    parser.add_argument("--svg", metavar="FILE", help="draw the table into this file (docs/bench.svg is the one that the pages show)")
     options = parser.parse_args()
     program = options.program
-    with tempfile.TemporaryDirectory() as folder:
-        room = Path(folder)
-        yardstick = str(room / "limit")
-        subprocess.run(["cc", "-O2", "-o", yardstick, str(TOP / "tools/limit.c")], check=True)
-        print(f"machine: {machine()}")
-        count = shutil.which("valgrind") and not options.no_instructions
-        heads = ["lldpa", "C", "ratio"] + (["instr.", "C", "ratio"] if count else [])
-        print(" " * 34 + "".join(f"{head:>11}" for head in heads))
-        results = []
-        for row in rows(room):
-            if options.only not in row.title:
-                continue
-            measured = by_turns(row, room, options.times)
-            print(f"{row.title:34}{beside(measured, ' ns')}{beside(counted(row, room)) if count else ''}", flush=True)
-            if row.yardstick:
-                results.append((row.title, measured))
-        start(room)
-        other_readers(room, options.times)
-        if options.svg:
-            Path(options.svg).write_text(picture(results))
+    if options.saved:
+        told = json.loads(Path(options.saved).read_text())
+    else:
+        with tempfile.TemporaryDirectory() as folder:
+            yardstick = str(Path(folder) / "limit")
+            subprocess.run(["cc", "-O2", "-o", yardstick, str(TOP / "tools/limit.c")], check=True)
+            told = measured(options, Path(folder))
+    if options.save:
+        Path(options.save).write_text(json.dumps(told, indent=1) + "\n")
+    if options.svg:
+        Path(options.svg).write_text(picture(told))
 
 
 if __name__ == "__main__":
