@@ -1,6 +1,7 @@
 #!/usr/bin/env python3
-"""Looks up what the pages name, without a network: links and their anchors, files in backticks, calls in backticks, and that no module
-of a crate lacks its row in docs/ARCHITECTURE.md, nor any file of definitions its row in docs/DEFINITIONS.md.
+"""Looks up what the pages name, without a network: links and their anchors, files in backticks, calls in backticks, lines of sources in
+blocks that say `rust` or `antt`, and that no module of a crate lacks its row in docs/ARCHITECTURE.md, nor any file of definitions its
+row in docs/DEFINITIONS.md.
 
     tools/check-links.py
 
@@ -14,6 +15,7 @@ TOP = pathlib.Path(__file__).resolve().parent.parent
 CRATES = [line.split(":")[0] for line in (TOP / "crates.txt").read_text().splitlines()]
 PAGES = sorted(TOP.glob("*.md")) + sorted(TOP.glob("docs/*.md"))
 SOURCE = "\n".join(path.read_text() for path in TOP.glob("crates/*/src/**/*.rt"))
+DEFINITIONS = "\n".join(path.read_text() for path in TOP.glob("crates/*/specs/**/*.antt"))
 FUNCTIONS = set(re.findall(r"\b(?:fn|const|type|struct|enum|trait) (\w+)", SOURCE)) | set(re.findall(r"^    (\w+)(?:\(|,| \{)", SOURCE, re.M))
 FOLDERS_OF_A_CRATE = ("specs", "proofs", "src", "must-fail")
 
@@ -74,6 +76,12 @@ def calls(text):
     return [(owner, call) for owner, call in found if call != "default"]
 
 
+def excerpts(text):
+    """The lines that a page shows of the sources, in blocks that say their language."""
+    for block in re.findall(r"^```(?:rust|antt)\n(.*?)^```$", text, re.M | re.S):
+        yield from filter(None, map(str.strip, block.splitlines()))
+
+
 class Checks:
     """What was looked up, by its fault or None."""
     passed = failed = 0
@@ -95,6 +103,8 @@ def check_page(checks, page):
     for owner, call in calls(text):
         known = owner in FUNCTIONS and call in FUNCTIONS or owner not in SOURCE
         checks.see(name, f"{owner}::{call}", None if known else "no such call")
+    for line in excerpts(page.read_text()):
+        checks.see(name, line, None if line in SOURCE or line in DEFINITIONS else "no such line in the sources")
 
 
 def check_modules(checks):
