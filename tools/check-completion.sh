@@ -4,6 +4,7 @@
 # With a program each long option of its help must be offered too.
 # The last line is `N passed, M failed`.
 set -u
+program=${1:+$(realpath -- "$1")}
 cd "$(dirname "$0")/../share/bash-completion/completions" || exit 2
 passed=0
 failed=0
@@ -111,8 +112,8 @@ offers 'eth0 eth1' _lldpa_capture lldpa-capture --port e
 offers FILES _lldpa_capture lldpa-capture --port eth0 f
 
 # the words of the completion are those of the program's help, where a program is given
-if [ $# -eq 1 ]; then
-    for word in $("$1" --help | sed -n 's/^ *\(-[a-zA-Z], \)\{0,1\}\(--[a-z-]*\).*/\2/p'); do
+if [ -n "$program" ]; then
+    for word in $("$program" --help | sed -n 's/^ *\(-[a-zA-Z], \)\{0,1\}\(--[a-z-]*\).*/\2/p'); do
         offers "$word" _lldpa lldpa "$word"
     done
 fi

@@ -16,16 +16,15 @@ import tempfile
 
 TOP = pathlib.Path(__file__).resolve().parent.parent
 
-# what a session on a link begins with
-ON_A_LINK = ("$ sudo ", "$ lldpcli ", "$ tools/", "$ head ")
+# what a session on a link begins with, and what is shown of it
+ON_A_LINK = ("$ sudo ", "$ lldpcli ", "$ head ")
 
 
 def blocks():
     """The name and the lines of each block of the documents and of the manual page."""
-    for name in ("README.md", "docs/MANUAL.md", "docs/LLDPCLI.md"):
-        text = (TOP / name).read_text()
-        for place, block in enumerate(re.findall(r"^```\w*\n(.*?)^```$", text, re.M | re.S), 1):
-            yield f"{name}, block {place}", block.splitlines()
+    for path in sorted(TOP.glob("*.md")) + sorted(TOP.glob("docs/*.md")):
+        for place, block in enumerate(re.findall(r"^```\w*\n(.*?)^```$", path.read_text(), re.M | re.S), 1):
+            yield f"{path.relative_to(TOP)}, block {place}", block.splitlines()
     page = (TOP / "man" / "lldpa.1").read_text().replace("\\e", "\\").replace("\\-", "-").replace("\\&", "")
     for place, block in enumerate(re.findall(r"^\.Bd -literal\n(.*?)^\.Ed$", page, re.M | re.S), 1):
         yield f"manual page, block {place}", block.splitlines()
@@ -49,7 +48,7 @@ def script_and_output(lines):
 def fault_of(lines, folder):
     """What is wrong with an example, or None."""
     script, wanted = script_and_output(lines)
-    ran = subprocess.run(["sh", "-c", f'PATH="{folder}:$PATH"\n{script}'], stdin=subprocess.DEVNULL,
+    ran = subprocess.run(["sh", "-c", f'PATH="{folder}:$PATH"\n{script}'], stdin=subprocess.DEVNULL, cwd=TOP,
                          capture_output=True, text=True, timeout=60)
     if ran.stderr:
         return f"standard error {ran.stderr[:300]!r}"
