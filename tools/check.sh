@@ -176,6 +176,13 @@ sys.stdout.buffer.write(random.Random(1).randbytes(2000000))' > "$room/random"
     done
 }
 
+# The picture of the benchmark is that of its table.
+picture() {
+    echo "== picture"
+    python3 tools/bench.py --saved docs/bench.json --svg "$room/picture" && cmp "$room/picture" docs/bench.svg
+    judge $? "docs/bench.svg is not what tools/bench.py draws of docs/bench.json"
+}
+
 # The manual page is well formed, where there is mandoc or man.
 manual_page() {
     echo "== manual page"
@@ -196,6 +203,7 @@ manual_page() {
 part "examples of the pages" python3 tools/examples.py "$program"
 part "links of the pages" python3 tools/check-links.py
 manual_page
+picture
 part "completion" tools/check-completion.sh "$program"
 misused_words
 misused_streams
