@@ -2,7 +2,7 @@
 # Checks the built program: the examples of the pages, the links of the pages, the completion, misuse of its words and
 # streams, refused memory, and half a minute of random traces beside the model.
 #     tools/check.sh [PROGRAM]
-# PROGRAM is the one that the gate leaves unless given. It needs sh, python3 and cmp, and a C compiler for
+# PROGRAM is the one that the gate leaves unless given. It needs sh, bash, python3 and cmp, and a C compiler for
 # refused memory; what had to be skipped is said and not counted. The last line is `N passed, M failed`.
 set -u
 cd "$(dirname "$0")/.." || exit 2
