@@ -16,7 +16,8 @@ CRATES = [line.split(":")[0] for line in (TOP / "crates.txt").read_text().splitl
 PAGES = sorted(TOP.glob("*.md")) + sorted(TOP.glob("docs/*.md"))
 SOURCE = "\n".join(path.read_text() for path in TOP.glob("crates/*/src/**/*.rt"))
 DEFINITIONS = "\n".join(path.read_text() for path in TOP.glob("crates/*/specs/**/*.antt"))
-FUNCTIONS = set(re.findall(r"\b(?:fn|const|type|struct|enum|trait) (\w+)", SOURCE)) | set(re.findall(r"^    (\w+)(?:\(|,| \{)", SOURCE, re.M))
+FUNCTIONS = set(re.findall(r"\b(?:fn|const|type|struct|enum|trait) (\w+)", SOURCE))
+FUNCTIONS |= set(re.findall(r"^    (\w+)(?:\(|,| \{)", SOURCE, re.M))  # the cases of enums
 FOLDERS_OF_A_CRATE = ("specs", "proofs", "src", "must-fail")
 
 
@@ -107,6 +108,18 @@ def check_page(checks, page):
         checks.see(name, line, None if line in SOURCE or line in DEFINITIONS else "no such line in the sources")
 
 
+def check_row(checks, page, crate, row):
+    """The calls of a row are calls of its modules, and the definitions are cited there."""
+    modules, _, calls_of_it, specs = row.split("|")[1:5]
+    texts = [path.read_text() for name in re.findall(r"`(\w+)`", modules) for path in (TOP / "crates" / crate / "src").rglob(f"{name}.rt")]
+    source = "\n".join(texts)
+    for call in re.findall(r"`(?:\w+::)?(\w+)`", calls_of_it):
+        checks.see(page, f"{crate}, {modules.strip()}, {call}", None if re.search(rf"\b{call}\b", source) else "no such call there")
+    for name in re.findall(r"`([\w/]+)`", specs):
+        cited = re.search(rf"Rattle\.{crate}\.specs\.{name.replace('/', '.')}\b", source)
+        checks.see(page, f"{crate}, {modules.strip()}, {name}", None if cited else "is not cited there")
+
+
 def check_modules(checks):
     """Each module has its row below its crate's, and each row its module."""
     page = "docs/ARCHITECTURE.md"
@@ -117,6 +130,8 @@ def check_modules(checks):
         for module in sorted(told | there - {"lib", "tests"}):
             fault = None if module in told & there else "has no row" if module in there else "no such module"
             checks.see(page, f"{crate}, {module}", fault)
+        for row in rows.splitlines():
+            check_row(checks, page, crate, row)
     checks.see(page, "crates", None if all(f"**`{crate}`**" in table for crate in CRATES) else "one has no rows")
 
 
