@@ -1,7 +1,7 @@
 #!/usr/bin/env python3
-"""Looks up what the pages name, without a network: links and their anchors, files in backticks, calls in backticks, lines of sources in
-blocks that say `rust` or `antt`, and that no module of a crate lacks its row in docs/ARCHITECTURE.md, nor any file of definitions its
-row in docs/DEFINITIONS.md.
+"""Looks up what the pages name, without a network: links and their anchors, files in backticks, calls in backticks, lines
+of sources in blocks that say `rust` or `antt`, and that no module of a crate lacks its row in docs/ARCHITECTURE.md, nor
+any file of definitions its row in docs/DEFINITIONS.md. No line of text is over 120 columns long.
 
     tools/check-links.py
 
@@ -96,6 +96,9 @@ class Checks:
 
 def check_page(checks, page):
     text, name = without_code(page.read_text()), page.relative_to(TOP)
+    for line in text.splitlines():
+        if len(line) > 120 and not line.startswith("|"):
+            checks.see(name, line[:50], "a line of more than 120 columns")
     for target in links(text):
         checks.see(name, target, fault_of_link(page, target))
     for file in file_names(text):
