@@ -34,20 +34,19 @@ const CONNECTIONS: &str = "connections";
 
 const PORT: &str = "PORT";
 
-const MAX_NEIGHBORS_HELP: &str = "How many neighbors each port holds, 1 to 128";
+const MAX_NEIGHBORS_HELP: &str = "Neighbors of each port, 1 to 128";
 
-const MAC_HELP: &str = "The source address of frames, six pairs of hexadecimal digits";
+const MAC_HELP: &str = "Source address of frames";
 
-const HOSTNAME_HELP: &str = "The system name, up to 255 printable characters";
+const HOSTNAME_HELP: &str = "System name, up to 255 octets";
 
-const TX_CREDIT_MAX_HELP: &str = "The most frames that a port may send at once, 1 to 10";
+const TX_CREDIT_MAX_HELP: &str = "Most frames of a port at once, 1 to 10";
 
-const TX_FAST_INIT_HELP: &str = "How many signals a new neighbor sets off, one each second, 1 to 8";
+const TX_FAST_INIT_HELP: &str = "Signals for a new neighbor, 1 to 8";
 
-const REINIT_DELAY_HELP: &str = "Seconds from a shutdown frame to the next start, 1 to 10";
+const REINIT_DELAY_HELP: &str = "Seconds from shutdown to start, 1 to 10";
 
-const CONNECTIONS_HELP: &str =
-    "How many connections --listen serves, one after the other, 1 to 65535";
+const CONNECTIONS_HELP: &str = "Connections to serve, 1 to 65535";
 
 const ROLES: &[&str] = &["station", "bridge", "router"];
 
@@ -114,7 +113,7 @@ fn management<'a>(alloc: Global) -> Arg<'a>
     Arg::new(alloc, MANAGEMENT)
         .long(MANAGEMENT)
         .value_name("IPV4")
-        .help("The address under which the agent can be managed [default: none]")
+        .help("Address under which the agent can be managed")
 }
 
 fn role<'a>(alloc: Global) -> Arg<'a>
@@ -142,16 +141,14 @@ fn listen<'a>(alloc: Global) -> Arg<'a>
         .long(LISTEN)
         .value_name("PORT")
         .value_parser(value_parser!(u16).range(1..=65535))
-        .help(
-            "Serves connections to this TCP port of 127.0.0.1, 1 to 65535, in place of standard input",
-        )
+        .help("Serves connections to this port of 127.0.0.1")
 }
 
 fn ports<'a>(alloc: Global) -> Arg<'a>
     ensures { IsArgument (codes "PORT") result }
 {
     Arg::new(alloc, PORT).num_args(0..).help(
-        "The ports, 1 to 64: names of 1 to 15 letters, digits, `-`, `_`, `/` and `:`",
+        "The ports, 1 to 64: 1 to 15 letters, digits, -, _, / and :",
     )
 }
 
