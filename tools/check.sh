@@ -119,6 +119,7 @@ misused_words() {
     done
     ends 2 "lldpa: no memory" 'lldpa "$(printf "\377")"'
     ends 0 "" 'lldpa --help' "*"
+    ends 0 "" 'lldpa --help > help && ! grep -n ".\{81\}" help && grep -qx "Usage: lldpa \[OPTIONS\] PORT..." help'
     ends 0 "" 'lldpa -h eth0' "*"
     ends 0 "" 'lldpa --version' "*"
     ends 2 "lldpa: bad port name" 'printf "tick\n" | { lldpa a.b; kept=$?; cat; exit $kept; }' tick

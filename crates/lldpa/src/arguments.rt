@@ -5,7 +5,7 @@ ghost use Rattle.lldp_engine.specs.Options.{InRange, options_of as plain_options
 ghost use Rattle.lldpa.specs.Arguments.{GivesNumber, GivesOptions, GivesText, HasValue, IsArgument, ReadsOptions, greatest_of};
 
 use crate::addresses::{read_ipv4, read_mac};
-use crate::help::{ABOUT, MORE, VERSION};
+use crate::help::{ABOUT, MORE, USAGE, VERSION};
 use clap::{Arg, ArgAction, ArgMatches, Command, Error, value_parser};
 use lldp_engine::{Options, Role};
 use std::alloc::{AllocError, Global};
@@ -122,7 +122,7 @@ fn role<'a>(alloc: Global) -> Arg<'a>
     valued(alloc, ROLE, "station")
         .value_name("ROLE")
         .value_parser(ROLES)
-        .help("What the system is")
+        .help("station, bridge or router")
 }
 
 fn receive_only<'a>(alloc: Global) -> Arg<'a>
@@ -147,9 +147,7 @@ fn listen<'a>(alloc: Global) -> Arg<'a>
 fn ports<'a>(alloc: Global) -> Arg<'a>
     ensures { IsArgument (codes "PORT") result }
 {
-    Arg::new(alloc, PORT).num_args(0..).help(
-        "The ports, 1 to 64: 1 to 15 letters, digits, -, _, / and :",
-    )
+    Arg::new(alloc, PORT).num_args(0..).hide(true)
 }
 
 /// Reads the words, of which the first is the program's name. Fails also where they ask for help or the version.
@@ -166,6 +164,8 @@ fn command<'a>(alloc: Global) -> Result<Command<'a>, AllocError>
     Command::new(alloc, "lldpa")
         .version(VERSION)
         .about(ABOUT)
+        .override_usage(USAGE)
+        .hide_possible_values(true)
         .after_help(MORE)
         .arg(number(alloc, MAX_NEIGHBORS, 128, "32", MAX_NEIGHBORS_HELP))?
         .arg(text(alloc, MAC, "MAC", "02:00:00:00:00:01", MAC_HELP))?

@@ -5,7 +5,11 @@ pub const VERSION: &str = "1.0.0";
 pub const ABOUT: &str =
     "Runs an LLDP agent over a trace: reads received frames, seconds and commands
 from standard input or from connections, and writes the frames that are sent
-and what the commands show.";
+and what the commands show.
+
+Each PORT, 1 to 64 of them, is a name of 1 to 15 letters, digits, -, _, / and :.";
+
+pub const USAGE: &str = "lldpa [OPTIONS] PORT...";
 
 pub const MORE: &str = "Lines of a trace:
   tick                                     one second

@@ -337,7 +337,7 @@ fn help_and_version(rt: HostRuntime) {
     for word in ["--help", "-h"] {
         let (status, writer, faults) = run(rt.alloc(), &["lldpa", word, "--no-such"]);
         assert_eq!(rt; status, 0);
-        assert!(rt; has(writer.taken(), "Usage: lldpa [OPTIONS] [PORT]..."));
+        assert!(rt; has(writer.taken(), "Usage: lldpa [OPTIONS] PORT..."));
         assert!(rt; has(writer.taken(), MORE));
         assert_eq!(rt; faults.taken(), NOTHING);
     }

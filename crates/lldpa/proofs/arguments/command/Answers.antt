@@ -6,9 +6,9 @@ use Rattle.lldpa.proofs.arguments.command.Goals as goal
 -- each option is there from its own step on
 pub returns : goal.returns
 returns c =
-    let args = ap (λ f. f.args.items) c.after_help.ensures ∙ (ap (λ f. f.args.items) c.about.ensures ∙ (ap (λ f. f.args.items) c.version.ensures ∙ c.new.ensures.empty.0)) in
-    let groups = ap (λ f. f.groups.items) c.after_help.ensures ∙ (ap (λ f. f.groups.items) c.about.ensures ∙ (ap (λ f. f.groups.items) c.version.ensures ∙ c.new.ensures.empty.1)) in
-    let local = ap (λ f. f.has_globals) c.after_help.ensures ∙ (ap (λ f. f.has_globals) c.about.ensures ∙ (ap (λ f. f.has_globals) c.version.ensures ∙ c.new.ensures.local)) in
+    let args = ap (λ f. f.args.items) c.after_help.ensures ∙ (ap (λ f. f.args.items) c.hide_possible_values.ensures ∙ (ap (λ f. f.args.items) c.override_usage.ensures ∙ (ap (λ f. f.args.items) c.about.ensures ∙ (ap (λ f. f.args.items) c.version.ensures ∙ c.new.ensures.empty.0)))) in
+    let groups = ap (λ f. f.groups.items) c.after_help.ensures ∙ (ap (λ f. f.groups.items) c.hide_possible_values.ensures ∙ (ap (λ f. f.groups.items) c.override_usage.ensures ∙ (ap (λ f. f.groups.items) c.about.ensures ∙ (ap (λ f. f.groups.items) c.version.ensures ∙ c.new.ensures.empty.1)))) in
+    let local = ap (λ f. f.has_globals) c.after_help.ensures ∙ (ap (λ f. f.has_globals) c.hide_possible_values.ensures ∙ (ap (λ f. f.has_globals) c.override_usage.ensures ∙ (ap (λ f. f.has_globals) c.about.ensures ∙ (ap (λ f. f.has_globals) c.version.ensures ∙ c.new.ensures.local)))) in
     let r0 = new_ready c.after_help.result args groups local in
     let a1 = c.in_ok-arg.ensures in
     let a2 = c.in_ok-arg-2.ensures in
