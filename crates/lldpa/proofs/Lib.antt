@@ -12,7 +12,10 @@ pub mod RunLemmas
 pub mod SentLemmas
 pub mod Progress
 pub mod PieceLemmas
-pub mod GoesOnLemmas
+pub mod KeepsOnLemmas
 pub mod ServeLemmas
+mod AddressLemmas
 mod Examples
 mod ArgumentLemmas
+pub mod ProgramLemmas
+mod UsageLemmas

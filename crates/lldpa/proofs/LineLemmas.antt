@@ -4,7 +4,7 @@ use Rattle.std.proofs.lemmas.Bool.{cases_lt, cases_eq, ne_eqb, eqb-true, eq-eqb}
 use Rattle.std.proofs.lemmas.List.{get_or-drop, append-nil, take-append-drop, drop_more, drop-drop, get_or-take, take_all, take-take, take-append-le}
 use Rattle.std.proofs.Math.Seq.{take-add}
 use Rattle.memchr.specs.Find.{IsFirstByte, Nowhere, Passes, is_byte}
-use Rattle.lldpa.specs.Lines.{ended_lines, unfinished, onto_lines, onto_rest}
+use Rattle.lldpa.specs.Lines.{ended_lines, unfinished, onto_lines, onto_rest, if_any}
 
 ended_lines-other : (b : ℕ) (bs : List ℕ) → (b ≡ 10 → ⊥) → ended_lines (b ∷ bs) ≡ onto_lines b (ended_lines bs)
 ended_lines-other b bs ne = let e : eqb b 10 ≡ false = ne_eqb b 10 ne in rw e refl
@@ -218,3 +218,8 @@ held_more n xs ys =
     let none : ended_lines p ≡ [] = unfinished_no_lf xs in
     ap (take n) (unfinished-onto (take n p) ys (no_lf-take n p none)) ∙ take_rest_all n p (ended_lines ys) (unfinished ys)
     ∙ ap (take n) (sym (unfinished-onto p ys none)) ∙ ap (take n) (sym (unfinished-append xs ys))
+
+-- no line follows the last LF where nothing does
+pub no_last_line : (rest : List ℕ) → length rest ≡ 0 → if_any rest ≡ []
+no_last_line [] e = refl
+no_last_line (octet ∷ octets) e = absurd (omega (arith, e))

@@ -62,6 +62,7 @@ next f a m b t lines (Ok done) e k h all =
     record {
       went = goes_on (f a) (f m) (f b) t (flat_map ended lines) (f b).result (rw e at k.went) rest.went;
       failures = rest.failures ∙ ap (λ n. failures_after n (f b).result) same;
+      place = rest.place ∙ k.place;
       sink = rest.sink ∙ k.sink;
       waiting = rest.waiting ∙ k.waiting;
     }
@@ -70,6 +71,7 @@ next f a m b t lines (Err fault) e k h all =
     rw same record {
       went = rw (e, ← append_assoc (f a).waits t (flat_map ended lines)) (cut_off_longer _ _ ((f a).waits ++ t) (flat_map ended lines) (rw e at k.went));
       failures = k.failures;
+      place = k.place;
       sink = k.sink;
       waiting = k.waiting;
     }
@@ -77,7 +79,7 @@ next f a m b t lines (Err fault) e k h all =
 pub all_went : {S : Type 0} (f : S → Page) (a b : S) (lines : List (List ℕ)) (done : Unit {0}) → (f a).result ≡ Ok done → Takes (λ x y line. TakesLine (f x) (f y) line) a b lines → Goes (f a) (f b) (flat_map ended lines)
 unfolding Takes Went
 all_went f a b [] done e h =
-    rw (← h) record { went = rw e (goes_out_none _ _); failures = rw e refl; sink = refl; waiting = refl }
+    rw (← h) record { went = rw e (goes_out_none _ _); failures = rw e refl; place = refl; sink = refl; waiting = refl }
 all_went f a b (line ∷ lines) done e h =
     next f a h.0 b (ended line) lines (f h.0).result refl (subst (GoesFrom (f a) (f h.0) (ended line)) e h.1) h.2 (λ d ok. all_went f h.0 b lines d ok h.2)
 

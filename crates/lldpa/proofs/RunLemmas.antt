@@ -8,6 +8,7 @@ use Rattle.lldp_engine.specs.Past.{Past}
 use Rattle.lldp_engine.specs.Standing.{Stands}
 use Rattle.lldp_engine.specs.Lines.{lines_of as show_lines}
 use Rattle.lldp_engine.specs.AgentState.{AgentState}
+use Rattle.lldp_engine.proofs.HeadlineLemmas.{promised as keeps_promise}
 use Rattle.lldpa.specs.declared.line.LineFault.{LineFault}
 use Rattle.lldpa.specs.Lines.{ended}
 use Rattle.lldpa.specs.Forms.{Reading, reading_of}
@@ -18,10 +19,14 @@ use Rattle.lldpa.proofs.Written.{appends_then, appends_nothing, appends_same}
 use Rattle.lldpa.proofs.ItemLemmas.{after_all-append, text_of_all-append, items_of_lines-append}
 
 pub done_none : (past : Past) (a : Option (List ℕ)) (agent : AgentState) → Stands past agent → Done past [] a a agent
-done_none past a agent h = record { written = appends_nothing a; stands = h }
+done_none past a agent h = record { written = appends_nothing a; stands = h; promised = keeps_promise past agent h }
 
 pub done_one : (past : Past) (item : Item) (a b : Option (List ℕ)) (agent : AgentState) → Appends a b (text_of past item) → Stands (after past item) agent → Done past (item ∷ []) a b agent
-done_one past item a b agent h k = record { written = appends_same a b _ _ (sym (append-nil (text_of past item))) h; stands = k }
+done_one past item a b agent h k = record {
+  written = appends_same a b _ _ (sym (append-nil (text_of past item))) h;
+  stands = k;
+  promised = keeps_promise (after past item) agent k;
+}
 
 pub failed_one : (past : Past) (item : Item) (a b : Option (List ℕ)) (agent : AgentState) → IsWritten (IsCutOff (text_of past item)) a b → Stands (after past item) agent → Failed past (item ∷ []) a b agent
 failed_one past item a b agent h k = record {
@@ -33,12 +38,14 @@ failed_one past item a b agent h k = record {
   cut_off = h.1;
   written = h.2;
   stands = k;
+  promised = keeps_promise (after past item) agent k;
 }
 
 pub done_then : (past : Past) (xs ys : List Item) (a b c : Option (List ℕ)) (agent : AgentState) → Appends a b (text_of_all past xs) → Done (after_all past xs) ys b c agent → Done past (xs ++ ys) a c agent
 done_then past xs ys a b c agent h k = record {
   written = appends_same a c _ _ (sym (text_of_all-append past xs ys)) (appends_then a b c _ _ h k.written);
   stands = rw after_all-append k.stands;
+  promised = rw after_all-append k.promised;
 }
 
 -- what failed among the first items failed
@@ -52,6 +59,7 @@ failed_early past xs ys a b agent h = record {
   cut_off = h.cut_off;
   written = h.written;
   stands = h.stands;
+  promised = h.promised;
 }
 
 -- what failed behind items that were done failed
@@ -65,6 +73,7 @@ failed_later past xs ys a b c agent h k = record {
   cut_off = rw after_all-append k.cut_off;
   written = appends_same a c _ _ (sym (append_assoc (text_of_all past xs) (text_of_all (after_all past xs) k.before) k.part) ∙ ap (λ t. t ++ k.part) (sym (text_of_all-append past xs k.before))) (appends_then a b c _ _ h k.written);
   stands = rw (append_assoc, after_all-append) k.stands;
+  promised = rw (append_assoc, after_all-append) k.promised;
 }
 
 pub done_same : (past : Past) (xs ys : List Item) (a b : Option (List ℕ)) (agent : AgentState) → xs ≡ ys → Done past xs a b agent → Done past ys a b agent

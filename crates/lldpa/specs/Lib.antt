@@ -11,4 +11,7 @@ pub mod Page
 pub mod Told
 pub mod Runs
 pub mod Serving
+pub mod Program
+pub mod Addresses
+pub mod Usage
 pub mod Arguments

@@ -6,11 +6,12 @@ use Rattle.lldpa.specs.Devices.{failures_after}
 use Rattle.lldpa.specs.Lines.{ended}
 use Rattle.lldpa.specs.Output.{IsCutOff, IsWritten, GoesOut}
 
--- what its sink took, what waits, how many writes failed, the references of sink and of what waits, and the answer so far
+-- what its sink took, what waits, how many writes failed and where to, the references of sink and of what waits, and the answer so far
 pub record Page : Type 0 where
   pub taken : Option (List ℕ)
   pub waits : List ℕ
   pub failures : ℕ
+  pub place : GName
   pub sink : GName
   pub waiting : GName
   pub result : Result (Unit {0}) DeviceFault
@@ -24,6 +25,7 @@ Went old new text (Err fault) = IsWritten (IsCutOff (old.waits ++ text)) old.tak
 pub record Goes (old new : Page) (text : List ℕ) : Type 0 where
   pub went : Went old new text new.result
   pub failures : new.failures ≡ failures_after old.failures new.result
+  pub place : new.place ≡ old.place
   pub sink : new.sink ≡ old.sink
   pub waiting : new.waiting ≡ old.waiting
 

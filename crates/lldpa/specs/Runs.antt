@@ -13,13 +13,15 @@ use Rattle.lldpa.specs.Output.{IsCutOff}
 use Rattle.lldpa.specs.declared.trace.RunFault.{RunFault}
 use Rattle.lldpa.specs.declared.trace.RunFault.TheVariants.{Read, Write, InputTooLong}
 
--- all items were done: their text was written, and the agent stands for the past after them
+-- All items were done: their text was written, and the agent stands for the past after them and keeps the promise for it: tables hold
+-- the last stored frames, and ports have sent exactly what was due.
 pub record Done (past : Past) (items : List Item) (old new : Option (List ℕ)) (agent : AgentState) : Type 0 where
   pub written : Appends old new (text_of_all past items)
   pub stands : Stands (after_all past items) agent
+  pub promised : Promised (after_all past items) agent
 
--- An item's output failed. The agent stands for the past after that item. The text of the items before it was written, and of its
--- own text a part, but not all.
+-- An item's output failed. The agent stands for the past after that item and keeps the promise for it. The text of the items before
+-- it was written, and of its own text a part, but not all.
 pub record Failed (past : Past) (items : List Item) (old new : Option (List ℕ)) (agent : AgentState) : Type 0 where
   pub before : List Item
   pub item : Item
@@ -29,6 +31,7 @@ pub record Failed (past : Past) (items : List Item) (old new : Option (List ℕ)
   pub cut_off : IsCutOff (text_of (after_all past before) item) part
   pub written : Appends old new (text_of_all past before ++ part)
   pub stands : Stands (after_all past (before ++ item ∷ [])) agent
+  pub promised : Promised (after_all past (before ++ item ∷ [])) agent
 
 -- The run stopped at an item whose output failed: one of a line whose LF was read, or, where nothing is left to come, one of the
 -- last line.
@@ -78,10 +81,7 @@ write_failures_after failures (Err InputTooLong) = failures
 abbrev pub followed : Past → List Event → Past
 followed past events = record { options = past.options; events = events ++ past.events }
 
--- the agent stands for the past and some more events, all of them allowed, as all are that an agent stands for
-abbrev pub GoesOn : Past → AgentState → Type 0
-GoesOn past agent = (events : List Event) × Stands (followed past events) agent
-
--- and it keeps the promise: tables hold the last stored frames, and ports have sent exactly what was due
+-- The agent stands for the past and some more events, all of them allowed, as all are that an agent stands for, and keeps the promise:
+-- tables hold the last stored frames, and ports have sent exactly what was due.
 abbrev pub KeepsOn : Past → AgentState → Type 0
 KeepsOn past agent = (events : List Event) × Stands (followed past events) agent × Promised (followed past events) agent

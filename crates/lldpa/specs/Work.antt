@@ -1,5 +1,5 @@
 -- What a line was read as, as plain data.
-use Rattle.std.specs.Prelude.{Result, Ok, Err}
+use Rattle.std.specs.Prelude.{◌≤◌, Result, Ok, Err}
 use Rattle.lldp_engine.specs.Event.{frame, link as link_event}
 use Rattle.lldp_engine.specs.AgentState.{AgentState, Allows}
 use Rattle.lldp_engine.specs.Request.{request_of, AllowsRequest}
@@ -21,10 +21,10 @@ abbrev pub said : Result Work LineFault → Result Reading LineFault
 said (Ok work) = Ok (reading_of_work work)
 said (Err fault) = Err fault
 
--- the agent accepts the events of the work
+-- the agent accepts the events of the work, and its ticks are one at least
 abbrev pub AllowsWork : AgentState → Work → Type 0
 AllowsWork agent Skip = Unit {0}
-AllowsWork agent (Ticks n) = Unit {0}
+AllowsWork agent (Ticks n) = 1 ≤ n
 AllowsWork agent (Frame port octets) = Allows agent (frame port octets.now)
 AllowsWork agent (Link port up) = Allows agent (link_event port up)
 AllowsWork agent (Command command) = AllowsRequest agent (request_of command)

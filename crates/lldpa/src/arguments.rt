@@ -1,6 +1,10 @@
 //! What the words of the program ask for.
-ghost use Rattle.std.specs.Prelude.{◌≡◌, ◌≤◌, ℕ, IfOk, Some, None, false, codes};
-ghost use Rattle.clap.specs.Words.{IsPlainArg};
+ghost use Rattle.std.specs.Prelude.{◌≡◌, ◌≤◌, ◌⊎◌, ℕ, List, IfOk, IfErr, Some, None, false, true, is_some, codes, map, option_map};
+ghost use Rattle.std.specs.Borrow.{Bor};
+ghost use Rattle.clap.specs.Words.{IsPlainArg, app_of, first_value, found_of, kind_of, one_text, rows_of, rule_of};
+ghost use Rattle.clap.specs.Walk.{byte_or_zero};
+ghost use Rattle.clap.specs.declared.error.kind.ErrorKind.TheVariants as ErrorKind;
+ghost use Rattle.lldpa.specs.Usage.{AreRoles, Asks, AsksManagement, IsParse, MayFail, listen_rule, management_rule, number_rule, ports_rule, program, receive_only_rule, role_named, role_rule, text_rule, valued_rule};
 ghost use Rattle.lldp_engine.specs.Options.{InRange, options_of as plain_options};
 ghost use Rattle.lldpa.specs.Arguments.{GivesNumber, GivesOptions, GivesText, HasValue, IsArgument, ReadsOptions, greatest_of};
 
@@ -73,7 +77,8 @@ fn number<'a>(
     help: &'a str,
 ) -> Arg<'a>
     requires greatest { greatest_of name.now ≡ Some greatest }
-    ensures { IsArgument name.entry.now result }
+    ensures fits { IsArgument name.entry.now result }
+    ensures rule { rule_of result ≡ number_rule name.entry.now greatest default.entry.now }
 {
     valued(alloc, name, default)
         .value_name("N")
@@ -90,7 +95,8 @@ fn text<'a>(
     help: &'a str,
 ) -> Arg<'a>
     requires text { greatest_of name.now ≡ None }
-    ensures { IsArgument name.entry.now result }
+    ensures fits { IsArgument name.entry.now result }
+    ensures rule { rule_of result ≡ text_rule name.entry.now default.entry.now }
 {
     valued(alloc, name, default).value_name(value).help(help)
 }
@@ -100,6 +106,7 @@ fn valued<'a>(alloc: Global, name: &'a str, default: &'a str) -> Arg<'a>
     ensures id { result.id ≡ name.entry }
     ensures plain { IsPlainArg result × (result.global ≡ false) }
     ensures value { HasValue result }
+    ensures rule { rule_of result ≡ valued_rule name.entry.now default.entry.now }
 {
     Arg::new(alloc, name)
         .long(name)
@@ -108,7 +115,8 @@ fn valued<'a>(alloc: Global, name: &'a str, default: &'a str) -> Arg<'a>
 }
 
 fn management<'a>(alloc: Global) -> Arg<'a>
-    ensures { IsArgument (codes "management") result }
+    ensures fits { IsArgument (codes "management") result }
+    ensures rule { rule_of result ≡ management_rule }
 {
     Arg::new(alloc, MANAGEMENT)
         .long(MANAGEMENT)
@@ -117,7 +125,8 @@ fn management<'a>(alloc: Global) -> Arg<'a>
 }
 
 fn role<'a>(alloc: Global) -> Arg<'a>
-    ensures { IsArgument (codes "role") result }
+    ensures fits { IsArgument (codes "role") result }
+    ensures rule { (roles : Bor (List (Bor (List ℕ)))) × AreRoles roles × (rule_of result ≡ role_rule roles) }
 {
     valued(alloc, ROLE, "station")
         .value_name("ROLE")
@@ -126,7 +135,8 @@ fn role<'a>(alloc: Global) -> Arg<'a>
 }
 
 fn receive_only<'a>(alloc: Global) -> Arg<'a>
-    ensures { IsArgument (codes "receive-only") result }
+    ensures fits { IsArgument (codes "receive-only") result }
+    ensures rule { rule_of result ≡ receive_only_rule }
 {
     Arg::new(alloc, RECEIVE_ONLY)
         .long(RECEIVE_ONLY)
@@ -135,7 +145,8 @@ fn receive_only<'a>(alloc: Global) -> Arg<'a>
 }
 
 fn listen<'a>(alloc: Global) -> Arg<'a>
-    ensures { IsArgument (codes "listen") result }
+    ensures fits { IsArgument (codes "listen") result }
+    ensures rule { rule_of result ≡ listen_rule }
 {
     Arg::new(alloc, LISTEN)
         .long(LISTEN)
@@ -145,7 +156,8 @@ fn listen<'a>(alloc: Global) -> Arg<'a>
 }
 
 fn ports<'a>(alloc: Global) -> Arg<'a>
-    ensures { IsArgument (codes "PORT") result }
+    ensures fits { IsArgument (codes "PORT") result }
+    ensures rule { rule_of result ≡ ports_rule }
 {
     Arg::new(alloc, PORT).num_args(0..).hide(true)
 }
@@ -153,6 +165,8 @@ fn ports<'a>(alloc: Global) -> Arg<'a>
 /// Reads the words, of which the first is the program's name. Fails also where they ask for help or the version.
 pub fn parse<'a>(alloc: Global, words: &'a [&'a str]) -> Result<ArgMatches<'a>, Error>
     ensures options { IfOk result GivesOptions }
+    ensures words { IfOk result (λ m. IsParse (map (λ word. word.now) words.entry.now) (rows_of (found_of m))) }
+    ensures kinds { IfErr result (λ e. (kind_of e ≡ ErrorKind.OutOfMemory) ⊎ MayFail (map (λ word. word.now) words.entry.now) (kind_of e)) }
 {
     command(alloc)?.try_get_matches_from(words)
 }
@@ -160,6 +174,7 @@ pub fn parse<'a>(alloc: Global, words: &'a [&'a str]) -> Result<ArgMatches<'a>, 
 /// The program's options and ports.
 fn command<'a>(alloc: Global) -> Result<Command<'a>, AllocError>
     ensures options { IfOk result ReadsOptions }
+    ensures app { IfOk result (λ c. (roles : Bor (List (Bor (List ℕ)))) × AreRoles roles × (app_of c ≡ program roles)) }
 {
     Command::new(alloc, "lldpa")
         .version(VERSION)
@@ -185,6 +200,7 @@ fn command<'a>(alloc: Global) -> Result<Command<'a>, AllocError>
 pub fn options_of<'m>(matches: &'m ArgMatches<'_>) -> Result<Options<'m>, AddressFault>
     requires given { GivesOptions matches.now }
     ensures range { IfOk result (λ options. InRange (plain_options options)) }
+    ensures asks { IfOk result (λ options. Asks (rows_of (found_of matches.now)) (plain_options options)) }
 {
     let Some(mac) = read_mac(given(matches, MAC)) else {
         return Err(AddressFault::Mac);
@@ -206,6 +222,7 @@ pub fn options_of<'m>(matches: &'m ArgMatches<'_>) -> Result<Options<'m>, Addres
 /// Where the words ask to listen, and for how many connections. None where they do not.
 pub fn listening_of(matches: &ArgMatches<'_>) -> Option<Listening>
     requires given { GivesOptions matches.now }
+    ensures asked { is_some result ≡ true → is_some (one_text (found_of matches.now) (codes "listen")) ≡ true }
 {
     match matches.get_one::<u16>(LISTEN) {
         None => None,
@@ -226,6 +243,7 @@ fn connections_of(matches: &ArgMatches<'_>) -> u16
 /// The text of an option that has a default.
 fn given<'a>(matches: &ArgMatches<'a>, name: &str) -> &'a str
     requires given { GivesText name.now matches.now }
+    ensures value { first_value (found_of matches.now) name.now ≡ Some result.now }
 {
     matches.get_str(name).unwrap()
 }
@@ -234,11 +252,14 @@ fn given<'a>(matches: &ArgMatches<'a>, name: &str) -> &'a str
 fn number_of(matches: &ArgMatches<'_>, name: &str) -> u8
     requires given { (greatest : ℕ) × (greatest ≤ 255) × GivesNumber greatest name.now matches.now }
     ensures range { (greatest : ℕ) → greatest ≤ 255 → GivesNumber greatest name.now matches.now → (1 ≤ result) × (result ≤ greatest) }
+    ensures value { option_map byte_or_zero (one_text (found_of matches.now) name.now) ≡ Some result }
 {
     matches.get_one::<u8>(name).unwrap()
 }
 
-fn role_of(name: &str) -> Role {
+fn role_of(name: &str) -> Role
+    ensures { result ≡ role_named name.now }
+{
     match name {
         "bridge" => Role::Bridge,
         "router" => Role::Router,
@@ -246,7 +267,9 @@ fn role_of(name: &str) -> Role {
     }
 }
 
-fn management_of(matches: &ArgMatches<'_>) -> Result<Option<[u8; 4]>, AddressFault> {
+fn management_of(matches: &ArgMatches<'_>) -> Result<Option<[u8; 4]>, AddressFault>
+    ensures { IfOk result (AsksManagement (first_value (found_of matches.now) (codes "management"))) }
+{
     match matches.get_str(MANAGEMENT) {
         None => Ok(None),
         Some(text) => match read_ipv4(text) {

@@ -17,6 +17,7 @@ pub fn read_more<S: Source>(
     ensures octets { ReadsMore (S.to_come source.old) (S.to_come source.new) (drop held buffer.new) result }
     ensures calls { S.calls source.new ≡ one_more (S.calls source.old) }
     ensures failures { S.failures source.new ≡ failures_after (S.failures source.old) result }
+    ensures place { S.place source.new ≡ S.place source.old }
 {
     source.read(&mut buffer[held..])
 }

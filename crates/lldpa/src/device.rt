@@ -1,6 +1,7 @@
 //! Devices that a trace is read from and written to, and the adapters that make them of std's readers and writers.
 ghost use Rattle.std.specs.Prelude.{◌≡◌, ◌<◌, ◌≤◌, ℕ, List, Option, length, IfOk};
 ghost use Rattle.std.specs.Io.KnownBytes.{ReadConsumes, WriteAppends};
+ghost use Rattle.std.specs.Borrow.{GName};
 ghost use Rattle.lldpa.specs.Devices.{one_more, failures_after};
 
 use std::io::{Read, Write};
@@ -19,6 +20,8 @@ pub trait Source {
     ghost calls: { Self → ℕ };
     /// How many reads failed.
     ghost failures: { Self → ℕ };
+    /// Where it reads from, which no call changes: for an adapter the reference that it was lent.
+    ghost place: { Self → GName };
 
     /// Moves octets into the front of the room, and answers how many; 0 means that none are to come. A read that fails moves none.
     fn read(&mut self, room: &mut [u8]) -> Result<usize, DeviceFault>
@@ -26,7 +29,8 @@ pub trait Source {
         ensures fits { IfOk result (λ n. n ≤ length room.new) }
         ensures octets { ReadConsumes (to_come self.old) (to_come self.new) result room.new }
         ensures calls { calls self.new ≡ one_more (calls self.old) }
-        ensures failures { failures self.new ≡ failures_after (failures self.old) result };
+        ensures failures { failures self.new ≡ failures_after (failures self.old) result }
+        ensures place { place self.new ≡ place self.old };
 }
 
 /// What takes octets. Its count stops at the greatest u64.
@@ -35,6 +39,8 @@ pub trait Sink {
     ghost taken: { Self → Option (List ℕ) };
     /// How many writes failed.
     ghost failures: { Self → ℕ };
+    /// Where it writes to, which no call changes: for an adapter the reference that it was lent.
+    ghost place: { Self → GName };
 
     /// Takes octets from the front, at least one, and answers how many. A write that fails takes none.
     fn write(&mut self, octets: &[u8]) -> Result<usize, DeviceFault>
@@ -42,26 +48,28 @@ pub trait Sink {
         ensures some { IfOk result (λ n. 0 < n) }
         ensures fits { IfOk result (λ n. n ≤ length octets.now) }
         ensures octets { WriteAppends (taken self.old) (taken self.new) result octets.now }
-        ensures failures { failures self.new ≡ failures_after (failures self.old) result };
+        ensures failures { failures self.new ≡ failures_after (failures self.old) result }
+        ensures place { place self.new ≡ place self.old };
 }
 
-/// A source of any reader.
+/// A source of any reader, which it is lent.
 #[derive(Drop)]
-pub struct FromReader<R> {
-    reader: R,
+pub struct FromReader<'a, R> {
+    reader: &'a mut R,
     calls: u64,
     failures: u64,
 }
 
-impl<R: Read> FromReader<R> {
+impl<'a, R: Read> FromReader<'a, R> {
     ghost use Rattle.std.specs.Prelude.{◌≡◌};
-    ghost use Rattle.lldpa.specs.Adapters.{source_to_come, source_calls, source_failures};
+    ghost use Rattle.lldpa.specs.Adapters.{source_to_come, source_calls, source_failures, source_place};
 
     /// A source that tells what the reader tells, with no call and no failure yet.
-    pub fn new(reader: R) -> Self
-        ensures octets { source_to_come R.remaining result ≡ R.remaining reader }
+    pub fn new(reader: &'a mut R) -> Self
+        ensures octets { source_to_come R.remaining result ≡ R.remaining reader.old }
         ensures calls { source_calls result ≡ 0 }
         ensures failures { source_failures result ≡ 0 }
+        ensures place { source_place result ≡ reader.entry.ghost_name }
     {
         FromReader {
             reader,
@@ -71,12 +79,14 @@ impl<R: Read> FromReader<R> {
     }
 }
 
-impl<R: Read> Source for FromReader<R> {
-    ghost to_come = { λ s. R.remaining s.reader };
+impl<R: Read> Source for FromReader<'_, R> {
+    ghost to_come = { λ s. R.remaining s.reader.now };
 
     ghost calls = { λ s. s.calls };
 
     ghost failures = { λ s. s.failures };
+
+    ghost place = { λ s. s.reader.ghost_name };
 
     fn read(&mut self, room: &mut [u8]) -> Result<usize, DeviceFault> {
         self.calls = self.calls.saturating_add(1);
@@ -90,21 +100,22 @@ impl<R: Read> Source for FromReader<R> {
     }
 }
 
-/// A sink of any writer. A write of the writer that takes no octet is a failed one.
+/// A sink of any writer, which it is lent. A write of the writer that takes no octet is a failed one.
 #[derive(Drop)]
-pub struct ToWriter<W> {
-    writer: W,
+pub struct ToWriter<'a, W> {
+    writer: &'a mut W,
     failures: u64,
 }
 
-impl<W: Write> ToWriter<W> {
+impl<'a, W: Write> ToWriter<'a, W> {
     ghost use Rattle.std.specs.Prelude.{◌≡◌};
-    ghost use Rattle.lldpa.specs.Adapters.{sink_taken, sink_failures};
+    ghost use Rattle.lldpa.specs.Adapters.{sink_taken, sink_failures, sink_place};
 
     /// A sink that tells what the writer tells, with no failure yet.
-    pub fn new(writer: W) -> Self
-        ensures octets { sink_taken W.contents result ≡ W.contents writer }
+    pub fn new(writer: &'a mut W) -> Self
+        ensures octets { sink_taken W.contents result ≡ W.contents writer.old }
         ensures failures { sink_failures result ≡ 0 }
+        ensures place { sink_place result ≡ writer.entry.ghost_name }
     {
         ToWriter {
             writer,
@@ -113,23 +124,12 @@ impl<W: Write> ToWriter<W> {
     }
 }
 
-#[cfg(test)]
-impl<W: Write> ToWriter<W> {
-    ghost use Rattle.std.specs.Prelude.{◌≡◌};
-    ghost use Rattle.lldpa.specs.Adapters.{sink_taken};
-
-    /// The writer.
-    pub fn into_inner(self) -> W
-        ensures { W.contents result ≡ sink_taken W.contents self }
-    {
-        self.writer
-    }
-}
-
-impl<W: Write> Sink for ToWriter<W> {
-    ghost taken = { λ s. W.contents s.writer };
+impl<W: Write> Sink for ToWriter<'_, W> {
+    ghost taken = { λ s. W.contents s.writer.now };
 
     ghost failures = { λ s. s.failures };
+
+    ghost place = { λ s. s.writer.ghost_name };
 
     fn write(&mut self, octets: &[u8]) -> Result<usize, DeviceFault> {
         match self.writer.write(octets) {

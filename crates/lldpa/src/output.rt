@@ -25,6 +25,7 @@ fn send<W: Sink>(sink: &mut W, octets: &[u8]) -> Result<(), DeviceFault>
     ensures ok { OnOk result (Appends (W.taken sink.old) (W.taken sink.new) octets.now) }
     ensures err { OnErr result (IsWritten (IsCutOff octets.now) (W.taken sink.old) (W.taken sink.new)) }
     ensures failures { W.failures sink.new ≡ failures_after (W.failures sink.old) result }
+    ensures place { W.place sink.new ≡ W.place sink.old }
 {
     let mut sent = 0;
     while sent < octets.len() {
@@ -39,6 +40,7 @@ pub fn flush<W: Sink>(sink: &mut W, waiting: &mut Waiting) -> Result<(), DeviceF
     ensures none { OnOk result (waiting.new.items ≡ []) }
     ensures err { OnErr result (IsWritten (IsCutOff waiting.old.items) (W.taken sink.old) (W.taken sink.new)) }
     ensures failures { W.failures sink.new ≡ failures_after (W.failures sink.old) result }
+    ensures place { W.place sink.new ≡ W.place sink.old }
 {
     send(sink, waiting.as_slice())?;
     waiting.clear();
@@ -56,6 +58,7 @@ pub fn make_room<W: Sink>(
     ensures room { OnOk result (array_vec_len waiting.new + octets ≤ ROOM) }
     ensures err { OnErr result (IsWritten (IsCutOff waiting.old.items) (W.taken sink.old) (W.taken sink.new)) }
     ensures failures { W.failures sink.new ≡ failures_after (W.failures sink.old) result }
+    ensures place { W.place sink.new ≡ W.place sink.old }
 {
     if waiting.remaining_capacity() < octets {
         flush(sink, waiting)?;
@@ -77,6 +80,7 @@ fn put_line<W: Sink>(sink: &mut W, waiting: &mut Waiting, line: &[u8]) -> Result
     ensures ok { OnOk result (GoesOut (W.taken sink.old) waiting.old.items (W.taken sink.new) waiting.new.items (ended line.now)) }
     ensures err { OnErr result (IsWritten (IsCutOff waiting.old.items) (W.taken sink.old) (W.taken sink.new)) }
     ensures failures { W.failures sink.new ≡ failures_after (W.failures sink.old) result }
+    ensures place { W.place sink.new ≡ W.place sink.old }
 {
     make_room(sink, waiting, line.len() + 1)?;
     append(waiting, line);
@@ -93,7 +97,7 @@ struct Page<'a, W: Sink> {
 }
 
 impl<W: Sink> LineSink for Page<'_, W> {
-    ghost takes = { λ old new line. TakesLine (told W.taken W.failures old) (told W.taken W.failures new) line };
+    ghost takes = { λ old new line. TakesLine (told W.taken W.failures W.place old) (told W.taken W.failures W.place new) line };
 
     fn line(&mut self, line: &[u8]) {
         if self.result.is_ok() {
@@ -116,6 +120,7 @@ fn fill<W: Sink>(agent: &Agent, page: &mut Page<'_, W>, show: Show)
     ensures err { OnErr page.new.result (IsWritten (IsCutOff (page.old.waiting.now.items ++ flat_map ended (show_lines show agent.now)))
         (W.taken page.old.sink.now) (W.taken page.new.sink.now)) }
     ensures failures { W.failures page.new.sink.now ≡ failures_after (W.failures page.old.sink.now) page.new.result }
+    ensures place { W.place page.new.sink.now ≡ W.place page.old.sink.now }
 {
     agent.show_lines(&show, page);
 }
@@ -132,6 +137,7 @@ fn put_show<W: Sink>(
     ensures err { OnErr result (IsWritten (IsCutOff (waiting.old.items ++ flat_map ended (show_lines show agent.now)))
         (W.taken sink.old) (W.taken sink.new)) }
     ensures failures { W.failures sink.new ≡ failures_after (W.failures sink.old) result }
+    ensures place { W.place sink.new ≡ W.place sink.old }
 {
     let mut page = Page {
         sink,
@@ -154,6 +160,7 @@ pub fn write_line<W: Sink>(
     ensures err { OnErr result (IsWritten (IsCutOff (ended line.now)) (W.taken sink.old) (W.taken sink.new)) }
     ensures none { OnOk result (waiting.new.items ≡ []) }
     ensures failures { W.failures sink.new ≡ failures_after (W.failures sink.old) result }
+    ensures place { W.place sink.new ≡ W.place sink.old }
 {
     put_line(sink, waiting, line)?;
     flush(sink, waiting)?;
@@ -173,6 +180,7 @@ pub fn write_show<W: Sink>(
         (W.taken sink.old) (W.taken sink.new)) }
     ensures none { OnOk result (waiting.new.items ≡ []) }
     ensures failures { W.failures sink.new ≡ failures_after (W.failures sink.old) result }
+    ensures place { W.place sink.new ≡ W.place sink.old }
 {
     put_show(agent, sink, waiting, show)?;
     flush(sink, waiting)?;

@@ -1,18 +1,23 @@
 //! The program, over words and streams that are handed in.
-ghost use Rattle.std.specs.Prelude.{◌≡◌, ◌≢◌, ◌≤◌};
+ghost use Rattle.std.specs.Prelude.{◌≡◌, ◌≢◌, ◌≤◌, None, Ok, is_ok, map, if◌then◌else◌};
 ghost use Rattle.std.specs.Io.KnownBytes.{Keeps};
 ghost use Rattle.clap.specs.Values.{kind_of};
+ghost use Rattle.clap.specs.Words.{found_of, rows_of};
+ghost use Rattle.lldp_engine.specs.Options.{Options, fault_of};
 ghost use Rattle.lldpa.specs.Arguments.{GivesOptions};
+ghost use Rattle.lldpa.specs.Program.{HasAnswered, RanAs, RanStreams};
+ghost use Rattle.lldpa.specs.Runs.{HasRun};
+ghost use Rattle.lldpa.specs.Usage.{Asks};
 
 use crate::arguments::{AddressFault, Listening, listening_of, options_of, parse};
 use crate::device::{FromReader, ToWriter};
-use crate::serve::serve;
-use crate::trace::run_trace;
+use crate::serve::{ServeFault, serve};
+use crate::trace::{RunFault, run_trace};
 use clap::error::ErrorKind;
 use clap::{ArgMatches, Error};
 use lldp_engine::{Agent, OpenFault};
 use std::alloc::Global;
-use std::io::{Read, Write};
+use std::io::{self, Read, Write};
 use std::net::{Ipv4Addr, Net, TcpListener, TcpStream};
 
 /// All went well.
@@ -41,7 +46,11 @@ pub fn run_program<R: Read, W: Write, E: Write>(
     faults: &mut E,
 ) -> u8
     ensures status { result ≤ REFUSED }
-    ensures silent { result ≡ REFUSED → Keeps (W.contents writer.old) (W.contents writer.new) }
+    // Help or the version was asked for, or the words have no fault, and the trace was run with their options.
+    ensures answered { result ≢ REFUSED → HasAnswered (map (λ word. word.now) words.now)
+        (R.remaining reader.old) (R.remaining reader.new) (W.contents writer.old) (W.contents writer.new) result }
+    // Refused, it has read nothing and written nothing.
+    ensures silent { result ≡ REFUSED → Keeps (R.remaining reader.old) (R.remaining reader.new) × Keeps (W.contents writer.old) (W.contents writer.new) }
 {
     match parse(alloc, words) {
         Ok(matches) => run_matches(rt, alloc, &matches, reader, writer, faults),
@@ -60,7 +69,10 @@ fn run_matches<R: Read, W: Write, E: Write>(
 ) -> u8
     requires given { GivesOptions matches.now }
     ensures status { result ≤ REFUSED }
-    ensures silent { result ≡ REFUSED → Keeps (W.contents writer.old) (W.contents writer.new) }
+    ensures ran { result ≢ REFUSED → (options : Options) × Asks (rows_of (found_of matches.now)) options × (fault_of options ≡ None)
+        × RanAs (rows_of (found_of matches.now)) options (R.remaining reader.old) (R.remaining reader.new)
+        (W.contents writer.old) (W.contents writer.new) result }
+    ensures silent { result ≡ REFUSED → Keeps (R.remaining reader.old) (R.remaining reader.new) × Keeps (W.contents writer.old) (W.contents writer.new) }
 {
     let options = match options_of(matches) {
         Ok(options) => options,
@@ -92,7 +104,7 @@ fn answer_words<W: Write, E: Write>(error: &Error, writer: &mut W, faults: &mut 
     if write!(writer, "{error}").is_err() {
         return write_fault(faults, b"lldpa: write failed\n", FAILED);
     }
-    flush(writer, faults)
+    finish(writer.flush(), faults)
 }
 
 /// Runs the trace that comes from the reader, and flushes the writer also where the run failed.
@@ -103,18 +115,30 @@ fn run_streams<R: Read, W: Write, E: Write>(
     faults: &mut E,
 ) -> u8
     ensures status { result ≤ FAILED }
+    ensures ran { RanStreams (R.remaining reader.old) (R.remaining reader.new) (W.contents writer.old) (W.contents writer.new)
+        agent.old agent.new result }
 {
-    let ran = run_trace(
-        agent,
-        &mut FromReader::new(&mut *reader),
-        &mut ToWriter::new(&mut *writer),
-    );
+    let ran = run_devices(agent, reader, writer);
     if let Err(fault) = ran {
         let _ = writer.flush();
         let _ = writeln!(faults, "{fault}");
         return FAILED;
     }
-    flush(writer, faults)
+    finish(writer.flush(), faults)
+}
+
+/// Runs the trace that comes from the reader.
+fn run_devices<R: Read, W: Write>(
+    agent: &mut Agent,
+    reader: &mut R,
+    writer: &mut W,
+) -> Result<(), RunFault>
+    ensures { HasRun (R.remaining reader.old) (R.remaining reader.new) (W.contents writer.old) (W.contents writer.new)
+        agent.old agent.new result }
+{
+    let mut source = FromReader::new(reader);
+    let mut sink = ToWriter::new(writer);
+    run_trace(agent, &mut source, &mut sink)
 }
 
 /// Runs the traces that come over connections to a port of this host.
@@ -129,23 +153,32 @@ fn run_sockets<E: Write>(
     let Ok(listener) = TcpListener::bind(rt, (Ipv4Addr::LOCALHOST, listening.port)) else {
         return socket_failed(faults);
     };
-    match serve(agent, &listener, listening.connections) {
+    let served = serve(agent, &listener, listening.connections);
+    finish_serving(served, faults)
+}
+
+/// The status behind a flush at the end, of which a fault is told.
+fn finish<E: Write>(flushed: io::Result<()>, faults: &mut E) -> u8
+    ensures { result ≡ (if is_ok flushed then DONE else FAILED) }
+{
+    match flushed {
+        Ok(()) => DONE,
+        Err(_) => write_fault(faults, b"lldpa: write failed\n", FAILED),
+    }
+}
+
+/// The status behind the connections, of which a fault is told.
+fn finish_serving<E: Write>(served: Result<u16, ServeFault>, faults: &mut E) -> u8
+    ensures status { result ≤ FAILED }
+    ensures done { result ≡ DONE → served ≡ Ok 0 }
+{
+    match served {
         Ok(0) => DONE,
         Ok(_) => socket_failed(faults),
         Err(fault) => {
             let _ = writeln!(faults, "{fault}");
             FAILED
         }
-    }
-}
-
-/// Flushes the writer at the end.
-fn flush<W: Write, E: Write>(writer: &mut W, faults: &mut E) -> u8
-    ensures status { result ≤ FAILED }
-{
-    match writer.flush() {
-        Ok(()) => DONE,
-        Err(_) => write_fault(faults, b"lldpa: write failed\n", FAILED),
     }
 }
 

@@ -44,6 +44,7 @@ fn put_sent<W: Sink>(
     ensures ok { OnOk result (GoesOut (W.taken sink.old) waiting.old.items (W.taken sink.new) waiting.new.items (sent_line name.now frame.now)) }
     ensures err { OnErr result (IsWritten (IsCutOff waiting.old.items) (W.taken sink.old) (W.taken sink.new)) }
     ensures failures { W.failures sink.new ≡ failures_after (W.failures sink.old) result }
+    ensures place { W.place sink.new ≡ W.place sink.old }
 {
     make_room(sink, waiting, name.len() + 2 * frame.len() + 5)?;
     append(waiting, b"tx ");
@@ -67,6 +68,7 @@ fn put_marks<W: Sink>(
     ensures err { OnErr result (IsWritten (IsCutOff (waiting.old.items ++ flat_map (mark_line (names_of agent.now) agent.now.configuration) marks.now.items))
         (W.taken sink.old) (W.taken sink.new)) }
     ensures failures { W.failures sink.new ≡ failures_after (W.failures sink.old) result }
+    ensures place { W.place sink.new ≡ W.place sink.old }
 {
     for (port, mark) in marks.as_slice() {
         let frame = agent.frame(*port, *mark);
@@ -89,6 +91,7 @@ pub fn write_marks<W: Sink>(
         (W.taken sink.old) (W.taken sink.new)) }
     ensures none { OnOk result (waiting.new.items ≡ []) }
     ensures failures { W.failures sink.new ≡ failures_after (W.failures sink.old) result }
+    ensures place { W.place sink.new ≡ W.place sink.old }
 {
     // Most events send nothing, and need none of the room of a frame.
     if marks.is_empty() {

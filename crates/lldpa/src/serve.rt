@@ -2,7 +2,7 @@
 ghost use Rattle.std.specs.Prelude.{◌≡◌, ◌≤◌, IfOk};
 ghost use Rattle.lldp_engine.specs.Past.{Past};
 ghost use Rattle.lldp_engine.specs.Standing.{Stands};
-ghost use Rattle.lldpa.specs.Runs.{GoesOn, KeepsOn};
+ghost use Rattle.lldpa.specs.Runs.{KeepsOn};
 ghost use Rattle.lldpa.specs.Serving.{HasServed, Served, faults_in};
 
 use crate::device::{FromReader, ToWriter};
@@ -22,14 +22,15 @@ pub enum ServeFault {
 /// Runs the trace that comes over a connection, and writes its text there.
 fn run_connection(agent: &mut Agent, stream: &TcpStream) -> Result<(), RunFault>
     ensures run { Served agent.old agent.new result }
-    ensures goes_on { (past : Past) → Stands past agent.old → GoesOn past agent.new }
+    ensures headline { (past : Past) → Stands past agent.old → KeepsOn past agent.new }
 {
     // An answer does not wait until the client has acknowledged the one before it.
     let _ = stream.set_nodelay(true);
+    let (mut input, mut output) = (stream, stream);
     run_trace(
         agent,
-        &mut FromReader::new(stream),
-        &mut ToWriter::new(stream),
+        &mut FromReader::new(&mut input),
+        &mut ToWriter::new(&mut output),
     )
 }
 
@@ -50,7 +51,6 @@ pub fn serve(agent: &mut Agent, listener: &TcpListener, connections: u16) -> Res
     // So many traces were run, and the answer counts those that ended with a fault.
     ensures served { HasServed connections agent.old agent.new result }
     // Whatever came over the connections, and also where accepting failed.
-    ensures goes_on { (past : Past) → Stands past agent.old → GoesOn past agent.new }
     ensures headline { (past : Past) → Stands past agent.old → KeepsOn past agent.new }
 {
     let mut faulty = 0;

@@ -9,7 +9,7 @@ ghost use Rattle.lldpa.specs.Devices.{failures_after};
 ghost use Rattle.lldpa.specs.Lines.{ended_lines, unfinished, if_any};
 ghost use Rattle.lldpa.specs.Work.{said, AllowsWork};
 ghost use Rattle.lldpa.specs.Items.{happens, after_all, items_of_reading, items_of, items_of_lines};
-ghost use Rattle.lldpa.specs.Runs.{Done, Failed, HasRun, GoesOn, KeepsOn, read_failures_after, write_failures_after};
+ghost use Rattle.lldpa.specs.Runs.{Done, Failed, HasRun, KeepsOn, read_failures_after, write_failures_after};
 
 use crate::buffer::{hold, read_more};
 use crate::device::{DeviceFault, Sink, Source};
@@ -57,6 +57,7 @@ fn run_event<W: Sink>(
         Failed past (happens (event_of event.entry) ∷ []) (W.taken sink.old) (W.taken sink.new) agent.new) }
     ensures none { OnOk result (waiting.new.items ≡ []) }
     ensures failures { W.failures sink.new ≡ failures_after (W.failures sink.old) result }
+    ensures place { W.place sink.new ≡ W.place sink.old }
 {
     let marks = agent.step(event);
     write_marks(agent, sink, waiting, &marks)
@@ -76,6 +77,7 @@ fn run_ticks<W: Sink>(
         Failed past (replicate ticks (happens tick)) (W.taken sink.old) (W.taken sink.new) agent.new) }
     ensures none { OnOk result (waiting.new.items ≡ []) }
     ensures failures { W.failures sink.new ≡ failures_after (W.failures sink.old) result }
+    ensures place { W.place sink.new ≡ W.place sink.old }
 {
     for _done in 0..ticks {
         run_event(agent, sink, waiting, Event::Tick)?;
@@ -98,6 +100,7 @@ fn run_work<W: Sink>(
         Failed past (items_of_reading (said read.entry)) (W.taken sink.old) (W.taken sink.new) agent.new) }
     ensures none { OnOk result (waiting.new.items ≡ []) }
     ensures failures { W.failures sink.new ≡ failures_after (W.failures sink.old) result }
+    ensures place { W.place sink.new ≡ W.place sink.old }
 {
     match read {
         Ok(Work::Skip) => Ok(()),
@@ -129,6 +132,7 @@ fn run_line<W: Sink>(
         Failed past (items_of past line.now) (W.taken sink.old) (W.taken sink.new) agent.new) }
     ensures none { OnOk result (waiting.new.items ≡ []) }
     ensures failures { W.failures sink.new ≡ failures_after (W.failures sink.old) result }
+    ensures place { W.place sink.new ≡ W.place sink.old }
 {
     let read = read_line(agent, line, room);
     run_work(agent, sink, waiting, read)
@@ -153,6 +157,7 @@ fn run_lines<W: Sink>(
         Failed past (items_of_lines past (ended_lines octets.now)) (W.taken sink.old) (W.taken sink.new) agent.new) }
     ensures none { OnOk result (waiting.new.items ≡ []) }
     ensures failures { W.failures sink.new ≡ failures_after (W.failures sink.old) result }
+    ensures place { W.place sink.new ≡ W.place sink.old }
 {
     let mut start = 0;
     let mut from = searched;
@@ -179,6 +184,7 @@ fn run_rest<W: Sink>(
     ensures err { OnErr result ((past : Past) → Stands past agent.old →
         Failed past (items_of_lines past (if_any rest.now)) (W.taken sink.old) (W.taken sink.new) agent.new) }
     ensures failures { W.failures sink.new ≡ failures_after (W.failures sink.old) result }
+    ensures place { W.place sink.new ≡ W.place sink.old }
 {
     if rest.is_empty() {
         return Ok(());
@@ -194,16 +200,18 @@ pub fn run_trace<S: Source, W: Sink>(
     reader: &mut S,
     writer: &mut W,
 ) -> Result<(), RunFault>
-    // What was read, what was written for it, and what the agent stands for then.
+    // What was read, what was written for it, and what the agent stands for then and keeps its promise for.
     ensures run { HasRun (S.to_come reader.old) (S.to_come reader.new) (W.taken writer.old) (W.taken writer.new) agent.old agent.new result }
-    // Over any devices, also those that tell nothing.
-    ensures goes_on { (past : Past) → Stands past agent.old → GoesOn past agent.new }
-    // Then each table holds the last stored frames that have not expired, and each port has sent exactly what was due while
-    // its credit window was open; no run of events has more frames, nor more stops, than its bound.
+    // Over any devices, also those that tell nothing: the agent stands for its past and some more events. Then each table holds the
+    // last stored frames that have not expired, and each port has sent exactly what was due while its credit window was open; no
+    // run of events has more frames, nor more stops, than its bound, and no other choice has sent more up to any event.
     ensures headline { (past : Past) → Stands past agent.old → KeepsOn past agent.new }
-    // A fault is answered only where a device failed, once, and nothing else failed.
+    // Read is answered exactly where a read failed, Write exactly where a write did, once and as the last call; where the answer is
+    // another, InputTooLong among them, no device failed.
     ensures reads { S.failures reader.new ≡ read_failures_after (S.failures reader.old) result }
     ensures writes { W.failures writer.new ≡ write_failures_after (W.failures writer.old) result }
+    // The devices are the ones that were lent.
+    ensures places { (S.place reader.new ≡ S.place reader.old) × (W.place writer.new ≡ W.place writer.old) }
     ensures calls { S.calls reader.new ≤ S.calls reader.old + 4294967295 }
     ensures too_long { result ≡ Err RunFault.InputTooLong → S.calls reader.old < 2 ^ 63 → S.calls reader.new ≡ S.calls reader.old + 4294967295 }
 {

@@ -237,7 +237,7 @@ fn answers_come_at_once(rt: HostRuntime) -> Result<(), Fail> {
         (RX_A.as_bytes(), b""),
         (b"\nshow neighbors\n", SHOWN),
     ];
-    let conversation = Conversation {
+    let mut conversation = Conversation {
         client,
         stream: &stream,
         steps,
@@ -245,8 +245,8 @@ fn answers_come_at_once(rt: HostRuntime) -> Result<(), Fail> {
     };
     let ran = run_trace(
         &mut agent,
-        &mut FromReader::new(conversation),
-        &mut ToWriter::new(&stream),
+        &mut FromReader::new(&mut conversation),
+        &mut ToWriter::new(&mut &stream),
     );
     assert_eq!(rt; ran, Ok(()));
     Ok(())
@@ -271,15 +271,15 @@ impl Read for Reset<'_> {
 }
 
 fn run_reset(agent: &mut Agent, client: TcpStream, stream: &TcpStream) -> Result<(), RunFault> {
-    let reset = Reset {
+    let mut reset = Reset {
         client: Some(client),
         stream,
         calls: 0,
     };
     run_trace(
         agent,
-        &mut FromReader::new(reset),
-        &mut ToWriter::new(stream),
+        &mut FromReader::new(&mut reset),
+        &mut ToWriter::new(&mut &*stream),
     )
 }
 

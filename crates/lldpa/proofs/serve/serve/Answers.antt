@@ -1,13 +1,13 @@
 use Rattle.std.proofs.Common.{arith, refl, ◌∷◌, []}
-use Rattle.lldpa.proofs.GoesOnLemmas.{keeps_on}
-use Rattle.lldpa.proofs.ServeLemmas.{goes_on_then, at_most_one}
+use Rattle.lldp_engine.proofs.HeadlineLemmas.{promised}
+use Rattle.lldpa.proofs.ServeLemmas.{keeps_on_then, at_most_one}
 use Rattle.lldpa.proofs.serve.serve.Goals as goal
 
 pub overflow_add-faulty : goal.overflow_add-faulty
 overflow_add-faulty c = omega (arith, c.loop-served.invariant.few, at_most_one c.run_connection.result, c.count_fault-faulty.ensures)
 
 pub loop-served-init : goal.loop-served-init
-loop-served-init c = record { few = omega arith; runs = ([], refl, refl, refl); goes_on = λ past stands. ([], stands) }
+loop-served-init c = record { few = omega arith; runs = ([], refl, refl, refl); keeps = λ past stands. ([], stands, promised past _ stands) }
 
 pub loop-served-preserved : goal.loop-served-preserved
 loop-served-preserved c =
@@ -21,7 +21,7 @@ loop-served-preserved c =
         omega (arith, inv.runs.2),
         omega (arith, inv.runs.3, c.count_fault-faulty.ensures),
       );
-      goes_on = λ past stands. goes_on_then past _ _ (inv.goes_on past stands) c.run_connection.ensures.goes_on;
+      keeps = λ past stands. keeps_on_then past _ _ (inv.keeps past stands) c.run_connection.ensures.headline;
     }
 
 pub returns-in_default-clause-served : goal.returns-in_default-clause-served
@@ -30,7 +30,7 @@ returns-in_default-clause-served c =
     record { results = inv.runs.0; served = inv.runs.1; told = omega (arith, inv.runs.2) }
 
 pub returns-in_default-clause-headline : goal.returns-in_default-clause-headline
-returns-in_default-clause-headline c past stands = keeps_on past _ (c.loop-served.invariant.goes_on past stands)
+returns-in_default-clause-headline c past stands = c.loop-served.invariant.keeps past stands
 
 pub returns-clause-served : goal.returns-clause-served
 returns-clause-served c =
@@ -38,4 +38,4 @@ returns-clause-served c =
     record { results = inv.runs.0; served = inv.runs.1; told = (omega (arith, inv.runs.2), inv.runs.3) }
 
 pub returns-clause-headline : goal.returns-clause-headline
-returns-clause-headline c past stands = keeps_on past _ (c.loop-served.invariant.goes_on past stands)
+returns-clause-headline c past stands = c.loop-served.invariant.keeps past stands

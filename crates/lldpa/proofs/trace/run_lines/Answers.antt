@@ -2,7 +2,7 @@ use Rattle.std.proofs.Common.{◌≡◌, ◌-◌, ◌+◌, rules, arith, refl, s
 use Rattle.std.proofs.lemmas.List.{take_rest}
 use Rattle.std.proofs.lemmas.Result.{err_from_is_err_and}
 use Rattle.lldpa.proofs.LineLemmas.{one_more_line, no_lf_left, all_lines, the_rest, lines_then}
-use Rattle.lldpa.proofs.RunLemmas.{done_line, failed_line}
+use Rattle.lldpa.proofs.RunLemmas.{done_none, done_line, failed_line}
 use Rattle.lldpa.proofs.trace.run_lines.Goals as goal
 
 pub returns-in_err-run_line-clause-err : goal.returns-in_err-run_line-clause-err
@@ -14,6 +14,20 @@ returns-in_err-run_line-clause-err g c =
     let more = one_more_line xs c.loop-at.start c.loop-at.from c.in-Some.at inv.low inv.high inv.clear inv.whole (rw take_rest at c.in-Some.ensures) in
     rw p.1 (λ past stands. let done = inv.done past stands in
     rw (lines_then (end + 1) xs, more.lines) (failed_line past _ _ _ _ _ _ _ done.written (c.in_err-run_line.ensures.err _ done.stands)))
+
+pub loop-at-init : goal.loop-at-init
+loop-at-init g c =
+    let all : c.args.searched - 0 ≡ c.args.searched = omega arith in
+    record {
+      low = omega arith;
+      high = search rules;
+      whole = refl;
+      clear = rw all c.requires.no_line;
+      done = λ past stands. done_none past _ _ stands;
+      none = c.requires.none;
+      failures = refl;
+      place = refl;
+    }
 
 pub loop-at-preserved : goal.loop-at-preserved
 loop-at-preserved g c =
@@ -31,6 +45,7 @@ loop-at-preserved g c =
           rw more.lines (done_line past _ _ _ _ _ _ done.written (c.in_ok-run_line.ensures.ok _ done.stands));
       none = search rules;
       failures = search rules;
+      place = search rules;
     }
 
 pub returns-clause-rest : goal.returns-clause-rest

@@ -16,6 +16,7 @@ invariant-loop-at g l = record {
   done : (past : Past) → Stands past l.fn.agent → Done past (items_of_lines past (ended_lines (take l.start l.octets))) (g.W.Sink.taken l.fn.sink) (g.W.Sink.taken l.sink) l.agent;
   none : l.waiting.items ≡ [];
   failures : g.W.Sink.failures l.sink ≡ g.W.Sink.failures l.fn.sink;
+  place : g.W.Sink.place l.sink ≡ g.W.Sink.place l.fn.sink;
 }
 
 abbrev pub decreases-loop-at : goal.decreases-loop-at

@@ -5,7 +5,7 @@ use Rattle.lldpa.proofs.SentLemmas.{done_tick, failed_tick}
 use Rattle.lldpa.proofs.trace.run_ticks.Goals as goal
 
 pub loop-done-init : goal.loop-done-init
-loop-done-init g c = record { done = λ past stands. done_none past _ _ stands; none = search rules; failures = refl }
+loop-done-init g c = record { done = λ past stands. done_none past _ _ stands; none = search rules; failures = refl; place = refl }
 
 pub loop-done-preserved : goal.loop-done-preserved
 loop-done-preserved g c = record {
@@ -13,6 +13,7 @@ loop-done-preserved g c = record {
       done_tick past c.loop-done._done _ _ _ _ done.written (c.in_ok-run_event.ensures.ok _ done.stands);
   none = search rules;
   failures = search rules;
+  place = search rules;
 }
 
 pub returns-in_err-run_event-clause-err : goal.returns-in_err-run_event-clause-err

@@ -12,4 +12,5 @@ invariant-loop-done g l = record {
   done : (past : Past) → Stands past l.fn.agent → Done past (replicate l._done (happens tick)) (g.W.Sink.taken l.fn.sink) (g.W.Sink.taken l.sink) l.agent;
   none : l.waiting.items ≡ [];
   failures : g.W.Sink.failures l.sink ≡ g.W.Sink.failures l.fn.sink;
+  place : g.W.Sink.place l.sink ≡ g.W.Sink.place l.fn.sink;
 }

@@ -4,7 +4,7 @@ use Rattle.lldpa.proofs.Written.{consumes_then, consumes_kept, consumes_nothing}
 use Rattle.lldpa.proofs.LineLemmas.{held_more}
 use Rattle.lldpa.proofs.PieceLemmas.{held_and_piece, held_no_lf, consumes_end, done_piece, failed_piece, done_last, failed_last}
 use Rattle.lldpa.proofs.RunLemmas.{done_none}
-use Rattle.lldpa.proofs.GoesOnLemmas.{done_goes_on, stopped_goes_on, keeps_on}
+use Rattle.lldpa.proofs.KeepsOnLemmas.{done_keeps_on, stopped_keeps_on}
 use Rattle.lldpa.proofs.trace.run_trace.Goals as goal
 
 pub loop-reads-init : goal.loop-reads-init
@@ -20,6 +20,8 @@ loop-reads-init g c = record {
   none = search rules;
   reads = refl;
   writes = refl;
+  read_place = refl;
+  write_place = refl;
   calls = omega arith;
   all_calls = λ below. omega arith;
 }
@@ -109,36 +111,23 @@ loop-reads-preserved g c =
       none = search rules;
       reads = search rules;
       writes = search rules;
+      read_place = search rules;
+      write_place = search rules;
       calls = omega (arith, c.loop-reads.invariant.calls, c.read_more.ensures.calls);
       all_calls = λ below. omega (arith, c.loop-reads.invariant.all_calls below, c.read_more.ensures.calls);
     }
 
-pub returns-in-Ok-run_rest-clause-goes_on : goal.returns-in-Ok-run_rest-clause-goes_on
-returns-in-Ok-run_rest-clause-goes_on g c past stands = done_goes_on past _ _ _ _ ((returns-in-Ok-run_rest-clause-run g c).ends past stands)
-
-pub returns-in-Err-clause-goes_on : goal.returns-in-Err-clause-goes_on
-returns-in-Err-clause-goes_on g c past stands = stopped_goes_on past (returns-in-Err-clause-run g c).input _ _ _ _ ((returns-in-Err-clause-run g c).ends past stands)
-
-pub returns-in_default-run_lines-clause-goes_on : goal.returns-in_default-run_lines-clause-goes_on
-returns-in_default-run_lines-clause-goes_on g c past stands = stopped_goes_on past (returns-in_default-run_lines-clause-run g c).input _ _ _ _ ((returns-in_default-run_lines-clause-run g c).ends past stands)
-
-pub returns-in_default-clause-goes_on : goal.returns-in_default-clause-goes_on
-returns-in_default-clause-goes_on g c past stands = done_goes_on past _ _ _ _ (c.loop-reads.invariant.so_far.done past stands)
-
-pub returns-clause-goes_on : goal.returns-clause-goes_on
-returns-clause-goes_on g c past stands = done_goes_on past _ _ _ _ (c.loop-reads.invariant.so_far.done past stands)
-
 pub returns-in-Ok-run_rest-clause-headline : goal.returns-in-Ok-run_rest-clause-headline
-returns-in-Ok-run_rest-clause-headline g c past stands = keeps_on past _ (returns-in-Ok-run_rest-clause-goes_on g c past stands)
+returns-in-Ok-run_rest-clause-headline g c past stands = done_keeps_on past _ _ _ _ ((returns-in-Ok-run_rest-clause-run g c).ends past stands)
 
 pub returns-in-Err-clause-headline : goal.returns-in-Err-clause-headline
-returns-in-Err-clause-headline g c past stands = keeps_on past _ (returns-in-Err-clause-goes_on g c past stands)
+returns-in-Err-clause-headline g c past stands = stopped_keeps_on past (returns-in-Err-clause-run g c).input _ _ _ _ ((returns-in-Err-clause-run g c).ends past stands)
 
 pub returns-in_default-run_lines-clause-headline : goal.returns-in_default-run_lines-clause-headline
-returns-in_default-run_lines-clause-headline g c past stands = keeps_on past _ (returns-in_default-run_lines-clause-goes_on g c past stands)
+returns-in_default-run_lines-clause-headline g c past stands = stopped_keeps_on past (returns-in_default-run_lines-clause-run g c).input _ _ _ _ ((returns-in_default-run_lines-clause-run g c).ends past stands)
 
 pub returns-in_default-clause-headline : goal.returns-in_default-clause-headline
-returns-in_default-clause-headline g c past stands = keeps_on past _ (returns-in_default-clause-goes_on g c past stands)
+returns-in_default-clause-headline g c past stands = done_keeps_on past _ _ _ _ (c.loop-reads.invariant.so_far.done past stands)
 
 pub returns-clause-headline : goal.returns-clause-headline
-returns-clause-headline g c past stands = keeps_on past _ (returns-clause-goes_on g c past stands)
+returns-clause-headline g c past stands = done_keeps_on past _ _ _ _ (c.loop-reads.invariant.so_far.done past stands)

@@ -9,6 +9,8 @@ invariant-loop-reads g l = record {
   none : l.waiting.items ≡ [];
   reads : g.S.Source.failures l.reader ≡ g.S.Source.failures l.fn.reader;
   writes : g.W.Sink.failures l.writer ≡ g.W.Sink.failures l.fn.writer;
+  read_place : g.S.Source.place l.reader ≡ g.S.Source.place l.fn.reader;
+  write_place : g.W.Sink.place l.writer ≡ g.W.Sink.place l.fn.writer;
   calls : g.S.Source.calls l.reader ≤ g.S.Source.calls l.fn.reader + l.reads;
   all_calls : g.S.Source.calls l.fn.reader < 2 ^ 63 → g.S.Source.calls l.reader ≡ g.S.Source.calls l.fn.reader + l.reads;
 }

@@ -8,6 +8,7 @@ returns-then-is_ok g c =
     goes_from _ _ (ended c.args.line.now) _ (sym c.is_ok.ensures.value ∙ c.if-is_ok.true) record {
       went = went _ _ (ended c.args.line.now) _ c.put_line-self.ensures.ok c.put_line-self.ensures.err;
       failures = c.put_line-self.ensures.failures;
+      place = c.put_line-self.ensures.place;
       sink = refl;
       waiting = refl;
     }
