@@ -57,7 +57,8 @@ returns c =
       connections = has_last _ _ _ _ a11 c.number-5.ensures.fits;
     } in
     let s0 : app_of c.after_help.result ≡ versioned (new_app (codes "lldpa")) =
-    ap app_of_fields c.after_help.ensures ∙ (ap app_of_fields c.about.ensures ∙ (ap app_of_fields c.version.ensures ∙ ap versioned c.new.ensures.app)) in
+    ap app_of_fields c.after_help.ensures ∙ (ap app_of_fields c.hide_possible_values.ensures ∙ (ap app_of_fields c.override_usage.ensures
+    ∙ (ap app_of_fields c.about.ensures ∙ (ap app_of_fields c.version.ensures ∙ ap versioned c.new.ensures.app)))) in
     let s1 = a1.shape c.number.ensures.fits.local ∙ ap₂ with_rule s0 c.number.ensures.rule in
     let s2 = a2.shape c.text.ensures.fits.local ∙ ap₂ with_rule s1 c.text.ensures.rule in
     let s3 = a3.shape c.text-2.ensures.fits.local ∙ ap₂ with_rule s2 c.text-2.ensures.rule in
