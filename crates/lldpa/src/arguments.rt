@@ -13,6 +13,7 @@ use crate::help::{ABOUT, MORE, USAGE, VERSION};
 use clap::{Arg, ArgAction, ArgMatches, Command, Error, value_parser};
 use lldp_engine::{Options, Role};
 use std::alloc::{AllocError, Global};
+use std::convert::AsStr;
 
 const MAX_NEIGHBORS: &str = "max-neighbors";
 
@@ -163,10 +164,10 @@ fn ports<'a>(alloc: Global) -> Arg<'a>
 }
 
 /// Reads the words, of which the first is the program's name. Fails also where they ask for help or the version.
-pub fn parse<'a>(alloc: Global, words: &'a [&'a str]) -> Result<ArgMatches<'a>, Error>
+pub fn parse<'a, S: AsStr>(alloc: Global, words: &'a [S]) -> Result<ArgMatches<'a>, Error>
     ensures options { IfOk result GivesOptions }
-    ensures words { IfOk result (λ m. IsParse (map (λ word. word.now) words.entry.now) (rows_of (found_of m))) }
-    ensures kinds { IfErr result (λ e. (kind_of e ≡ ErrorKind.OutOfMemory) ⊎ MayFail (map (λ word. word.now) words.entry.now) (kind_of e)) }
+    ensures words { IfOk result (λ m. IsParse (map S.text words.entry.now) (rows_of (found_of m))) }
+    ensures kinds { IfErr result (λ e. (kind_of e ≡ ErrorKind.OutOfMemory) ⊎ MayFail (map S.text words.entry.now) (kind_of e)) }
 {
     command(alloc)?.try_get_matches_from(words)
 }

@@ -27,8 +27,7 @@ fn main(rt: HostRuntime) -> ExitCode {
 
 /// Runs the program on its own words and the standard streams. Fails where it cannot get the words.
 fn run(rt: &HostRuntime) -> io::Result<u8> {
-    let owned: Vec<String> = env::args(rt)?.collect(rt.alloc())?;
-    let words: Vec<&str> = owned.iter().map(|word| word.as_str()).collect(rt.alloc())?;
+    let words: Vec<String> = env::args(rt)?.collect(rt.alloc())?;
     let status = program::run_program(
         rt,
         rt.alloc(),

@@ -17,6 +17,7 @@ use clap::error::ErrorKind;
 use clap::{ArgMatches, Error};
 use lldp_engine::{Agent, OpenFault};
 use std::alloc::Global;
+use std::convert::AsStr;
 use std::io::{self, Read, Write};
 use std::net::{Ipv4Addr, Net, TcpListener, TcpStream};
 
@@ -37,17 +38,17 @@ const REFUSED: u8 = 2;
 /// Where the words ask to listen, the traces come over connections to a port of 127.0.0.1, and reader and writer are left alone. The
 /// port is bound after opening. Status 1 is then that it could not be bound, that a connection could not be accepted, or that one of
 /// them ended with a fault.
-pub fn run_program<R: Read, W: Write, E: Write>(
+pub fn run_program<S: AsStr, R: Read, W: Write, E: Write>(
     rt: &impl Net<Listener = TcpListener, Stream = TcpStream>,
     alloc: Global,
-    words: &[&str],
+    words: &[S],
     reader: &mut R,
     writer: &mut W,
     faults: &mut E,
 ) -> u8
     ensures status { result ≤ REFUSED }
     // Help or the version was asked for, or the words have no fault, and the trace was run with their options.
-    ensures answered { result ≢ REFUSED → HasAnswered (map (λ word. word.now) words.now)
+    ensures answered { result ≢ REFUSED → HasAnswered (map S.text words.now)
         (R.remaining reader.old) (R.remaining reader.new) (W.contents writer.old) (W.contents writer.new) result }
     // Refused, it has read nothing and written nothing.
     ensures silent { result ≡ REFUSED → Keeps (R.remaining reader.old) (R.remaining reader.new) × Keeps (W.contents writer.old) (W.contents writer.new) }

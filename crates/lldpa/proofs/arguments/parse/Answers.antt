@@ -4,7 +4,7 @@ use Rattle.lldpa.proofs.UsageLemmas.{parse_rows, parse_kinds}
 use Rattle.lldpa.proofs.arguments.parse.Goals as goal
 
 pub returns : goal.returns
-returns c =
+returns g c =
     let app = c.in_ok-command.ensures.app in
     let parse = c.try_get_matches_from in
     record {
