@@ -13,7 +13,7 @@ raise-requires-clause-fits g c = λ l.
     let more : c.place_in-at.result + 1 < length slots = rw c.as_slice-2.ensures.value at l in
     let two = two_fit times slots c.place_in-at.result c.args.slot more there.there in
     let all = c.requires.queue.fits in
-    rw (c.as_slice-2.ensures.value, c.get-gap.ensures.same, c.get-gap.ensures.value) (omega (arith, two, all))
+    rw (c.as_slice-2.ensures.value, c.get-gap.ensures.same) (omega (arith, two, all, c.get-gap.ensures.value))
 
 pub returns-clause-after : goal.returns-clause-after
 returns-clause-after g c =

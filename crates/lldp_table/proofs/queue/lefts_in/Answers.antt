@@ -1,4 +1,4 @@
-use Rattle.std.proofs.Common.{length-set, ◌∙◌}
+use Rattle.std.proofs.Common.{length-set, ◌∙◌, arith}
 use Rattle.lldp_table.proofs.DueLemmas.{sum_step, done_step, here_step, rest_step}
 use Rattle.lldp_table.proofs.queue.lefts_in.Goals as goal
 
@@ -11,7 +11,7 @@ loop-slot-preserved c =
     let here = here_step times slots c.requires k c.loop-slot.left c.loop-slot-test.true i.rest in
     rw c.look-left.ensures (record {
       all = length-set c.loop-slot.lefts _ _ ∙ i.all;
-      sum = sum_step times slots c.requires k c.loop-slot.left c.loop-slot-test.true i.sum;
+      sum = omega (arith, sum_step times slots c.requires k c.loop-slot.left c.loop-slot-test.true i.sum);
       done = done_step times slots c.requires k c.loop-slot.left c.loop-slot-test.true c.loop-slot.lefts i.all i.done here;
       rest = rest_step times slots c.requires k c.loop-slot.left c.loop-slot-test.true i.rest;
     })

@@ -1,4 +1,4 @@
-use Rattle.std.proofs.Common.{[], sym, ap, subst}
+use Rattle.std.proofs.Common.{◌≡◌, [], sym, ap, subst, arith}
 use Rattle.lldp_table.specs.Contents.{Contents, newly_opened}
 use Rattle.lldp_table.specs.Standing.{Stands}
 use Rattle.lldp_table.proofs.LearnLemmas.{open_table}
@@ -8,12 +8,12 @@ use Rattle.lldp_table.proofs.table.Table.open.Goals as goal
 pub invariant_of-result : goal.invariant_of-result
 invariant_of-result g c =
     let room = c.in_ok-with_capacity.ensures in
-    open_table c.in_ok-with_capacity.field-0.cap c.in_ok-with_capacity.field-0.items c.new-2.result c.new.result.items c.args.limit room.exact room.items c.new-2.ensures c.new.ensures c.requires.least c.requires.most
+    open_table c.in_ok-with_capacity.field-0.cap c.in_ok-with_capacity.field-0.items c.new-2.result c.new.result.items c.args.limit (omega (arith, room.exact)) room.items c.new-2.ensures c.new.ensures c.requires.least c.requires.most
 
 pub returns-clause-empty : goal.returns-clause-empty
 returns-clause-empty g c =
-    let room = c.in_ok-with_capacity.ensures in
-    ap (λ n. record (newly_opened c.args.limit) { capacity = n }) room.exact
+    let exact : c.in_ok-with_capacity.field-0.cap ≡ c.args.limit = omega (arith, c.in_ok-with_capacity.ensures.exact) in
+    ap (λ n. record (newly_opened c.args.limit) { capacity = n }) exact
 
 pub returns-clause-stands : goal.returns-clause-stands
 returns-clause-stands g c = subst (λ (table : Contents). Stands table c.args.limit []) (sym (returns-clause-empty g c)) (stands_open c.args.limit c.requires.least c.requires.most)
