@@ -2,6 +2,7 @@
 mod commands;
 mod configured;
 mod events;
+mod memory;
 mod opening;
 mod sending;
 mod shows;

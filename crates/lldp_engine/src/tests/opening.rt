@@ -1,7 +1,6 @@
 //! Opening, and what is read of an agent.
 use super::{open, options};
 use crate::{Agent, Event, OpenFault, Options, Status};
-use linked_list_allocator::LocalHeap;
 use std::alloc::Global;
 use std::process::Abort;
 use std::test::Fail;
@@ -83,41 +82,6 @@ fn ranges(rt: HostRuntime) {
         };
         assert_eq!(rt; options.in_range(), expected);
     }
-}
-
-/// With ever more room, each allocation is refused in turn: that of the ports, then that of each table.
-#[test]
-fn memory_refused(rt: HostRuntime) -> Result<(), Fail> {
-    let ports = ["eth0", "eth1"].as_slice();
-    let ample = LocalHeap::new(rt.alloc(), 20_000)?;
-    let before = ample.used();
-    let agent = open(&rt, &ample, ports, 2)?;
-    assert_eq!(rt; agent.ports(), 2);
-    let needed = ample.used();
-    assert!(rt; before < needed && needed < 20_000);
-    let mut refused = 0u32;
-    let mut room = 64usize;
-    for _ in 0..200 {
-        let scarce = LocalHeap::new(rt.alloc(), room)?;
-        let used = scarce.used();
-        let opened = open(&rt, &scarce, ports, 2);
-        if room < needed - before {
-            assert_eq!(rt; opened.err(), Some(OpenFault::Memory));
-            assert_eq!(rt; scarce.used(), used);
-            refused = refused.saturating_add(1);
-        } else if room > needed + 200 {
-            assert!(rt; opened.is_ok());
-        }
-        assert!(rt; room < 20_000);
-        room += 64;
-    }
-    assert!(rt; refused > 3);
-    let none = LocalHeap::new(rt.alloc(), 64)?;
-    assert_eq!(rt;
-        open(&rt, &none, &["a.b"], 2).err(),
-        Some(OpenFault::PortName)
-    );
-    Ok(())
 }
 
 #[test]
