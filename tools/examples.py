@@ -1,23 +1,145 @@
 #!/usr/bin/env python3
-"""Runs the examples of the documents and of the manual page, and compares what they show.
+"""Runs the examples on the built program, and compares what they show.
 
-    python3 tools/examples.py PROGRAM
+    python3 tools/examples.py PROGRAM [NAME ...]
 
-An example is a block whose first line begins with `$ `. Each such line is a command, with its input up to
-the line EOF where it ends with <<'EOF' or <<EOF; what stands below is what it writes, up to the next command.
-A status other than 0 is shown by the command `echo $?`. Nothing may come on standard error. Sessions on a
-link are left to tools/try-live.sh. The last line counts the examples.
+The transcripts stand under examples/: NAME.args has the words, one a line, and NAME.trace the input. NAME.expect
+shows each line of the input behind `> `, a long one by its first octets and `...`, and below it what it writes.
+Each is run four ways: its first lines, one more each time; without its last LF, which changes nothing; octet by
+octet; and in two pieces, cut at every place (but for inputs of more than 10,000 octets). A piece is written when
+the program has read the one before it. Each run must end with status 0 and say nothing on standard error.
+
+The examples of the documents and of the manual page are blocks whose first line begins with `$ `. Each such line
+is a command, with its input up to the line EOF where it ends with <<'EOF' or <<EOF; what stands below is what it
+writes, up to the next command. A status other than 0 is shown by the command `echo $?`. Nothing may come on standard
+error. Sessions on a link are left to tools/try-live.sh.
+
+With names only those transcripts are run. The last line counts each way of each transcript, and each block.
 """
+import array
+import concurrent.futures
+import fcntl
+import functools
+import os
 import pathlib
 import re
 import subprocess
 import sys
 import tempfile
+import termios
+import time
 
 TOP = pathlib.Path(__file__).resolve().parent.parent
 
 # what a session on a link begins with, and what is shown of it
 ON_A_LINK = ("$ sudo ", "$ lldpcli ", "$ head ")
+
+# for how long one run may take
+SECONDS = 60
+
+# the longest input that is cut at every place
+LONGEST_CUT = 10000
+
+
+def unread(pipe):
+    """How many octets of a pipe were not read yet."""
+    octets = array.array("i", [0])
+    fcntl.ioctl(pipe, termios.FIONREAD, octets)
+    return octets[0]
+
+
+def feed(ran, pieces):
+    """Writes each piece to a program when it has read the one before it, and then closes its input."""
+    pipe = ran.stdin.fileno()
+    end = time.monotonic() + SECONDS
+    for piece in pieces:
+        os.write(pipe, piece)
+        while unread(pipe) and ran.poll() is None and time.monotonic() < end:
+            os.sched_yield()
+    ran.stdin.close()
+
+
+def difference(written, wanted):
+    """Where two texts differ first, in words."""
+    got, want = written.splitlines(), wanted.splitlines()
+    place = next((at for at in range(len(got) + 1) if got[at:at + 1] != want[at:at + 1]), len(got))
+    return f"line {place + 1} of its output is {got[place:place + 1]}, and not {want[place:place + 1]}"
+
+
+def fault_of_run(program, words, run):
+    """What is wrong where the program is fed an input in pieces and is to write a text, or None."""
+    pieces, wanted = run
+    with tempfile.TemporaryFile() as out, tempfile.TemporaryFile() as said:
+        ran = subprocess.Popen([program, *words], stdin=subprocess.PIPE, stdout=out, stderr=said)
+        try:
+            feed(ran, pieces)
+            status = ran.wait(SECONDS)
+        except (BrokenPipeError, subprocess.TimeoutExpired) as fault:
+            return f"it did not read its input to the end: {fault}"
+        finally:
+            ran.kill()
+            ran.wait()
+        out.seek(0)
+        said.seek(0)
+        written, told = out.read(), said.read()
+    if status != 0 or told:
+        return f"it ended with status {status}, and said {told[:300]!r}"
+    return None if written == wanted else difference(written, wanted)
+
+
+def steps_of(trace, shown):
+    """Each line of an input with what it writes, or a text that says where the two files differ."""
+    lines = trace.removesuffix(b"\n").split(b"\n") if trace else []
+    steps = []
+    for line in shown.splitlines(keepends=True):
+        if not line.startswith(b"> "):
+            steps[-1][1].append(line)
+            continue
+        if len(steps) == len(lines):
+            return f"it shows more than the {len(lines)} lines of the input"
+        steps.append((lines[len(steps)], []))
+        front = line[2:-1]
+        if front != steps[-1][0] and not (front.endswith(b"...") and steps[-1][0].startswith(front[:-3])):
+            return f"line {len(steps)} of the input is not what is shown"
+    return steps if len(steps) == len(lines) else f"it shows {len(steps)} of the {len(lines)} lines of the input"
+
+
+def ways(trace, steps):
+    """The ways in which an input is fed: the name of each, and its runs, each with its pieces and what it writes."""
+    fronts, texts = [b""], [b""]
+    for line, written in steps:
+        fronts.append(trace[:len(fronts[-1]) + len(line) + 1])
+        texts.append(texts[-1] + b"".join(written))
+    wanted = texts[-1]
+    yield "line by line", [([front], text) for front, text in zip(fronts, texts)]
+    if trace.endswith(b"\n"):
+        yield "without its last LF", [([trace[:-1]], wanted)]
+    if len(trace) > 1:
+        yield "octet by octet", [([trace[at:at + 1] for at in range(len(trace))], wanted)]
+    if 1 < len(trace) <= LONGEST_CUT:
+        yield "in two pieces", [([trace[:at], trace[at:]], wanted) for at in range(1, len(trace))]
+
+
+def transcripts(only):
+    """The name, words and input of each transcript, and its lines with what they write."""
+    for args in sorted((TOP / "examples").glob("*.args")):
+        if not only or args.stem in only:
+            trace = args.with_suffix(".trace").read_bytes()
+            steps = steps_of(trace, args.with_suffix(".expect").read_bytes())
+            yield args.stem, args.read_text().splitlines(), trace, steps
+
+
+def run_transcripts(program, only):
+    """Runs each transcript in each way. Yields the name of each, and what is wrong, or None."""
+    with concurrent.futures.ProcessPoolExecutor() as pool:
+        for name, words, trace, steps in transcripts(only):
+            if isinstance(steps, str):
+                yield name, steps
+                continue
+            for way, runs in ways(trace, steps):
+                faults = pool.map(functools.partial(fault_of_run, program, words), runs, chunksize=16)
+                found = [(len(run[0][0]), fault) for run, fault in zip(runs, faults) if fault is not None]
+                yield f"{name}, {way}", found and f"{found[0][1]} (its first piece has {found[0][0]} octets)"
 
 
 def blocks():
@@ -31,7 +153,7 @@ def blocks():
 
 
 def script_and_output(lines):
-    """The commands of an example with their input, and what they write."""
+    """The commands of a block with their input, and what they write."""
     script, wanted, is_input = [], [], False
     for line in lines:
         if is_input:
@@ -45,35 +167,38 @@ def script_and_output(lines):
     return "".join(f"{line}\n" for line in script), "".join(f"{line}\n" for line in wanted)
 
 
-def fault_of(lines, folder):
-    """What is wrong with an example, or None."""
+def fault_of_block(lines, folder):
+    """What is wrong with a block, or None."""
     script, wanted = script_and_output(lines)
     ran = subprocess.run(["sh", "-c", f'PATH="{folder}:$PATH"\n{script}'], stdin=subprocess.DEVNULL, cwd=TOP,
-                         capture_output=True, text=True, timeout=60)
+                         capture_output=True, text=True, timeout=SECONDS)
     if ran.stderr:
         return f"standard error {ran.stderr[:300]!r}"
     if ran.stdout != wanted:
-        got, want = ran.stdout.splitlines(), wanted.splitlines()
-        place = next(at for at in range(len(got) + 1) if got[at:at + 1] != want[at:at + 1])
-        return f"line {place + 1} of its output is {got[place:place + 1]}, and not {want[place:place + 1]}"
+        return difference(ran.stdout, wanted)
     if ran.returncode != 0:
         return f"it ended with status {ran.returncode}, which no `$ echo $?` shows"
     return None
 
 
-def main():
-    """Runs them all."""
-    program = pathlib.Path(sys.argv[1]).resolve()
-    passed = failed = 0
+def run_blocks(program):
+    """Runs each block. Yields the name of each, and what is wrong, or None."""
     with tempfile.TemporaryDirectory() as folder:
         (pathlib.Path(folder) / "lldpa").symlink_to(program)
         for name, lines in blocks():
-            if not lines or not lines[0].startswith("$ ") or lines[0].startswith(ON_A_LINK):
-                continue
-            fault = fault_of(lines, folder)
-            passed, failed = passed + (fault is None), failed + (fault is not None)
-            if fault is not None:
-                print(f"{name} ({lines[0]}): {fault}")
+            if lines and lines[0].startswith("$ ") and not lines[0].startswith(ON_A_LINK):
+                yield f"{name} ({lines[0]})", fault_of_block(lines, folder)
+
+
+def main():
+    """Runs them all."""
+    program, only = pathlib.Path(sys.argv[1]).resolve(), sys.argv[2:]
+    passed = failed = 0
+    for runs in (run_transcripts(program, only), [] if only else run_blocks(program)):
+        for name, fault in runs:
+            passed, failed = passed + (not fault), failed + bool(fault)
+            if fault:
+                print(f"{name}: {fault}")
     print(f"{passed} passed, {failed} failed")
     return 0 if passed and not failed else 1
 
