@@ -198,7 +198,7 @@ fn kept_tlvs(rt: HostRuntime) -> Result<(), Fail> {
 }
 
 /// The one allocation is for all neighbors, and is refused where there is less room. No call after it takes any, where
-/// there is room for twice as many.
+/// none is left.
 #[test]
 fn memory(rt: HostRuntime) -> Result<(), Fail> {
     for limit in [1u8, 32, 128] {
@@ -207,8 +207,10 @@ fn memory(rt: HostRuntime) -> Result<(), Fail> {
         assert_eq!(rt; scarce.used(), 0);
         let ample = LocalHeap::new(rt.alloc(), usize::from(limit) * 3200)?;
         let mut table = Table::open(&ample, limit)?;
+        assert!(rt; ample.used() >= usize::from(limit) * 1500);
+        let rest = Vec::<u8, _>::with_capacity(&ample, ample.free())?;
+        assert!(rt; Vec::<u8, _>::with_capacity(&ample, 1).is_err());
         let used = ample.used();
-        assert!(rt; used >= usize::from(limit) * 1500);
         for port in 0..limit {
             assert_eq!(rt; table.learn(&told(&rt, &lldpdu(port, 9))), Learned::New);
             assert_eq!(rt; ample.used(), used);
@@ -228,6 +230,7 @@ fn memory(rt: HostRuntime) -> Result<(), Fail> {
         assert_eq!(rt; ample.used(), used);
         table.purge();
         assert_eq!(rt; ample.used(), used);
+        assert!(rt; rest.is_empty());
     }
     Ok(())
 }
