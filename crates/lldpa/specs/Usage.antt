@@ -29,6 +29,7 @@ text_rule name default = record (valued_rule name default) { value_names = 1 }
 abbrev pub number_rule : Text → ℕ → Text → Rule
 number_rule name greatest default = record (text_rule name default) { parser = Some (Signed (pos 1) (pos greatest)) }
 
+-- an address, which has no default
 abbrev pub management_rule : Rule
 management_rule = record (new_rule (codes "management")) { long = Some (codes "management"); value_names = 1 }
 
@@ -36,9 +37,11 @@ management_rule = record (new_rule (codes "management")) { long = Some (codes "m
 abbrev pub AreRoles : Bor (List (Bor Text)) → Type 0
 AreRoles roles = map (λ (s : Bor Text). s.now) roles.now ≡ codes "station" ∷ codes "bridge" ∷ codes "router" ∷ []
 
+-- the role, one of these names, or `station`
 abbrev pub role_rule : Bor (List (Bor Text)) → Rule
 role_rule roles = record (text_rule (codes "role") (codes "station")) { parser = Some (Names roles) }
 
+-- an option that takes no value
 abbrev pub receive_only_rule : Rule
 receive_only_rule = record (new_rule (codes "receive-only")) { long = Some (codes "receive-only"); action = Some SetTrue }
 
@@ -55,10 +58,11 @@ listen_rule =
 abbrev pub ports_rule : Rule
 ports_rule = record (new_rule (codes "PORT")) { range = Some (record { start_inclusive = 0; end_inclusive = usize_max }) }
 
+-- with the option `--version`
 abbrev pub versioned : App → App
 versioned = on_top (λ s. record s { has_version = true })
 
--- the command line
+-- the command line: the options in the order of the help, and the ports
 abbrev pub program : Bor (List (Bor Text)) → App
 program roles =
     with_rule (with_rule (with_rule (with_rule (with_rule (with_rule
@@ -77,6 +81,7 @@ program roles =
     (number_rule (codes "connections") 65535 (codes "1")))
     ports_rule
 
+-- the role of a name
 abbrev pub role_named : Text → Role
 role_named name = if bytes_eq name (codes "bridge") then Bridge else if bytes_eq name (codes "router") then Router else Station
 
