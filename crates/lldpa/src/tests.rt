@@ -1,21 +1,14 @@
-//! Runs over devices that give and take little at a time, and that fail.
+//! What no transcript of `examples/` can show: devices that give and take little at a time and fail, altered frames, connections.
 ghost use Rattle.lldp_engine.specs.Options.{InRange, options_of};
 
-mod arguments;
-mod commands;
 mod devices;
 mod digits;
 mod failing;
 mod hostile;
-mod links;
 mod listening;
 mod program;
-mod receiving;
 mod runs;
 mod sockets;
-mod text;
-mod transcripts;
-mod transmitting;
 
 use lldp_engine::{Agent, OpenFault, Options, Role};
 use std::alloc::Global;

@@ -4,7 +4,7 @@ ghost use Rattle.std.specs.Prelude.{◌≤◌};
 use std::io::{Error, ErrorKind, Read, Result, Write};
 use std::net::{Net, SocketAddr, TcpListener, TcpStream};
 
-/// Gives its octets in pieces of these sizes, and fails at one call.
+/// Gives its octets in pieces of these sizes, and is interrupted at one call, which is a failure like any other.
 #[derive(Drop)]
 pub struct Drip<'a> {
     octets: &'a [u8],
@@ -45,7 +45,7 @@ impl Read for Drip<'_> {
         };
         self.calls = self.calls.saturating_add(1);
         if self.fails_at == Some(self.calls) {
-            return Err(Error::from(ErrorKind::Other));
+            return Err(Error::from(ErrorKind::Interrupted));
         }
         let n = piece.min(buf.len()).min(self.octets.len());
         let (front, rest) = self.octets.split_at(n);
@@ -59,6 +59,7 @@ impl Read for Drip<'_> {
 #[derive(Clone, Copy, PartialEq, Eq)]
 pub enum Burn {
     Error,
+    Interrupted,
     TakesNone,
     AtFlush,
 }
@@ -104,6 +105,7 @@ impl Write for Fuse {
             self.burns_at = usize::MAX;
             return match self.burn {
                 Burn::Error => Err(Error::from(ErrorKind::Other)),
+                Burn::Interrupted => Err(Error::from(ErrorKind::Interrupted)),
                 _ => Ok(0),
             };
         }

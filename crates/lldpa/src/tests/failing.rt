@@ -1,9 +1,7 @@
 //! Runs over devices that fail.
 use super::devices::{Burn, Drip, Fuse};
 use super::only_receiving;
-use super::receiving::FULL_TABLE;
-use super::runs::{INPUT, OUTPUT};
-use super::transcripts::{F, append_line, append_lines, open, run, sending};
+use super::runs::{HEARD, INPUT, OUTPUT, SENT, append_lines, open, run, sending};
 use crate::trace::RunFault;
 use std::alloc::Global;
 use std::process::Abort;
@@ -14,7 +12,7 @@ use std::test::Fail;
 fn reader_that_fails_inside_a_line(rt: HostRuntime) -> Result<(), Fail> {
     let mut agent = open(&rt, rt.alloc(), &sending(&["eth0"]))?;
     let mut output = Vec::new(rt.alloc());
-    append_lines(&mut output, &[F])?;
+    append_lines(&mut output, &[SENT])?;
     let mut fuse = Fuse::endless();
     let mut drip = Drip::new(b"tick\ntick", 9, 9, Some(2));
     assert_eq!(rt; run(&mut agent, &mut drip, &mut fuse), Err(RunFault::Read));
@@ -49,12 +47,65 @@ fn fails_at_call(
     Ok(())
 }
 
+/// The lines of frames of the neighbors eth1, eth2 for 9 seconds, and eth3 for 5 seconds.
+const HEARD_OTHER: &str =
+    "rx eth0 0180c200000e00112233445588cc02070400112233445504050565746831060200780000";
+
+const HEARD_NINE: &str =
+    "rx eth0 0180c200000e00112233445588cc02070400112233445504050565746832060200090000";
+
+const HEARD_FIVE: &str =
+    "rx eth0 0180c200000e00112233445588cc02070400112233445504050565746833060200050000";
+
+/// Four neighbors where two are held at most.
+const FULL_TABLE: &[(&str, &[&str])] = &[
+    (HEARD, &[]),
+    (HEARD_OTHER, &[]),
+    (HEARD_NINE, &[]),
+    (HEARD_FIVE, &[]),
+    (HEARD, &[]),
+    ("tick 8", &[]),
+    (
+        "show neighbors",
+        &[
+            "lldp.eth0.neighbors=2",
+            "lldp.eth0.octets=40",
+            "lldp.eth0.too-many=yes",
+            "lldp.eth0.1.chassis.mac=00:11:22:33:44:55",
+            "lldp.eth0.1.port.ifname=eth0",
+            "lldp.eth0.1.ttl=120",
+            "lldp.eth0.1.expires=112",
+            "lldp.eth0.2.chassis.mac=00:11:22:33:44:55",
+            "lldp.eth0.2.port.ifname=eth1",
+            "lldp.eth0.2.ttl=120",
+            "lldp.eth0.2.expires=112",
+        ],
+    ),
+    ("tick", &[]),
+    (
+        "show neighbors",
+        &[
+            "lldp.eth0.neighbors=2",
+            "lldp.eth0.octets=40",
+            "lldp.eth0.too-many=no",
+            "lldp.eth0.1.chassis.mac=00:11:22:33:44:55",
+            "lldp.eth0.1.port.ifname=eth0",
+            "lldp.eth0.1.ttl=120",
+            "lldp.eth0.1.expires=111",
+            "lldp.eth0.2.chassis.mac=00:11:22:33:44:55",
+            "lldp.eth0.2.port.ifname=eth1",
+            "lldp.eth0.2.ttl=120",
+            "lldp.eth0.2.expires=111",
+        ],
+    ),
+];
+
 /// The lines whose LF came before the read that fails were done, no others, and the reader is not asked again.
 #[test]
 fn reader_that_fails(rt: HostRuntime) -> Result<(), Fail> {
     let mut input = Vec::new(rt.alloc());
     for &(line, _) in FULL_TABLE {
-        append_line(&mut input, line)?;
+        append_lines(&mut input, &[line])?;
     }
     let mut output = Vec::new(rt.alloc());
     let mut call = 1u32;
@@ -75,16 +126,16 @@ const LINES: &[&str] = &[
 ];
 
 /// What they send.
-const FRAMES: &[&str] = &[F, F, F, F, F, F];
+const FRAMES: &[&str] = &[SENT, SENT, SENT, SENT, SENT, SENT];
 
 /// How many octets the line of a sent frame has, its LF among them.
-const SENT: usize = 141;
+const SENT_OCTETS: usize = 141;
 
 /// Lines behind them. There is credit for one frame, and seven were sent then.
 const MORE: &[&str] = &["update", "update", "show statistics"];
 
 const MORE_OUTPUT: &[&str] = &[
-    F,
+    SENT,
     "lldp.eth0.sent=7",
     "lldp.eth0.shutdowns=0",
     "lldp.eth0.received=0",
@@ -107,7 +158,7 @@ fn fails_at(rt: &impl Abort, alloc: Global, octets: usize, burn: Burn) -> Result
     let ran = run(&mut agent, &mut Drip::whole(&input), &mut fuse);
     assert_eq!(rt; ran, Err(RunFault::Write));
     assert_eq!(rt; Some(fuse.taken()), output.as_slice().get(..octets));
-    let frames = octets / SENT;
+    let frames = octets / SENT_OCTETS;
     let done = if frames < 5 { frames + 1 } else { 8 };
     let mut rest = Vec::new(alloc);
     append_lines(&mut rest, &LINES[done..])?;
@@ -118,7 +169,7 @@ fn fails_at(rt: &impl Abort, alloc: Global, octets: usize, burn: Burn) -> Result
     assert_eq!(rt; ran, Ok(()));
     assert_eq!(rt;
         Some(fuse.taken()),
-        output.as_slice().get((frames + 1) * SENT..),
+        output.as_slice().get((frames + 1) * SENT_OCTETS..),
         "after {octets} octets"
     );
     Ok(())
@@ -127,8 +178,8 @@ fn fails_at(rt: &impl Abort, alloc: Global, octets: usize, burn: Burn) -> Result
 /// Exactly the octets before the fault were written, and the agent stands for the events up to the one whose output failed.
 #[test]
 fn writer_that_fails(rt: HostRuntime) -> Result<(), Fail> {
-    for octets in 0..6 * SENT {
-        fails_at(&rt, rt.alloc(), octets, Burn::Error)?;
+    for octets in 0..6 * SENT_OCTETS {
+        fails_at(&rt, rt.alloc(), octets, Burn::Interrupted)?;
         fails_at(&rt, rt.alloc(), octets, Burn::TakesNone)?;
     }
     Ok(())

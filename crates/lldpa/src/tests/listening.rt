@@ -2,6 +2,7 @@
 use super::devices::{Drip, Fuse};
 use super::program::NONE;
 use super::sockets::{SHOWN, ask, expect_answer, learn, listen, send_and_leave};
+use crate::arguments::{listening_of, parse};
 use crate::program::run_program;
 use std::alloc::Global;
 use std::io;
@@ -53,6 +54,26 @@ fn run(
     assert_eq!(rt; faults.taken(), told);
     assert_eq!(rt; writer.taken(), b"".as_slice());
     assert_eq!(rt; reader.calls(), 0);
+}
+
+/// The port and the number of connections, as the words give them.
+#[test]
+fn port_and_connections(rt: HostRuntime) -> Result<(), Fail> {
+    let rows: &[(&[&str], Option<(u16, u16)>)] = &[
+        (&["lldpa"], None),
+        (&["lldpa", "--connections", "7"], None),
+        (&["lldpa", "--listen", "1"], Some((1, 1))),
+        (
+            &["lldpa", "--listen=65535", "--connections=65535"],
+            Some((65535, 65535)),
+        ),
+    ];
+    for &(words, wanted) in rows {
+        let matches = parse(rt.alloc(), words)?;
+        let found = listening_of(&matches).map(|found| (found.port, found.connections));
+        assert_eq!(rt; found, wanted);
+    }
+    Ok(())
 }
 
 /// So many clients as were asked for are served, and the next one is not.

@@ -1,7 +1,7 @@
 //! Traces over connections to a listener of this host.
 use super::open;
 use super::program::NONE;
-use super::transcripts::RX_A;
+use super::runs::HEARD;
 use crate::device::{FromReader, ToWriter};
 use crate::serve::{ServeFault, serve};
 use crate::trace::{RunFault, run_trace};
@@ -16,7 +16,7 @@ use std::time::Duration;
 
 const SHOW: &[u8] = b"show neighbors\n";
 
-/// What it gives where the neighbor of `RX_A` is held.
+/// What it gives where the neighbor of `HEARD` is held.
 pub const SHOWN: &[u8] = b"lldp.eth0.neighbors=1
 lldp.eth0.octets=20
 lldp.eth0.too-many=no
@@ -73,7 +73,7 @@ pub fn learn(
     listener: &TcpListener,
 ) -> io::Result<TcpStream> {
     let mut client = connect(rt, listener)?;
-    client.write_all(RX_A.as_bytes())?;
+    client.write_all(HEARD.as_bytes())?;
     client.write_all(b"\n")?;
     client.shutdown(Shutdown::Write)?;
     Ok(client)
@@ -234,7 +234,7 @@ fn answers_come_at_once(rt: HostRuntime) -> Result<(), Fail> {
         (SHOW, NONE),
         (b"tick 0\ntick", b"error: out of range\n"),
         (b" x\n", b"error: not a number\n"),
-        (RX_A.as_bytes(), b""),
+        (HEARD.as_bytes(), b""),
         (b"\nshow neighbors\n", SHOWN),
     ];
     let mut conversation = Conversation {
@@ -289,7 +289,7 @@ fn client_that_resets(rt: HostRuntime) -> Result<(), Fail> {
     let listener = listen(&rt)?;
     let mut agent = open(rt.alloc())?;
     let mut client = connect(&rt, &listener)?;
-    client.write_all(RX_A.as_bytes())?;
+    client.write_all(HEARD.as_bytes())?;
     client.write_all(b"\nshow neighbors\nrx eth0")?;
     let (stream, _) = listener.accept()?;
     let ran = run_reset(&mut agent, client, &stream);
