@@ -18,12 +18,17 @@ fn reader_that_fails_inside_a_line(rt: HostRuntime) -> Result<(), Fail> {
     assert_eq!(rt; run(&mut agent, &mut drip, &mut fuse), Err(RunFault::Read));
     assert_eq!(rt; drip.calls(), 2);
     assert_eq!(rt; fuse.taken(), output.as_slice());
-    let mut fuse = Fuse::endless();
-    assert_eq!(rt;
-        run(&mut agent, &mut Drip::whole(b"tick\n"), &mut fuse),
-        Ok(())
-    );
-    assert_eq!(rt; fuse.taken(), b"".as_slice());
+    // One second was counted: the next frame comes with the thirtieth from here.
+    for (line, sent) in [
+        (b"tick\n".as_slice(), b"".as_slice()),
+        (b"tick 28\n".as_slice(), b"".as_slice()),
+        (b"tick\n".as_slice(), output.as_slice()),
+    ] {
+        let mut fuse = Fuse::endless();
+        let ran = run(&mut agent, &mut Drip::whole(line), &mut fuse);
+        assert_eq!(rt; ran, Ok(()));
+        assert_eq!(rt; fuse.taken(), sent);
+    }
     Ok(())
 }
 
