@@ -5,7 +5,7 @@ use crate::digits::{decode_digits, encode_digits};
 use std::process::Abort;
 
 /// The greatest number of octets that is tried.
-const MOST: usize = 600;
+const MOST: usize = 1024;
 
 /// How many octets the vectors begin with.
 const LEAST: usize = 16;
@@ -15,7 +15,7 @@ const NO_DIGITS: &[u8] = b"/:@G`g\0 \"\x7f\x80\xb0\xff";
 
 /// Reads the digits by both, and compares whether they could and what they read.
 fn compare_read(rt: &impl Abort, digits: &[u8])
-    requires few { length digits.now ≤ 1200 }
+    requires few { length digits.now ≤ 2048 }
     requires pairs { length digits.now % 2 ≡ 0 }
 {
     let count = digits.len() / 2;
@@ -31,7 +31,7 @@ fn compare_read(rt: &impl Abort, digits: &[u8])
 
 /// Writes so many octets by both, and compares. Gives the digits, the letters among them by turns in upper case.
 fn compare_written(rt: &impl Abort, count: usize) -> [u8; 2 * MOST]
-    requires { count ≤ 600 }
+    requires { count ≤ 1024 }
 {
     let mut octets = [0; MOST];
     for (i, octet) in octets.iter_mut().enumerate() {

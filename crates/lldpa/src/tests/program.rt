@@ -78,12 +78,13 @@ fn help_that_cannot_be_written(rt: HostRuntime) {
 /// No words at all count as the name alone.
 #[test]
 fn no_words(rt: HostRuntime) {
+    let none: &[&str] = &[];
     let mut writer = Fuse::endless();
     let mut errors = Fuse::endless();
     let ended = run_program(
         &NoNetwork,
         rt.alloc(),
-        &[],
+        none,
         &mut Drip::whole(b"show chassis\n"),
         &mut writer,
         &mut errors,

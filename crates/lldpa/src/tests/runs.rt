@@ -103,12 +103,12 @@ fn text_of_input(alloc: Global, agent: &mut Agent, input: &[u8]) -> Result<Vec<u
     ensures text { IfOk result (λ out. (past : Past) → Stands past agent.old → out.items ≡ text past input.now) }
     ensures stands { OnOk result ((past : Past) → Stands past agent.old → Stands (after_input past input.now) agent.new) }
 {
-    let mut reader = FromReader::new(input);
-    let mut writer = ToWriter::new(Vec::new(alloc));
-    match run_trace(agent, &mut reader, &mut writer) {
-        Ok(()) => Ok(writer.into_inner()),
-        Err(fault) => Err(fault),
-    }
+    let mut octets = input;
+    let mut out = Vec::new(alloc);
+    let mut reader = FromReader::new(&mut octets);
+    let mut writer = ToWriter::new(&mut out);
+    run_trace(agent, &mut reader, &mut writer)?;
+    Ok(out)
 }
 
 #[test]
