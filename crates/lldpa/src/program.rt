@@ -1,5 +1,5 @@
 //! The program, over words and streams that are handed in.
-ghost use Rattle.std.specs.Prelude.{◌≡◌, ◌≢◌, ◌≤◌, None, Ok, is_ok, map, if◌then◌else◌};
+ghost use Rattle.std.specs.Prelude.{◌≡◌, ◌≢◌, ◌≤◌, ◌↔◌, None, Ok, is_ok, map, if◌then◌else◌};
 ghost use Rattle.std.specs.Io.KnownBytes.{Keeps};
 ghost use Rattle.clap.specs.Values.{kind_of};
 ghost use Rattle.clap.specs.Words.{found_of, rows_of};
@@ -171,7 +171,7 @@ fn finish<E: Write>(flushed: io::Result<()>, faults: &mut E) -> u8
 /// The status behind the connections, of which a fault is told.
 fn finish_serving<E: Write>(served: Result<u16, ServeFault>, faults: &mut E) -> u8
     ensures status { result ≤ FAILED }
-    ensures done { result ≡ DONE → served ≡ Ok 0 }
+    ensures done { (result ≡ DONE) ↔ (served ≡ Ok 0) }
 {
     match served {
         Ok(0) => DONE,
