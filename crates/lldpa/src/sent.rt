@@ -16,20 +16,17 @@ use crate::digits::encode_digits;
 use crate::output::{Waiting, append, flush, make_room};
 use lldp_engine::{Agent, Marks};
 
-/// How many octets a frame has at most.
-const LONGEST_FRAME: usize = 1514;
-
-/// Adds octets in hexadecimal to what waits.
+/// Adds octets in hexadecimal to what waits. They are put there twice first, for each becomes two digits in that place.
 fn append_hex(waiting: &mut Waiting, octets: &[u8])
     requires room { array_vec_len waiting.old + 2 * length octets.now ≤ ROOM }
     requires short { length octets.now ≤ 1514 }
     ensures value { waiting.new.items ≡ waiting.old.items ++ encode_lower octets.now }
     ensures len { array_vec_len waiting.new ≡ array_vec_len waiting.old + 2 * length octets.now }
 {
-    let mut digits = [0u8; 2 * LONGEST_FRAME];
-    let digits = &mut digits[..2 * octets.len()];
-    encode_digits(octets, digits);
-    append(waiting, digits);
+    let at = waiting.len();
+    append(waiting, octets);
+    append(waiting, octets);
+    encode_digits(octets, &mut waiting.as_mut_slice()[at..]);
 }
 
 /// Puts the line that tells which port sent a frame behind what waits.
