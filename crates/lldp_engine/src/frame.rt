@@ -115,36 +115,48 @@ fn complete(builder: &mut Builder, configuration: &Configuration, name: &[u8])
     }
 }
 
-/// What the frame of a port says.
-fn said(configuration: &Configuration, name: &[u8], mark: Mark) -> Builder
-    requires some { 0 < length name.now }
-    requires short { length name.now ≤ 15 }
-    ensures { result ≡ draft_of configuration.now name.now mark }
+/// The TTL that the frame of a port says.
+fn said_ttl(configuration: &Configuration, mark: Mark) -> u16
+    ensures value { (name : List ℕ) → result ≡ (draft_of configuration.now name mark).ttl }
+    ensures lives { 0 < sent_ttl configuration.now }
 {
+    let ttl = configuration.ttl();
     match mark {
-        Mark::Ordinary => {
-            let mut builder = begin(configuration, name, configuration.ttl());
-            complete(&mut builder, configuration, name);
-            builder
-        }
-        Mark::Shutdown | Mark::Quiet => begin(configuration, name, 0),
+        Mark::Ordinary => ttl,
+        Mark::Shutdown | Mark::Quiet => 0,
     }
 }
 
-/// The frame of a port.
-fn write_frame(configuration: &Configuration, name: &[u8], mark: Mark) -> Frame
+/// What the frame of a port says, behind what it begins with.
+fn say(builder: &mut Builder, configuration: &Configuration, name: &[u8], mark: Mark)
     requires some { 0 < length name.now }
     requires short { length name.now ≤ 15 }
-    ensures octets { result.items ≡ frame_of configuration.now name.now mark }
-    ensures says { SaysBack (draft_of configuration.now name.now mark) result.items }
+    requires begun { builder.old ≡ record { msap = sent_msap configuration.now name.now; ttl = (draft_of configuration.now name.now mark).ttl; tlvs = [] } }
+    requires lives { 0 < sent_ttl configuration.now }
+    requires room { length (spellings (all_tlvs builder.old)) ≤ 31 }
+    ensures { builder.new ≡ draft_of configuration.now name.now mark }
 {
-    let lldpdu = said(configuration, name, mark).finish();
-    let mut frame = ArrayVec::new();
+    match mark {
+        Mark::Ordinary => complete(builder, configuration, name),
+        Mark::Shutdown | Mark::Quiet => {}
+    }
+}
+
+/// Writes the frame of a port where it goes, and where nothing is yet.
+fn write_frame(frame: &mut Frame, configuration: &Configuration, name: &[u8], mark: Mark)
+    requires none { frame.old.items ≡ [] }
+    requires some { 0 < length name.now }
+    requires short { length name.now ≤ 15 }
+    ensures octets { frame.new.items ≡ frame_of configuration.now name.now mark }
+    ensures says { SaysBack (draft_of configuration.now name.now mark) frame.new.items }
+{
+    let mut builder = begin(configuration, name, said_ttl(configuration, mark));
+    say(&mut builder, configuration, name, mark);
+    let lldpdu = builder.finish();
     let _ = frame.try_extend_from_slice(&[0x01, 0x80, 0xc2, 0x00, 0x00, 0x0e]);
     let _ = frame.try_extend_from_slice(&configuration.mac);
     let _ = frame.try_extend_from_slice(&[0x88, 0xcc]);
     let _ = frame.try_extend_from_slice(lldpdu.as_slice());
-    frame
 }
 
 impl<A: Allocator> Agent<A> {
@@ -157,6 +169,8 @@ impl<A: Allocator> Agent<A> {
         ensures past { (past : Past) → Stands past self.now → (name : List ℕ) → slice_get past.options.names port ≡ Some name →
             result.items ≡ frame_of (configuration_after past.options past.events) name mark }
     {
-        write_frame(self.configuration(), self.port_name(port), mark)
+        let mut frame = ArrayVec::new();
+        write_frame(&mut frame, self.configuration(), self.port_name(port), mark);
+        frame
     }
 }

@@ -15,4 +15,4 @@ returns-clause-says c =
     let six : length c.args.configuration.now.mac ≡ 6 = search rules in
     let short : length c.finish-lldpdu.result.items ≤ 1500 = search rules in
     let e = c.finish-lldpdu.ensures in
-    subst (λ (draft : Draft). SaysBack draft c.try_extend_from_slice-4.new.self.items) c.said.ensures (says_back _ _ _ _ framed six short e.sound e.msap e.ttl e.told)
+    subst (λ (draft : Draft). SaysBack draft c.try_extend_from_slice-4.new.self.items) c.say.ensures (says_back _ _ _ _ framed six short e.sound e.msap e.ttl e.told)
