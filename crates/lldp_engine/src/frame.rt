@@ -32,20 +32,27 @@ fn put(builder: &mut Builder, kind: u8, body: &[u8])
     let _ = builder.put(kind, body);
 }
 
-/// What every frame of a port begins with: the chassis by its MAC address, the port by its name, and the TTL.
-fn begin(configuration: &Configuration, name: &[u8], ttl: u16) -> Builder
-    requires some { 0 < length name.now }
-    requires short { length name.now ≤ 15 }
-    ensures value { result ≡ record { msap = sent_msap configuration.now name.now; ttl = ttl; tlvs = [] } }
-    ensures short { length (spellings (all_tlvs result)) ≤ 31 }
+/// The body of the Chassis ID: a MAC address.
+fn chassis_id(configuration: &Configuration) -> ArrayVec<u8, 7>
+    ensures value { result.items ≡ 4 ∷ configuration.now.mac }
+    ensures len { length result.items ≡ 7 }
 {
-    let mut chassis = ArrayVec::<u8, 7>::new();
-    chassis.push(4);
-    let _ = chassis.try_extend_from_slice(&configuration.mac);
-    let mut port = ArrayVec::<u8, 16>::new();
-    port.push(5);
-    let _ = port.try_extend_from_slice(name);
-    Builder::begin(chassis.as_slice(), port.as_slice(), ttl)
+    let mut body = ArrayVec::new();
+    body.push(4);
+    let _ = body.try_extend_from_slice(&configuration.mac);
+    body
+}
+
+/// The body of the Port ID: the name of the port.
+fn port_id(name: &[u8]) -> ArrayVec<u8, 16>
+    requires { length name.now ≤ 15 }
+    ensures value { result.items ≡ 5 ∷ name.now }
+    ensures len { length result.items ≡ length name.now + 1 }
+{
+    let mut body = ArrayVec::new();
+    body.push(5);
+    let _ = body.try_extend_from_slice(name);
+    body
 }
 
 /// What an ordinary frame of a port says up to the System Description, behind what it begins with.
@@ -150,13 +157,15 @@ fn write_frame(frame: &mut Frame, configuration: &Configuration, name: &[u8], ma
     ensures octets { frame.new.items ≡ frame_of configuration.now name.now mark }
     ensures says { SaysBack (draft_of configuration.now name.now mark) frame.new.items }
 {
-    let mut builder = begin(configuration, name, said_ttl(configuration, mark));
+    let chassis = chassis_id(configuration);
+    let port = port_id(name);
+    let ttl = said_ttl(configuration, mark);
+    let mut builder = Builder::begin(chassis.as_slice(), port.as_slice(), ttl);
     say(&mut builder, configuration, name, mark);
-    let lldpdu = builder.finish();
     let _ = frame.try_extend_from_slice(&[0x01, 0x80, 0xc2, 0x00, 0x00, 0x0e]);
     let _ = frame.try_extend_from_slice(&configuration.mac);
     let _ = frame.try_extend_from_slice(&[0x88, 0xcc]);
-    let _ = frame.try_extend_from_slice(lldpdu.as_slice());
+    let _ = frame.try_extend_from_slice(builder.finish().as_slice());
 }
 
 impl<A: Allocator> Agent<A> {
