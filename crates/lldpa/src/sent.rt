@@ -68,8 +68,12 @@ fn put_marks<W: Sink>(
     ensures place { W.place sink.new ≡ W.place sink.old }
 {
     for (port, mark) in marks.as_slice() {
-        let frame = agent.frame(*port, *mark);
-        put_sent(sink, waiting, agent.port_name(*port), frame.as_slice())?;
+        put_sent(
+            sink,
+            waiting,
+            agent.port_name(*port),
+            agent.frame(*port, *mark).as_slice(),
+        )?;
     }
     Ok(())
 }

@@ -7,7 +7,7 @@ use Rattle.lldpa.proofs.sent.put_marks.Goals as goal
 pub loop-port-preserved : goal.loop-port-preserved
 loop-port-preserved g c = record {
   out = mark_next (names_of c.args.agent.now) c.args.agent.now.configuration c.as_slice-port-items.result.now c.loop-port.port-index _ c.port_name.result.now c.as_slice.result.now _ _ _ _ _ _ c.loop-port-test.true
-      c.port_name.ensures.name (c.as_slice.ensures.value ∙ c.frame-frame.ensures.octets) c.loop-port.invariant.out c.in_ok-put_sent.ensures.ok;
+      c.port_name.ensures.name (c.as_slice.ensures.value ∙ c.frame.ensures.octets) c.loop-port.invariant.out c.in_ok-put_sent.ensures.ok;
   failures = search rules;
   place = search rules;
 }
