@@ -80,7 +80,10 @@ impl Counters {
     pub(crate) fn count_aged_out(&mut self, n: u8)
         ensures { self.new ≡ with_aged_out self.old n }
     {
-        self.ageouts = self.ageouts.wrapping_add(u32::from(n));
+        let before = self.ageouts;
+        if n > 0 {
+            self.ageouts = before.wrapping_add(u32::from(n));
+        }
     }
 
     /// This was sent.

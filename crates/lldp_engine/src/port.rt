@@ -3,7 +3,7 @@ ghost use Rattle.std.specs.Prelude.{◌≡◌, ◌<◌, ◌≤◌, length, Some,
 ghost use Rattle.lldp_pdu.specs.Tlv.{AreOctets};
 ghost use Rattle.lldp_table.specs.Contents.{learn_answer, after_learn};
 ghost use Rattle.lldp_engine.specs.Options.{options_of, InRange};
-ghost use Rattle.lldp_engine.specs.Event.{HasOctets};
+ghost use Rattle.lldp_engine.specs.Event.{HasOctets, tick};
 ghost use Rattle.lldp_engine.specs.EventView.{event_of};
 ghost use Rattle.lldp_engine.specs.Heard.{heard_of, heard_by};
 ghost use Rattle.lldp_engine.specs.PortEvent.{cause_of_answer, cause_of_heard, cause_of_link, cause_of_right};
@@ -137,6 +137,27 @@ impl<A: Allocator> Port<A> {
         mark
     }
 
+    /// Takes a tick, as `take` does, with the tx-interval in force. It is apart since most ticks find nothing due.
+    #[inline(always)]
+    pub(crate) fn tick(&mut self, interval: u16) -> Mark
+        ensures after { self.new ≡ port_step tick interval 0 self.old }
+        ensures mark { result ≡ port_mark tick interval 0 self.old }
+    {
+        self.age();
+        let mark = self.transmit.event(Cause::Tick, interval);
+        self.counters.count_mark(mark);
+        mark
+    }
+
+    /// A second has passed for its neighbors.
+    #[inline(always)]
+    fn age(&mut self)
+        ensures { self.new ≡ port_told tick 0 self.old }
+    {
+        let aged_out = self.table.tick();
+        self.counters.count_aged_out(aged_out);
+    }
+
     /// Takes an event but for its transmitting, and tells what it is for that.
     fn cause_of(&mut self, event: &Event<'_>) -> Cause
         requires { FitsLimit (event_of event.now) self.old.table }
@@ -146,8 +167,7 @@ impl<A: Allocator> Port<A> {
     {
         match event {
             Event::Tick => {
-                let aged_out = self.table.tick();
-                self.counters.count_aged_out(aged_out);
+                self.age();
                 Cause::Tick
             }
             Event::Frame { octets, .. } => self.receive(octets),

@@ -3,7 +3,7 @@ ghost use Rattle.std.specs.Prelude.{◌≡◌, ◌<◌, ◌≤◌, ◌+◌, ◌+
 ghost use Rattle.std.specs.List.{list_all, AllByRecursion};
 ghost use Rattle.lldp_engine.specs.Options.{options_of, InRange, is_port_name};
 ghost use Rattle.lldp_engine.specs.AgentState.{fits};
-ghost use Rattle.lldp_engine.specs.Event.{HasOctets};
+ghost use Rattle.lldp_engine.specs.Event.{HasOctets, tick};
 ghost use Rattle.lldp_engine.specs.EventView.{event_of};
 ghost use Rattle.lldp_engine.specs.Past.{sending};
 ghost use Rattle.lldp_engine.specs.Place.{place_from};
@@ -68,8 +68,25 @@ pub(crate) fn take_event<A: Allocator>(
             note(&mut marks, port, mark);
             marks
         }
-        None => each_takes(ports, event, interval),
+        None => match event {
+            Event::Tick => each_ticks(ports, interval),
+            _ => each_takes(ports, event, interval),
+        },
     }
+}
+
+/// Each port takes a tick.
+fn each_ticks<A: Allocator>(ports: &mut [Port<A>], interval: u16) -> Marks
+    requires { length ports.old ≤ 64 }
+    ensures after { ports.new ≡ ports_step tick interval 0 ports.old }
+    ensures marks { result.items ≡ marks_step tick interval 0 ports.old }
+{
+    let mut marks = ArrayVec::new();
+    for (i, port) in ports.iter_mut().enumerate() {
+        let mark = port.tick(interval);
+        note(&mut marks, i as u8, mark);
+    }
+    marks
 }
 
 /// Each port takes an event that is every port's.
