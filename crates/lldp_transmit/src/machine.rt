@@ -1,6 +1,6 @@
 //! The transmit machine of one port: a few counters, a few machine words.
 
-ghost use Rattle.std.specs.Prelude.{◌≡◌, ◌≤◌, ◌↔◌, [], ◌∷◌};
+ghost use Rattle.std.specs.Prelude.{◌≡◌, ◌≤◌, ◌+◌, ◌-◌, ◌↔◌, [], ◌∷◌, min};
 ghost use Rattle.lldp_transmit.specs.History.{settings, event};
 ghost use Rattle.lldp_transmit.specs.Moments.{moments, mark_at, is_active, is_allowed, is_up};
 ghost use Rattle.lldp_transmit.specs.Positions.{IsDueAndOpen, StopsAt, IsLeastRoom};
@@ -160,9 +160,8 @@ impl Transmit {
         ensures answer { result ≡ (ticked self.old interval).1 }
     {
         let timer_ends = self.timer == 1;
-        self.credit = self.credit.saturating_add(1).min(self.credit_max);
-        self.wait = self.wait.saturating_sub(1);
-        self.timer = self.timer.saturating_sub(1);
+        self.refill();
+        self.run_down();
         if !self.active {
             if !self.allowed || !self.up || self.wait > 0 {
                 return Mark::Quiet;
@@ -177,6 +176,25 @@ impl Transmit {
             self.serve()
         } else {
             Mark::Quiet
+        }
+    }
+
+    /// A tick adds one credit, at most to txCreditMax.
+    fn refill(&mut self)
+        ensures { self.new ≡ record self.old { credit = min self.old.credit_max (self.old.credit + 1) } }
+    {
+        if self.credit < self.credit_max {
+            self.credit += 1;
+        }
+    }
+
+    /// Both clocks run down.
+    fn run_down(&mut self)
+        ensures { self.new ≡ record self.old { wait = self.old.wait - 1; timer = self.old.timer - 1 } }
+    {
+        self.timer = self.timer.saturating_sub(1);
+        if self.wait > 0 {
+            self.wait -= 1;
         }
     }
 
