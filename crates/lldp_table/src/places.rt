@@ -54,6 +54,7 @@ pub(crate) fn write_next<A: Allocator>(
 
 /// A tick. Takes the slots whose neighbors expire out of the queue, and puts them behind the others in the order. Tells how
 /// many slots are still in use.
+#[inline(always)]
 pub(crate) fn age_out<L: Ledger>(
     queue: &mut Queue,
     order: &mut ArrayVec<u8, 128>,

@@ -131,7 +131,8 @@ impl<A: Allocator> Table<A> {
     }
 
     /// A second has passed: one tick less is left of each neighbor and of the too-many timer. Tells how many neighbors
-    /// aged out.
+    /// aged out. It stands with what it calls in the caller's loop, since most ticks look at the first neighbor alone.
+    #[inline(always)]
     pub fn tick(&mut self) -> u8
         ensures answer { result + length self.new.neighbors ≡ length self.old.neighbors }
         ensures after { self.new ≡ after_tick self.old }
@@ -142,6 +143,7 @@ impl<A: Allocator> Table<A> {
     }
 
     /// A tick that counts from none.
+    #[inline(always)]
     fn tick_from<L: Ledger>(&mut self, blank: Blank) -> u8
         requires name { blank.name ≡ L.name }
         requires parts { blank.parts ≡ L.parts }
@@ -154,6 +156,7 @@ impl<A: Allocator> Table<A> {
 
     /// A tick that counts its accesses to stored times: at most two for each neighbor that ages out, and two more. It does
     /// what `tick` does, which is this call with a count of its own.
+    #[inline(always)]
     pub fn tick_counted<L: Ledger>(&mut self, accesses: &mut Accesses<L>) -> u8
         ensures answer { result + length self.new.neighbors ≡ length self.old.neighbors }
         ensures after { self.new ≡ after_tick self.old }
