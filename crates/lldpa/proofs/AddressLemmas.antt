@@ -1,5 +1,5 @@
 -- What a decoder's answer tells, and that four octets are an address.
-use Rattle.std.proofs.Common.{◌≡◌, ℕ, List, Result, Ok, Err, Bool, true, false, refl, sym, ap, ◌∙◌, MatchResult}
+use Rattle.std.proofs.Common.{◌≡◌, ℕ, List, Result, Ok, Err, true, false, sym, ap, ◌∙◌, MatchResult}
 use Rattle.std.specs.Prelude.{is_ok}
 use Rattle.std.specs.Net.Grammar.{IsDotted, IsIpv4Text, Parses}
 use Rattle.std.specs.declared.net.ipv4_addr.Ipv4Addr.{Ipv4Addr}

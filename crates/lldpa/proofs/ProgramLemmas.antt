@@ -1,7 +1,6 @@
 -- What a flush behind a run leaves, and what an agent that was just opened has run.
-use Rattle.std.proofs.Common.{◌≡◌, ℕ, List, [], ◌∷◌, ◌++◌, Option, Some, None, Result, Ok, Err, inl, inr, refl}
-use Rattle.std.specs.Prelude.{is_ok, is_some, true, false, codes}
-use Rattle.std.specs.Io.KnownBytes.{Keeps, Appends}
+use Rattle.std.proofs.Common.{ℕ, List, ◌++◌, Option, Result, Ok, Err, inl, inr}
+use Rattle.std.specs.Io.KnownBytes.{Keeps}
 use Rattle.lldp_engine.specs.AgentState.{AgentState}
 use Rattle.lldp_engine.specs.Options.{Options}
 use Rattle.lldp_engine.specs.Past.{Past, opened}
@@ -9,7 +8,7 @@ use Rattle.lldp_engine.specs.Standing.{Stands}
 use Rattle.lldpa.specs.Lines.{lines_of, ended_lines}
 use Rattle.lldpa.specs.Items.{Item, text_of_all, items_of_lines}
 use Rattle.lldpa.specs.Runs.{Done, Failed, Ends, HasRun, StoppedAt}
-use Rattle.lldpa.specs.Program.{RanStreams, RanBy, RanAs}
+use Rattle.lldpa.specs.Program.{RanStreams, RanBy}
 use Rattle.lldpa.specs.declared.trace.RunFault.{RunFault}
 use Rattle.lldpa.specs.declared.trace.RunFault.TheVariants.{Read, Write, InputTooLong}
 use Rattle.lldpa.proofs.Written.{appends_and_kept}

@@ -1,9 +1,9 @@
 -- What a parse gives, read as options.
-use Rattle.std.proofs.Common.{◌≡◌, ◌∙◌, ℕ, List, [], ◌∷◌, Option, Some, None, Result, Ok, Err, refl, sym, ap, ap₂, subst, inl, inr, Bor, map, option_map, codes, true}
-use Rattle.std.specs.Prelude.{IfOk, IfErr, MatchResult, ◌⊎◌, unwrap_or}
+use Rattle.std.proofs.Common.{◌≡◌, ◌∙◌, ℕ, List, [], Option, Some, None, Result, Ok, Err, refl, sym, ap, subst, inl, inr, Bor, map, option_map, codes, true}
+use Rattle.std.specs.Prelude.{IfOk, IfErr, ◌⊎◌, unwrap_or}
 use Rattle.std.specs.Str.Parse.{ParsesUnsigned}
 use Rattle.clap.specs.Matches.{ReadsOne, found_of}
-use Rattle.clap.specs.Walk.{Row, Rule, Text, byte_or_zero, rows_of}
+use Rattle.clap.specs.Walk.{Rule, Text, byte_or_zero, rows_of}
 use Rattle.clap.specs.declared.builder.value_parser.ValueParser.{ValueParser}
 use Rattle.clap.specs.declared.builder.value_parser.ValueParser.TheVariants.{Names}
 use Rattle.clap.specs.Simple.{App, HasMatchesOf, is_simple, matches_of}

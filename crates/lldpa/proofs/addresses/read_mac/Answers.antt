@@ -1,5 +1,4 @@
-use Rattle.std.proofs.Common.{rules, ℕ, List, [], ◌∷◌, MatchOption, ◌≡◌, ◌∙◌, refl, sym, slice_index_or, codes, arith, ap}
-use Rattle.lldpa.specs.Addresses.{IsMac, at_places}
+use Rattle.std.proofs.Common.{rules, ◌≡◌, refl, slice_index_or, arith}
 use Rattle.lldpa.proofs.AddressLemmas.{decoded, not_decoded}
 use Rattle.lldpa.proofs.addresses.read_mac.Goals as goal
 

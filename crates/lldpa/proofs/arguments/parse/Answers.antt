@@ -1,4 +1,3 @@
-use Rattle.std.proofs.Common.{inl}
 use Rattle.lldpa.proofs.ArgumentLemmas.{if_parsed}
 use Rattle.lldpa.proofs.UsageLemmas.{parse_rows, parse_kinds}
 use Rattle.lldpa.proofs.arguments.parse.Goals as goal

@@ -1,4 +1,4 @@
-use Rattle.std.proofs.Common.{◌≡◌, rules, arith, refl}
+use Rattle.std.proofs.Common.{rules, arith}
 use Rattle.lldpa.proofs.ProgramLemmas.{run_kept}
 use Rattle.lldpa.proofs.program.run_streams.Goals as goal
 
