@@ -16,6 +16,8 @@ use Rattle.lldp_engine.specs.declared.options.Role.{Role}
 use Rattle.lldp_engine.specs.declared.options.Role.TheVariants.{Station, Bridge, Router}
 use Rattle.lldp_engine.specs.Options.{Options}
 use Rattle.lldpa.specs.Addresses.{IsMac}
+use Rattle.lldpa.specs.declared.arguments.AddressFault.{AddressFault}
+use Rattle.lldpa.specs.declared.arguments.AddressFault.TheVariants.{Mac, Management}
 
 -- an option that takes a value, or has this one
 abbrev pub valued_rule : Text → Text → Rule
@@ -94,6 +96,21 @@ AsksManagement (Some text) given = (octets : List ℕ) × (given ≡ Some octets
 abbrev pub AsksMac : Option Text → List ℕ → Type 0
 AsksMac None mac = ⊥
 AsksMac (Some text) mac = IsMac text mac
+
+-- there is a text, and it writes no address
+abbrev pub WritesNoMac : Option Text → Type 0
+WritesNoMac None = ⊥
+WritesNoMac (Some text) = (mac : List ℕ) → ¬ IsMac text mac
+
+abbrev pub WritesNoIpv4 : Option Text → Type 0
+WritesNoIpv4 None = ⊥
+WritesNoIpv4 (Some text) = (octets : List ℕ) → ¬ IsDotted text octets
+
+-- the first address that cannot be read: that of `--mac`, or, where it can, that of `--management`
+abbrev pub HasBadAddress : List Row → AddressFault → Type 0
+HasBadAddress rows Mac = WritesNoMac (first_of (codes "mac") rows)
+HasBadAddress rows Management =
+    ((mac : List ℕ) × AsksMac (first_of (codes "mac") rows) mac) × WritesNoIpv4 (first_of (codes "management") rows)
 
 -- Each option is the value of its words, or its default.
 pub record Asks (rows : List Row) (o : Options) : Type 0 where

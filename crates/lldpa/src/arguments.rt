@@ -4,7 +4,7 @@ ghost use Rattle.std.specs.Borrow.{Bor};
 ghost use Rattle.clap.specs.Words.{IsPlainArg, app_of, first_value, found_of, kind_of, one_text, rows_of, rule_of};
 ghost use Rattle.clap.specs.Walk.{byte_or_zero};
 ghost use Rattle.clap.specs.declared.error.kind.ErrorKind.TheVariants as ErrorKind;
-ghost use Rattle.lldpa.specs.Usage.{AreRoles, Asks, AsksManagement, IsParse, MayFail, listen_rule, management_rule, number_rule, ports_rule, program, receive_only_rule, role_named, role_rule, text_rule, valued_rule};
+ghost use Rattle.lldpa.specs.Usage.{AreRoles, Asks, AsksManagement, HasBadAddress, IsParse, WritesNoIpv4, MayFail, listen_rule, management_rule, number_rule, ports_rule, program, receive_only_rule, role_named, role_rule, text_rule, valued_rule};
 ghost use Rattle.lldp_engine.specs.Options.{InRange, options_of as plain_options};
 ghost use Rattle.lldpa.specs.Arguments.{GivesNumber, GivesOptions, GivesText, HasValue, IsArgument, ReadsOptions, greatest_of};
 
@@ -202,6 +202,7 @@ pub fn options_of<'m>(matches: &'m ArgMatches<'_>) -> Result<Options<'m>, Addres
     requires given { GivesOptions matches.now }
     ensures range { IfOk result (λ options. InRange (plain_options options)) }
     ensures asks { IfOk result (λ options. Asks (rows_of (found_of matches.now)) (plain_options options)) }
+    ensures refused { IfErr result (HasBadAddress (rows_of (found_of matches.now))) }
 {
     let Some(mac) = read_mac(given(matches, MAC)) else {
         return Err(AddressFault::Mac);
@@ -269,7 +270,8 @@ fn role_of(name: &str) -> Role
 }
 
 fn management_of(matches: &ArgMatches<'_>) -> Result<Option<[u8; 4]>, AddressFault>
-    ensures { IfOk result (AsksManagement (first_value (found_of matches.now) (codes "management"))) }
+    ensures asked { IfOk result (AsksManagement (first_value (found_of matches.now) (codes "management"))) }
+    ensures refused { IfErr result (λ fault. (fault ≡ AddressFault.Management) × WritesNoIpv4 (first_value (found_of matches.now) (codes "management"))) }
 {
     match matches.get_str(MANAGEMENT) {
         None => Ok(None),
