@@ -1,42 +1,44 @@
--- A TLV that can be put is put, and the LLDPDU grows by it.
-use Rattle.std.proofs.Common.{true, ◌≡◌, ℕ, ◌+◌, List, [], ◌∷◌, ◌++◌, length, None, Result, Ok, Err, refl, ap, ◌∙◌, arith, append-nil}
-use Rattle.std.specs.Prelude.{OnOk}
-use Rattle.std.specs.Result.{result_err}
+-- What a frame says can be built.
+use Rattle.std.proofs.Common.{true, ◌≡◌, ℕ, ◌+◌, ◌^◌, ◌<◌, ◌≤◌, ◌⊎◌, inl, inr, List, [], ◌∷◌, ◌++◌, length, Option, Some, None, refl, ap, ◌∙◌, arith, append-nil}
+use Rattle.std.specs.Prelude.{IfSome}
+use Rattle.std.proofs.lemmas.Bool.{le-leb}
 use Rattle.std.proofs.lemmas.List.{length-append}
 use Rattle.std.proofs.lemmas.List.Concat.{flat_map-append}
-use Rattle.lldp_pdu.specs.declared.fault.BuildFault.{BuildFault}
+use Rattle.std.specs.Int.{w16, to_be_bytes}
 use Rattle.lldp_pdu.specs.WellFormed.{is_well_formed}
-use Rattle.lldp_engine.specs.declared.options.Role.TheVariants.{Station, Bridge, Router}
-use Rattle.lldp_engine.specs.Frames.{unit, capabilities_of, management_body}
 use Rattle.lldp_pdu.specs.Tlv.{TlvUnit, spelling, spellings}
-use Rattle.lldp_pdu.specs.Draft.{Draft, CanPut, put_fault, with_tlv, all_tlvs}
-use Rattle.lldp_pdu.proofs.Drafts.{can_put}
+use Rattle.lldp_pdu.specs.Draft.{Draft, CanPut, CanPutEach, CanBuild, with_tlv, all_tlvs}
+use Rattle.lldp_transmit.specs.declared.event.Mark.TheVariants.{Ordinary, Shutdown}
+use Rattle.lldp_engine.specs.declared.options.Role.{Role}
+use Rattle.lldp_engine.specs.declared.options.Role.TheVariants.{Station, Bridge, Router}
+use Rattle.lldp_engine.specs.Configuration.{Configuration, sent_ttl}
+use Rattle.lldp_engine.specs.Code.ShortText.{HasShortTexts}
+use Rattle.lldp_engine.specs.Frames.{unit, sent_msap, capabilities_of, management_body, management_tlvs, draft_of}
 
-ok_of : {A : Type 0} (r : Result A BuildFault) (P : Type 0) → result_err r ≡ None → OnOk r P → P
-ok_of (Ok x) P h p = p
-ok_of (Err f) P h p = cc
-
-pub is_put : {A : Type 0} (r : Result A BuildFault) (old new : Draft) (u : TlvUnit) → CanPut old u → result_err r ≡ put_fault old u → OnOk r (new ≡ with_tlv old u) → new ≡ with_tlv old u
-is_put r old new u can fault ok = ok_of r (new ≡ with_tlv old u) (fault ∙ can_put old u can) ok
-
-pub grown : (d : Draft) (u : TlvUnit) → length (spellings (all_tlvs (with_tlv d u))) ≡ length (spellings (all_tlvs d)) + length u.body + 2
+grown : (d : Draft) (u : TlvUnit) → length (spellings (all_tlvs (with_tlv d u))) ≡ length (spellings (all_tlvs d)) + length u.body + 2
 grown d u =
     let whole : spellings (all_tlvs (with_tlv d u)) ≡ spellings (all_tlvs d) ++ (spelling u ++ []) = flat_map-append spelling (all_tlvs d) (u ∷ []) in
     ap length whole ∙ length-append (spellings (all_tlvs d)) (spelling u ++ []) ∙ ap (λ l. length (spellings (all_tlvs d)) + length l) (append-nil (spelling u)) ∙ omega arith
 
-pub station_fits : is_well_formed (unit 7 (capabilities_of Station)) ≡ true
+text_fits : (kind : ℕ) (text : List ℕ) → (kind ≡ 4) ⊎ (kind ≡ 5) ⊎ (kind ≡ 6) → length text ≤ 255 → is_well_formed (unit kind text) ≡ true
+unfolding is_well_formed
+text_fits kind text (inl k) h = rw k (le-leb (length text) 255 h)
+text_fits kind text (inr (inl k)) h = rw k (le-leb (length text) 255 h)
+text_fits kind text (inr (inr k)) h = rw k (le-leb (length text) 255 h)
+
+station_fits : is_well_formed (unit 7 (capabilities_of Station)) ≡ true
 unfolding is_well_formed
 station_fits = refl
 
-pub bridge_fits : is_well_formed (unit 7 (capabilities_of Bridge)) ≡ true
+bridge_fits : is_well_formed (unit 7 (capabilities_of Bridge)) ≡ true
 unfolding is_well_formed
 bridge_fits = refl
 
-pub router_fits : is_well_formed (unit 7 (capabilities_of Router)) ≡ true
+router_fits : is_well_formed (unit 7 (capabilities_of Router)) ≡ true
 unfolding is_well_formed
 router_fits = refl
 
-pub management_fits : (address : List ℕ) → length address ≡ 4 → is_well_formed (unit 8 (management_body address)) ≡ true
+management_fits : (address : List ℕ) → length address ≡ 4 → is_well_formed (unit 8 (management_body address)) ≡ true
 unfolding is_well_formed
 management_fits [] h = absurd (omega arith)
 management_fits (a ∷ []) h = absurd (omega arith)
@@ -44,3 +46,83 @@ management_fits (a ∷ b ∷ []) h = absurd (omega arith)
 management_fits (a ∷ b ∷ c ∷ []) h = absurd (omega arith)
 management_fits (a ∷ b ∷ c ∷ d ∷ []) h = refl
 management_fits (a ∷ b ∷ c ∷ d ∷ e ∷ rest) h = absurd (omega arith)
+
+role_fits : (role : Role) → is_well_formed (unit 7 (capabilities_of role)) ≡ true
+role_fits Station = station_fits
+role_fits Bridge = bridge_fits
+role_fits Router = router_fits
+
+four : (role : Role) → length (capabilities_of role) ≡ 4
+four Station = refl
+four Bridge = refl
+four Router = refl
+
+module _ (c : Configuration) (name : List ℕ) (some : 0 < length name) (short : length name ≤ 15) (mac : length c.mac ≡ 6) where
+  abbrev begun : ℕ → Draft
+  begun ttl = record { msap = sent_msap c name; ttl = ttl; tlvs = [] }
+
+  begun_length : (ttl : ℕ) → length (spellings (all_tlvs (begun ttl))) ≤ 31
+  begun_length ttl =
+      let a = spelling (unit 1 (4 ∷ c.mac)) in
+      let b = spelling (unit 2 (5 ∷ name)) in
+      let e = spelling (unit 3 (to_be_bytes w16 ttl)) in
+      omega (arith, length-append a (b ++ (e ++ [])), length-append b (e ++ []), length-append e [], short, mac)
+
+  abbrev first : Draft
+  first = with_tlv (begun (sent_ttl c)) (unit 4 name)
+
+  abbrev second : Draft
+  second = with_tlv first (unit 5 c.hostname)
+
+  abbrev third : Draft
+  third = with_tlv second (unit 6 c.description)
+
+  abbrev fourth : Draft
+  fourth = with_tlv third (unit 7 (capabilities_of c.role))
+
+  first_length : length (spellings (all_tlvs first)) ≤ 48
+  first_length = omega (arith, begun_length (sent_ttl c), grown (begun (sent_ttl c)) (unit 4 name), short)
+
+  lives : 0 < sent_ttl c
+  lives = omega arith
+
+  can_begin : (ttl : ℕ) → ttl < 2 ^ 16 → (us : List TlvUnit) → CanPutEach (begun ttl) us → CanBuild (record { msap = sent_msap c name; ttl = ttl; tlvs = us })
+  can_begin ttl fits us puts = record {
+    chassis = record { least = omega (arith, mac); greatest = omega (arith, mac) };
+    port = record { least = omega (arith, some); greatest = omega (arith, short) };
+    ttl = fits;
+    puts = puts;
+  }
+
+  pub can_leave : CanBuild (draft_of c name Shutdown)
+  can_leave = can_begin 0 (omega arith) [] tt
+
+  module _ (h : HasShortTexts c) where
+    second_length : length (spellings (all_tlvs second)) ≤ 305
+    second_length = omega (arith, first_length, grown first (unit 5 c.hostname), h.hostname)
+
+    third_length : length (spellings (all_tlvs third)) ≤ 562
+    third_length = omega (arith, second_length, grown second (unit 6 c.description), h.description)
+
+    fourth_length : length (spellings (all_tlvs fourth)) ≤ 568
+    fourth_length = omega (arith, third_length, grown third (unit 7 (capabilities_of c.role)), four c.role)
+
+    twelve : (address : List ℕ) → length address ≡ 4 → length (management_body address) ≡ 12
+    twelve address k = omega (arith, k, length-append (5 ∷ 1 ∷ address) (1 ∷ 0 ∷ 0 ∷ 0 ∷ 0 ∷ 0 ∷ []))
+
+    can_manage : (address : Option (List ℕ)) → IfSome address (λ a. length a ≡ 4) → CanPutEach fourth (management_tlvs address)
+    can_manage None k = tt
+    can_manage (Some address) k =
+        (record { least = omega arith; greatest = omega arith; lives = lives; new = refl; short = omega (arith, twelve address k); well_formed = management_fits address k; room = omega (arith, fourth_length, twelve address k) }, tt)
+
+    can_describe : CanPutEach (begun (sent_ttl c)) (draft_of c name Ordinary).tlvs
+    can_describe = (
+      record { least = omega arith; greatest = omega arith; lives = lives; new = refl; short = omega (arith, short); well_formed = text_fits 4 name (inl refl) (omega (arith, short)); room = omega (arith, begun_length (sent_ttl c), short) },
+      (record { least = omega arith; greatest = omega arith; lives = lives; new = refl; short = omega (arith, h.hostname); well_formed = text_fits 5 c.hostname (inr (inl refl)) h.hostname; room = omega (arith, first_length, h.hostname) },
+      (record { least = omega arith; greatest = omega arith; lives = lives; new = refl; short = omega (arith, h.description); well_formed = text_fits 6 c.description (inr (inr refl)) h.description; room = omega (arith, second_length, h.description) },
+      (record { least = omega arith; greatest = omega arith; lives = lives; new = refl; short = omega (arith, four c.role); well_formed = role_fits c.role; room = omega (arith, third_length, four c.role) },
+      can_manage c.management h.management))),
+    )
+
+    pub can_tell : CanBuild (draft_of c name Ordinary)
+    can_tell = can_begin (sent_ttl c) (omega arith) (draft_of c name Ordinary).tlvs can_describe

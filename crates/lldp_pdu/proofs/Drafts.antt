@@ -19,7 +19,7 @@ use Rattle.lldp_pdu.specs.Fault.{is_mandatory, fault_of}
 use Rattle.lldp_pdu.specs.Kept.{is_single, has_well_formed, kept_after, others_after, kept_of, discarded_of, count_unrecognized, IsKeptTlv}
 use Rattle.lldp_pdu.specs.Info.{LldpInfo, info_of}
 use Rattle.lldp_pdu.specs.Code.Seen.{Flags, none_seen, with_flag}
-use Rattle.lldp_pdu.specs.Draft.{Draft, all_tlvs, end_of_lldpdu, lldpdu_octets, with_tlv, was_put, put_fault, told_by, CanPut}
+use Rattle.lldp_pdu.specs.Draft.{Draft, all_tlvs, end_of_lldpdu, lldpdu_octets, with_tlv, was_put, put_fault, told_by, CanPut, CanPutEach, CanBuild, IsReadBack}
 use Rattle.lldp_pdu.specs.Code.BuilderView.{draft_of, AllKept, IsDraft, Builds}
 use Rattle.lldp_pdu.proofs.Cuts.{cut-spellings}
 use Rattle.lldp_pdu.proofs.Opening.{fault_from, sound_checks}
@@ -169,6 +169,16 @@ was_put_more kind us u = list_any-append (λ v. eqb v.kind kind) us (u ∷ []) �
 flags_put : (met : List Bool) (us : List TlvUnit) (u : TlvUnit) → Flags met (λ kind. was_put kind us) → Flags (with_flag met u.kind) (λ kind. was_put kind (us ++ u ∷ []))
 flags_put met us u f = flags_as (with_flag met u.kind) _ _ (λ kind. sym (was_put_more kind us u)) (flags_more met (λ kind. was_put kind us) u.kind f)
 
+draft_more : (d : Draft) (u : TlvUnit) → IsDraft d → CanPut d u → IsDraft (with_tlv d u)
+draft_more d u draft p =
+    record {
+      chassis = draft.chassis;
+      port = draft.port;
+      ttl = draft.ttl;
+      tlvs = optional_more d.tlvs u draft.tlvs (record { least = p.least; greatest = p.greatest; short = omega (arith, p.short); well_formed = p.well_formed });
+      kept = kept_more [] d.tlvs u draft.kept p.well_formed (ap (λ (b : Bool). is_single u.kind && b) (or-false (was_put u.kind d.tlvs)) ∙ p.new);
+    }
+
 pub puts : (d : Draft) (u : TlvUnit) (old octets : List ℕ) (met : List Bool) (lives : Bool) → draft_of old ≡ d → Builds old met lives → put_fault d u ≡ None → octets ≡ old ++ spelling u
     → Builds octets (with_flag met u.kind) lives × (draft_of octets ≡ with_tlv d u)
 puts d u old octets met lives v b h e =
@@ -177,14 +187,7 @@ puts d u old octets met lives v b h e =
     let flags : Flags met (λ kind. was_put kind d.tlvs) = subst (λ (d : Draft). Flags met (λ kind. was_put kind d.tlvs)) v b.flags in
     let spelled : octets ≡ spellings (all_tlvs (with_tlv d u)) = e ∙ ap (λ (x : List ℕ). x ++ spelling u) (b.spelled ∙ ap (λ (d : Draft). spellings (all_tlvs d)) v) ∙ put_spells d u in
     let len : length octets + 2 ≡ length (lldpdu_octets (with_tlv d u)) = ap (λ (n : ℕ). n + 2) (ap length spelled) ∙ sym (length-append (spellings (all_tlvs (with_tlv d u))) (spelling end_of_lldpdu)) in
-    builds (with_tlv d u) octets (with_flag met u.kind) lives spelled
-    (record {
-      chassis = draft.chassis;
-      port = draft.port;
-      ttl = draft.ttl;
-      tlvs = optional_more d.tlvs u draft.tlvs (record { least = p.least; greatest = p.greatest; short = omega (arith, p.short); well_formed = p.well_formed });
-      kept = kept_more [] d.tlvs u draft.kept p.well_formed (ap (λ (b : Bool). is_single u.kind && b) (or-false (was_put u.kind d.tlvs)) ∙ p.new);
-    })
+    builds (with_tlv d u) octets (with_flag met u.kind) lives spelled (draft_more d u draft p)
     (omega (arith, len, put_length d u, p.room)) (flags_put met d.tlvs u flags) (b.lives_is ∙ ap (λ (d : Draft). ltb 0 d.ttl) v)
 
 -- ---- finished
@@ -212,13 +215,6 @@ cut_end : cut (spelling end_of_lldpdu) ≡ record { tlvs = end_of_lldpdu ∷ [];
 unfolding cut cut_within
 cut_end = refl
 
--- what the finished octets are
-pub record Finished (d : Draft) (octets : List ℕ) : Type 0 where
-  pub sound : fault_of octets ≡ None
-  pub msap : msap_of octets ≡ d.msap
-  pub ttl : ttl_of octets ≡ d.ttl
-  pub told : info_of octets ≡ told_by d
-
 later_from : (octets : List ℕ) (us : List TlvUnit) → (cut octets).tlvs ≡ us → later_tlvs octets ≡ drop 3 (before_end us)
 unfolding later_tlvs
 later_from octets us e = ap (λ (us : List TlvUnit). drop 3 (before_end us)) e
@@ -231,7 +227,7 @@ complete_from : (octets : List ℕ) (us : List TlvUnit) → (cut octets).tlvs �
 unfolding ended_incomplete
 complete_from octets us e h = let k : list_any is_end (cut octets).tlvs ≡ true = ap (list_any is_end) e ∙ h in rw k refl
 
-pub finished : (d : Draft) (octets : List ℕ) → IsDraft d → octets ≡ lldpdu_octets d → Finished d octets
+pub finished : (d : Draft) (octets : List ℕ) → IsDraft d → octets ≡ lldpdu_octets d → IsReadBack d octets
 finished d octets h e =
     let c : cut octets ≡ record { tlvs = all_tlvs d ++ end_of_lldpdu ∷ []; rest = [] } =
     ap cut e ∙ cut-spellings (all_tlvs d) (spelling end_of_lldpdu) (draft_tlvs d h) ∙ ap (λ (c : Cut). record { tlvs = all_tlvs d ++ c.tlvs; rest = c.rest }) cut_end in
@@ -258,3 +254,35 @@ finished d octets h e =
     same : {m m' : MsapId} {t t' : ℕ} {x x' : List ℕ} {k k' : List TlvUnit} {l l' u u' : ℕ} → m ≡ m' → t ≡ t' → x ≡ x' → k ≡ k' → l ≡ l' → u ≡ u'
         → ◌≡◌ {A = LldpInfo} (record { msap = m; ttl = t; octets = x; kept = k; discarded = l; unrecognized = u }) (record { msap = m'; ttl = t'; octets = x'; kept = k'; discarded = l'; unrecognized = u' })
     same p q r s t u = cc
+
+-- ---- whatever can be built
+
+-- the octets of a draft, with room for the End Of LLDPDU
+abbrev Fits : Draft → Type 0
+Fits d = length (spellings (all_tlvs d)) + 2 ≤ 1500
+
+fits_more : (d : Draft) (u : TlvUnit) → CanPut d u → Fits (with_tlv d u)
+fits_more d u p =
+    let a = ap length (put_spells d u) in
+    omega (arith, p.room, a, length-append (spellings (all_tlvs d)) (spelling u))
+
+all_put : (msap : MsapId) (ttl : ℕ) (before us : List TlvUnit) → (let d : Draft = record { msap = msap; ttl = ttl; tlvs = before } in IsDraft d × Fits d × CanPutEach d us)
+    → (let d : Draft = record { msap = msap; ttl = ttl; tlvs = before ++ us } in IsDraft d × Fits d)
+all_put msap ttl before [] h = rw (append-nil before) (h.0, h.1)
+all_put msap ttl before (u ∷ us) h =
+    let d : Draft = record { msap = msap; ttl = ttl; tlvs = before } in
+    rw (sym (append_assoc before (u ∷ []) us)) (all_put msap ttl (before ++ u ∷ []) us (draft_more d u h.0 h.2.0, fits_more d u h.2.0, h.2.1))
+
+begun_fits : (d : Draft) → IsIdentifier d.msap.chassis → IsIdentifier d.msap.port → Fits (begun d.msap.chassis d.msap.port d.ttl)
+begun_fits d h k =
+    let a = spelling (record { kind = 1; body = d.msap.chassis }) in
+    let b = spelling (record { kind = 2; body = d.msap.port }) in
+    let c = spelling (record { kind = 3; body = to_be_bytes w16 d.ttl }) in
+    omega (arith, length-append a (b ++ (c ++ [])), length-append b (c ++ []), length-append c [], h.greatest, k.greatest)
+
+pub built : (d : Draft) → CanBuild d → IsDraft d × Fits d
+built d h =
+    all_put d.msap d.ttl [] d.tlvs (record { chassis = h.chassis; port = h.port; ttl = h.ttl; tlvs = tt; kept = tt }, begun_fits d h.chassis h.port, h.puts)
+
+pub built_short : (d : Draft) → CanBuild d → length (lldpdu_octets d) ≤ 1500
+built_short d h = omega (arith, (built d h).1, length-append (spellings (all_tlvs d)) (spelling end_of_lldpdu))

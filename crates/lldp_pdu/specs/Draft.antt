@@ -1,5 +1,5 @@
 -- An LLDPDU that is built.
-use Rattle.std.specs.Prelude.{◌≡◌, ℕ, ◌+◌, ◌<◌, ◌≤◌, Bool, true, false, not, ◌&&◌, ◌||◌, List, [], ◌∷◌, ◌++◌, length, Option, nat_lt, ◌==◌}
+use Rattle.std.specs.Prelude.{◌≡◌, ℕ, ◌+◌, ◌<◌, ◌≤◌, ◌^◌, Bool, true, false, not, ◌&&◌, ◌||◌, List, [], ◌∷◌, ◌++◌, length, Option, None, nat_lt, ◌==◌}
 use Rattle.std.specs.List.{list_any}
 use Rattle.std.specs.Int.{w16, to_be_bytes}
 use Rattle.lldp_pdu.specs.declared.fault.BuildFault.{BuildFault}
@@ -9,9 +9,11 @@ use Rattle.lldp_pdu.specs.Tlv.{TlvUnit, spelling, spellings}
 use Rattle.lldp_pdu.specs.TlvType.{end_of_lldpdu_type, chassis_id_type, port_id_type, time_to_live_type, port_description_type, organizationally_specific_type}
 use Rattle.lldp_pdu.specs.Range.{is_between}
 use Rattle.lldp_pdu.specs.WellFormed.{is_well_formed}
-use Rattle.lldp_pdu.specs.Msap.{MsapId}
+use Rattle.lldp_pdu.specs.Msap.{MsapId, IsIdentifier}
+use Rattle.lldp_pdu.specs.Fault.{fault_of}
+use Rattle.lldp_pdu.specs.Lldpdu.{msap_of, ttl_of}
 use Rattle.lldp_pdu.specs.Kept.{is_single, count_unrecognized}
-use Rattle.lldp_pdu.specs.Info.{LldpInfo}
+use Rattle.lldp_pdu.specs.Info.{LldpInfo, info_of}
 
 -- what was begun, and the TLVs put since
 pub record Draft : Type 0 where
@@ -62,6 +64,18 @@ pub record CanPut (d : Draft) (u : TlvUnit) : Type 0 where
   pub well_formed : is_well_formed u ≡ true
   pub room : length (spellings (all_tlvs d)) + length u.body + 4 ≤ 1500
 
+-- each of these TLVs can be put after those before it
+abbrev pub CanPutEach : Draft → List TlvUnit → Type 0
+CanPutEach d [] = Unit {0}
+CanPutEach d (u ∷ us) = CanPut d u × CanPutEach (with_tlv d u) us
+
+-- A builder can build it: its identifiers have 2 to 256 octets, its TTL has two, and each TLV can be put in its turn.
+pub record CanBuild (d : Draft) : Type 0 where
+  pub chassis : IsIdentifier d.msap.chassis
+  pub port : IsIdentifier d.msap.port
+  pub ttl : d.ttl < 2 ^ 16
+  pub puts : CanPutEach (record { msap = d.msap; ttl = d.ttl; tlvs = [] }) d.tlvs
+
 -- what the finished LLDPDU tells
 abbrev pub told_by : Draft → LldpInfo
 told_by d =
@@ -73,3 +87,10 @@ told_by d =
       discarded = 0;
       unrecognized = count_unrecognized d.tlvs;
     }
+
+-- The LLDPDU is sound, and examining it gives back what was begun and put.
+pub record IsReadBack (d : Draft) (lldpdu : List ℕ) : Type 0 where
+  pub sound : fault_of lldpdu ≡ None
+  pub msap : msap_of lldpdu ≡ d.msap
+  pub ttl : ttl_of lldpdu ≡ d.ttl
+  pub told : info_of lldpdu ≡ told_by d

@@ -1,8 +1,6 @@
 //! A builder of LLDPDUs.
-ghost use Rattle.std.specs.Prelude.{◌≡◌, ℕ, ◌+◌, ◌<◌, ◌≤◌, [], ◌++◌, length, Some, None, OnOk, OnErr};
+ghost use Rattle.std.specs.Prelude.{◌≡◌, [], None, OnOk, OnErr};
 ghost use Rattle.std.specs.Result.{result_err};
-ghost use Rattle.arrayvec.specs.ArrayVec.{array_vec_len};
-ghost use Rattle.lldp_pdu.specs.Tlv.{TlvUnit, spelling};
 ghost use Rattle.lldp_pdu.specs.TlvType.{port_description_type, organizationally_specific_type};
 ghost use Rattle.lldp_pdu.specs.Range.{is_between};
 ghost use Rattle.lldp_pdu.specs.Fault.{fault_of};
@@ -14,6 +12,7 @@ ghost use Rattle.lldp_pdu.specs.Draft.{with_tlv, put_fault, lldpdu_octets, told_
 use crate::bodies::is_well_formed;
 use crate::fault::BuildFault;
 use crate::seen::Seen;
+use crate::spelling::append_tlv;
 use crate::tlv::Tlv;
 use crate::tlv_type::{
     CHASSIS_ID, END_OF_LLDPDU, ORGANIZATIONALLY_SPECIFIC, PORT_DESCRIPTION, PORT_ID, TIME_TO_LIVE,
@@ -39,18 +38,6 @@ impl Model for Builder {
     ghost view = { draft_seen };
 
     ghost invariant = { λ b. Builds b.octets.items b.met.types b.lives };
-}
-
-/// Appends a TLV.
-fn append_tlv(octets: &mut ArrayVec<u8, 1500>, kind: u8, body: &[u8])
-    requires kind { kind < 128 }
-    requires body { length body.now < 512 }
-    requires room { array_vec_len octets.old + 2 + length body.now ≤ 1500 }
-    ensures { octets.new.items ≡ octets.old.items ++ spelling (record { kind = kind; body = body.now }) }
-{
-    let header = u16::from(kind) << 9 | body.len() as u16;
-    octets.try_extend_from_slice(&header.to_be_bytes()).unwrap();
-    octets.try_extend_from_slice(body).unwrap();
 }
 
 /// Whether TLVs of the type stand behind the mandatory ones.

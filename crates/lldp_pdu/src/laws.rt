@@ -8,7 +8,7 @@ ghost use Rattle.lldp_pdu.specs.View.{unit_of, GivesFirstTlv};
 ghost use Rattle.lldp_pdu.specs.Fault.{fault_of};
 ghost use Rattle.lldp_pdu.specs.Lldpdu.{extent, ttl_of};
 ghost use Rattle.lldp_pdu.specs.Info.{info_of, IsInfo, TellsItself};
-ghost use Rattle.lldp_pdu.specs.Draft.{Draft, CanPut, put_fault};
+ghost use Rattle.lldp_pdu.specs.Draft.{Draft, CanPut, CanBuild, IsReadBack, put_fault, lldpdu_octets};
 ghost use Rattle.lldp_pdu.specs.ManagementAddress.{Address, address_of, IsSpelled};
 ghost use Rattle.lldp_pdu.specs.Frame.{nearest_bridge, lldp_ethertype, lldpdu_of};
 
@@ -43,6 +43,13 @@ pub fn frame_has_lldpdu()
 /// A TLV is put exactly where it passes each check.
 pub fn put_succeeds()
     ensures { (draft : Draft) (tlv : TlvUnit) → CanPut draft tlv ↔ (put_fault draft tlv ≡ None) }
+{}
+
+/// What a `Builder` can build has at most 1,500 octets and is examined back to what was begun and put, however its octets
+/// were written.
+pub fn drafts_are_read_back()
+    ensures short { (draft : Draft) → CanBuild draft → length (lldpdu_octets draft) ≤ 1500 }
+    ensures told { (draft : Draft) → CanBuild draft → IsReadBack draft (lldpdu_octets draft) }
 {}
 
 /// A body is a well-formed Management Address with these fields exactly where it is their spelling.

@@ -12,6 +12,7 @@ mod kept;
 mod laws;
 mod msap;
 mod seen;
+mod spelling;
 mod tlv;
 pub mod tlv_type;
 
@@ -24,10 +25,11 @@ pub use frame::frame_pdu;
 pub use info::Info;
 pub use kept::Kept;
 pub use laws::{
-    begins_with_extent, extent_tells_the_same, frame_has_lldpdu, management_address_is_spelled,
-    one_cut, put_succeeds, whole_cut,
+    begins_with_extent, drafts_are_read_back, extent_tells_the_same, frame_has_lldpdu,
+    management_address_is_spelled, one_cut, put_succeeds, whole_cut,
 };
 pub use msap::Msap;
+pub use spelling::append_tlv;
 pub use tlv::{Tlv, Tlvs};
 
 #[cfg(test)]

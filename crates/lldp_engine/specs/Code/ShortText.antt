@@ -1,5 +1,6 @@
--- What the code asks of a setting's text.
-use Rattle.std.specs.Prelude.{◌≤◌, length}
+-- What the code asks of a setting's text, and what a configuration keeps of it.
+use Rattle.std.specs.Prelude.{◌≡◌, ◌≤◌, length, IfSome}
+use Rattle.lldp_engine.specs.Configuration.{Configuration}
 use Rattle.lldp_engine.specs.Event.{Event, tick, frame, link, configure, Setting, hostname, description, interval, hold, limit, status, update}
 
 abbrev pub HasShort : Setting → Type 0
@@ -17,3 +18,9 @@ HasShortText tick = Unit {0}
 HasShortText (frame port octets) = Unit {0}
 HasShortText (link port up) = Unit {0}
 HasShortText (configure setting) = HasShort setting
+
+-- its texts have at most 255 octets, and its management address has four
+pub record HasShortTexts (c : Configuration) : Type 0 where
+  pub hostname : length c.hostname ≤ 255
+  pub description : length c.description ≤ 255
+  pub management : IfSome c.management (λ address. length address ≡ 4)

@@ -7,9 +7,9 @@ use Rattle.lldp_pdu.proofs.builder.Builder.begin.Goals as goal
 -- the three TLVs, one after the other
 spelled : (c : goal.After-append_tlv-3) → c.append_tlv-3.new.octets.items ≡ spelling (record { kind = 1; body = c.args.chassis.now }) ++ spelling (record { kind = 2; body = c.args.port.now }) ++ spelling (record { kind = 3; body = to_be_bytes w16 c.args.ttl })
 spelled c =
-    let a = c.append_tlv.ensures in
-    let b = c.append_tlv-2.ensures in
-    let d = c.append_tlv-3.ensures in
+    let a = c.append_tlv.ensures.value in
+    let b = c.append_tlv-2.ensures.value in
+    let d = c.append_tlv-3.ensures.value in
     let n = c.new-octets.ensures in
     let t = c.to_be_bytes.ensures in
     let a' : c.append_tlv.new.octets.items ≡ spelling (record { kind = 1; body = c.args.chassis.now }) = a ∙ ap (λ (x : List ℕ). x ++ spelling (record { kind = 1; body = c.args.chassis.now })) n in

@@ -1,5 +1,5 @@
 use Rattle.lldp_engine.proofs.FramePast.{frame_reads}
-use Rattle.lldp_engine.proofs.agent.Agent.frame.Goals as goal
+use Rattle.lldp_engine.proofs.agent.Agent.write_frame.Goals as goal
 
 pub returns-clause-past : goal.returns-clause-past
 returns-clause-past g c = λ past h name named.

@@ -1,0 +1,10 @@
+use Rattle.std.proofs.Common.{refl}
+use Rattle.lldp_pdu.specs.Draft.{lldpdu_octets}
+use Rattle.lldp_pdu.proofs.Drafts.{built, built_short, finished}
+use Rattle.lldp_pdu.proofs.laws.drafts_are_read_back.Goals as goal
+
+pub returns-clause-short : goal.returns-clause-short
+returns-clause-short c = built_short
+
+pub returns-clause-told : goal.returns-clause-told
+returns-clause-told c = λ draft can. finished draft (lldpdu_octets draft) (built draft can).0 refl
