@@ -9,7 +9,8 @@ use Rattle.lldp_engine.specs.Options.{Options, InRange}
 use Rattle.lldp_engine.specs.Event.{Event}
 use Rattle.lldp_engine.specs.Frames.{IsSent}
 use Rattle.lldp_engine.specs.AgentState.{AgentState}
-use Rattle.lldp_engine.specs.Past.{Past, Sending, sending, sent_from, mark_after, marks_of, with_event}
+use Rattle.lldp_engine.specs.Past.{Past, Sending, sending, happened, port_past, past_of, sent_from, marks_of, with_event}
+use Rattle.lldp_engine.specs.Port.Past.{mark_after}
 use Rattle.lldp_engine.specs.Standing.{Stands}
 use Rattle.lldp_engine.specs.Headline.{AnswersExactly, PromisedStep, IsEarlierPort}
 use Rattle.lldp_engine.proofs.HeadlineLemmas.{sends_exactly, promised}
@@ -26,13 +27,13 @@ contains_more x y xs h = (suc h.0, omega (arith, h.1), h.2)
 
 -- the port is not before this place, exists, and sends this
 abbrev IsOf : Options → List Event → ℕ → Sending → Type 0
-IsOf o events s x = (s ≤ x.0) × (x.0 < length o.names) × IsSent x.1 × (mark_after o x.0 events ≡ x.1)
+IsOf o events s x = (s ≤ x.0) × (x.0 < length o.names) × IsSent x.1 × (mark_after o (port_past o x.0 events) ≡ x.1)
 
 later_are : (o : Options) (events : List Event) (s : ℕ) (xs : List Sending) → AllByRecursion (IsOf o events (s + 1)) xs → AllByRecursion (IsOf o events s) xs
 later_are o events s [] h = tt
 later_are o events s (x ∷ xs) h = ((omega (arith, h.0.0), h.0.1, h.0.2, h.0.3), later_are o events s xs h.1)
 
-one_is : (o : Options) (events : List Event) (s : ℕ) (mark : Mark) (others : List Sending) → s < length o.names → mark_after o s events ≡ mark → AllByRecursion (IsOf o events s) others
+one_is : (o : Options) (events : List Event) (s : ℕ) (mark : Mark) (others : List Sending) → s < length o.names → mark_after o (port_past o s events) ≡ mark → AllByRecursion (IsOf o events s) others
     → AllByRecursion (IsOf o events s) (sending s mark others)
 one_is o events s Quiet others lt e h = h
 one_is o events s Ordinary others lt e h = ((omega arith, lt, tt, e), h)
@@ -41,7 +42,7 @@ one_is o events s Shutdown others lt e h = ((omega arith, lt, tt, e), h)
 all_are : (o : Options) (events : List Event) (s : ℕ) (names : List (List ℕ)) → s + length names ≡ length o.names → AllByRecursion (IsOf o events s) (sent_from o events s names)
 all_are o events s [] l = tt
 all_are o events s (name ∷ names) l =
-    one_is o events s (mark_after o s events) _ (omega arith) refl (later_are o events s _ (all_are o events (s + 1) names (omega arith)))
+    one_is o events s (mark_after o (port_past o s events)) _ (omega arith) refl (later_are o events s _ (all_are o events (s + 1) names (omega arith)))
 
 -- ## Each mark of the definitions is among them
 
@@ -55,17 +56,17 @@ other_is_there s Quiet others x h = h
 other_is_there s Ordinary others x h = contains_more (s, Ordinary) x others h
 other_is_there s Shutdown others x h = contains_more (s, Shutdown) x others h
 
-is_there : (o : Options) (events : List Event) (s d : ℕ) (names : List (List ℕ)) (mark : Mark) → d < length names → IsSent mark → mark_after o (s + d) events ≡ mark
+is_there : (o : Options) (events : List Event) (s d : ℕ) (names : List (List ℕ)) (mark : Mark) → d < length names → IsSent mark → mark_after o (port_past o (s + d) events) ≡ mark
     → Contains (sent_from o events s names) (s + d, mark)
 is_there o events s d [] mark lt sent e = absurd (omega arith)
 is_there o events s zero (name ∷ names) mark lt sent e =
     let here : s + 0 ≡ s = omega arith in
-    let is : mark_after o s events ≡ mark = ap (λ k. mark_after o k events) (sym here) ∙ e in
+    let is : mark_after o (port_past o s events) ≡ mark = ap (λ k. mark_after o (port_past o k events)) (sym here) ∙ e in
     subst (λ k. Contains (sent_from o events s (name ∷ names)) (k, mark)) (sym here) (rw is (first_is_there s mark (sent_from o events (s + 1) names) sent))
 is_there o events s (suc d) (name ∷ names) mark lt sent e =
     let there : s + suc d ≡ s + 1 + d = omega arith in
-    let is : mark_after o (s + 1 + d) events ≡ mark = ap (λ k. mark_after o k events) (sym there) ∙ e in
-    other_is_there s (mark_after o s events) (sent_from o events (s + 1) names) (s + suc d, mark)
+    let is : mark_after o (port_past o (s + 1 + d) events) ≡ mark = ap (λ k. mark_after o (port_past o k events)) (sym there) ∙ e in
+    other_is_there s (mark_after o (port_past o s events)) (sent_from o events (s + 1) names) (s + suc d, mark)
     (subst (λ k. Contains (sent_from o events (s + 1) names) (k, mark)) (sym there) (is_there o events (s + 1) d names mark (omega arith) sent is))
 
 -- ## They rise
@@ -85,7 +86,7 @@ one_rises o events s Shutdown others h rising =
 all_rise : (o : Options) (events : List Event) (s : ℕ) (names : List (List ℕ)) → s + length names ≡ length o.names → AllPairs IsEarlierPort (sent_from o events s names)
 all_rise o events s [] l = λ i j d lt within. absurd (omega (arith, within))
 all_rise o events s (name ∷ names) l =
-    one_rises o events s (mark_after o s events) _ (all_are o events (s + 1) names (omega arith)) (all_rise o events (s + 1) names (omega arith))
+    one_rises o events s (mark_after o (port_past o s events)) _ (all_are o events (s + 1) names (omega arith)) (all_rise o events (s + 1) names (omega arith))
 
 -- ## What a step answers
 
@@ -99,10 +100,10 @@ module _ (past : Past) (event : Event) (r : InRange past.options) where
   is_of : (x : Sending) → Contains now x → IsOf past.options after 0 x
   is_of x h = All-contains (IsOf past.options after 0) now x (All-from_recursion (IsOf past.options after 0) now (all_are past.options after 0 past.options.names (omega arith))) h
 
-  there : (i : ℕ) (mark : Mark) → i < length past.options.names → IsSent mark → mark_after past.options i after ≡ mark → Contains now (i, mark)
+  there : (i : ℕ) (mark : Mark) → i < length past.options.names → IsSent mark → mark_after past.options (port_past past.options i after) ≡ mark → Contains now (i, mark)
   there i mark lt sent e =
       let place : 0 + i ≡ i = omega arith in
-      let is : mark_after past.options (0 + i) after ≡ mark = ap (λ k. mark_after past.options k after) place ∙ e in
+      let is : mark_after past.options (port_past past.options (0 + i) after) ≡ mark = ap (λ k. mark_after past.options (port_past past.options k after)) place ∙ e in
       subst (λ k. Contains now (k, mark)) place (is_there past.options after 0 i past.options.names mark lt sent is)
 
   shorter : (xs : List Sending) → AllByRecursion (IsOf past.options after 0) xs → AllByRecursion (λ x. (x.0 < length past.options.names) × IsSent x.1) xs
@@ -112,11 +113,11 @@ module _ (past : Past) (event : Event) (r : InRange past.options) where
   answers_exactly : AnswersExactly past event now
   answers_exactly = record {
     are = refl;
-    ordinary = λ i lt. let exactly = sends_exactly past i event past.events r in (
+    ordinary = λ i lt. let exactly = sends_exactly past.options (happened past.options i event past.events) (past_of past i) r in (
       λ h. exactly.ordinary.0 (is_of (i, Ordinary) h).3,
       λ due. there i Ordinary lt tt (exactly.ordinary.1 due),
     );
-    shutdown = λ i lt. let exactly = sends_exactly past i event past.events r in (
+    shutdown = λ i lt. let exactly = sends_exactly past.options (happened past.options i event past.events) (past_of past i) r in (
       λ h. exactly.shutdown.0 (is_of (i, Shutdown) h).3,
       λ stop. there i Shutdown lt tt (exactly.shutdown.1 stop),
     );

@@ -17,11 +17,14 @@ use Rattle.lldp_table.specs.Standing.{IsTold}
 use Rattle.lldp_table.proofs.ExtentLemmas.{lldpdu_is_extent}
 use Rattle.lldp_engine.specs.declared.status.Status.{Status}
 use Rattle.lldp_engine.specs.Status.{receives}
-use Rattle.lldp_engine.specs.Event.{Event, tick, frame, link, configure, hostname, description, interval, hold, limit, status as status_setting, update, HasOctets}
+use Rattle.lldp_engine.specs.Event as agent
+use Rattle.lldp_engine.specs.Event.{Event}
 use Rattle.lldp_engine.specs.Heard.{refused, leaves, tells, heard_of, heard_by}
-use Rattle.lldp_engine.specs.PortEvent.{call_of, call_at}
+use Rattle.lldp_engine.specs.Port.Event.{PortEvent, frame, link, status, limit, whose, for_port}
+use Rattle.lldp_engine.specs.Port.Effects.{call_of, call_at}
 use Rattle.lldp_engine.specs.Code.Taking.{FitsLimit}
 use Rattle.lldp_table.specs.Events.{purge}
+use Rattle.lldp_engine.proofs.PortsLemmas.{own_or_nothing}
 
 -- a frame's LLDPDU is no longer than 1,500 octets
 short_lldpdu : (octets : List ℕ) → is_lldp_frame octets ≡ true → length (drop 14 octets) ≤ 1500
@@ -51,30 +54,31 @@ heard_told_as : (table : Contents) (octets : List ℕ) (b : Bool) → AreOctets 
 heard_told_as table octets true fits = lldpdu_told table octets (is_lldp_frame octets) refl fits
 heard_told_as table octets false fits = tt
 
-pub heard_told : (table : Contents) (status : Status) (up : Bool) (octets : List ℕ) → AreOctets octets → IfSome (option_and_then call_of (heard_by status up octets)) (IsTold table)
-heard_told table status up octets fits = heard_told_as table octets (receives status && up) fits
-
-frame_told : (table : Contents) (status : Status) (up : Bool) (octets : List ℕ) (b : Bool) → AreOctets octets
-    → IfSome (option_and_then call_of (if b then heard_by status up octets else None)) (IsTold table)
-frame_told table status up octets true fits = heard_told table status up octets fits
-frame_told table status up octets false fits = tt
+heard_told : (table : Contents) (given : Status) (up : Bool) (octets : List ℕ) → AreOctets octets → IfSome (option_and_then call_of (heard_by given up octets)) (IsTold table)
+heard_told table given up octets fits = heard_told_as table octets (receives given && up) fits
 
 purge_told : (table : Contents) (b : Bool) → IfSome (if b then Some purge else None) (IsTold table)
 purge_told table true = tt
 purge_told table false = tt
 
+-- octets of a frame that comes
+abbrev pub HasOctets : PortEvent → Type 0
+HasOctets (frame octets) = AreOctets octets
+HasOctets event = Unit {0}
+
 -- what an allowed event tells a table can be told to it
-pub event_told : (table : Contents) (event : Event) (i : ℕ) (status : Status) (up : Bool) → HasOctets event → FitsLimit event table → IfSome (call_at event i status up) (IsTold table)
-event_told table tick i status up h f = tt
-event_told table (frame port octets) i status up h f = frame_told table status up octets (port == i) h
-event_told table (link port given) i status up h f = tt
-event_told table (configure (hostname text)) i status up h f = tt
-event_told table (configure (description text)) i status up h f = tt
-event_told table (configure (interval seconds)) i status up h f = tt
-event_told table (configure (hold times)) i status up h f = tt
-event_told table (configure (limit neighbors)) i status up h f = f
-event_told table (configure (status_setting port given)) i status up h f = purge_told table (port == i && (receives status && not (receives given)))
-event_told table (configure update) i status up h f = tt
+pub event_told : (table : Contents) (event : PortEvent) (given : Status) (up : Bool) → HasOctets event → FitsLimit event table → IfSome (call_at event given up) (IsTold table)
+event_told table (frame octets) given up h f = heard_told table given up octets h
+event_told table (limit neighbors) given up h f = f
+event_told table (status next) given up h f = purge_told table (receives given && not (receives next))
+event_told table event given up h f = tt
+
+-- octets that come to the agent come to the port
+pub octets_for : (i : ℕ) (event : Event) → agent.HasOctets event → HasOctets (for_port i (whose event))
+octets_for i (agent.frame port octets) h = own_or_nothing HasOctets (port == i) (frame octets) h tt
+octets_for i (agent.link port up) h = own_or_nothing HasOctets (port == i) (link up) tt tt
+octets_for i (agent.configure (agent.status port given)) h = own_or_nothing HasOctets (port == i) (status given) tt tt
+octets_for i event h = tt
 
 -- ## What the examination of an LLDPDU says of it
 

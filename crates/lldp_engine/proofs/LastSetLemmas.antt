@@ -4,10 +4,14 @@ use Rattle.std.specs.Prelude.{◌==◌}
 use Rattle.std.proofs.lemmas.Bool.Decides.{eqb_tells}
 use Rattle.lldp_engine.specs.declared.status.Status.{Status as PortStatus}
 use Rattle.lldp_engine.specs.Options.{Options}
-use Rattle.lldp_engine.specs.Event.{Event, tick, frame, link, configure, hostname, description, interval, hold, limit, status, update}
+use Rattle.lldp_engine.specs.Event.{Event, frame, link, configure, hostname, description, interval, hold, limit, status}
 use Rattle.lldp_engine.specs.Configuration.{Configuration, configuration_at_opening, configured}
-use Rattle.lldp_engine.specs.Past.{configuration_after, status_after, up_after}
+use Rattle.lldp_engine.specs.Past.{configuration_after, port_past}
+use Rattle.lldp_engine.specs.Port.Event as own
+use Rattle.lldp_engine.specs.Port.Effects.{status_then, up_then}
+use Rattle.lldp_engine.specs.Port.Past.{status_after, up_after}
 use Rattle.lldp_engine.specs.LastSet.{NoneSets, IsLastSet, IsLastStatus, IsLastLink, without_commands, IsLastConfiguration}
+use Rattle.lldp_engine.proofs.PortsLemmas.{own_or_nothing}
 
 -- An event either sets the value, whatever came before it, or leaves what was before it.
 abbrev SetsOrLeaves : {X : Type 0} → (X → Event) → (List Event → X) → Event → Type 0
@@ -62,52 +66,58 @@ module _ {X : Type 0} (set : X → Event) (value_after : List Event → X) (same
 
 -- ## The status of port i
 
+abbrev status_at : Options → ℕ → List Event → PortStatus
+status_at o i events = status_after o (port_past o i events)
+
+abbrev LeavesStatus : PortStatus → own.PortEvent → Type 0
+LeavesStatus before event = status_then event before ≡ before
+
 status_case : (o : Options) (i port : ℕ) (given : PortStatus) → (((port == i) ≡ true) × (port ≡ i)) ⊎ (((port == i) ≡ false) × (port ≡ i → ⊥))
-    → SetsOrLeaves (λ s. configure (status i s)) (status_after o i) (configure (status port given))
+    → SetsOrLeaves (λ s. configure (status i s)) (status_at o i) (configure (status port given))
 status_case o i port given (inl h) = inl (given, ap (λ p. configure (status p given)) h.1, λ events. rw h.0 refl)
 status_case o i port given (inr h) = inr (λ x e. h.1 cc, λ events. rw h.0 refl)
 
-status_each : (o : Options) (i : ℕ) (event : Event) → SetsOrLeaves (λ s. configure (status i s)) (status_after o i) event
-status_each o i tick = inr (λ x e. cc, λ events. refl)
-status_each o i (frame port octets) = inr (λ x e. cc, λ events. refl)
-status_each o i (link port up) = inr (λ x e. cc, λ events. refl)
-status_each o i (configure (hostname text)) = inr (λ x e. cc, λ events. refl)
-status_each o i (configure (description text)) = inr (λ x e. cc, λ events. refl)
-status_each o i (configure (interval seconds)) = inr (λ x e. cc, λ events. refl)
-status_each o i (configure (hold times)) = inr (λ x e. cc, λ events. refl)
-status_each o i (configure (limit neighbors)) = inr (λ x e. cc, λ events. refl)
+status_each : (o : Options) (i : ℕ) (event : Event) → SetsOrLeaves (λ s. configure (status i s)) (status_at o i) event
 status_each o i (configure (status port given)) = status_case o i port given (eqb_tells port i)
-status_each o i (configure update) = inr (λ x e. cc, λ events. refl)
+status_each o i (frame port octets) = inr (λ x e. cc, λ events. own_or_nothing (LeavesStatus (status_at o i events)) (port == i) (own.frame octets) refl refl)
+status_each o i (link port up) = inr (λ x e. cc, λ events. own_or_nothing (LeavesStatus (status_at o i events)) (port == i) (own.link up) refl refl)
+status_each o i event = inr (λ x e. cc, λ events. refl)
 
 same_status : (i : ℕ) (x y : PortStatus) → configure (status i x) ≡ configure (status i y) → x ≡ y
 same_status i x y e = cc
 
-pub status_is_last : (o : Options) (i : ℕ) (events : List Event) → IsLastStatus o i events (status_after o i events)
-status_is_last o i events = last_is_set (λ s. configure (status i s)) (status_after o i) (same_status i) (status_each o i) events
+pub status_is_last : (o : Options) (i : ℕ) (events : List Event) → IsLastStatus o i events (status_at o i events)
+status_is_last o i events = last_is_set (λ s. configure (status i s)) (status_at o i) (same_status i) (status_each o i) events
 
-pub last_is_status : (o : Options) (i : ℕ) (events : List Event) (s : PortStatus) → IsLastStatus o i events s → s ≡ status_after o i events
-last_is_status o i events s h = set_is_last (λ s. configure (status i s)) (status_after o i) (same_status i) (status_each o i) events s h
+pub last_is_status : (o : Options) (i : ℕ) (events : List Event) (s : PortStatus) → IsLastStatus o i events s → s ≡ status_at o i events
+last_is_status o i events s h = set_is_last (λ s. configure (status i s)) (status_at o i) (same_status i) (status_each o i) events s h
 
 -- ## Its link
 
-link_case : (i port : ℕ) (up : Bool) → (((port == i) ≡ true) × (port ≡ i)) ⊎ (((port == i) ≡ false) × (port ≡ i → ⊥)) → SetsOrLeaves (link i) (up_after i) (link port up)
-link_case i port up (inl h) = inl (up, ap (λ p. link p up) h.1, λ events. rw h.0 refl)
-link_case i port up (inr h) = inr (λ x e. h.1 cc, λ events. rw h.0 refl)
+abbrev up_at : Options → ℕ → List Event → Bool
+up_at o i events = up_after (port_past o i events)
 
-link_each : (i : ℕ) (event : Event) → SetsOrLeaves (link i) (up_after i) event
-link_each i tick = inr (λ x e. cc, λ events. refl)
-link_each i (frame port octets) = inr (λ x e. cc, λ events. refl)
-link_each i (link port up) = link_case i port up (eqb_tells port i)
-link_each i (configure setting) = inr (λ x e. cc, λ events. refl)
+abbrev LeavesLink : Bool → own.PortEvent → Type 0
+LeavesLink before event = up_then event before ≡ before
+
+link_case : (o : Options) (i port : ℕ) (up : Bool) → (((port == i) ≡ true) × (port ≡ i)) ⊎ (((port == i) ≡ false) × (port ≡ i → ⊥)) → SetsOrLeaves (link i) (up_at o i) (link port up)
+link_case o i port up (inl h) = inl (up, ap (λ p. link p up) h.1, λ events. rw h.0 refl)
+link_case o i port up (inr h) = inr (λ x e. h.1 cc, λ events. rw h.0 refl)
+
+link_each : (o : Options) (i : ℕ) (event : Event) → SetsOrLeaves (link i) (up_at o i) event
+link_each o i (link port up) = link_case o i port up (eqb_tells port i)
+link_each o i (frame port octets) = inr (λ x e. cc, λ events. own_or_nothing (LeavesLink (up_at o i events)) (port == i) (own.frame octets) refl refl)
+link_each o i (configure (status port given)) = inr (λ x e. cc, λ events. own_or_nothing (LeavesLink (up_at o i events)) (port == i) (own.status given) refl refl)
+link_each o i event = inr (λ x e. cc, λ events. refl)
 
 same_link : (i : ℕ) (x y : Bool) → link i x ≡ link i y → x ≡ y
 same_link i x y e = cc
 
-pub link_is_last : (i : ℕ) (events : List Event) → IsLastLink i events (up_after i events)
-link_is_last i events = last_is_set (link i) (up_after i) (same_link i) (link_each i) events
+pub link_is_last : (o : Options) (i : ℕ) (events : List Event) → IsLastLink i events (up_at o i events)
+link_is_last o i events = last_is_set (link i) (up_at o i) (same_link i) (link_each o i) events
 
-pub last_is_link : (i : ℕ) (events : List Event) (up : Bool) → IsLastLink i events up → up ≡ up_after i events
-last_is_link i events up h = set_is_last (link i) (up_after i) (same_link i) (link_each i) events up h
+pub last_is_link : (o : Options) (i : ℕ) (events : List Event) (up : Bool) → IsLastLink i events up → up ≡ up_at o i events
+last_is_link o i events up h = set_is_last (link i) (up_at o i) (same_link i) (link_each o i) events up h
 
 -- ## The configuration
 
@@ -115,16 +125,8 @@ abbrev hostname_after : Options → List Event → List ℕ
 hostname_after o events = (configuration_after o events).hostname
 
 hostname_each : (o : Options) (event : Event) → SetsOrLeaves (λ text. configure (hostname text)) (hostname_after o) event
-hostname_each o tick = inr (λ x e. cc, λ events. refl)
-hostname_each o (frame port octets) = inr (λ x e. cc, λ events. refl)
-hostname_each o (link port up) = inr (λ x e. cc, λ events. refl)
 hostname_each o (configure (hostname text)) = inl (text, refl, λ events. refl)
-hostname_each o (configure (description text)) = inr (λ x e. cc, λ events. refl)
-hostname_each o (configure (interval seconds)) = inr (λ x e. cc, λ events. refl)
-hostname_each o (configure (hold times)) = inr (λ x e. cc, λ events. refl)
-hostname_each o (configure (limit neighbors)) = inr (λ x e. cc, λ events. refl)
-hostname_each o (configure (status port given)) = inr (λ x e. cc, λ events. refl)
-hostname_each o (configure update) = inr (λ x e. cc, λ events. refl)
+hostname_each o event = inr (λ x e. cc, λ events. refl)
 
 same_hostname : (x y : List ℕ) → configure (hostname x) ≡ configure (hostname y) → x ≡ y
 same_hostname x y e = cc
@@ -133,16 +135,8 @@ abbrev description_after : Options → List Event → List ℕ
 description_after o events = (configuration_after o events).description
 
 description_each : (o : Options) (event : Event) → SetsOrLeaves (λ text. configure (description text)) (description_after o) event
-description_each o tick = inr (λ x e. cc, λ events. refl)
-description_each o (frame port octets) = inr (λ x e. cc, λ events. refl)
-description_each o (link port up) = inr (λ x e. cc, λ events. refl)
-description_each o (configure (hostname text)) = inr (λ x e. cc, λ events. refl)
 description_each o (configure (description text)) = inl (text, refl, λ events. refl)
-description_each o (configure (interval seconds)) = inr (λ x e. cc, λ events. refl)
-description_each o (configure (hold times)) = inr (λ x e. cc, λ events. refl)
-description_each o (configure (limit neighbors)) = inr (λ x e. cc, λ events. refl)
-description_each o (configure (status port given)) = inr (λ x e. cc, λ events. refl)
-description_each o (configure update) = inr (λ x e. cc, λ events. refl)
+description_each o event = inr (λ x e. cc, λ events. refl)
 
 same_description : (x y : List ℕ) → configure (description x) ≡ configure (description y) → x ≡ y
 same_description x y e = cc
@@ -151,16 +145,8 @@ abbrev interval_after : Options → List Event → ℕ
 interval_after o events = (configuration_after o events).interval
 
 interval_each : (o : Options) (event : Event) → SetsOrLeaves (λ seconds. configure (interval seconds)) (interval_after o) event
-interval_each o tick = inr (λ x e. cc, λ events. refl)
-interval_each o (frame port octets) = inr (λ x e. cc, λ events. refl)
-interval_each o (link port up) = inr (λ x e. cc, λ events. refl)
-interval_each o (configure (hostname text)) = inr (λ x e. cc, λ events. refl)
-interval_each o (configure (description text)) = inr (λ x e. cc, λ events. refl)
 interval_each o (configure (interval seconds)) = inl (seconds, refl, λ events. refl)
-interval_each o (configure (hold times)) = inr (λ x e. cc, λ events. refl)
-interval_each o (configure (limit neighbors)) = inr (λ x e. cc, λ events. refl)
-interval_each o (configure (status port given)) = inr (λ x e. cc, λ events. refl)
-interval_each o (configure update) = inr (λ x e. cc, λ events. refl)
+interval_each o event = inr (λ x e. cc, λ events. refl)
 
 same_interval : (x y : ℕ) → configure (interval x) ≡ configure (interval y) → x ≡ y
 same_interval x y e = cc
@@ -169,16 +155,8 @@ abbrev hold_after : Options → List Event → ℕ
 hold_after o events = (configuration_after o events).hold
 
 hold_each : (o : Options) (event : Event) → SetsOrLeaves (λ times. configure (hold times)) (hold_after o) event
-hold_each o tick = inr (λ x e. cc, λ events. refl)
-hold_each o (frame port octets) = inr (λ x e. cc, λ events. refl)
-hold_each o (link port up) = inr (λ x e. cc, λ events. refl)
-hold_each o (configure (hostname text)) = inr (λ x e. cc, λ events. refl)
-hold_each o (configure (description text)) = inr (λ x e. cc, λ events. refl)
-hold_each o (configure (interval seconds)) = inr (λ x e. cc, λ events. refl)
 hold_each o (configure (hold times)) = inl (times, refl, λ events. refl)
-hold_each o (configure (limit neighbors)) = inr (λ x e. cc, λ events. refl)
-hold_each o (configure (status port given)) = inr (λ x e. cc, λ events. refl)
-hold_each o (configure update) = inr (λ x e. cc, λ events. refl)
+hold_each o event = inr (λ x e. cc, λ events. refl)
 
 same_hold : (x y : ℕ) → configure (hold x) ≡ configure (hold y) → x ≡ y
 same_hold x y e = cc
@@ -187,31 +165,15 @@ abbrev limit_after : Options → List Event → ℕ
 limit_after o events = (configuration_after o events).limit
 
 limit_each : (o : Options) (event : Event) → SetsOrLeaves (λ neighbors. configure (limit neighbors)) (limit_after o) event
-limit_each o tick = inr (λ x e. cc, λ events. refl)
-limit_each o (frame port octets) = inr (λ x e. cc, λ events. refl)
-limit_each o (link port up) = inr (λ x e. cc, λ events. refl)
-limit_each o (configure (hostname text)) = inr (λ x e. cc, λ events. refl)
-limit_each o (configure (description text)) = inr (λ x e. cc, λ events. refl)
-limit_each o (configure (interval seconds)) = inr (λ x e. cc, λ events. refl)
-limit_each o (configure (hold times)) = inr (λ x e. cc, λ events. refl)
 limit_each o (configure (limit neighbors)) = inl (neighbors, refl, λ events. refl)
-limit_each o (configure (status port given)) = inr (λ x e. cc, λ events. refl)
-limit_each o (configure update) = inr (λ x e. cc, λ events. refl)
+limit_each o event = inr (λ x e. cc, λ events. refl)
 
 same_limit : (x y : ℕ) → configure (limit x) ≡ configure (limit y) → x ≡ y
 same_limit x y e = cc
 
 others_stay : (o : Options) (event : Event) (c : Configuration) → without_commands o (configured event c) ≡ without_commands o c
-others_stay o tick c = refl
-others_stay o (frame port octets) c = refl
-others_stay o (link port up) c = refl
 others_stay o (configure (hostname text)) c = refl
-others_stay o (configure (description text)) c = refl
-others_stay o (configure (interval seconds)) c = refl
-others_stay o (configure (hold times)) c = refl
-others_stay o (configure (limit neighbors)) c = refl
-others_stay o (configure (status port given)) c = refl
-others_stay o (configure update) c = refl
+others_stay o event c = refl
 
 others_are : (o : Options) (events : List Event) → without_commands o (configuration_after o events) ≡ configuration_at_opening o
 others_are o [] = refl

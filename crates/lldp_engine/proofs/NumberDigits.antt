@@ -1,10 +1,10 @@
 -- The value of digits, read one after another.
 use Rattle.std.proofs.Common.{◌≡◌, ℕ, ◌+◌, ◌-◌, ◌*◌, ◌<◌, Bool, true, false, List, length, get_or, take, min, refl, sym, arith}
-use Rattle.std.specs.Prelude.{◌&&◌, nat_lt, IsTrue, ◌↔◌}
+use Rattle.std.specs.Prelude.{nat_lt, IsTrue, ◌↔◌}
 use Rattle.std.specs.List.{AllPass, list_all}
 use Rattle.std.specs.Char.{digit_value, is_ascii_digit}
 use Rattle.std.specs.Str.Parse.{digits_value}
-use Rattle.std.proofs.lemmas.Bool.{false≢true}
+use Rattle.std.proofs.lemmas.Bool.{and_parts}
 use Rattle.std.proofs.lemmas.Bool.Decides.{nat_tests}
 use Rattle.std.proofs.lemmas.List.Sums.{AllPass-from_list_all, list_all-from_AllPass}
 use Rattle.std.proofs.lemmas.Int.Digits.{digits_value_more}
@@ -19,10 +19,6 @@ list_all-is p xs false h = go (list_all p xs) refl
     go true e = h.1 (AllPass-from_list_all p xs e)
     go false e = refl
 
-both : (a b : Bool) → (a && b) ≡ true → b ≡ true
-both true b h = h
-both false b h = absurd (false≢true h)
-
 pub digit_value-ascii : (c : ℕ) → is_ascii_digit c ≡ true → digit_value c ≡ c - 48
 digit_value-ascii c h = grind (arith, nat_tests)
 
@@ -34,5 +30,5 @@ is_number-some word b n h =
 pub value_more : (ds : List ℕ) (i v d r : ℕ) → is_number ds ≡ true → i < length ds → v ≡ min (digits_value 10 (take i ds)) 65536 → d ≡ get_or ds i 0 - 48 → r ≡ min (v * 10 + d) 65536 → r ≡ min (digits_value 10 (take (i + 1) ds)) 65536
 value_more ds i v d r all lt e f g =
     let digit : digit_value (get_or ds i 0) ≡ get_or ds i 0 - 48 =
-    digit_value-ascii (get_or ds i 0) (AllPass-from_list_all is_ascii_digit ds (both (nat_lt 0 (length ds)) _ all) i 0 lt) in
+    digit_value-ascii (get_or ds i 0) (AllPass-from_list_all is_ascii_digit ds (and_parts (nat_lt 0 (length ds)) _ all).1 i 0 lt) in
     omega (arith, digits_value_more 10 ds i lt)

@@ -1,6 +1,7 @@
 -- An agent that was just opened stands for the options and no events.
-use Rattle.std.proofs.Common.{◌≡◌, ℕ, zero, suc, ◌+◌, ◌<◌, ◌≤◌, Bool, true, false, ◌&&◌, List, [], ◌∷◌, ◌++◌, length, get_or, take, drop, map, Bor, refl, ap, sym, ◌∙◌, arith}
+use Rattle.std.proofs.Common.{◌≡◌, ℕ, zero, suc, ◌+◌, ◌<◌, ◌≤◌, true, List, [], ◌∷◌, ◌++◌, length, get_or, take, drop, map, Bor, refl, ap, sym, ◌∙◌, arith}
 use Rattle.std.specs.List.{list_all}
+use Rattle.std.proofs.lemmas.Bool.{and_parts}
 use Rattle.std.proofs.lemmas.Bool.Decides.{nat_tests}
 use Rattle.lldp_table.specs.Contents.{newly_opened}
 use Rattle.lldp_table.specs.Events.{events_of}
@@ -13,9 +14,11 @@ use Rattle.lldp_transmit.proofs.Standing.{stands_at_first, stands_is as machine_
 use Rattle.lldp_engine.specs.Configuration.{configuration_at_opening}
 use Rattle.lldp_engine.specs.Counters.{counters_of}
 use Rattle.lldp_engine.specs.AgentState.{AgentState, PortState}
-use Rattle.lldp_engine.specs.Past.{opened, settings_of, port_after, ports_after, agent_of}
+use Rattle.lldp_engine.specs.Past.{opened, ports_after, agent_of}
+use Rattle.lldp_engine.specs.Port.Past.{settings_of, port_after}
 use Rattle.lldp_engine.specs.Standing.{Stands}
-use Rattle.lldp_engine.specs.Step.{opened_port, none_counted}
+use Rattle.lldp_engine.specs.Port.Counting.{none_counted}
+use Rattle.lldp_engine.specs.Port.Step.{opened_port}
 use Rattle.lldp_engine.proofs.CounterLemmas.{counted_none}
 use Rattle.lldp_engine.proofs.StandingLemmas.{settings_in_range}
 
@@ -23,9 +26,9 @@ no_events : (limit : ℕ) → events_of limit [] ≡ []
 unfolding events_of
 no_events limit = refl
 
-port_opened : (o : Options) (i : ℕ) (name : List ℕ) → InRange o → opened_port o name ≡ port_after o [] i name
+port_opened : (o : Options) (name : List ℕ) → InRange o → opened_port o name ≡ port_after o [] name
 unfolding port_after
-port_opened o i name r =
+port_opened o name r =
     let table : newly_opened o.max_neighbors ≡ table_of o.max_neighbors [] = stands_is _ o.max_neighbors [] (stands_open o.max_neighbors (omega (arith, r.neighbors)) (omega (arith, r.neighbors))) in
     let machine : opened_machine (settings_of o) ≡ machine_of (settings_of o) [] = machine_is (settings_of o) [] _ (stands_at_first (settings_of o) (settings_in_range o r)) in
     let counters : none_counted ≡ counters_of [] (events_of o.max_neighbors []) [] = sym counted_none ∙ ap (λ es. counters_of [] es []) (sym (no_events o.max_neighbors)) in
@@ -34,7 +37,7 @@ port_opened o i name r =
 ports_opened : (o : Options) (i : ℕ) (names : List (List ℕ)) → InRange o → map (opened_port o) names ≡ ports_after o [] i names
 ports_opened o i [] r = refl
 ports_opened o i (name ∷ names) r =
-    let one = port_opened o i name r in
+    let one = port_opened o name r in
     let others = ports_opened o (i + 1) names r in
     cc
 
@@ -48,15 +51,11 @@ opened_stands o agent r c h =
 short_name : (name : List ℕ) → is_port_name name ≡ true → length name ≤ 15
 short_name name h = grind (arith, nat_tests)
 
-both : (a b : Bool) → (a && b) ≡ true → (a ≡ true) × (b ≡ true)
-both true b h = (refl, h)
-both false b h = absurd cc
-
 -- the next name is one, and so are those behind it
 pub next_named : (names : List (Bor (List ℕ))) (i : ℕ) (none : Bor (List ℕ)) → i < length names → list_all is_port_name (map (λ n. n.now) (drop i names)) ≡ true
     → (length (get_or names i none).now ≤ 15) × (list_all is_port_name (map (λ n. n.now) (drop (suc i) names)) ≡ true)
 next_named [] i none lt h = absurd (omega arith)
-next_named (n ∷ ns) zero none lt h = let b = both (is_port_name n.now) (list_all is_port_name (map (λ m. m.now) ns)) h in (short_name n.now b.0, b.1)
+next_named (n ∷ ns) zero none lt h = let b = and_parts (is_port_name n.now) (list_all is_port_name (map (λ m. m.now) ns)) h in (short_name n.now b.0, b.1)
 next_named (n ∷ ns) (suc i) none lt h = next_named ns i none (omega arith) h
 
 next_taken : (f : List ℕ → PortState) (names : List (Bor (List ℕ))) (i : ℕ) (none : Bor (List ℕ)) → i < length names

@@ -8,42 +8,45 @@ use Rattle.lldp_engine.specs.Event.{Event}
 use Rattle.lldp_engine.specs.Place.{place_from}
 use Rattle.lldp_engine.specs.AgentState.{PortState}
 use Rattle.lldp_engine.specs.AgentState.{AgentState}
-use Rattle.lldp_engine.specs.Past.{Past, port_after, ports_after, agent_of}
+use Rattle.lldp_engine.specs.Past.{Past, port_past, past_of, ports_after, agent_of}
+use Rattle.lldp_engine.specs.Port.Past.{Happened, port_after}
 use Rattle.lldp_engine.specs.Standing.{Stands}
 
 pub ports_are : (past : Past) (agent : AgentState) → Stands past agent → agent.ports ≡ ports_after past.options past.events 0 past.options.names
 unfolding agent_of
 ports_are past agent h = ap (λ (a : AgentState). a.ports) h.is
 
--- what the definitions say of the port at a place
-pub record IsPortAfter (o : Options) (events : List Event) (i : ℕ) (name : Option (List ℕ)) (p : PortState) : Type 0 where
+-- what the definitions say of a port with this past
+pub record IsPortAfter (o : Options) (past : List Happened) (name : Option (List ℕ)) (p : PortState) : Type 0 where
   pub named : name ≡ Some p.name
-  pub is : p ≡ port_after o events i p.name
+  pub is : p ≡ port_after o past p.name
 
-name_after : (o : Options) (events : List Event) (i : ℕ) (name : List ℕ) → (port_after o events i name).name ≡ name
+name_after : (o : Options) (past : List Happened) (name : List ℕ) → (port_after o past name).name ≡ name
 unfolding port_after
-name_after o events i name = refl
+name_after o past name = refl
 
-port_at : (o : Options) (events : List Event) (s i : ℕ) (names : List (List ℕ)) (p : PortState) → i < length (ports_after o events s names) → p ≡ get_or (ports_after o events s names) i p → IsPortAfter o events (s + i) (slice_get names i) p
+port_at : (o : Options) (events : List Event) (s i : ℕ) (names : List (List ℕ)) (p : PortState) → i < length (ports_after o events s names) → p ≡ get_or (ports_after o events s names) i p
+    → IsPortAfter o (port_past o (s + i) events) (slice_get names i) p
 port_at o events s i [] p lt h = absurd (omega arith)
 port_at o events s zero (name ∷ names) p lt h =
-    let n : p.name ≡ name = ap (λ (q : PortState). q.name) h ∙ name_after o events s name in
-    record { named = ap (λ (x : List ℕ). Some x) (sym n); is = h ∙ ap (port_after o events s) (sym n) ∙ ap (λ (k : ℕ). port_after o events k p.name) (sym (add-zero s)) }
+    let n : p.name ≡ name = ap (λ (q : PortState). q.name) h ∙ name_after o (port_past o s events) name in
+    subst (λ (k : ℕ). IsPortAfter o (port_past o k events) (Some name) p) (sym (add-zero s))
+    (record { named = ap (λ (x : List ℕ). Some x) (sym n); is = h ∙ ap (port_after o (port_past o s events)) (sym n) })
 port_at o events s (suc i) (name ∷ names) p lt h =
     let place : s + suc i ≡ s + 1 + i = omega arith in
     rw place (port_at o events (s + 1) i names p (omega arith) h)
 
-pub port_reads : (past : Past) (agent : AgentState) (i : ℕ) (p : PortState) → Stands past agent → i < length agent.ports → p ≡ get_or agent.ports i p → IsPortAfter past.options past.events i (slice_get past.options.names i) p
+pub port_reads : (past : Past) (agent : AgentState) (i : ℕ) (p : PortState) → Stands past agent → i < length agent.ports → p ≡ get_or agent.ports i p → IsPortAfter past.options (past_of past i) (slice_get past.options.names i) p
 port_reads past agent i p h lt at =
     let e = ports_are past agent h in
     let place : 0 + i ≡ i = omega arith in
-    subst (λ (k : ℕ). IsPortAfter past.options past.events k (slice_get past.options.names i) p) place
+    subst (λ (k : ℕ). IsPortAfter past.options (past_of past k) (slice_get past.options.names i) p) place
     (port_at past.options past.events 0 i past.options.names p (subst (λ (ps : List PortState). i < length ps) e lt) (at ∙ ap (λ (ps : List PortState). get_or ps i p) e))
 
 names_are : (o : Options) (events : List Event) (i : ℕ) (names : List (List ℕ)) → map (λ (p : PortState). p.name) (ports_after o events i names) ≡ names
 names_are o events i [] = refl
 names_are o events i (name ∷ names) =
-    let one = name_after o events i name in
+    let one = name_after o (port_past o i events) name in
     let others = names_are o events (i + 1) names in
     cc
 

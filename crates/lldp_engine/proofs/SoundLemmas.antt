@@ -1,8 +1,9 @@
 -- The ports of an agent stay sound.
-use Rattle.std.proofs.Common.{◌≡◌, ℕ, ◌+◌, ◌≤◌, Bool, true, false, ◌&&◌, List, [], ◌∷◌, length, map, Option, Some, None, refl, sym, ◌∙◌, subst, arith}
-use Rattle.std.specs.Prelude.{IfSome, nat_le}
+use Rattle.std.proofs.Common.{◌≡◌, ℕ, ◌+◌, ◌≤◌, true, List, [], ◌∷◌, length, map, Option, Some, None, refl, sym, ◌∙◌, subst, arith}
+use Rattle.std.specs.Prelude.{◌==◌, IfSome, nat_le}
 use Rattle.std.specs.List.{AllByRecursion, list_all}
 use Rattle.std.proofs.lemmas.List.{length-map}
+use Rattle.std.proofs.lemmas.Bool.{and_parts}
 use Rattle.std.proofs.lemmas.Bool.Decides.{nat_tests}
 use Rattle.lldp_pdu.specs.Msap.{MsapId}
 use Rattle.lldp_table.specs.Events.{Call, learn, forget, purge, tick as tick_call, set_limit}
@@ -12,20 +13,20 @@ use Rattle.lldp_table.specs.Contents.{Contents, IsSound, learned_as, learn_answe
 use Rattle.lldp_table.specs.Standing.{IsTold, IsNewLimit}
 use Rattle.lldp_table.proofs.SoundLemmas.{sound_open, sound_after}
 use Rattle.lldp_engine.specs.Options.{Options, InRange, is_port_name}
-use Rattle.lldp_engine.specs.Event.{Event, tick, frame, link, configure, hostname, description, interval, hold, limit, status, update, HasOctets}
-use Rattle.lldp_engine.specs.PortEvent.{call_at}
+use Rattle.lldp_engine.specs.Event as agent
+use Rattle.lldp_engine.specs.Event.{Event}
+use Rattle.lldp_engine.specs.Port.Event.{PortEvent, Whose, one_port, each_port, whose, for_port}
+use Rattle.lldp_engine.specs.Port.Effects.{call_at}
 use Rattle.lldp_engine.specs.AgentState.{AgentState, PortState, Allows, fits}
 use Rattle.lldp_engine.specs.Sound.{IsSoundPort, AreSound}
-use Rattle.lldp_engine.specs.Step.{opened_port, told, port_step, ports_step}
-use Rattle.lldp_engine.specs.Code.Taking.{FitsLimit}
-use Rattle.lldp_engine.proofs.HeardLemmas.{event_told}
+use Rattle.lldp_engine.specs.Port.Step.{opened_port, told, port_step}
+use Rattle.lldp_engine.specs.Step.{ports_step}
+use Rattle.lldp_engine.specs.Code.Taking.{FitsLimit, AllFit, CanTake}
+use Rattle.lldp_engine.proofs.HeardLemmas.{HasOctets, event_told}
+use Rattle.lldp_engine.proofs.PortsLemmas.{own_or_nothing}
 
 abbrev pub AllSound : ℕ → List PortState → Type 0
 AllSound capacity ports = AllByRecursion (λ port. IsSoundPort capacity port) ports
-
-both : (a b : Bool) → (a && b) ≡ true → (a ≡ true) × (b ≡ true)
-both true b h = (refl, h)
-both false b h = absurd cc
 
 -- ## At opening
 
@@ -39,7 +40,7 @@ port_opened o name r h = record {
 
 ports_opened : (o : Options) (names : List (List ℕ)) → InRange o → list_all is_port_name names ≡ true → AllSound o.max_neighbors (map (opened_port o) names)
 ports_opened o [] r h = tt
-ports_opened o (name ∷ names) r h = let b = both (is_port_name name) (list_all is_port_name names) h in (port_opened o name r b.0, ports_opened o names r b.1)
+ports_opened o (name ∷ names) r h = let b = and_parts (is_port_name name) (list_all is_port_name names) h in (port_opened o name r b.0, ports_opened o names r b.1)
 
 pub opened_are_sound : (o : Options) (ports : List PortState) → InRange o → ports ≡ map (opened_port o) o.names → list_all is_port_name o.names ≡ true → length o.names ≤ 64 → AreSound o.max_neighbors ports
 opened_are_sound o ports r e named few =
@@ -69,48 +70,52 @@ told_room : (table : Contents) (call : Option Call) → (told table call).capaci
 told_room table None = refl
 told_room table (Some call) = called-room table call
 
-port_sound : (capacity : ℕ) (event : Event) (n i : ℕ) (p : PortState) → HasOctets event → FitsLimit event p.table → IsSoundPort capacity p → IsSoundPort capacity (port_step event n i p)
-port_sound capacity event n i p h f s = record {
-  table = told_sound p.table (call_at event i p.status p.machine.up) s.table (event_told p.table event i p.status p.machine.up h f);
-  room = told_room p.table (call_at event i p.status p.machine.up) ∙ s.room;
+none_for_all : (ports : List PortState) → AllByRecursion (λ (port : PortState). Unit {0}) ports
+none_for_all [] = tt
+none_for_all (p ∷ ps) = (tt, none_for_all ps)
+
+each_fits : (event : Whose) (i : ℕ) (ports : List PortState) → CanTake event ports → AllFit (for_port i event) ports
+each_fits (one_port port event) i ports f = own_or_nothing (λ e. AllFit e ports) (port == i) event f.1 (none_for_all ports)
+each_fits (each_port event) i ports f = f
+
+port_sound : (capacity : ℕ) (event : PortEvent) (n : ℕ) (p : PortState) → HasOctets event → FitsLimit event p.table → IsSoundPort capacity p → IsSoundPort capacity (port_step event n p)
+port_sound capacity event n p h f s = record {
+  table = told_sound p.table (call_at event p.status p.machine.up) s.table (event_told p.table event p.status p.machine.up h f);
+  room = told_room p.table (call_at event p.status p.machine.up) ∙ s.room;
   some = s.some;
   short = s.short;
 }
 
-ports_sound : (capacity : ℕ) (event : Event) (n i : ℕ) (ports : List PortState) → HasOctets event → AllByRecursion (λ port. FitsLimit event port.table) ports → AllSound capacity ports → AllSound capacity (ports_step event n i ports)
+ports_sound : (capacity : ℕ) (event : Whose) (n i : ℕ) (ports : List PortState) → ((k : ℕ) → HasOctets (for_port k event)) → ((k : ℕ) → AllFit (for_port k event) ports) → AllSound capacity ports
+    → AllSound capacity (ports_step event n i ports)
 ports_sound capacity event n i [] h f s = tt
-ports_sound capacity event n i (p ∷ ps) h f s = (port_sound capacity event n i p h f.0 s.0, ports_sound capacity event n (i + 1) ps h f.1 s.1)
+ports_sound capacity event n i (p ∷ ps) h f s =
+    (port_sound capacity (for_port i event) n p (h i) (f i).0 s.0, ports_sound capacity event n (i + 1) ps h (λ k. (f k).1) s.1)
 
-pub ports_number : (event : Event) (n i : ℕ) (ports : List PortState) → length (ports_step event n i ports) ≡ length ports
+pub ports_number : (event : Whose) (n i : ℕ) (ports : List PortState) → length (ports_step event n i ports) ≡ length ports
 ports_number event n i [] = omega arith
 ports_number event n i (p ∷ ps) = omega (arith, ports_number event n (i + 1) ps)
 
-pub stay_sound : (capacity : ℕ) (event : Event) (n : ℕ) (ports new : List PortState) → new ≡ ports_step event n 0 ports → HasOctets event → AllByRecursion (λ port. FitsLimit event port.table) ports
+pub stay_sound : (capacity : ℕ) (event : Whose) (n : ℕ) (ports new : List PortState) → new ≡ ports_step event n 0 ports → ((k : ℕ) → HasOctets (for_port k event)) → CanTake event ports
     → AreSound capacity ports → AreSound capacity new
 stay_sound capacity event n ports new e h f s =
-    subst (AreSound capacity) (sym e) (record { few = omega (arith, s.few, ports_number event n 0 ports); sound = ports_sound capacity event n 0 ports h f s.sound })
+    subst (AreSound capacity) (sym e) (record {
+      few = omega (arith, s.few, ports_number event n 0 ports);
+      sound = ports_sound capacity event n 0 ports h (λ k. each_fits event k ports f) s.sound;
+    })
 
 -- ## What an agent allows fits its ports
 
 limit_for_all : (capacity n : ℕ) (ports : List PortState) → 1 ≤ n → n ≤ capacity → fits ports n ≡ true → AllSound capacity ports → AllByRecursion (λ port. IsNewLimit port.table n) ports
 limit_for_all capacity n [] least most f s = tt
 limit_for_all capacity n (p ∷ ps) least most f s =
-    let b = both (nat_le (length p.table.neighbors) n) (fits ps n) f in
+    let b = and_parts (nat_le (length p.table.neighbors) n) (fits ps n) f in
     let held : length p.table.neighbors ≤ n = grind (arith, nat_tests, b.0) in
     (record { least = omega arith; most = omega (arith, s.0.room); held = held }, limit_for_all capacity n ps least most b.1 s.1)
 
-none_for_all : (ports : List PortState) → AllByRecursion (λ (port : PortState). Unit {0}) ports
-none_for_all [] = tt
-none_for_all (p ∷ ps) = (tt, none_for_all ps)
-
-pub allowed_fits : (agent : AgentState) (event : Event) → Allows agent event → AllSound agent.configuration.capacity agent.ports → AllByRecursion (λ port. FitsLimit event port.table) agent.ports
-allowed_fits agent tick a s = none_for_all agent.ports
-allowed_fits agent (frame port octets) a s = none_for_all agent.ports
-allowed_fits agent (link port up) a s = none_for_all agent.ports
-allowed_fits agent (configure (hostname text)) a s = none_for_all agent.ports
-allowed_fits agent (configure (description text)) a s = none_for_all agent.ports
-allowed_fits agent (configure (interval seconds)) a s = none_for_all agent.ports
-allowed_fits agent (configure (hold times)) a s = none_for_all agent.ports
-allowed_fits agent (configure (limit n)) a s = limit_for_all agent.configuration.capacity n agent.ports a.least a.most a.held s
-allowed_fits agent (configure (status port given)) a s = none_for_all agent.ports
-allowed_fits agent (configure update) a s = none_for_all agent.ports
+pub can_take : (now : AgentState) (event : Event) → Allows now event → AllSound now.configuration.capacity now.ports → CanTake (whose event) now.ports
+can_take now (agent.frame port octets) a s = (a, none_for_all now.ports)
+can_take now (agent.link port up) a s = (a, none_for_all now.ports)
+can_take now (agent.configure (agent.status port given)) a s = (a, none_for_all now.ports)
+can_take now (agent.configure (agent.limit n)) a s = limit_for_all now.configuration.capacity n now.ports a.least a.most a.held s
+can_take now event a s = none_for_all now.ports

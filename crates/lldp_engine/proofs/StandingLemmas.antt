@@ -1,39 +1,40 @@
--- An event carries standing from a past to the past with the event.
-use Rattle.std.proofs.Common.{◌≡◌, ℕ, ◌+◌, ◌-◌, ◌<◌, Bool, true, false, List, [], ◌∷◌, length, Option, Some, None, refl, ap, sym, ◌∙◌, subst, arith}
-use Rattle.std.specs.Prelude.{◌==◌, if◌then◌else◌, option_and_then, IfSome}
+-- An event carries standing from a past to the past with the event: first of one port, then of the agent.
+use Rattle.std.proofs.Common.{◌≡◌, ℕ, ◌+◌, ◌-◌, Bool, true, false, List, [], ◌∷◌, length, Option, Some, None, refl, ap, sym, ◌∙◌, subst, arith}
+use Rattle.std.specs.Prelude.{if◌then◌else◌, option_and_then, IfSome}
 use Rattle.std.specs.List.{cons_option}
 use Rattle.lldp_pdu.specs.Msap.{MsapId}
 use Rattle.lldp_table.specs.Events.{Call, learn, forget, purge, tick as tick_call, set_limit, learned, ticked, events_of, neighbors, aged_out, answer}
 use Rattle.lldp_table.specs.Contents.{Contents, table_after, after_tick, learn_answer}
 use Rattle.lldp_table.specs.Standing.{table_of, IsTold, Stands as TableStands}
 use Rattle.lldp_table.specs.declared.learned.Learned.{Learned}
-use Rattle.lldp_table.specs.declared.learned.Learned.TheVariants.{New, Refreshed, Dropped}
 use Rattle.lldp_table.proofs.StandingLemmas.{stands_is, carries as table_carries, events-more, learn_answers}
 use Rattle.lldp_table.proofs.LiveLemmas.{aged_out-count}
 use Rattle.lldp_transmit.specs.declared.event.Cause.{Cause}
-use Rattle.lldp_transmit.specs.declared.event.Cause.TheVariants.{Nothing}
 use Rattle.lldp_transmit.specs.declared.event.Mark.{Mark}
-use Rattle.lldp_transmit.specs.History.{Settings, History, event as caused}
+use Rattle.lldp_transmit.specs.History.{Settings, History}
 use Rattle.lldp_transmit.specs.Machine.{Machine, stepped}
-use Rattle.lldp_transmit.specs.Moments.{moment, moments, up_after as up_by_cause, is_up}
+use Rattle.lldp_transmit.specs.Moments.{moments, is_up}
 use Rattle.lldp_transmit.specs.Standing.{AreSettings, machine_of}
 use Rattle.lldp_transmit.proofs.Standing.{carries as machine_carries, marks as machine_marks, stands_is as machine_is, stands_left as machine_stands}
 use Rattle.lldp_engine.specs.declared.status.Status.{Status}
 use Rattle.lldp_engine.specs.declared.counters.Counters.{Counters}
 use Rattle.lldp_engine.specs.Options.{Options, InRange}
-use Rattle.lldp_engine.specs.Status.{transmits}
-use Rattle.lldp_engine.specs.Event.{Event, tick, frame, link, configure, Setting, hostname, description, interval, hold, limit, status as status_setting, update, HasOctets}
+use Rattle.lldp_engine.specs.Event.{Event, HasOctets}
 use Rattle.lldp_engine.specs.Configuration.{configured}
-use Rattle.lldp_engine.specs.Heard.{Heard, refused, leaves, tells, heard_at}
-use Rattle.lldp_engine.specs.PortEvent.{call_of, call_at, call_set, cause_at, cause_of_answer, cause_of_heard, cause_of_link, cause_of_right, cause_set, up_then, status_then}
+use Rattle.lldp_engine.specs.Heard.{Heard, refused, leaves, tells, heard_by}
 use Rattle.lldp_engine.specs.Counters.{counters_of}
 use Rattle.lldp_engine.specs.AgentState.{PortState, AgentState, Allows}
-use Rattle.lldp_engine.specs.Past.{Past, with_event, configuration_after, status_after, up_after, heard_after, calls_after, settings_of, caused_at, causes_after, mark_after, marks_after, port_after, ports_after, agent_of, AreAllowed, sent_from, marks_of}
+use Rattle.lldp_engine.specs.Past.{Past, with_event, configuration_after, happened, port_past, ports_after, agent_of, AreAllowed, sent_from, marks_of}
 use Rattle.lldp_engine.specs.Standing.{Stands}
-use Rattle.lldp_engine.specs.Step.{told, with_heard, with_aged_out, with_event_counted, with_mark, port_mark, port_step, ports_step, marks_step, agent_after, agent_marks}
-use Rattle.lldp_engine.proofs.HeardLemmas.{event_told}
+use Rattle.lldp_engine.specs.Step.{ports_step, marks_step, agent_after, agent_marks}
+use Rattle.lldp_engine.specs.Port.Event.{PortEvent, tick, frame, status, limit, whose}
+use Rattle.lldp_engine.specs.Port.Effects.{call_of, heard_at, call_at, cause_at, cause_of_answer, cause_of_heard, status_then}
+use Rattle.lldp_engine.specs.Port.Past.{Happened, status_after, up_after, heard_after, calls_after, told_after, settings_of, caused_at, causes_after, mark_after, marks_after, counters_after, port_after}
+use Rattle.lldp_engine.specs.Port.Counting.{with_heard, with_aged_out, with_event_counted, with_mark}
+use Rattle.lldp_engine.specs.Port.Step.{told, port_mark, port_step}
 use Rattle.lldp_engine.proofs.CounterLemmas.{counted_refused, counted_leaves, counted_tells, counted_second, counted_purged, counted_limit, counted_mark}
-use Rattle.lldp_engine.proofs.AllowedLemmas.{table_stands, fits_limit}
+use Rattle.lldp_engine.proofs.AllowedLemmas.{port_table, AreTaken, allowed_taken, table_stands}
+use Rattle.lldp_engine.proofs.RightLemmas.{links_are}
 
 -- ## The table of a port
 
@@ -79,99 +80,31 @@ module _ (opened : ℕ) (calls : List Call) (heard : List Heard) (marks : List M
   limit_counted : (n : ℕ) → counters_of heard (events_of opened calls) marks ≡ counters_of heard (events_of opened (set_limit n ∷ calls)) marks
   limit_counted n = counted_limit heard (events_of opened calls) marks n ∙ ap (λ es. counters_of heard es marks) (sym (events-more opened (set_limit n) calls))
 
-  setting_counted : (setting : Setting) (i : ℕ) (status : Status) → counters_of heard (events_of opened calls) marks ≡ counters_of heard (events_of opened (cons_option (call_set setting i status) calls)) marks
-  setting_counted (hostname text) i status = refl
-  setting_counted (description text) i status = refl
-  setting_counted (interval seconds) i status = refl
-  setting_counted (hold times) i status = refl
-  setting_counted (limit n) i status = limit_counted n
-  setting_counted (status_setting port given) i status = purge_counted _
-  setting_counted update i status = refl
-
-  event_counted : (event : Event) (i : ℕ) (status : Status) (machine : Machine) → with_event_counted event i status (table_of opened calls) machine (counters_of heard (events_of opened calls) marks)
-      ≡ counters_of (cons_option (heard_at event i status machine.up) heard) (events_of opened (cons_option (call_at event i status machine.up) calls)) marks
-  event_counted tick i status machine = second_counted
-  event_counted (frame port octets) i status machine = one_counted (heard_at (frame port octets) i status machine.up)
-  event_counted (link port up) i status machine = refl
-  event_counted (configure setting) i status machine = setting_counted setting i status
+  event_counted : (event : PortEvent) (given : Status) (up : Bool) → with_event_counted event given up (table_of opened calls) (counters_of heard (events_of opened calls) marks)
+      ≡ counters_of (cons_option (heard_at event given up) heard) (events_of opened (cons_option (call_at event given up) calls)) marks
+  event_counted tick given up = second_counted
+  event_counted (frame octets) given up = one_counted (heard_by given up octets)
+  event_counted (status next) given up = purge_counted _
+  event_counted (limit n) given up = limit_counted n
+  event_counted event given up = refl
 
 -- ## The transmitting of a port
 
 -- what the table answers to a name is what the calls say
 heard_same : (a b : MsapId → Learned) (h : Option Heard) → ((name : MsapId) → a name ≡ b name) → cause_of_heard a h ≡ cause_of_heard b h
-heard_same a b None e = refl
-heard_same a b (Some refused) e = refl
-heard_same a b (Some (leaves msap)) e = refl
 heard_same a b (Some (tells info)) e = ap cause_of_answer (e info.msap)
+heard_same a b h e = refl
 
-cause_same : (event : Event) (i : ℕ) (status : Status) (up : Bool) (a b : MsapId → Learned) → ((name : MsapId) → a name ≡ b name) → cause_at event i status up a ≡ cause_at event i status up b
-cause_same tick i status up a b e = refl
-cause_same (frame port octets) i status up a b e = heard_same a b (heard_at (frame port octets) i status up) e
-cause_same (link port given) i status up a b e = refl
-cause_same (configure setting) i status up a b e = refl
-
--- the link, by the causes and by the events
-
-answer_leaves_link : (a : Learned) (up : Bool) → up_by_cause (cause_of_answer a) up ≡ up
-answer_leaves_link New up = refl
-answer_leaves_link Refreshed up = refl
-answer_leaves_link Dropped up = refl
-
-heard_leaves_link : (a : MsapId → Learned) (h : Option Heard) (up : Bool) → up_by_cause (cause_of_heard a h) up ≡ up
-heard_leaves_link a None up = refl
-heard_leaves_link a (Some refused) up = refl
-heard_leaves_link a (Some (leaves msap)) up = refl
-heard_leaves_link a (Some (tells info)) up = answer_leaves_link (a info.msap) up
-
-link_moves : (b up given : Bool) → up_by_cause (if b then cause_of_link up given else Nothing) up ≡ (if b then given else up)
-link_moves true true true = refl
-link_moves true true false = refl
-link_moves true false true = refl
-link_moves true false false = refl
-link_moves false up given = refl
-
-right_leaves_link : (b x y up : Bool) → up_by_cause (if b then cause_of_right x y else Nothing) up ≡ up
-right_leaves_link true true true up = refl
-right_leaves_link true true false up = refl
-right_leaves_link true false true up = refl
-right_leaves_link true false false up = refl
-right_leaves_link false x y up = refl
-
-setting_leaves_link : (setting : Setting) (i : ℕ) (status : Status) (up : Bool) → up_by_cause (cause_set setting i status) up ≡ up
-setting_leaves_link (hostname text) i status up = refl
-setting_leaves_link (description text) i status up = refl
-setting_leaves_link (interval seconds) i status up = refl
-setting_leaves_link (hold times) i status up = refl
-setting_leaves_link (limit neighbors) i status up = refl
-setting_leaves_link (status_setting port given) i status up = right_leaves_link (port == i) (transmits status) (transmits given) up
-setting_leaves_link update i status up = refl
-
-link_same : (event : Event) (i : ℕ) (status : Status) (up : Bool) (a : MsapId → Learned) → up_by_cause (cause_at event i status up a) up ≡ up_then event i up
-link_same tick i status up a = refl
-link_same (frame port octets) i status up a = heard_leaves_link a (heard_at (frame port octets) i status up) up
-link_same (link port given) i status up a = link_moves (port == i) up given
-link_same (configure setting) i status up a = setting_leaves_link setting i status up
-
-is_up-cons : (s : Settings) (c : Cause) (n : ℕ) (h : History) → is_up (moments s (caused c n ∷ h)) ≡ up_by_cause c (is_up (moments s h))
-unfolding moment
-is_up-cons s c n h = refl
-
--- whether its machine's link is up is what the link events say
-pub links_are : (o : Options) (i : ℕ) (events : List Event) → is_up (moments (settings_of o) (causes_after o i events)) ≡ up_after i events
-links_are o i [] = refl
-links_are o i (event ∷ events) =
-    let answers = λ (name : MsapId). answer o.max_neighbors name (events_of o.max_neighbors (calls_after o i events)) in
-    let c = cause_at event i (status_after o i events) (up_after i events) answers in
-    is_up-cons (settings_of o) c (configured event (configuration_after o events)).interval (causes_after o i events)
-    ∙ ap (up_by_cause c) (links_are o i events)
-    ∙ link_same event i (status_after o i events) (up_after i events) answers
+cause_same : (event : PortEvent) (given : Status) (up : Bool) (a b : MsapId → Learned) → ((name : MsapId) → a name ≡ b name) → cause_at event given up a ≡ cause_at event given up b
+cause_same (frame octets) given up a b e = heard_same a b (heard_by given up octets) e
+cause_same event given up a b e = refl
 
 up_of : (s : Settings) (h : History) → (machine_of s h).up ≡ is_up (moments s h)
 unfolding machine_of
 up_of s h = refl
 
-pub up_is : (o : Options) (i : ℕ) (events : List Event) → (machine_of (settings_of o) (causes_after o i events)).up ≡ up_after i events
-up_is o i events = up_of (settings_of o) (causes_after o i events) ∙ links_are o i events
+pub up_is : (o : Options) (past : List Happened) → (machine_of (settings_of o) (causes_after o past)).up ≡ up_after past
+up_is o past = up_of (settings_of o) (causes_after o past) ∙ links_are o past
 
 pub settings_in_range : (o : Options) → InRange o → AreSettings (settings_of o)
 settings_in_range o r = record {
@@ -185,96 +118,84 @@ settings_in_range o r = record {
 
 -- ## A port
 
-port_by : (name : List ℕ) (status : Status) (table table' : Contents) (machine machine' : Machine) (counters counters' : Counters) → table ≡ table' → machine ≡ machine' → counters ≡ counters'
-    → (let p : PortState = record { name = name; status = status; table = table; machine = machine; counters = counters } in p)
-    ≡ (let q : PortState = record { name = name; status = status; table = table'; machine = machine'; counters = counters' } in q)
-port_by name status table table' machine machine' counters counters' a b c = rw (a, b, c) refl
+port_by : (name : List ℕ) (given : Status) (table table' : Contents) (machine machine' : Machine) (counters counters' : Counters) → table ≡ table' → machine ≡ machine' → counters ≡ counters'
+    → (let p : PortState = record { name = name; status = given; table = table; machine = machine; counters = counters } in p)
+    ≡ (let q : PortState = record { name = name; status = given; table = table'; machine = machine'; counters = counters' } in q)
+port_by name given table table' machine machine' counters counters' a b c = rw (a, b, c) refl
 
-module _ (o : Options) (i : ℕ) (events : List Event) (event : Event) (lt : i < length o.names) (r : InRange o) (all : AreAllowed o (event ∷ events)) where
-  abbrev calls : List Call
-  calls = calls_after o i events
-
+module _ (o : Options) (past : List Happened) (now : Happened) (r : InRange o) (taken : AreTaken o (now ∷ past)) where
   abbrev given : Status
-  given = status_after o i events
+  given = status_after o past
 
   abbrev up : Bool
-  up = up_after i events
+  up = up_after past
 
   abbrev table : Contents
-  table = table_of o.max_neighbors calls
+  table = port_table o past
 
   abbrev answers : MsapId → Learned
-  answers name = answer o.max_neighbors name (events_of o.max_neighbors calls)
+  answers name = answer o.max_neighbors name (told_after o past)
 
   abbrev machine : Machine
-  machine = machine_of (settings_of o) (causes_after o i events)
+  machine = machine_of (settings_of o) (causes_after o past)
 
-  abbrev counted : Counters
-  counted = counters_of (heard_after o i events) (events_of o.max_neighbors calls) (marks_after o i events)
+  stands : TableStands table o.max_neighbors (calls_after o past)
+  stands = table_stands o past r taken.1
 
-  abbrev n : ℕ
-  n = (configured event (configuration_after o events)).interval
-
-  stands : TableStands table o.max_neighbors calls
-  stands = table_stands o i events lt r all.2
-
-  can : IfSome (call_at event i given up) (IsTold table)
-  can = event_told table event i given up all.1 (fits_limit o i events event lt all.0)
-
-  cause_is : cause_at event i given machine.up (learn_answer table) ≡ cause_at event i given up answers
+  cause_is : cause_at now.event given machine.up (learn_answer table) ≡ cause_at now.event given up answers
   cause_is =
-      ap (λ (u : Bool). cause_at event i given u (learn_answer table)) (up_is o i events)
-      ∙ cause_same event i given up (learn_answer table) answers (λ name. learn_answers table o.max_neighbors calls name stands)
+      ap (λ (u : Bool). cause_at now.event given u (learn_answer table)) (up_is o past)
+      ∙ cause_same now.event given up (learn_answer table) answers (λ name. learn_answers table o.max_neighbors (calls_after o past) name stands)
 
-  machine_is_next : (stepped machine (cause_at event i given machine.up (learn_answer table)) n).0 ≡ machine_of (settings_of o) (causes_after o i (event ∷ events))
+  machine_is_next : (stepped machine (cause_at now.event given machine.up (learn_answer table)) now.interval).0 ≡ machine_of (settings_of o) (causes_after o (now ∷ past))
   machine_is_next =
-      let e = caused_at o i event events in
-      ap (λ (c : Cause). (stepped machine c n).0) cause_is
-      ∙ machine_is (settings_of o) (e ∷ causes_after o i events) _
-      (machine_carries (settings_of o) (causes_after o i events) machine e (machine_stands (settings_of o) (causes_after o i events) (settings_in_range o r)))
+      let e = caused_at o now past in
+      ap (λ (c : Cause). (stepped machine c now.interval).0) cause_is
+      ∙ machine_is (settings_of o) (e ∷ causes_after o past) _
+      (machine_carries (settings_of o) (causes_after o past) machine e (machine_stands (settings_of o) (causes_after o past) (settings_in_range o r)))
 
-  mark_is : (stepped machine (cause_at event i given machine.up (learn_answer table)) n).1 ≡ mark_after o i (event ∷ events)
+  mark_is : (stepped machine (cause_at now.event given machine.up (learn_answer table)) now.interval).1 ≡ mark_after o (now ∷ past)
   mark_is =
-      ap (λ (c : Cause). (stepped machine c n).1) cause_is
-      ∙ machine_marks (settings_of o) (causes_after o i events) machine (caused_at o i event events) (machine_stands (settings_of o) (causes_after o i events) (settings_in_range o r))
+      ap (λ (c : Cause). (stepped machine c now.interval).1) cause_is
+      ∙ machine_marks (settings_of o) (causes_after o past) machine (caused_at o now past) (machine_stands (settings_of o) (causes_after o past) (settings_in_range o r))
 
-  table_is_next : told table (call_at event i given machine.up) ≡ table_of o.max_neighbors (calls_after o i (event ∷ events))
-  table_is_next = ap (λ (u : Bool). told table (call_at event i given u)) (up_is o i events) ∙ table_told o.max_neighbors calls (call_at event i given up) stands can
+  table_is_next : told table (call_at now.event given machine.up) ≡ port_table o (now ∷ past)
+  table_is_next = ap (λ (u : Bool). told table (call_at now.event given u)) (up_is o past) ∙ table_told o.max_neighbors (calls_after o past) (call_at now.event given up) stands taken.0
 
-  counted_is : with_mark (with_event_counted event i given table machine counted) (stepped machine (cause_at event i given machine.up (learn_answer table)) n).1
-      ≡ counters_of (heard_after o i (event ∷ events)) (events_of o.max_neighbors (calls_after o i (event ∷ events))) (marks_after o i (event ∷ events))
+  counted_is : with_mark (with_event_counted now.event given machine.up table (counters_after o past)) (stepped machine (cause_at now.event given machine.up (learn_answer table)) now.interval).1
+      ≡ counters_after o (now ∷ past)
   counted_is =
-      let heard = heard_after o i events in
-      let marks = marks_after o i events in
-      let one = event_counted o.max_neighbors calls heard marks stands event i given machine
-      ∙ ap (λ (u : Bool). counters_of (cons_option (heard_at event i given u) heard) (events_of o.max_neighbors (cons_option (call_at event i given u) calls)) marks) (up_is o i events) in
-      ap (λ (c : Counters). with_mark c (stepped machine (cause_at event i given machine.up (learn_answer table)) n).1) one
-      ∙ ap (with_mark (counters_of (heard_after o i (event ∷ events)) (events_of o.max_neighbors (calls_after o i (event ∷ events))) marks)) mark_is
-      ∙ counted_mark (heard_after o i (event ∷ events)) (events_of o.max_neighbors (calls_after o i (event ∷ events))) marks (mark_after o i (event ∷ events))
+      let heard = heard_after o past in
+      let marks = marks_after o past in
+      let one = event_counted o.max_neighbors (calls_after o past) heard marks stands now.event given machine.up
+      ∙ ap (λ (u : Bool). counters_of (cons_option (heard_at now.event given u) heard) (events_of o.max_neighbors (cons_option (call_at now.event given u) (calls_after o past))) marks) (up_is o past) in
+      ap (λ (c : Counters). with_mark c (stepped machine (cause_at now.event given machine.up (learn_answer table)) now.interval).1) one
+      ∙ ap (with_mark (counters_of (heard_after o (now ∷ past)) (told_after o (now ∷ past)) marks)) mark_is
+      ∙ counted_mark (heard_after o (now ∷ past)) (told_after o (now ∷ past)) marks (mark_after o (now ∷ past))
 
-  pub port_carried : (name : List ℕ) → port_step event n i (port_after o events i name) ≡ port_after o (event ∷ events) i name
+  pub port_carried : (name : List ℕ) → port_step now.event now.interval (port_after o past name) ≡ port_after o (now ∷ past) name
   unfolding port_after
-  port_carried name = port_by name (status_then event i given) _ _ _ _ _ _ table_is_next machine_is_next counted_is
+  port_carried name = port_by name (status_then now.event given) _ _ _ _ _ _ table_is_next machine_is_next counted_is
 
-  pub port_marked : (name : List ℕ) → port_mark event n i (port_after o events i name) ≡ mark_after o i (event ∷ events)
+  pub port_marked : (name : List ℕ) → port_mark now.event now.interval (port_after o past name) ≡ mark_after o (now ∷ past)
   unfolding port_after
   port_marked name = mark_is
 
 -- ## An agent
 
 ports_carried : (o : Options) (events : List Event) (event : Event) (i : ℕ) (names : List (List ℕ)) → i + length names ≡ length o.names → InRange o → AreAllowed o (event ∷ events)
-    → ports_step event (configured event (configuration_after o events)).interval i (ports_after o events i names) ≡ ports_after o (event ∷ events) i names
+    → ports_step (whose event) (configured event (configuration_after o events)).interval i (ports_after o events i names) ≡ ports_after o (event ∷ events) i names
 ports_carried o events event i [] l r h = refl
 ports_carried o events event i (name ∷ names) l r h =
-    let one = port_carried o i events event (omega arith) r h name in
+    let one = port_carried o (port_past o i events) (happened o i event events) r (allowed_taken o i (event ∷ events) (omega arith) h) name in
     let others = ports_carried o events event (i + 1) names (omega arith) r h in
     rw (one, others) refl
 
 marks_carried : (o : Options) (events : List Event) (event : Event) (i : ℕ) (names : List (List ℕ)) → i + length names ≡ length o.names → InRange o → AreAllowed o (event ∷ events)
-    → marks_step event (configured event (configuration_after o events)).interval i (ports_after o events i names) ≡ sent_from o (event ∷ events) i names
+    → marks_step (whose event) (configured event (configuration_after o events)).interval i (ports_after o events i names) ≡ sent_from o (event ∷ events) i names
 marks_carried o events event i [] l r h = refl
 marks_carried o events event i (name ∷ names) l r h =
-    let one = port_marked o i events event (omega arith) r h name in
+    let one = port_marked o (port_past o i events) (happened o i event events) r (allowed_taken o i (event ∷ events) (omega arith) h) name in
     let others = marks_carried o events event (i + 1) names (omega arith) r h in
     rw (one, others) refl
 

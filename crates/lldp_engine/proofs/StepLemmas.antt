@@ -5,36 +5,31 @@ use Rattle.std.proofs.lemmas.Bool.Decides.{nat_tests}
 use Rattle.lldp_transmit.specs.declared.event.Mark.{Mark}
 use Rattle.lldp_transmit.specs.declared.event.Mark.TheVariants.{Quiet, Ordinary, Shutdown}
 use Rattle.lldp_engine.specs.Options.{is_text}
-use Rattle.lldp_engine.specs.Event.{Event, tick, frame, link, configure, hostname, description, interval, hold, limit, status, update}
+use Rattle.lldp_engine.specs.Event.{Event, configure, hostname, description}
 use Rattle.lldp_engine.specs.Configuration.{Configuration, configured}
 use Rattle.lldp_engine.specs.AgentState.{AgentState, PortState, Allows}
 use Rattle.lldp_engine.specs.Past.{sending}
 use Rattle.lldp_engine.specs.Frames.{IsSent}
-use Rattle.lldp_engine.specs.Step.{port_mark, ports_step, marks_step, agent_after, agent_marks}
+use Rattle.lldp_engine.specs.Port.Event.{Whose, whose, for_port}
+use Rattle.lldp_engine.specs.Port.Step.{port_mark}
+use Rattle.lldp_engine.specs.Step.{ports_step, marks_step, agent_after, agent_marks}
 use Rattle.lldp_engine.specs.Code.ShortText.{HasShortText}
 
 -- a text that is allowed is short
 short_text : (text : List ℕ) → is_text text ≡ true → length text ≤ 255
 short_text text h = grind (arith, nat_tests, h)
 
-pub allowed_short : (agent : AgentState) (event : Event) → Allows agent event → HasShortText event
-allowed_short agent tick a = tt
-allowed_short agent (frame port octets) a = tt
-allowed_short agent (link port up) a = tt
-allowed_short agent (configure (hostname text)) a = short_text text a
-allowed_short agent (configure (description text)) a = short_text text a
-allowed_short agent (configure (interval seconds)) a = tt
-allowed_short agent (configure (hold times)) a = tt
-allowed_short agent (configure (limit neighbors)) a = tt
-allowed_short agent (configure (status port given)) a = tt
-allowed_short agent (configure update) a = tt
+pub allowed_short : (now : AgentState) (event : Event) → Allows now event → HasShortText event
+allowed_short now (configure (hostname text)) a = short_text text a
+allowed_short now (configure (description text)) a = short_text text a
+allowed_short now event a = tt
 
 -- its configuration first, then its ports with the tx-interval in force
-pub steps_to : (agent : AgentState) (event : Event) (c : Configuration) (n : ℕ) (ports new : List PortState) → c ≡ configured event agent.configuration → n ≡ c.interval → ports ≡ agent.ports → new ≡ ports_step event n 0 ports
+pub steps_to : (agent : AgentState) (event : Event) (c : Configuration) (n : ℕ) (ports new : List PortState) → c ≡ configured event agent.configuration → n ≡ c.interval → ports ≡ agent.ports → new ≡ ports_step (whose event) n 0 ports
     → (let a : AgentState = record { configuration = c; ports = new } in a) ≡ agent_after event agent
 steps_to agent event c n ports new a b d e = rw (e, d, b, a) refl
 
-pub marks_to : (agent : AgentState) (event : Event) (c : Configuration) (n : ℕ) (ports : List PortState) (marks : List (ℕ × Mark)) → c ≡ configured event agent.configuration → n ≡ c.interval → ports ≡ agent.ports → marks ≡ marks_step event n 0 ports
+pub marks_to : (agent : AgentState) (event : Event) (c : Configuration) (n : ℕ) (ports : List PortState) (marks : List (ℕ × Mark)) → c ≡ configured event agent.configuration → n ≡ c.interval → ports ≡ agent.ports → marks ≡ marks_step (whose event) n 0 ports
     → marks ≡ agent_marks event agent
 marks_to agent event c n ports marks a b d e = rw (e, d, b, a) refl
 
@@ -44,6 +39,6 @@ one_sent i m Quiet others lt h = h
 one_sent i m Ordinary others lt h = ((lt, tt), h)
 one_sent i m Shutdown others lt h = ((lt, tt), h)
 
-pub marks_sent : (event : Event) (n s m : ℕ) (ports : List PortState) → s + length ports ≤ m → AllByRecursion (λ (x : ℕ × Mark). (x.0 < m) × IsSent x.1) (marks_step event n s ports)
+pub marks_sent : (event : Whose) (n s m : ℕ) (ports : List PortState) → s + length ports ≤ m → AllByRecursion (λ (x : ℕ × Mark). (x.0 < m) × IsSent x.1) (marks_step event n s ports)
 marks_sent event n s m [] l = tt
-marks_sent event n s m (p ∷ ps) l = one_sent s m (port_mark event n s p) (marks_step event n (s + 1) ps) (omega arith) (marks_sent event n (s + 1) m ps (omega arith))
+marks_sent event n s m (p ∷ ps) l = one_sent s m (port_mark (for_port s event) n p) (marks_step event n (s + 1) ps) (omega arith) (marks_sent event n (s + 1) m ps (omega arith))

@@ -22,7 +22,5 @@ pub data Event : Type 0 where
 
 -- what came are octets, as in every event of the program
 abbrev pub HasOctets : Event → Type 0
-HasOctets tick = Unit {0}
 HasOctets (frame port octets) = AreOctets octets
-HasOctets (link port up) = Unit {0}
-HasOctets (configure setting) = Unit {0}
+HasOctets event = Unit {0}

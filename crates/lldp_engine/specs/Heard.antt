@@ -8,7 +8,6 @@ use Rattle.lldp_pdu.specs.Lldpdu.{ttl_of, msap_of}
 use Rattle.lldp_pdu.specs.Info.{LldpInfo, info_of}
 use Rattle.lldp_engine.specs.declared.status.Status.{Status}
 use Rattle.lldp_engine.specs.Status.{receives}
-use Rattle.lldp_engine.specs.Event.{Event, tick, frame, link, configure}
 
 -- what an LLDPDU says: it is refused, as it is not sound; or the neighbor of this name leaves, as its TTL is 0; or it
 -- tells of a neighbor that lives
@@ -23,10 +22,3 @@ heard_of pdu = if is_some (fault_of pdu) then refused else (if ttl_of pdu == 0 t
 -- what a port hears from octets that come: an LLDP frame, while its status receives and its link is up
 abbrev pub heard_by : Status → Bool → List ℕ → Option Heard
 heard_by status up octets = if receives status && up then option_map heard_of (lldpdu_of octets) else None
-
--- what port i hears by an event
-abbrev pub heard_at : Event → ℕ → Status → Bool → Option Heard
-heard_at tick i status up = None
-heard_at (frame port octets) i status up = if port == i then heard_by status up octets else None
-heard_at (link port given) i status up = None
-heard_at (configure setting) i status up = None

@@ -4,10 +4,10 @@ pub mod Event
 pub mod EventView
 pub mod Configuration
 pub mod Heard
-pub mod PortEvent
 pub mod Counters
 pub mod Sound
 pub mod AgentState
+pub mod Port
 pub mod Place
 pub mod Past
 pub mod Step

@@ -8,8 +8,8 @@ ghost use Rattle.lldp_engine.specs.EventView.{event_of};
 ghost use Rattle.lldp_engine.specs.AgentState.{names_of, name_of, IsPort, Allows};
 ghost use Rattle.lldp_engine.specs.Configuration.{configured};
 ghost use Rattle.lldp_engine.specs.Place.{place_of as place};
-ghost use Rattle.lldp_engine.specs.Past.{Past, opened, with_event, configuration_after, status_after, up_after, heard_after, calls_of, told_of, marks_after, marks_of};
-ghost use Rattle.lldp_engine.specs.Counters.{counters_of};
+ghost use Rattle.lldp_engine.specs.Past.{Past, opened, with_event, past_of, marks_of};
+ghost use Rattle.lldp_engine.specs.Port.Past.{status_after, up_after, calls_after, counters_after};
 ghost use Rattle.lldp_engine.specs.Frames.{IsSent};
 ghost use Rattle.lldp_engine.specs.Sound.{AreSound};
 ghost use Rattle.lldp_engine.specs.Standing.{Stands};
@@ -117,7 +117,7 @@ impl<A: Allocator> Agent<A> {
     pub fn status(&self, port: u8) -> Status
         requires { IsPort self.now port }
         ensures value { option_map (λ p. p.status) (slice_get self.now.ports port) ≡ Some result }
-        ensures past { (past : Past) → Stands past self.now → result ≡ status_after past.options port past.events }
+        ensures past { (past : Past) → Stands past self.now → result ≡ status_after past.options (past_of past port) }
     {
         self.ports[port as usize].status()
     }
@@ -126,7 +126,7 @@ impl<A: Allocator> Agent<A> {
     pub fn is_up(&self, port: u8) -> bool
         requires { IsPort self.now port }
         ensures value { option_map (λ p. p.machine.up) (slice_get self.now.ports port) ≡ Some result }
-        ensures past { (past : Past) → Stands past self.now → result ≡ up_after port past.events }
+        ensures past { (past : Past) → Stands past self.now → result ≡ up_after (past_of past port) }
     {
         self.ports[port as usize].is_up()
     }
@@ -135,7 +135,7 @@ impl<A: Allocator> Agent<A> {
     pub fn table(&self, port: u8) -> &Table<A>
         requires { IsPort self.now port }
         ensures value { option_map (λ p. p.table) (slice_get self.now.ports port) ≡ Some result.now }
-        ensures past { (past : Past) → Stands past self.now → TableStands result.now past.options.max_neighbors (calls_of past port) }
+        ensures past { (past : Past) → Stands past self.now → TableStands result.now past.options.max_neighbors (calls_after past.options (past_of past port)) }
     {
         self.ports[port as usize].table()
     }
@@ -144,8 +144,7 @@ impl<A: Allocator> Agent<A> {
     pub fn counters(&self, port: u8) -> &Counters
         requires { IsPort self.now port }
         ensures value { option_map (λ p. p.counters) (slice_get self.now.ports port) ≡ Some result.now }
-        ensures past { (past : Past) → Stands past self.now →
-            result.now ≡ counters_of (heard_after past.options port past.events) (told_of past port) (marks_after past.options port past.events) }
+        ensures past { (past : Past) → Stands past self.now → result.now ≡ counters_after past.options (past_of past port) }
     {
         self.ports[port as usize].counters()
     }
@@ -199,6 +198,6 @@ impl<A: Allocator> Agent<A> {
     {
         self.configuration.take(&event);
         let interval = self.configuration.interval();
-        take_event(self.ports.as_mut_slice(), &event, interval)
+        take_event(self.ports.as_mut_slice(), &event.whose(), interval)
     }
 }

@@ -1,8 +1,11 @@
 //! What happens to an agent.
 ghost use Rattle.std.specs.Prelude.{◌≡◌};
-ghost use Rattle.lldp_engine.specs.EventView.{event_of};
-ghost use Rattle.lldp_engine.specs.PortEvent.{port_of};
+ghost use Rattle.lldp_engine.specs.Event.{HasOctets};
+ghost use Rattle.lldp_engine.specs.EventView.{setting_of, event_of};
+ghost use Rattle.lldp_engine.specs.Port.Event.{whose_setting, whose};
+ghost use Rattle.lldp_engine.specs.Port.EventView.{whose_of};
 
+use crate::port::event::{PortEvent, Whose};
 use crate::status::Status;
 
 /// What a command changes.
@@ -37,15 +40,34 @@ pub enum Event<'a> {
     Set(Setting<'a>),
 }
 
-impl Event<'_> {
-    /// The port whose event it is; None where it is every port's.
-    pub(crate) fn port(&self) -> Option<u8>
-        ensures { result ≡ port_of (event_of self.now) }
+impl<'a> Setting<'a> {
+    /// Whose it is, and what it is for that port or for each.
+    fn whose(&self) -> Whose<'a>
+        ensures { whose_of result ≡ whose_setting (setting_of self.now) }
     {
         match self {
-            Event::Frame { port, .. } | Event::Link { port, .. } => Some(*port),
-            Event::Set(Setting::Status { port, .. }) => Some(*port),
-            Event::Tick | Event::Set(_) => None,
+            Setting::Status { port, status } => Whose::OnePort(*port, PortEvent::Status(*status)),
+            Setting::Limit(neighbors) => Whose::EachPort(PortEvent::Limit(*neighbors)),
+            Setting::Hostname(_)
+            | Setting::Description(_)
+            | Setting::Interval(_)
+            | Setting::Hold(_)
+            | Setting::Update => Whose::EachPort(PortEvent::Change),
+        }
+    }
+}
+
+impl<'a> Event<'a> {
+    /// Whose it is, and what it is for that port or for each.
+    pub(crate) fn whose(&self) -> Whose<'a>
+        ensures value { whose_of result ≡ whose (event_of self.now) }
+        ensures octets { HasOctets (event_of self.now) }
+    {
+        match self {
+            Event::Tick => Whose::EachPort(PortEvent::Tick),
+            Event::Frame { port, octets } => Whose::OnePort(*port, PortEvent::came(octets)),
+            Event::Link { port, up } => Whose::OnePort(*port, PortEvent::Link(*up)),
+            Event::Set(setting) => setting.whose(),
         }
     }
 }

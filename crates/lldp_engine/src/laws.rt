@@ -4,11 +4,13 @@ ghost use Rattle.lldp_engine.specs.declared.status.Status.{Status as PortStatus}
 ghost use Rattle.lldp_engine.specs.Options.{Options as Opened};
 ghost use Rattle.lldp_engine.specs.Event.{Event as Happening, HasOctets};
 ghost use Rattle.lldp_engine.specs.AgentState.{AgentState, Allows};
-ghost use Rattle.lldp_engine.specs.Past.{Past, with_event, configuration_after, status_after, up_after, marks_of};
+ghost use Rattle.lldp_engine.specs.Past.{Past, with_event, configuration_after, port_past, marks_of};
+ghost use Rattle.lldp_engine.specs.Port.Past.{Happened, status_after, up_after};
+ghost use Rattle.lldp_engine.specs.Port.Headline.{FollowsStatus};
 ghost use Rattle.lldp_engine.specs.Standing.{Stands};
 ghost use Rattle.lldp_engine.specs.Step.{agent_after, agent_marks};
 ghost use Rattle.lldp_engine.specs.LastSet.{IsLastStatus, IsLastLink, IsLastConfiguration};
-ghost use Rattle.lldp_engine.specs.Headline.{FollowsStatus, Promised};
+ghost use Rattle.lldp_engine.specs.Headline.{Promised};
 
 /// An event that is allowed carries standing from each past to that past with the event, and its marks are those of
 /// that past.
@@ -27,14 +29,15 @@ pub fn every_standing_agent_is_promised()
 /// status gives it, so that a status that gives the right gives it back; and its link is up exactly where its last link
 /// event says so.
 pub fn the_right_follows_the_status()
-    ensures { (options : Opened) (port : ℕ) (events : List Happening) → FollowsStatus options port events }
+    ensures { (options : Opened) (past : List Happened) → FollowsStatus options past }
 {}
 
 /// The status and the link of a port and the configuration, said of positions: each is what the last event that set it
 /// set, and no event after that one sets it; where none does, it is as it was opened.
 pub fn last_events_decide()
     ensures status { (options : Opened) (port : ℕ) (events : List Happening) (status : PortStatus) →
-        (status ≡ status_after options port events) ↔ IsLastStatus options port events status }
-    ensures link { (port : ℕ) (events : List Happening) (up : Bool) → (up ≡ up_after port events) ↔ IsLastLink port events up }
+        (status ≡ status_after options (port_past options port events)) ↔ IsLastStatus options port events status }
+    ensures link { (options : Opened) (port : ℕ) (events : List Happening) (up : Bool) →
+        (up ≡ up_after (port_past options port events)) ↔ IsLastLink port events up }
     ensures configuration { (options : Opened) (events : List Happening) → IsLastConfiguration options events (configuration_after options events) }
 {}

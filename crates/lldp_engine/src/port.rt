@@ -1,22 +1,22 @@
-//! A port.
-ghost use Rattle.std.specs.Prelude.{◌≡◌, ◌<◌, ◌≤◌, length, Some, IfOk};
-ghost use Rattle.lldp_pdu.specs.Tlv.{AreOctets};
-ghost use Rattle.lldp_table.specs.Contents.{learn_answer, after_learn};
+//! A port, and what an event does to it.
+ghost use Rattle.std.specs.Prelude.{◌≡◌, ◌≤◌, length, IfOk};
 ghost use Rattle.lldp_engine.specs.Options.{options_of, InRange};
-ghost use Rattle.lldp_engine.specs.Event.{HasOctets, tick};
-ghost use Rattle.lldp_engine.specs.EventView.{event_of};
-ghost use Rattle.lldp_engine.specs.Heard.{heard_of, heard_by};
-ghost use Rattle.lldp_engine.specs.PortEvent.{cause_of_answer, cause_of_heard, cause_of_link, cause_of_right};
-ghost use Rattle.lldp_engine.specs.Step.{opened_port, hears_if, with_tlvs, with_answer, port_told, port_cause, port_mark, port_step};
-ghost use Rattle.lldp_engine.specs.Code.Taking.{FitsLimit, own_place};
+ghost use Rattle.lldp_engine.specs.Port.Event.{tick, status};
+ghost use Rattle.lldp_engine.specs.Port.EventView.{port_event_of};
+ghost use Rattle.lldp_engine.specs.Port.Step.{opened_port, port_told, port_cause, port_mark, port_step};
+ghost use Rattle.lldp_engine.specs.Code.Taking.{FitsLimit};
+
+mod causes;
+pub(crate) mod event;
+mod hearing;
 
 use crate::counters::Counters;
-use crate::event::{Event, Setting};
 use crate::options::Options;
 use crate::status::{Status, status_at_opening};
 use arrayvec::ArrayVec;
-use lldp_pdu::{Examined, Info, examine, frame_pdu};
-use lldp_table::{Learned, Table};
+use causes::{cause_of_link_event, cause_of_status};
+use event::PortEvent;
+use lldp_table::Table;
 use lldp_transmit::{Cause, Mark, Transmit};
 use std::alloc::{AllocError, Allocator};
 use std::marker::Model;
@@ -46,28 +46,6 @@ fn name_of(octets: &[u8]) -> ArrayVec<u8, 15>
     let mut name = ArrayVec::new();
     let _ = name.try_extend_from_slice(octets);
     name
-}
-
-/// What a link event is for transmitting.
-fn cause_of_link_event(before: bool, up: bool) -> Cause
-    ensures { result ≡ cause_of_link before up }
-{
-    match (before, up) {
-        (true, false) => Cause::Down,
-        (false, true) => Cause::Up,
-        (true, true) | (false, false) => Cause::Nothing,
-    }
-}
-
-/// What a status command is for transmitting, by the right to transmit before and after.
-fn cause_of_status(before: bool, after: bool) -> Cause
-    ensures { result ≡ cause_of_right before after }
-{
-    match (before, after) {
-        (true, false) => Cause::Stop,
-        (false, true) => Cause::Allow,
-        (true, true) | (false, false) => Cause::Nothing,
-    }
 }
 
 impl<A: Allocator> Port<A> {
@@ -124,12 +102,11 @@ impl<A: Allocator> Port<A> {
         &self.counters
     }
 
-    /// Takes an event that is its own or every port's, with the tx-interval in force after it. Tells what it sends.
-    pub(crate) fn take(&mut self, event: &Event<'_>, interval: u16) -> Mark
-        requires { FitsLimit (event_of event.now) self.old.table }
-        ensures after { self.new ≡ port_step (event_of event.now) interval (own_place (event_of event.now)) self.old }
-        ensures mark { result ≡ port_mark (event_of event.now) interval (own_place (event_of event.now)) self.old }
-        ensures octets { HasOctets (event_of event.now) }
+    /// Takes an event, with the tx-interval in force after it. Tells what it sends.
+    pub(crate) fn take(&mut self, event: &PortEvent<'_>, interval: u16) -> Mark
+        requires { FitsLimit (port_event_of event.now) self.old.table }
+        ensures after { self.new ≡ port_step (port_event_of event.now) interval self.old }
+        ensures mark { result ≡ port_mark (port_event_of event.now) interval self.old }
     {
         let cause = self.cause_of(event);
         let mark = self.transmit.event(cause, interval);
@@ -137,11 +114,11 @@ impl<A: Allocator> Port<A> {
         mark
     }
 
-    /// Takes a tick, as `take` does, with the tx-interval in force. It is apart since most ticks find nothing due.
+    /// Takes a tick, as `take` does. It is apart since most ticks find nothing due.
     #[inline(always)]
     pub(crate) fn tick(&mut self, interval: u16) -> Mark
-        ensures after { self.new ≡ port_step tick interval 0 self.old }
-        ensures mark { result ≡ port_mark tick interval 0 self.old }
+        ensures after { self.new ≡ port_step tick interval self.old }
+        ensures mark { result ≡ port_mark tick interval self.old }
     {
         self.age();
         let mark = self.transmit.event(Cause::Tick, interval);
@@ -152,121 +129,44 @@ impl<A: Allocator> Port<A> {
     /// A second has passed for its neighbors.
     #[inline(always)]
     fn age(&mut self)
-        ensures { self.new ≡ port_told tick 0 self.old }
+        ensures { self.new ≡ port_told tick self.old }
     {
         let aged_out = self.table.tick();
         self.counters.count_aged_out(aged_out);
     }
 
     /// Takes an event but for its transmitting, and tells what it is for that.
-    fn cause_of(&mut self, event: &Event<'_>) -> Cause
-        requires { FitsLimit (event_of event.now) self.old.table }
-        ensures after { self.new ≡ port_told (event_of event.now) (own_place (event_of event.now)) self.old }
-        ensures cause { result ≡ port_cause (event_of event.now) (own_place (event_of event.now)) self.old }
-        ensures octets { HasOctets (event_of event.now) }
+    fn cause_of(&mut self, event: &PortEvent<'_>) -> Cause
+        requires { FitsLimit (port_event_of event.now) self.old.table }
+        ensures after { self.new ≡ port_told (port_event_of event.now) self.old }
+        ensures cause { result ≡ port_cause (port_event_of event.now) self.old }
     {
         match event {
-            Event::Tick => {
+            PortEvent::Tick => {
                 self.age();
                 Cause::Tick
             }
-            Event::Frame { octets, .. } => self.receive(octets),
-            Event::Link { up, .. } => cause_of_link_event(self.transmit.is_up(), *up),
-            Event::Set(setting) => self.apply(setting),
-        }
-    }
-
-    /// A command was accepted.
-    fn apply(&mut self, setting: &Setting<'_>) -> Cause
-        requires { FitsLimit (event_of (Event.Set setting.now)) self.old.table }
-        ensures after { self.new ≡ port_told (event_of (Event.Set setting.now)) (own_place (event_of (Event.Set setting.now))) self.old }
-        ensures cause { result ≡ port_cause (event_of (Event.Set setting.now)) (own_place (event_of (Event.Set setting.now))) self.old }
-    {
-        match setting {
-            Setting::Status { status, .. } => self.set_status(*status),
-            Setting::Limit(limit) => {
-                self.table.set_limit(*limit);
+            PortEvent::Frame(octets) => self.receive(octets),
+            PortEvent::Link(up) => cause_of_link_event(self.transmit.is_up(), *up),
+            PortEvent::Status(given) => self.set_status(*given),
+            PortEvent::Limit(neighbors) => {
+                self.table.set_limit(*neighbors);
                 Cause::Change
             }
-            Setting::Hostname(_)
-            | Setting::Description(_)
-            | Setting::Interval(_)
-            | Setting::Hold(_)
-            | Setting::Update => Cause::Change,
+            PortEvent::Change => Cause::Change,
         }
     }
 
     /// Another status: where it takes receiving away, the table is emptied.
-    fn set_status(&mut self, status: Status) -> Cause
-        ensures after { self.new ≡ port_told (event_of (Event.Set (Setting.Status 0 status))) 0 self.old }
-        ensures cause { result ≡ port_cause (event_of (Event.Set (Setting.Status 0 status))) 0 self.old }
+    fn set_status(&mut self, given: Status) -> Cause
+        ensures after { self.new ≡ port_told (status given) self.old }
+        ensures cause { result ≡ port_cause (status given) self.old }
     {
-        let cause = cause_of_status(self.status.transmits(), status.transmits());
-        if self.status.receives() && !status.receives() {
+        let cause = cause_of_status(self.status.transmits(), given.transmits());
+        if self.status.receives() && !given.receives() {
             self.table.purge();
         }
-        self.status = status;
+        self.status = given;
         cause
-    }
-
-    /// Octets came.
-    fn receive(&mut self, octets: &[u8]) -> Cause
-        ensures after { self.new ≡ hears_if self.old (heard_by self.old.status self.old.machine.up octets.now) }
-        ensures cause { result ≡ cause_of_heard (learn_answer self.old.table) (heard_by self.old.status self.old.machine.up octets.now) }
-        ensures octets { AreOctets octets.now }
-    {
-        if !self.status.receives() {
-            return Cause::Nothing;
-        }
-        if !self.transmit.is_up() {
-            return Cause::Nothing;
-        }
-        match frame_pdu(octets) {
-            Some(pdu) => self.hear(pdu),
-            None => Cause::Nothing,
-        }
-    }
-
-    /// The LLDPDU of an LLDP frame came.
-    fn hear(&mut self, pdu: &[u8]) -> Cause
-        requires { length pdu.now ≤ 1500 }
-        ensures after { self.new ≡ hears_if self.old (Some (heard_of pdu.now)) }
-        ensures cause { result ≡ cause_of_heard (learn_answer self.old.table) (Some (heard_of pdu.now)) }
-    {
-        self.counters.count_received();
-        match examine(pdu) {
-            Err(_) => {
-                self.counters.count_refused();
-                Cause::Nothing
-            }
-            Ok(Examined::Shutdown(msap)) => {
-                self.table.forget(&msap);
-                Cause::Nothing
-            }
-            Ok(Examined::Info(info)) => self.learn(&info),
-        }
-    }
-
-    /// A neighbor that lives was told of.
-    fn learn(&mut self, info: &Info<'_>) -> Cause
-        requires { length info.now.octets ≤ 1500 }
-        ensures after { self.new ≡ record {
-          name = self.old.name;
-          status = self.old.status;
-          table = after_learn self.old.table info.now.msap info.now.ttl info.now.octets;
-          machine = self.old.machine;
-          counters = with_answer (with_tlvs self.old.counters info.now.discarded info.now.unrecognized) (learn_answer self.old.table info.now.msap);
-        } }
-        ensures cause { result ≡ cause_of_answer (learn_answer self.old.table info.now.msap) }
-    {
-        let answer = self.table.learn(info);
-        let discarded = info.discarded() as u32;
-        let unrecognized = info.unrecognized() as u32;
-        self.counters.count_tlvs(discarded, unrecognized);
-        self.counters.count_answer(answer);
-        match answer {
-            Learned::New => Cause::Neighbor,
-            Learned::Refreshed | Learned::Dropped => Cause::Nothing,
-        }
     }
 }

@@ -1,19 +1,19 @@
 //! The ports of an agent.
-ghost use Rattle.std.specs.Prelude.{◌≡◌, ◌<◌, ◌≤◌, ◌+◌, ◌++◌, [], IsTrue, map, length, IfOk, IfSome, None};
-ghost use Rattle.std.specs.List.{list_all, AllByRecursion};
+ghost use Rattle.std.specs.Prelude.{◌≡◌, ◌<◌, ◌≤◌, ◌+◌, ◌++◌, [], IsTrue, map, length, IfOk};
+ghost use Rattle.std.specs.List.{list_all};
 ghost use Rattle.lldp_engine.specs.Options.{options_of, InRange, is_port_name};
 ghost use Rattle.lldp_engine.specs.AgentState.{fits};
-ghost use Rattle.lldp_engine.specs.Event.{HasOctets, tick};
-ghost use Rattle.lldp_engine.specs.EventView.{event_of};
 ghost use Rattle.lldp_engine.specs.Past.{sending};
 ghost use Rattle.lldp_engine.specs.Place.{place_from};
-ghost use Rattle.lldp_engine.specs.PortEvent.{port_of};
-ghost use Rattle.lldp_engine.specs.Step.{opened_port, ports_step, marks_step};
-ghost use Rattle.lldp_engine.specs.Code.Taking.{FitsLimit};
+ghost use Rattle.lldp_engine.specs.Port.Event.{each_port, tick};
+ghost use Rattle.lldp_engine.specs.Port.EventView.{port_event_of, whose_of};
+ghost use Rattle.lldp_engine.specs.Port.Step.{opened_port};
+ghost use Rattle.lldp_engine.specs.Step.{ports_step, marks_step};
+ghost use Rattle.lldp_engine.specs.Code.Taking.{AllFit, CanTake};
 
-use crate::event::Event;
 use crate::options::Options;
 use crate::port::Port;
+use crate::port::event::{PortEvent, Whose};
 use arrayvec::ArrayVec;
 use lldp_transmit::Mark;
 use std::alloc::{AllocError, Allocator};
@@ -51,35 +51,31 @@ fn note(marks: &mut Marks, port: u8, mark: Mark)
 /// The ports take an event, with the tx-interval in force after it: the one whose event it is alone, else each.
 pub(crate) fn take_event<A: Allocator>(
     ports: &mut [Port<A>],
-    event: &Event<'_>,
+    event: &Whose<'_>,
     interval: u16,
 ) -> Marks
     requires few { length ports.old ≤ 64 }
-    requires exists { IfSome (port_of (event_of event.now)) (λ port. port < length ports.old) }
-    requires limits { AllByRecursion (λ port. FitsLimit (event_of event.now) port.table) ports.old }
-    ensures after { ports.new ≡ ports_step (event_of event.now) interval 0 ports.old }
-    ensures marks { result.items ≡ marks_step (event_of event.now) interval 0 ports.old }
-    ensures octets { HasOctets (event_of event.now) }
+    requires can { CanTake (whose_of event.now) ports.old }
+    ensures after { ports.new ≡ ports_step (whose_of event.now) interval 0 ports.old }
+    ensures marks { result.items ≡ marks_step (whose_of event.now) interval 0 ports.old }
 {
-    match event.port() {
-        Some(port) => {
-            let mark = ports[port as usize].take(event, interval);
+    match event {
+        Whose::OnePort(port, own) => {
+            let mark = ports[*port as usize].take(own, interval);
             let mut marks = ArrayVec::new();
-            note(&mut marks, port, mark);
+            note(&mut marks, *port, mark);
             marks
         }
-        None => match event {
-            Event::Tick => each_ticks(ports, interval),
-            _ => each_takes(ports, event, interval),
-        },
+        Whose::EachPort(PortEvent::Tick) => each_ticks(ports, interval),
+        Whose::EachPort(each) => each_takes(ports, each, interval),
     }
 }
 
 /// Each port takes a tick.
 fn each_ticks<A: Allocator>(ports: &mut [Port<A>], interval: u16) -> Marks
     requires { length ports.old ≤ 64 }
-    ensures after { ports.new ≡ ports_step tick interval 0 ports.old }
-    ensures marks { result.items ≡ marks_step tick interval 0 ports.old }
+    ensures after { ports.new ≡ ports_step (each_port tick) interval 0 ports.old }
+    ensures marks { result.items ≡ marks_step (each_port tick) interval 0 ports.old }
 {
     let mut marks = ArrayVec::new();
     for (i, port) in ports.iter_mut().enumerate() {
@@ -89,14 +85,12 @@ fn each_ticks<A: Allocator>(ports: &mut [Port<A>], interval: u16) -> Marks
     marks
 }
 
-/// Each port takes an event that is every port's.
-fn each_takes<A: Allocator>(ports: &mut [Port<A>], event: &Event<'_>, interval: u16) -> Marks
+/// Each port takes an event.
+fn each_takes<A: Allocator>(ports: &mut [Port<A>], event: &PortEvent<'_>, interval: u16) -> Marks
     requires few { length ports.old ≤ 64 }
-    requires all { port_of (event_of event.now) ≡ None }
-    requires limits { AllByRecursion (λ port. FitsLimit (event_of event.now) port.table) ports.old }
-    ensures after { ports.new ≡ ports_step (event_of event.now) interval 0 ports.old }
-    ensures marks { result.items ≡ marks_step (event_of event.now) interval 0 ports.old }
-    ensures octets { HasOctets (event_of event.now) }
+    requires limits { AllFit (port_event_of event.now) ports.old }
+    ensures after { ports.new ≡ ports_step (each_port (port_event_of event.now)) interval 0 ports.old }
+    ensures marks { result.items ≡ marks_step (each_port (port_event_of event.now)) interval 0 ports.old }
 {
     let mut marks = ArrayVec::new();
     for (i, port) in ports.iter_mut().enumerate() {

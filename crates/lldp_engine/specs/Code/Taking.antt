@@ -1,30 +1,20 @@
--- What the code asks of a port that takes an event.
-use Rattle.std.specs.Prelude.{ℕ, Option, Some, None}
+-- What the code asks of ports that take an event.
+use Rattle.std.specs.Prelude.{◌<◌, List, length}
+use Rattle.std.specs.List.{AllByRecursion}
 use Rattle.lldp_table.specs.Standing.{IsNewLimit}
-use Rattle.lldp_engine.specs.Event.{Event, tick, frame, link, configure, Setting, hostname, description, interval, hold, limit, status, update}
-use Rattle.lldp_engine.specs.PortEvent.{port_of}
 use Rattle.lldp_table.specs.Contents.{Contents}
-
-abbrev pub FitsSetting : Setting → Contents → Type 0
-FitsSetting (limit neighbors) table = IsNewLimit table neighbors
-FitsSetting (hostname text) table = Unit {0}
-FitsSetting (description text) table = Unit {0}
-FitsSetting (interval seconds) table = Unit {0}
-FitsSetting (hold times) table = Unit {0}
-FitsSetting (status port given) table = Unit {0}
-FitsSetting update table = Unit {0}
+use Rattle.lldp_engine.specs.AgentState.{PortState}
+use Rattle.lldp_engine.specs.Port.Event.{PortEvent, limit, Whose, one_port, each_port}
 
 -- a limit that the event sets is one for the port's table
-abbrev pub FitsLimit : Event → Contents → Type 0
-FitsLimit (configure setting) table = FitsSetting setting table
-FitsLimit tick table = Unit {0}
-FitsLimit (frame port octets) table = Unit {0}
-FitsLimit (link port up) table = Unit {0}
+abbrev pub FitsLimit : PortEvent → Contents → Type 0
+FitsLimit (limit neighbors) table = IsNewLimit table neighbors
+FitsLimit event table = Unit {0}
 
-abbrev pub or_first : Option ℕ → ℕ
-or_first None = 0
-or_first (Some port) = port
+abbrev pub AllFit : PortEvent → List PortState → Type 0
+AllFit event ports = AllByRecursion (λ port. FitsLimit event port.table) ports
 
--- the number of the port that takes the event: its own, or any where it is every port's
-abbrev pub own_place : Event → ℕ
-own_place event = or_first (port_of event)
+-- the port whose event it is exists, and a limit is one for each port
+abbrev pub CanTake : Whose → List PortState → Type 0
+CanTake (one_port port event) ports = (port < length ports) × AllFit event ports
+CanTake (each_port event) ports = AllFit event ports

@@ -7,7 +7,7 @@ pub returns-clause-status : goal.returns-clause-status
 returns-clause-status c = λ o i events s. (λ e. subst (IsLastStatus o i events) (sym e) (status_is_last o i events), last_is_status o i events s)
 
 pub returns-clause-link : goal.returns-clause-link
-returns-clause-link c = λ i events up. (λ e. subst (IsLastLink i events) (sym e) (link_is_last i events), last_is_link i events up)
+returns-clause-link c = λ o i events up. (λ e. subst (IsLastLink i events) (sym e) (link_is_last o i events), last_is_link o i events up)
 
 pub returns-clause-configuration : goal.returns-clause-configuration
 returns-clause-configuration c = configuration_is_last

@@ -1,7 +1,7 @@
 use Rattle.std.proofs.Common.{List, get_or, refl, ap, sym, ◌∙◌, arith, add-one}
-use Rattle.lldp_engine.specs.Event.{tick}
+use Rattle.lldp_engine.specs.Port.Event.{tick}
 use Rattle.lldp_engine.specs.AgentState.{PortState}
-use Rattle.lldp_engine.specs.Step.{port_step, port_mark}
+use Rattle.lldp_engine.specs.Port.Step.{port_step, port_mark}
 use Rattle.lldp_engine.proofs.PortsLemmas.{one_more, all_taken}
 use Rattle.lldp_engine.proofs.ports.each_ticks.Goals as goal
 
@@ -16,8 +16,8 @@ loop-i-preserved g c =
     let i = c.loop-i.i in
     let p = c.index-ports-i.result in
     let at = c.index-ports-i.is ∙ ap (λ (ps : List PortState). get_or ps i p) c.loop-i.invariant.ports in
-    let more = one_more tick c.args.interval i 0 c.args.ports.now p c.tick-mark.new.self c.tick-mark.result refl c.loop-i-test.true at
-    (c.tick-mark.ensures.after ∙ ap (port_step tick c.args.interval 0) (sym c.index-ports-i.is)) (c.tick-mark.ensures.mark ∙ ap (port_mark tick c.args.interval 0) (sym c.index-ports-i.is)) in
+    let more = one_more tick c.args.interval i c.args.ports.now p c.tick-mark.new.self c.tick-mark.result c.loop-i-test.true at
+    (c.tick-mark.ensures.after ∙ ap (port_step tick c.args.interval) (sym c.index-ports-i.is)) (c.tick-mark.ensures.mark ∙ ap (port_mark tick c.args.interval) (sym c.index-ports-i.is)) in
     rw add-one (record {
       ports = rw c.loop-i.invariant.ports more.0;
       marks = rw (c.note.ensures.noted, c.loop-i.invariant.marks) more.1;

@@ -1,5 +1,6 @@
 use Rattle.std.proofs.Common.{get_or, List, ap, ◌∙◌}
 use Rattle.lldp_engine.specs.AgentState.{AgentState, PortState}
+use Rattle.lldp_engine.specs.Past.{past_of}
 use Rattle.lldp_engine.proofs.ReaderLemmas.{port_reads}
 use Rattle.lldp_engine.proofs.HeadlineLemmas.{counters_are}
 use Rattle.lldp_engine.proofs.agent.Agent.counters.Goals as goal
@@ -9,4 +10,4 @@ returns-clause-past g c = λ past h.
     let p = c.index.result.now in
     let same = ap (λ (a : AgentState). a.ports) c.self.view_is in
     let r = port_reads past c.args.self.now c.args.port p h c.requires (c.index.ensures ∙ ap (λ (ps : List PortState). get_or ps c.args.port p) same) in
-    c.counters.ensures ∙ counters_are past.options past.events c.args.port p r.is
+    c.counters.ensures ∙ counters_are past.options (past_of past c.args.port) p r.is

@@ -1,0 +1,9 @@
+-- One port: what happens to it, and what that makes of it. No number of a port stands here, but where an event of the
+-- agent is said for one port (Event).
+pub mod Event
+pub mod EventView
+pub mod Effects
+pub mod Past
+pub mod Counting
+pub mod Step
+pub mod Headline

@@ -1,0 +1,82 @@
+-- What an event is for a port: for its status and its link, for its table, and for its transmitting. The state before
+-- the event is given.
+use Rattle.std.specs.Prelude.{◌&&◌, not, Bool, true, false, if◌then◌else◌, Option, Some, None, option_and_then}
+use Rattle.lldp_pdu.specs.Msap.{MsapId}
+use Rattle.lldp_table.specs.Events.{Call, learn, forget, purge, tick as tick_call, set_limit}
+use Rattle.lldp_table.specs.declared.learned.Learned.{Learned}
+use Rattle.lldp_table.specs.declared.learned.Learned.TheVariants.{New, Refreshed, Dropped}
+use Rattle.lldp_transmit.specs.declared.event.Cause.{Cause}
+use Rattle.lldp_transmit.specs.declared.event.Cause.TheVariants.{Tick, Change, Neighbor, Stop, Allow, Down, Up, Nothing}
+use Rattle.lldp_engine.specs.declared.status.Status.{Status}
+use Rattle.lldp_engine.specs.Status.{receives, transmits}
+use Rattle.lldp_engine.specs.Heard.{Heard, refused, leaves, tells, heard_by}
+use Rattle.lldp_engine.specs.Port.Event.{PortEvent, tick, frame, link, status, limit, change, nothing}
+
+-- ## Its status, its link, and what it hears
+
+-- the status that was given last
+abbrev pub status_then : PortEvent → Status → Status
+status_then (status given) before = given
+status_then event before = before
+
+-- whether its link is up, as its last link event says
+abbrev pub up_then : PortEvent → Bool → Bool
+up_then (link up) before = up
+up_then event before = before
+
+abbrev pub heard_at : PortEvent → Status → Bool → Option Heard
+heard_at (frame octets) before up = heard_by before up octets
+heard_at event before up = None
+
+-- ## Its table
+
+-- to forget the neighbor that leaves, to learn the one that lives
+abbrev pub call_of : Heard → Option Call
+call_of refused = None
+call_of (leaves msap) = Some (forget msap)
+call_of (tells info) = Some (learn info.msap info.ttl info.octets)
+
+-- What its table is told. A status that takes receiving away purges it, whether the link is up or down.
+abbrev pub call_at : PortEvent → Status → Bool → Option Call
+call_at tick before up = Some tick_call
+call_at (frame octets) before up = option_and_then call_of (heard_by before up octets)
+call_at (status given) before up = if receives before && not (receives given) then Some purge else None
+call_at (limit neighbors) before up = Some (set_limit neighbors)
+call_at event before up = None
+
+-- ## Its transmitting
+
+-- a neighbor that is stored as new
+abbrev pub cause_of_answer : Learned → Cause
+cause_of_answer New = Neighbor
+cause_of_answer Refreshed = Nothing
+cause_of_answer Dropped = Nothing
+
+-- what was heard: a new neighbor, by what the table answers to its name, or nothing
+abbrev pub cause_of_heard : (MsapId → Learned) → Option Heard → Cause
+cause_of_heard answer (Some (tells info)) = cause_of_answer (answer info.msap)
+cause_of_heard answer heard = Nothing
+
+-- the right to transmit, before and after
+abbrev pub cause_of_right : Bool → Bool → Cause
+cause_of_right true false = Stop
+cause_of_right false true = Allow
+cause_of_right true true = Nothing
+cause_of_right false false = Nothing
+
+-- the link, before and after
+abbrev pub cause_of_link : Bool → Bool → Cause
+cause_of_link true false = Down
+cause_of_link false true = Up
+cause_of_link true true = Nothing
+cause_of_link false false = Nothing
+
+-- what an event is for its transmitting; answer: what its table answers to a name
+abbrev pub cause_at : PortEvent → Status → Bool → (MsapId → Learned) → Cause
+cause_at tick before up answer = Tick
+cause_at (frame octets) before up answer = cause_of_heard answer (heard_by before up octets)
+cause_at (link given) before up answer = cause_of_link up given
+cause_at (status given) before up answer = cause_of_right (transmits before) (transmits given)
+cause_at (limit neighbors) before up answer = Change
+cause_at change before up answer = Change
+cause_at nothing before up answer = Nothing

@@ -1,0 +1,37 @@
+-- What happens to one port, and whose an agent's event is.
+use Rattle.std.specs.Prelude.{ℕ, ◌==◌, Bool, if◌then◌else◌, List}
+use Rattle.lldp_engine.specs.declared.status.Status.{Status}
+use Rattle.lldp_engine.specs.Event as agent
+
+-- a second has passed; these octets came; its link came or went; it was given a status; the limit of its neighbors was
+-- set; a local change (localChange), of what is sent or by update; nothing, as at another port's event
+pub data PortEvent : Type 0 where
+  tick : PortEvent
+  frame : (octets : List ℕ) → PortEvent
+  link : (up : Bool) → PortEvent
+  status : (given : Status) → PortEvent
+  limit : (neighbors : ℕ) → PortEvent
+  change : PortEvent
+  nothing : PortEvent
+
+-- an event is that of one port alone, or each port's, and it is this for that port
+pub data Whose : Type 0 where
+  one_port : (port : ℕ) (event : PortEvent) → Whose
+  each_port : (event : PortEvent) → Whose
+
+-- Every command but a status command is each port's, and a local change, also where it sets the same value.
+abbrev pub whose_setting : agent.Setting → Whose
+whose_setting (agent.status port given) = one_port port (status given)
+whose_setting (agent.limit neighbors) = each_port (limit neighbors)
+whose_setting setting = each_port change
+
+abbrev pub whose : agent.Event → Whose
+whose agent.tick = each_port tick
+whose (agent.frame port octets) = one_port port (frame octets)
+whose (agent.link port up) = one_port port (link up)
+whose (agent.configure setting) = whose_setting setting
+
+-- what it is for port i
+abbrev pub for_port : ℕ → Whose → PortEvent
+for_port i (one_port port event) = if port == i then event else nothing
+for_port i (each_port event) = event

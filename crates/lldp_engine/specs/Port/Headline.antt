@@ -1,0 +1,49 @@
+-- What is promised of every port, for each past that it has.
+use Rattle.std.specs.Prelude.{◌≡◌, ◌≤◌, ◌↔◌, List, ◌∷◌, ◌++◌, length}
+use Rattle.std.specs.List.{Contains, AllPairs, AllByRecursion, IsDistinct}
+use Rattle.lldp_table.specs.Msap.{same_msap}
+use Rattle.lldp_table.specs.Events.{Neighbor, limit_after}
+use Rattle.lldp_table.specs.Contents.{Contents, names_of}
+use Rattle.lldp_table.specs.Positions.{IsLastStored, IsNewBefore}
+use Rattle.lldp_transmit.specs.declared.event.Mark.TheVariants.{Ordinary, Shutdown}
+use Rattle.lldp_transmit.specs.Positions.{IsDueAndOpen, StopsAt}
+use Rattle.lldp_transmit.specs.Moments.{moments, is_allowed, is_up}
+use Rattle.lldp_transmit.specs.Windows.{IsBounded, StopsRarely, IsEarliest}
+use Rattle.lldp_engine.specs.Options.{Options}
+use Rattle.lldp_engine.specs.Status.{transmits}
+use Rattle.lldp_engine.specs.Port.Past.{Happened, status_after, up_after, told_after, settings_of, caused_at, causes_after, mark_after}
+
+-- The table of a port holds, for each name, its last stored frame that has not expired, and nothing else; each name
+-- once, in the order in which the names were last new; no more neighbors than the limit in force, and no more than
+-- 1,500 octets for each.
+pub record HoldsLastStored (o : Options) (past : List Happened) (table : Contents) : Type 0 where
+  pub exactly : (neighbor : Neighbor) → Contains table.neighbors neighbor ↔ IsLastStored (told_after o past) neighbor
+  pub once : IsDistinct same_msap (names_of table.neighbors)
+  pub in_order : AllPairs (IsNewBefore (told_after o past)) table.neighbors
+  pub limit : table.limit ≡ limit_after o.max_neighbors (told_after o past)
+  pub few : length table.neighbors ≤ table.limit
+  pub short : AllByRecursion (λ neighbor. length neighbor.octets ≤ 1500) table.neighbors
+
+-- At an event after earlier ones a port sends an ordinary frame exactly where one is due and the credit window is open:
+-- no run of events that ends there would hold more than txCreditMax and the ticks after its first event. It sends a
+-- shutdown frame exactly where it was active and may no longer transmit.
+pub record SendsExactly (o : Options) (now : Happened) (earlier : List Happened) : Type 0 where
+  pub ordinary : (mark_after o (now ∷ earlier) ≡ Ordinary) ↔ IsDueAndOpen (settings_of o) (causes_after o earlier) (caused_at o now earlier)
+  pub shutdown : (mark_after o (now ∷ earlier) ≡ Shutdown) ↔ StopsAt (settings_of o) (causes_after o earlier) (caused_at o now earlier)
+
+-- After this past, by what its events were for its transmitting, a port has the right to transmit exactly where its
+-- status gives it, and its link is up exactly where its last link event says so.
+pub record FollowsStatus (o : Options) (past : List Happened) : Type 0 where
+  pub right : is_allowed (settings_of o) (moments (settings_of o) (causes_after o past)) ≡ transmits (status_after o past)
+  pub link : is_up (moments (settings_of o) (causes_after o past)) ≡ up_after past
+
+-- A port did so at each event so far, and its right to transmit has been that of its status. No run of events holds more
+-- ordinary frames than txCreditMax and the ticks after its first event, nor more stops than one and one for each
+-- reinitDelay ticks in it; and up to no event has another choice of due positions that keeps these windows had more
+-- frames.
+pub record HasSentExactly (o : Options) (past : List Happened) : Type 0 where
+  pub exactly : (later earlier : List Happened) (now : Happened) → past ≡ later ++ now ∷ earlier → SendsExactly o now earlier
+  pub follows : (later earlier : List Happened) → past ≡ later ++ earlier → FollowsStatus o earlier
+  pub bounded : IsBounded (settings_of o) (causes_after o past)
+  pub few_stops : StopsRarely (settings_of o) (causes_after o past)
+  pub earliest : (later earlier : List Happened) → past ≡ later ++ earlier → IsEarliest (settings_of o) (causes_after o earlier)

@@ -1,0 +1,68 @@
+-- One event, on a port's present data.
+use Rattle.std.specs.Prelude.{ℕ, List, Option, Some, None, option_and_then}
+use Rattle.lldp_table.specs.Events.{Call}
+use Rattle.lldp_table.specs.Contents.{Contents, learn_answer, table_after, newly_opened}
+use Rattle.lldp_transmit.specs.declared.event.Cause.{Cause}
+use Rattle.lldp_transmit.specs.declared.event.Mark.{Mark}
+use Rattle.lldp_transmit.specs.Machine.{stepped, opened as opened_machine}
+use Rattle.lldp_engine.specs.Options.{Options}
+use Rattle.lldp_engine.specs.Status.{status_at_opening}
+use Rattle.lldp_engine.specs.Heard.{Heard}
+use Rattle.lldp_engine.specs.AgentState.{PortState}
+use Rattle.lldp_engine.specs.Port.Event.{PortEvent}
+use Rattle.lldp_engine.specs.Port.Effects.{status_then, call_of, call_at, cause_at}
+use Rattle.lldp_engine.specs.Port.Past.{settings_of}
+use Rattle.lldp_engine.specs.Port.Counting.{none_counted, with_heard, with_event_counted, with_mark}
+
+-- a port as it is opened
+abbrev pub opened_port : Options → List ℕ → PortState
+opened_port o name =
+    record {
+      name = name;
+      status = status_at_opening o;
+      table = newly_opened o.max_neighbors;
+      machine = opened_machine (settings_of o);
+      counters = none_counted;
+    }
+
+-- a table that was told this
+abbrev pub told : Contents → Option Call → Contents
+told table None = table
+told table (Some call) = table_after table call
+
+-- a port after what it heard
+abbrev pub hears_if : PortState → Option Heard → PortState
+hears_if p heard =
+    record p {
+      table = told p.table (option_and_then call_of heard);
+      counters = with_heard (learn_answer p.table) p.counters heard;
+    }
+
+-- what an event is for its transmitting
+abbrev pub port_cause : PortEvent → PortState → Cause
+port_cause event p = cause_at event p.status p.machine.up (learn_answer p.table)
+
+-- a port after an event, but for its transmitting
+abbrev pub port_told : PortEvent → PortState → PortState
+port_told event p =
+    record p {
+      status = status_then event p.status;
+      table = told p.table (call_at event p.status p.machine.up);
+      counters = with_event_counted event p.status p.machine.up p.table p.counters;
+    }
+
+-- a port after a cause; n is the tx-interval in force after the event
+abbrev pub transmitted : Cause → ℕ → PortState → PortState
+transmitted cause n p =
+    record p {
+      machine = (stepped p.machine cause n).0;
+      counters = with_mark p.counters (stepped p.machine cause n).1;
+    }
+
+-- what it sends at an event
+abbrev pub port_mark : PortEvent → ℕ → PortState → Mark
+port_mark event n p = (stepped p.machine (port_cause event p) n).1
+
+-- a port after an event
+abbrev pub port_step : PortEvent → ℕ → PortState → PortState
+port_step event n p = transmitted (port_cause event p) n (port_told event p)

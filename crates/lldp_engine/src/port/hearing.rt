@@ -1,0 +1,75 @@
+//! What a port hears (IEEE 802.1AB-2009, 9.2.7.7).
+ghost use Rattle.std.specs.Prelude.{◌≡◌, ◌≤◌, length, Some};
+ghost use Rattle.lldp_table.specs.Contents.{learn_answer, after_learn};
+ghost use Rattle.lldp_engine.specs.Heard.{heard_of, heard_by};
+ghost use Rattle.lldp_engine.specs.Port.Effects.{cause_of_answer, cause_of_heard};
+ghost use Rattle.lldp_engine.specs.Port.Counting.{with_tlvs, with_answer};
+ghost use Rattle.lldp_engine.specs.Port.Step.{hears_if};
+
+use super::Port;
+use lldp_pdu::{Examined, Info, examine, frame_pdu};
+use lldp_table::Learned;
+use lldp_transmit::Cause;
+use std::alloc::Allocator;
+
+impl<A: Allocator> Port<A> {
+    /// Octets came.
+    pub(crate) fn receive(&mut self, octets: &[u8]) -> Cause
+        ensures after { self.new ≡ hears_if self.old (heard_by self.old.status self.old.machine.up octets.now) }
+        ensures cause { result ≡ cause_of_heard (learn_answer self.old.table) (heard_by self.old.status self.old.machine.up octets.now) }
+    {
+        if !self.status.receives() {
+            return Cause::Nothing;
+        }
+        if !self.transmit.is_up() {
+            return Cause::Nothing;
+        }
+        match frame_pdu(octets) {
+            Some(pdu) => self.hear(pdu),
+            None => Cause::Nothing,
+        }
+    }
+
+    /// The LLDPDU of an LLDP frame came.
+    fn hear(&mut self, pdu: &[u8]) -> Cause
+        requires { length pdu.now ≤ 1500 }
+        ensures after { self.new ≡ hears_if self.old (Some (heard_of pdu.now)) }
+        ensures cause { result ≡ cause_of_heard (learn_answer self.old.table) (Some (heard_of pdu.now)) }
+    {
+        self.counters.count_received();
+        match examine(pdu) {
+            Err(_) => {
+                self.counters.count_refused();
+                Cause::Nothing
+            }
+            Ok(Examined::Shutdown(msap)) => {
+                self.table.forget(&msap);
+                Cause::Nothing
+            }
+            Ok(Examined::Info(info)) => self.learn(&info),
+        }
+    }
+
+    /// A neighbor that lives was told of.
+    fn learn(&mut self, info: &Info<'_>) -> Cause
+        requires { length info.now.octets ≤ 1500 }
+        ensures after { self.new ≡ record {
+          name = self.old.name;
+          status = self.old.status;
+          table = after_learn self.old.table info.now.msap info.now.ttl info.now.octets;
+          machine = self.old.machine;
+          counters = with_answer (with_tlvs self.old.counters info.now.discarded info.now.unrecognized) (learn_answer self.old.table info.now.msap);
+        } }
+        ensures cause { result ≡ cause_of_answer (learn_answer self.old.table info.now.msap) }
+    {
+        let answer = self.table.learn(info);
+        let discarded = info.discarded() as u32;
+        let unrecognized = info.unrecognized() as u32;
+        self.counters.count_tlvs(discarded, unrecognized);
+        self.counters.count_answer(answer);
+        match answer {
+            Learned::New => Cause::Neighbor,
+            Learned::Refreshed | Learned::Dropped => Cause::Nothing,
+        }
+    }
+}
