@@ -3,7 +3,6 @@ pub mod DigitLemmas
 pub mod LaneLemmas
 pub mod Written
 pub mod OutputLemmas
-pub mod PageLemmas
 pub mod BufferLemmas
 pub mod LineLemmas
 pub mod ItemLemmas

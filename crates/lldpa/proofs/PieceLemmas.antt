@@ -7,7 +7,9 @@ use Rattle.lldp_engine.specs.Past.{Past}
 use Rattle.lldp_engine.specs.AgentState.{AgentState}
 use Rattle.lldpa.specs.Lines.{ended_lines, unfinished, lines_of, if_any}
 use Rattle.lldpa.specs.Items.{after_all, text_of_all, items_of_lines}
-use Rattle.lldpa.specs.Runs.{Done, Failed}
+use Rattle.std.specs.Prelude.{Result}
+use Rattle.lldpa.specs.declared.trace.RunFault.{RunFault}
+use Rattle.lldpa.specs.Runs.{Done, Failed, HasRun}
 use Rattle.lldpa.proofs.Written.{consumes_then}
 use Rattle.lldpa.proofs.ItemLemmas.{items_of_lines-append}
 use Rattle.lldpa.proofs.LineLemmas.{ended_lines-append, unfinished_no_lf, no_lf-take}
@@ -61,3 +63,8 @@ failed_last past xs rest a b c agent is h k =
     let now = after_all past (items_of_lines past (ended_lines xs)) in
     failed_lines past (ended_lines xs) (if_any (unfinished xs)) a b c agent h
     (failed_same now _ _ b c agent (ap (λ t. items_of_lines now (if_any t)) is ∙ same_last now (unfinished xs)) k)
+
+-- the same by other names for what the sink has and for the agent
+pub same_run : {T : Type 0} {to_come left old : Option (List ℕ)} {before : AgentState} {result : Result T RunFault} (new kept : Option (List ℕ)) (agent after : AgentState) → kept ≡ new → after ≡ agent
+    → HasRun to_come left old new before agent result → HasRun to_come left old kept before after result
+same_run new kept agent after same is h = rw (same, is) h

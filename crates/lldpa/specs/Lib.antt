@@ -7,7 +7,6 @@ pub mod Forms
 pub mod Work
 pub mod Items
 pub mod Output
-pub mod Page
 pub mod Told
 pub mod Runs
 pub mod Serving

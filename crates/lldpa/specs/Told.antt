@@ -1,16 +1,30 @@
--- What a page tells.
-use Rattle.std.specs.Prelude.{ℕ, List, Option}
+-- What an output tells, and what a run does.
+use Rattle.std.specs.Prelude.{◌≡◌, ℕ, List, Option, Result}
 use Rattle.std.specs.Borrow.{GName}
-use Rattle.lldpa.specs.declared.output.Page.{Page as OwnPage}
-use Rattle.lldpa.specs.Page.{Page}
+use Rattle.lldp_engine.specs.Past.{Past}
+use Rattle.lldpa.specs.declared.device.DeviceFault.{DeviceFault}
+use Rattle.lldpa.specs.declared.output.Output.{Output as OwnOutput}
+use Rattle.lldpa.specs.declared.trace.Run.{Run}
+use Rattle.lldpa.specs.Items.{Item}
+use Rattle.lldpa.specs.Output.{Output}
+use Rattle.lldpa.specs.Runs.{RunsItems}
 
-abbrev pub told : {W : Type 0} → (W → Option (List ℕ)) → (W → ℕ) → (W → GName) → OwnPage W → Page
-told taken failures place page = record {
-  taken = taken page.sink.now;
-  waits = page.waiting.now.items;
-  failures = failures page.sink.now;
-  place = place page.sink.now;
-  sink = page.sink.ghost_name;
-  waiting = page.waiting.ghost_name;
-  result = page.result;
+-- by what its sink tells: the octets taken, the failures, and the place
+abbrev pub told : {W : Type 0} → (W → Option (List ℕ)) → (W → ℕ) → (W → GName) → OwnOutput W → Output
+told taken failures place output = record {
+  taken = taken output.sink.now;
+  failures = failures output.sink.now;
+  place = place output.sink.now;
+  sink = output.sink.ghost_name;
+  waits = output.waiting;
+  answer = output.answer;
 }
+
+-- what an output tells before and after is so related
+abbrev pub Between : {W : Type 0} → (W → Option (List ℕ)) → (W → ℕ) → (W → GName) → OwnOutput W → OwnOutput W → (Output → Output → Type 0) → Type 0
+Between taken failures place old new Relation = Relation (told taken failures place old) (told taken failures place new)
+
+-- a run did what these items ask for, over the agent that it was lent
+pub record Performs {W T : Type 0} (taken : W → Option (List ℕ)) (failures : W → ℕ) (place : W → GName) (old new : Run W) (items : Past → List Item) (answer : Result T DeviceFault) : Type 0 where
+  pub agent : new.agent.ghost_name ≡ old.agent.ghost_name
+  pub items_run : Between taken failures place old.output new.output (RunsItems items answer old.agent.now new.agent.now)

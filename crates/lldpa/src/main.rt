@@ -10,9 +10,9 @@ pub mod help;
 pub mod line;
 pub mod output;
 pub mod program;
-pub mod sent;
 pub mod serve;
 pub mod trace;
+pub mod waiting;
 
 use std::process::ExitCode;
 use std::{env, io};

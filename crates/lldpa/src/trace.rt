@@ -1,21 +1,20 @@
 //! A run over a trace.
-ghost use Rattle.std.specs.Prelude.{◌≡◌, ◌<◌, ◌≤◌, ◌+◌, ◌^◌, [], ◌∷◌, length, take, drop, replicate, OnOk, OnErr, IfOk};
+ghost use Rattle.std.specs.Prelude.{◌≡◌, ◌<◌, ◌≤◌, ◌+◌, ◌^◌, [], ◌∷◌, length, take, drop, replicate, IfOk};
 ghost use Rattle.lldp_engine.specs.AgentState.{Allows};
 ghost use Rattle.lldp_engine.specs.Event.{tick};
 ghost use Rattle.lldp_engine.specs.EventView.{event_of};
 ghost use Rattle.lldp_engine.specs.Past.{Past};
 ghost use Rattle.lldp_engine.specs.Standing.{Stands};
-ghost use Rattle.lldpa.specs.Devices.{failures_after};
 ghost use Rattle.lldpa.specs.Lines.{ended_lines, unfinished, if_any};
 ghost use Rattle.lldpa.specs.Work.{said, AllowsWork};
 ghost use Rattle.lldpa.specs.Items.{happens, after_all, items_of_reading, items_of, items_of_lines};
-ghost use Rattle.lldpa.specs.Runs.{Done, Failed, HasRun, KeepsOn, read_failures_after, write_failures_after};
+ghost use Rattle.lldpa.specs.Runs.{RunsItems, HasRun, KeepsOn, read_failures_after, write_failures_after};
+ghost use Rattle.lldpa.specs.Told.{Between};
 
 use crate::buffer::{hold, read_more};
 use crate::device::{DeviceFault, Sink, Source};
 use crate::line::{LineFault, Work, read_line};
-use crate::output::{Waiting, write_line, write_show};
-use crate::sent::write_marks;
+use crate::output::Output;
 use lldp_engine::{Agent, Command, Event};
 use memchr::memchr;
 use thiserror::Error;
@@ -45,42 +44,28 @@ pub enum RunFault {
 /// An event, which the agent allows: what ports send is written.
 fn run_event<W: Sink>(
     agent: &mut Agent,
-    sink: &mut W,
-    waiting: &mut Waiting,
+    output: &mut Output<'_, W>,
     event: Event<'_>,
 ) -> Result<(), DeviceFault>
-    requires allowed { Allows agent.old (event_of event) }
-    requires none { waiting.old.items ≡ [] }
-    ensures ok { OnOk result ((past : Past) → Stands past agent.old →
-        Done past (happens (event_of event.entry) ∷ []) (W.taken sink.old) (W.taken sink.new) agent.new) }
-    ensures err { OnErr result ((past : Past) → Stands past agent.old →
-        Failed past (happens (event_of event.entry) ∷ []) (W.taken sink.old) (W.taken sink.new) agent.new) }
-    ensures none { OnOk result (waiting.new.items ≡ []) }
-    ensures failures { W.failures sink.new ≡ failures_after (W.failures sink.old) result }
-    ensures place { W.place sink.new ≡ W.place sink.old }
+    requires { Allows agent.old (event_of event) }
+    ensures { Between W.taken W.failures W.place output.old output.new
+        (RunsItems (λ _. happens (event_of event.entry) ∷ []) result agent.old agent.new) }
 {
     let marks = agent.step(event);
-    write_marks(agent, sink, waiting, &marks)
+    output.write_marks(agent, &marks)
 }
 
 /// Some ticks.
 fn run_ticks<W: Sink>(
     agent: &mut Agent,
-    sink: &mut W,
-    waiting: &mut Waiting,
+    output: &mut Output<'_, W>,
     ticks: u16,
 ) -> Result<(), DeviceFault>
-    requires { waiting.old.items ≡ [] }
-    ensures ok { OnOk result ((past : Past) → Stands past agent.old →
-        Done past (replicate ticks (happens tick)) (W.taken sink.old) (W.taken sink.new) agent.new) }
-    ensures err { OnErr result ((past : Past) → Stands past agent.old →
-        Failed past (replicate ticks (happens tick)) (W.taken sink.old) (W.taken sink.new) agent.new) }
-    ensures none { OnOk result (waiting.new.items ≡ []) }
-    ensures failures { W.failures sink.new ≡ failures_after (W.failures sink.old) result }
-    ensures place { W.place sink.new ≡ W.place sink.old }
+    ensures { Between W.taken W.failures W.place output.old output.new
+        (RunsItems (λ _. replicate ticks (happens tick)) result agent.old agent.new) }
 {
     for _done in 0..ticks {
-        run_event(agent, sink, waiting, Event::Tick)?;
+        run_event(agent, output, Event::Tick)?;
     }
     Ok(())
 }
@@ -88,108 +73,74 @@ fn run_ticks<W: Sink>(
 /// What a line was read as.
 fn run_work<W: Sink>(
     agent: &mut Agent,
-    sink: &mut W,
-    waiting: &mut Waiting,
+    output: &mut Output<'_, W>,
     read: Result<Work<'_>, LineFault>,
 ) -> Result<(), DeviceFault>
-    requires allowed { IfOk read (AllowsWork agent.old) }
-    requires none { waiting.old.items ≡ [] }
-    ensures ok { OnOk result ((past : Past) → Stands past agent.old →
-        Done past (items_of_reading (said read.entry)) (W.taken sink.old) (W.taken sink.new) agent.new) }
-    ensures err { OnErr result ((past : Past) → Stands past agent.old →
-        Failed past (items_of_reading (said read.entry)) (W.taken sink.old) (W.taken sink.new) agent.new) }
-    ensures none { OnOk result (waiting.new.items ≡ []) }
-    ensures failures { W.failures sink.new ≡ failures_after (W.failures sink.old) result }
-    ensures place { W.place sink.new ≡ W.place sink.old }
+    requires { IfOk read (AllowsWork agent.old) }
+    ensures { Between W.taken W.failures W.place output.old output.new
+        (RunsItems (λ _. items_of_reading (said read.entry)) result agent.old agent.new) }
 {
     match read {
         Ok(Work::Skip) => Ok(()),
-        Ok(Work::Ticks(ticks)) => run_ticks(agent, sink, waiting, ticks),
+        Ok(Work::Ticks(ticks)) => run_ticks(agent, output, ticks),
         Ok(Work::Frame { port, octets }) => {
-            run_event(agent, sink, waiting, Event::Frame { port, octets })
+            run_event(agent, output, Event::Frame { port, octets })
         }
-        Ok(Work::Link { port, up }) => run_event(agent, sink, waiting, Event::Link { port, up }),
-        Ok(Work::Command(Command::Set(setting))) => {
-            run_event(agent, sink, waiting, Event::Set(setting))
+        Ok(Work::Link { port, up }) => run_event(agent, output, Event::Link { port, up }),
+        Ok(Work::Command(Command::Set(setting))) => run_event(agent, output, Event::Set(setting)),
+        Ok(Work::Command(Command::Show(show))) => output.write_show(agent, show),
+        Err(fault) => output.write_line(fault.text()),
+    }
+}
+
+/// A run over a trace: its agent, where its text goes, and room for the octets of a frame.
+#[derive(Drop)]
+struct Run<'a, 'w, W> {
+    agent: &'a mut Agent,
+    output: Output<'w, W>,
+    room: [u8; 2048],
+}
+
+impl<W: Sink> Run<'_, '_, W> {
+    ghost use Rattle.lldpa.specs.Told.{Performs};
+
+    /// What one line asks for.
+    fn line(&mut self, line: &[u8]) -> Result<(), DeviceFault>
+        ensures { Performs W.taken W.failures W.place self.old self.new (λ past. items_of past line.now) result }
+    {
+        let read = read_line(self.agent, line, &mut self.room);
+        run_work(self.agent, &mut self.output, read)
+    }
+
+    /// Each line whose LF is among the octets, of which the first were searched before. Answers where the rest begins.
+    fn lines(&mut self, octets: &[u8], searched: usize) -> Result<usize, DeviceFault>
+        requires within { searched ≤ length octets.now }
+        requires no_line { ended_lines (take searched octets.now) ≡ [] }
+        ensures rest { IfOk result (λ start. (start ≤ length octets.now) × (drop start octets.now ≡ unfinished octets.now)) }
+        ensures run { Performs W.taken W.failures W.place self.old self.new
+            (λ past. items_of_lines past (ended_lines octets.now)) result }
+    {
+        let mut start = 0;
+        let mut from = searched;
+        while let Some(at) = memchr(LF, &octets[from..]) {
+            let end = from + at;
+            self.line(&octets[start..end])?;
+            start = end + 1;
+            from = start;
         }
-        Ok(Work::Command(Command::Show(show))) => write_show(agent, sink, waiting, show),
-        Err(fault) => write_line(sink, waiting, fault.text()),
+        Ok(start)
     }
-}
 
-/// What one line asks for.
-fn run_line<W: Sink>(
-    agent: &mut Agent,
-    sink: &mut W,
-    waiting: &mut Waiting,
-    room: &mut [u8; 2048],
-    line: &[u8],
-) -> Result<(), DeviceFault>
-    requires { waiting.old.items ≡ [] }
-    ensures ok { OnOk result ((past : Past) → Stands past agent.old →
-        Done past (items_of past line.now) (W.taken sink.old) (W.taken sink.new) agent.new) }
-    ensures err { OnErr result ((past : Past) → Stands past agent.old →
-        Failed past (items_of past line.now) (W.taken sink.old) (W.taken sink.new) agent.new) }
-    ensures none { OnOk result (waiting.new.items ≡ []) }
-    ensures failures { W.failures sink.new ≡ failures_after (W.failures sink.old) result }
-    ensures place { W.place sink.new ≡ W.place sink.old }
-{
-    let read = read_line(agent, line, room);
-    run_work(agent, sink, waiting, read)
-}
-
-/// Each line whose LF is among the octets, of which the first were searched before. Answers where the rest begins.
-fn run_lines<W: Sink>(
-    agent: &mut Agent,
-    sink: &mut W,
-    waiting: &mut Waiting,
-    room: &mut [u8; 2048],
-    octets: &[u8],
-    searched: usize,
-) -> Result<usize, DeviceFault>
-    requires none { waiting.old.items ≡ [] }
-    requires within { searched ≤ length octets.now }
-    requires no_line { ended_lines (take searched octets.now) ≡ [] }
-    ensures rest { IfOk result (λ start. (start ≤ length octets.now) × (drop start octets.now ≡ unfinished octets.now)) }
-    ensures ok { OnOk result ((past : Past) → Stands past agent.old →
-        Done past (items_of_lines past (ended_lines octets.now)) (W.taken sink.old) (W.taken sink.new) agent.new) }
-    ensures err { OnErr result ((past : Past) → Stands past agent.old →
-        Failed past (items_of_lines past (ended_lines octets.now)) (W.taken sink.old) (W.taken sink.new) agent.new) }
-    ensures none { OnOk result (waiting.new.items ≡ []) }
-    ensures failures { W.failures sink.new ≡ failures_after (W.failures sink.old) result }
-    ensures place { W.place sink.new ≡ W.place sink.old }
-{
-    let mut start = 0;
-    let mut from = searched;
-    while let Some(at) = memchr(LF, &octets[from..]) {
-        let end = from + at;
-        run_line(agent, sink, waiting, room, &octets[start..end])?;
-        start = end + 1;
-        from = start;
+    /// The last line, where it is not empty.
+    fn rest(&mut self, rest: &[u8]) -> Result<(), DeviceFault>
+        ensures { Performs W.taken W.failures W.place self.old self.new
+            (λ past. items_of_lines past (if_any rest.now)) result }
+    {
+        if rest.is_empty() {
+            return Ok(());
+        }
+        self.line(rest)
     }
-    Ok(start)
-}
-
-/// The last line, where it is not empty.
-fn run_rest<W: Sink>(
-    agent: &mut Agent,
-    sink: &mut W,
-    waiting: &mut Waiting,
-    room: &mut [u8; 2048],
-    rest: &[u8],
-) -> Result<(), DeviceFault>
-    requires { waiting.old.items ≡ [] }
-    ensures ok { OnOk result ((past : Past) → Stands past agent.old →
-        Done past (items_of_lines past (if_any rest.now)) (W.taken sink.old) (W.taken sink.new) agent.new) }
-    ensures err { OnErr result ((past : Past) → Stands past agent.old →
-        Failed past (items_of_lines past (if_any rest.now)) (W.taken sink.old) (W.taken sink.new) agent.new) }
-    ensures failures { W.failures sink.new ≡ failures_after (W.failures sink.old) result }
-    ensures place { W.place sink.new ≡ W.place sink.old }
-{
-    if rest.is_empty() {
-        return Ok(());
-    }
-    run_line(agent, sink, waiting, room, rest)
 }
 
 /// Runs a trace over the agent: reads it to its end, works on each line as soon as its LF was read, and writes what the lines ask to
@@ -215,23 +166,25 @@ pub fn run_trace<S: Source, W: Sink>(
     ensures calls { S.calls reader.new ≤ S.calls reader.old + 4294967295 }
     ensures too_long { result ≡ Err RunFault.InputTooLong → S.calls reader.old < 2 ^ 63 → S.calls reader.new ≡ S.calls reader.old + 4294967295 }
 {
+    let mut run = Run {
+        agent,
+        output: Output::new(writer),
+        room: [0u8; 2048],
+    };
     let mut buffer = [0u8; BUFFER];
-    let mut waiting = Waiting::new();
-    let mut room = [0u8; 2048];
     let mut held = 0;
     for reads in 0..MOST_READS {
         let Ok(n) = read_more(reader, &mut buffer, held) else {
             return Err(RunFault::Read);
         };
         if n == 0 {
-            return match run_rest(agent, writer, &mut waiting, &mut room, &buffer[..held]) {
+            return match run.rest(&buffer[..held]) {
                 Ok(()) => Ok(()),
                 Err(_) => Err(RunFault::Write),
             };
         }
         let end = held + n;
-        let Ok(start) = run_lines(agent, writer, &mut waiting, &mut room, &buffer[..end], held)
-        else {
+        let Ok(start) = run.lines(&buffer[..end], held) else {
             return Err(RunFault::Write);
         };
         held = hold(&mut buffer, start, end);

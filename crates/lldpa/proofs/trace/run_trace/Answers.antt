@@ -2,7 +2,7 @@ use Rattle.std.proofs.Common.{◌≡◌, [], ◌++◌, take, drop, rules, arith,
 use Rattle.lldpa.specs.Lines.{unfinished}
 use Rattle.lldpa.proofs.Written.{consumes_then, consumes_kept, consumes_nothing}
 use Rattle.lldpa.proofs.LineLemmas.{held_more}
-use Rattle.lldpa.proofs.PieceLemmas.{held_and_piece, held_no_lf, consumes_end, done_piece, failed_piece, done_last, failed_last}
+use Rattle.lldpa.proofs.PieceLemmas.{same_run, held_and_piece, held_no_lf, consumes_end, done_piece, failed_piece, done_last, failed_last}
 use Rattle.lldpa.proofs.RunLemmas.{done_none}
 use Rattle.lldpa.proofs.KeepsOnLemmas.{done_keeps_on, stopped_keeps_on}
 use Rattle.lldpa.proofs.trace.run_trace.Goals as goal
@@ -15,44 +15,45 @@ loop-reads-init g c = record {
     consumed = consumes_nothing _;
     many = omega arith;
     front = refl;
-    done = λ past stands. done_none past _ _ stands;
+    done = λ past stands. rw c.new.ensures.taken (done_none past _ _ stands);
   };
-  none = search rules;
   reads = refl;
-  writes = refl;
+  writes = search rules;
   read_place = refl;
-  write_place = refl;
+  write_place = search rules;
+  agent = refl;
+  sink = refl;
   calls = omega arith;
   all_calls = λ below. omega arith;
 }
 
-pub run_lines-requires-clause-no_line : goal.run_lines-requires-clause-no_line
-run_lines-requires-clause-no_line g c =
+pub lines-requires-clause-no_line : goal.lines-requires-clause-no_line
+lines-requires-clause-no_line g c =
     let so_far = c.loop-reads.invariant.so_far in
     held_no_lf c.loop-reads.buffer c.read_more.new.buffer c.loop-reads.held c.in-Ok.n so_far.input c.read_more.ensures.kept so_far.front
 
 pub returns-in_default-clause-run : goal.returns-in_default-clause-run
 returns-in_default-clause-run g c =
     let so_far = c.loop-reads.invariant.so_far in
-    record {
+    same_run (g.W.Sink.taken c.loop-reads.run.output.sink.now) _ c.loop-reads.run.agent.now _ (search rules) (search rules) record {
       input = so_far.input;
       consumed = consumes_kept _ _ _ so_far.input so_far.consumed c.in_default.ensures.octets;
       read = tt;
       ends = so_far.done;
     }
 
-pub returns-in-Ok-run_rest-clause-run : goal.returns-in-Ok-run_rest-clause-run
-returns-in-Ok-run_rest-clause-run g c =
+pub returns-in-Ok-rest-clause-run : goal.returns-in-Ok-rest-clause-run
+returns-in-Ok-rest-clause-run g c =
     let so_far = c.loop-reads.invariant.so_far in
     let zero : c.in-Ok.n ≡ 0 = omega arith in
     let octets = c.in-Ok.ensures.octets in
     let front : take c.loop-reads.held c.read_more.new.buffer ≡ take 4097 (unfinished so_far.input) = c.read_more.ensures.kept ∙ so_far.front in
-    record {
+    same_run (g.W.Sink.taken c.rest.new.self.output.sink.now) _ c.rest.new.self.agent.now _ (search rules) (search rules) record {
       input = so_far.input;
       consumed = consumes_end _ _ _ so_far.input (drop c.loop-reads.held c.read_more.new.buffer) c.in-Ok.n so_far.consumed zero octets.0;
       read = octets.1 zero;
       ends = λ past stands. let done = so_far.done past stands in
-          done_last past so_far.input _ _ _ _ _ front done.written (c.in-Ok-run_rest.ensures.ok _ done.stands);
+          done_last past so_far.input _ _ _ _ _ front done.written (c.in-Ok-rest.ensures.items_run.ended _ done.stands);
     }
 
 pub returns-in-Err-clause-run : goal.returns-in-Err-clause-run
@@ -60,30 +61,30 @@ returns-in-Err-clause-run g c =
     let so_far = c.loop-reads.invariant.so_far in
     let zero : c.in-Ok.n ≡ 0 = omega arith in
     let octets = c.in-Ok.ensures.octets in
-    record {
+    same_run (g.W.Sink.taken c.rest.new.self.output.sink.now) _ c.rest.new.self.agent.now _ (search rules) (search rules) record {
       input = so_far.input;
       consumed = consumes_end _ _ _ so_far.input (drop c.loop-reads.held c.read_more.new.buffer) c.in-Ok.n so_far.consumed zero octets.0;
       read = tt;
       ends = λ past stands. let done = so_far.done past stands in
-          inr (octets.1 zero, failed_last past so_far.input _ _ _ _ _ (c.read_more.ensures.kept ∙ so_far.front) done.written (c.in-Err.ensures.err _ done.stands));
+          inr (octets.1 zero, failed_last past so_far.input _ _ _ _ _ (c.read_more.ensures.kept ∙ so_far.front) done.written (c.in-Err.ensures.items_run.ended _ done.stands));
     }
 
-pub returns-in_default-run_lines-clause-run : goal.returns-in_default-run_lines-clause-run
-returns-in_default-run_lines-clause-run g c =
+pub returns-in_default-lines-clause-run : goal.returns-in_default-lines-clause-run
+returns-in_default-lines-clause-run g c =
     let so_far = c.loop-reads.invariant.so_far in
     let piece = take c.in-Ok.n (drop c.loop-reads.held c.read_more.new.buffer) in
-    record {
+    same_run (g.W.Sink.taken c.lines.new.self.output.sink.now) _ c.lines.new.self.agent.now _ (search rules) (search rules) record {
       input = so_far.input ++ piece;
       consumed = consumes_then _ _ _ so_far.input piece so_far.consumed c.in-Ok.ensures.octets.0;
       read = tt;
       ends = λ past stands. let done = so_far.done past stands in
-          inl (failed_piece past so_far.input piece _ _ _ _ _ (held_and_piece c.loop-reads.buffer c.read_more.new.buffer c.loop-reads.held c.in-Ok.n (unfinished so_far.input) c.read_more.ensures.kept so_far.front) done.written (c.in_default-run_lines.ensures.err _ done.stands));
+          inl (failed_piece past so_far.input piece _ _ _ _ _ (held_and_piece c.loop-reads.buffer c.read_more.new.buffer c.loop-reads.held c.in-Ok.n (unfinished so_far.input) c.read_more.ensures.kept so_far.front) done.written (c.in_default-lines.ensures.run.items_run.ended _ done.stands));
     }
 
 pub returns-clause-run : goal.returns-clause-run
 returns-clause-run g c =
     let so_far = c.loop-reads.invariant.so_far in
-    record {
+    same_run (g.W.Sink.taken c.loop-reads.run.output.sink.now) _ c.loop-reads.run.agent.now _ (search rules) (search rules) record {
       input = so_far.input;
       consumed = so_far.consumed;
       read = omega (arith, so_far.many);
@@ -104,30 +105,31 @@ loop-reads-preserved g c =
         input = so_far.input ++ piece;
         consumed = consumes_then _ _ _ so_far.input piece so_far.consumed c.in-Ok.ensures.octets.0;
         many = omega (arith, so_far.many, length-append so_far.input piece, length-take n (drop held new), length-drop held new);
-        front = c.hold-held.ensures.held ∙ ap (take 4097) (c.in-Ok-run_lines.ensures.rest.1 ∙ ap unfinished octets) ∙ held_more 4097 so_far.input piece;
+        front = c.hold-held.ensures.held ∙ ap (take 4097) (c.in-Ok-lines.ensures.rest.1 ∙ ap unfinished octets) ∙ held_more 4097 so_far.input piece;
         done = λ past stands. let done = so_far.done past stands in
-            done_piece past so_far.input piece _ _ _ _ _ octets done.written (c.in-Ok-run_lines.ensures.ok _ done.stands);
+            done_piece past so_far.input piece _ _ _ _ _ octets done.written (c.in-Ok-lines.ensures.run.items_run.ended _ done.stands);
       };
-      none = search rules;
       reads = search rules;
       writes = search rules;
       read_place = search rules;
       write_place = search rules;
+      agent = search rules;
+      sink = search rules;
       calls = omega (arith, c.loop-reads.invariant.calls, c.read_more.ensures.calls);
       all_calls = λ below. omega (arith, c.loop-reads.invariant.all_calls below, c.read_more.ensures.calls);
     }
 
-pub returns-in-Ok-run_rest-clause-headline : goal.returns-in-Ok-run_rest-clause-headline
-returns-in-Ok-run_rest-clause-headline g c past stands = done_keeps_on past _ _ _ _ ((returns-in-Ok-run_rest-clause-run g c).ends past stands)
+pub returns-in-Ok-rest-clause-headline : goal.returns-in-Ok-rest-clause-headline
+returns-in-Ok-rest-clause-headline g c past stands = done_keeps_on past _ _ _ _ ((returns-in-Ok-rest-clause-run g c).ends past stands)
 
 pub returns-in-Err-clause-headline : goal.returns-in-Err-clause-headline
 returns-in-Err-clause-headline g c past stands = stopped_keeps_on past (returns-in-Err-clause-run g c).input _ _ _ _ ((returns-in-Err-clause-run g c).ends past stands)
 
-pub returns-in_default-run_lines-clause-headline : goal.returns-in_default-run_lines-clause-headline
-returns-in_default-run_lines-clause-headline g c past stands = stopped_keeps_on past (returns-in_default-run_lines-clause-run g c).input _ _ _ _ ((returns-in_default-run_lines-clause-run g c).ends past stands)
+pub returns-in_default-lines-clause-headline : goal.returns-in_default-lines-clause-headline
+returns-in_default-lines-clause-headline g c past stands = stopped_keeps_on past (returns-in_default-lines-clause-run g c).input _ _ _ _ ((returns-in_default-lines-clause-run g c).ends past stands)
 
 pub returns-in_default-clause-headline : goal.returns-in_default-clause-headline
-returns-in_default-clause-headline g c past stands = done_keeps_on past _ _ _ _ (c.loop-reads.invariant.so_far.done past stands)
+returns-in_default-clause-headline g c past stands = done_keeps_on past _ _ _ _ ((returns-in_default-clause-run g c).ends past stands)
 
 pub returns-clause-headline : goal.returns-clause-headline
-returns-clause-headline g c past stands = done_keeps_on past _ _ _ _ (c.loop-reads.invariant.so_far.done past stands)
+returns-clause-headline g c past stands = done_keeps_on past _ _ _ _ ((returns-clause-run g c).ends past stands)

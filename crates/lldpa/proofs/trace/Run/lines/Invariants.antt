@@ -1,10 +1,9 @@
 use Rattle.std.proofs.Common.{◌≡◌, ◌≤◌, ◌-◌, [], length, take, drop}
-use Rattle.lldp_engine.specs.Past.{Past}
-use Rattle.lldp_engine.specs.Standing.{Stands}
+use Rattle.std.specs.Prelude.{Ok}
 use Rattle.lldpa.specs.Lines.{ended_lines, unfinished}
 use Rattle.lldpa.specs.Items.{items_of_lines}
-use Rattle.lldpa.specs.Runs.{Done}
-use Rattle.lldpa.proofs.trace.run_lines.Given as goal
+use Rattle.lldpa.specs.Told.{Performs}
+use Rattle.lldpa.proofs.trace.Run.lines.Given as goal
 
 -- the lines up to start are done, and from start on to from there is no LF
 abbrev pub invariant-loop-at : goal.invariant-loop-at
@@ -13,10 +12,7 @@ invariant-loop-at g l = record {
   high : l.from ≤ length l.octets;
   whole : unfinished (take l.start l.octets) ≡ [];
   clear : ended_lines (take (l.from - l.start) (drop l.start l.octets)) ≡ [];
-  done : (past : Past) → Stands past l.fn.agent → Done past (items_of_lines past (ended_lines (take l.start l.octets))) (g.W.Sink.taken l.fn.sink) (g.W.Sink.taken l.sink) l.agent;
-  none : l.waiting.items ≡ [];
-  failures : g.W.Sink.failures l.sink ≡ g.W.Sink.failures l.fn.sink;
-  place : g.W.Sink.place l.sink ≡ g.W.Sink.place l.fn.sink;
+  run : Performs {T = Unit {0}} g.W.Sink.taken g.W.Sink.failures g.W.Sink.place l.fn.self l.self (λ past. items_of_lines past (ended_lines (take l.start l.octets))) (Ok tt);
 }
 
 abbrev pub decreases-loop-at : goal.decreases-loop-at

@@ -1,8 +1,0 @@
-use Rattle.std.proofs.lemmas.Result.{err_from_is_err_and}
-use Rattle.lldpa.proofs.OutputLemmas.{flush_cut_off}
-use Rattle.lldpa.proofs.output.write_show.Goals as goal
-
-pub returns-in_err-flush-clause-err : goal.returns-in_err-flush-clause-err
-returns-in_err-flush-clause-err g c =
-    let p = err_from_is_err_and c.from_residual-in_err-flush.result c.from_residual-in_err-flush.ensures.1 in
-    rw p.1 (flush_cut_off _ _ _ _ _ (rw c.requires at c.in_ok-put_show.ensures.ok) c.in_err-flush.ensures.err)
