@@ -1,5 +1,5 @@
 -- What a parse that succeeds gives of the program's options.
-use Rattle.std.proofs.Common.{zero, suc, Result, Ok, Err, ◌≡◌, ◌∙◌, ◌<◌, ◌||◌, ℕ, Bool, true, false, List, [], ◌∷◌, ◌++◌, length, Some, None, refl, sym, ap, subst, inl, inr, arith, codes, slice_index_or, Bor}
+use Rattle.std.proofs.Common.{zero, suc, Result, Ok, Err, ◌≡◌, ◌∙◌, ◌<◌, ◌||◌, ℕ, Bool, true, false, List, [], ◌∷◌, ◌++◌, length, Option, Some, None, refl, sym, ap, subst, inl, inr, arith, codes, slice_index_or, Bor}
 use Rattle.std.specs.Prelude.{IfOk, find, option_map, slice_get, pos}
 use Rattle.std.specs.List.{All, Any}
 use Rattle.std.specs.Str.{bytes_eq}
@@ -17,10 +17,11 @@ use Rattle.clap.specs.declared.builder.command.Command.{Command}
 use Rattle.clap.specs.declared.builder.command.Command.TheViews.{out-Command}
 use Rattle.clap.specs.declared.builder.value_parser.ValueParser.{ValueParser}
 use Rattle.clap.specs.declared.builder.value_parser.ValueParser.TheVariants.{Signed}
+use Rattle.clap.specs.declared.builder.value_parser.Reading.{Reading}
 use Rattle.clap.specs.declared.builder.value_parser.Reading.TheVariants.{WithoutMinus}
 use Rattle.clap.specs.declared.parser.matches.ArgMatches.{ArgMatches}
 use Rattle.clap.specs.declared.parser.matches.MatchedArg.{MatchedArg}
-use Rattle.lldpa.specs.Arguments.{greatest_of, has_default, HasValue, FitsOption, HasArgument, IsArgument, ReadsOptions, GivesText, GivesNumber, GivesOptions}
+use Rattle.lldpa.specs.Arguments.{greatest_of, has_default, HasValue, FitsOption, HasArgument, IsArgument, ReadsOptions, GivesText, GivesNumber, MayGiveNumber, GivesOptions}
 
 -- rules that stay keep what an option asks
 same_value : (a b : Arg) → SameRules a b → HasValue a → HasValue b
@@ -139,6 +140,13 @@ pub record Given (m : ArgMatches) (name : List ℕ) (built : Command) : Type 0 w
   pub passes : PassesArg built name value.now
   pub reads : HasReading built name entry.reading
 
+-- an entry with a name is no group's, where the command has no groups
+not_group : (b : Command) (e : Entry) (name : List ℕ) → groups_of b ≡ [] → (name ≡ [] → ⊥) → e.0.now ≡ name → EntryPasses b e → e.1.is_group ≡ true → ⊥
+not_group b e name no_groups named same pass g = elim (pass.3 g) [
+  | inl empty ↦ named (sym same ∙ empty)
+  | inr lots ↦ let bad : 0 < 0 = rw no_groups at lots in absurd (omega arith)
+]
+
 -- an entry of the name of such an option is that of an argument, which has a value
 filled : (b : Command) (e : Entry) (name : List ℕ) → All FitsOption (args_of b) → groups_of b ≡ [] → has_default name ≡ true → e.0.now ≡ name → EntryPasses b e
     → (e.1.is_group ≡ true → ⊥) × (0 < length e.1.vals.items)
@@ -156,10 +164,7 @@ filled b e name fit no_groups default same pass = (
     named id has empty = let bad : has_default [] ≡ true = subst (λ i. has_default i ≡ true) empty has in let never : false ≡ true = bad in cc
 
     no_group : e.1.is_group ≡ true → ⊥
-    no_group g = elim (pass.3 g) [
-      | inl empty ↦ named name default (sym same ∙ empty)
-      | inr lots ↦ let bad : 0 < 0 = rw no_groups at lots in absurd (omega arith)
-    ]
+    no_group = not_group b e name no_groups (named name default) same pass
 
     value_at : (a : Arg) → FitsOption a → bytes_eq a.id.now e.0.now ≡ true → HasValue a
     value_at a fits eq = fits.value (ap has_default ((bytes_eq-Decides a.id.now e.0.now).0 eq ∙ same) ∙ default)
@@ -217,28 +222,63 @@ gives_text c m p r name default any =
     let g = given c m p r name default any in
     rw (g.found, g.first) refl
 
--- an option that takes a number has one in its range
-pub gives_number : (c : Command) (m : ArgMatches) → IsParsedFrom c m → ReadsOptions c → (greatest : ℕ) (name : List ℕ) → greatest_of name ≡ Some greatest → HasArgument name c → GivesNumber greatest name m
-gives_number c m p r greatest name takes any =
-    let g = given c m p r name (rw takes refl) any in
-    let fit = built_fits c m p r.fit in
+-- a value of an option that takes a number is one in its range, and is read without a minus
+number_passes : (b : Command) (greatest : ℕ) (name text : List ℕ) (reading : Reading) → All FitsOption (args_of b) → greatest_of name ≡ Some greatest → PassesArg b name text → HasReading b name reading
+    → (reading ≡ WithoutMinus) × IsSignedIn (pos 1) (pos greatest) text
+number_passes b greatest name text reading fit takes passes reads =
     let parser_at : (a : Arg) → FitsOption a → bytes_eq a.id.now name ≡ true → parser_of a ≡ Signed (pos 1) (pos greatest) =
     λ a fits eq. ap parser_of_value (fits.number greatest (ap greatest_of ((bytes_eq-Decides a.id.now name).0 eq) ∙ takes)) in
-    let passed = parser_at g.passes.1 (at_place FitsOption _ g.passes.0 g.passes.1 fit g.passes.2 g.passes.3) g.passes.4.0 in
-    let read = parser_at g.reads.1 (at_place FitsOption _ g.reads.0 g.reads.1 fit g.reads.2 g.reads.3) g.reads.4.0 in
-    let how : g.entry.reading ≡ WithoutMinus = sym g.reads.4.1 ∙ ap reading_of read in
-    let number : IsSignedIn (pos 1) (pos greatest) g.value.now = subst (λ (q : ValueParser). Accepts g.passes.1.ignore_case q g.value.now) passed g.passes.4.1 in
-    (g.value.now, rw (g.found, g.first, how) refl, number)
+    let passed = parser_at passes.1 (at_place FitsOption _ passes.0 passes.1 fit passes.2 passes.3) passes.4.0 in
+    let read = parser_at reads.1 (at_place FitsOption _ reads.0 reads.1 fit reads.2 reads.3) reads.4.0 in
+    (sym reads.4.1 ∙ ap reading_of read, subst (λ (q : ValueParser). Accepts passes.1.ignore_case q text) passed passes.4.1)
+
+-- an option that takes a number and has a default has one in its range
+pub gives_number : (c : Command) (m : ArgMatches) → IsParsedFrom c m → ReadsOptions c → (greatest : ℕ) (name : List ℕ) → greatest_of name ≡ Some greatest → has_default name ≡ true → HasArgument name c → GivesNumber greatest name m
+gives_number c m p r greatest name takes default any =
+    let g = given c m p r name default any in
+    let number = number_passes p.built greatest name g.value.now g.entry.reading (built_fits c m p r.fit) takes g.passes g.reads in
+    (g.value.now, rw (g.found, g.first, number.0) refl, number.1)
+
+-- an option that takes a number and has no default has none, or one in its range
+pub may_give_number : (c : Command) (m : ArgMatches) → IsParsedFrom c m → ReadsOptions c → (greatest : ℕ) (name : List ℕ) → greatest_of name ≡ Some greatest → MayGiveNumber greatest name m
+may_give_number c m p r greatest name takes = at (matched_of (found_of m) name) refl
+  where
+    named : name ≡ [] → ⊥
+    named empty = let bad : greatest_of [] ≡ Some greatest = subst (λ i. greatest_of i ≡ Some greatest) empty takes in let never : None ≡ Some greatest = bad in cc
+
+    valued : (e : Entry) → matched_of (found_of m) name ≡ Some e.1 → e.0.now ≡ name → EntryPasses p.built e → (vs : List (Bor (List ℕ))) → e.1.vals.items ≡ vs → MayGiveNumber greatest name m
+    valued e found same pass [] is = inl (rw (found, is) refl)
+    valued e found same pass (v ∷ vs) is =
+        let none = not_group p.built e name (p.from.plain r.plain).1 named same pass in
+        let fit = built_fits c m p r.fit in
+        let passes : PassesArg p.built name v.now = elim pass.0 [
+          | inl g ↦ absurd (none g)
+          | inr all ↦ let all_v : All (λ w. PassesArg p.built e.0.now w.now) (v ∷ vs) = subst (All (λ (w : Bor (List ℕ)). PassesArg p.built e.0.now w.now)) is all in
+              subst (λ i. PassesArg p.built i v.now) same (all_v 0 v (omega arith))
+        ] in
+        let reads : HasReading p.built name e.1.reading = elim pass.4 [
+          | inl g ↦ absurd (none g)
+          | inr h ↦ subst (λ i. HasReading p.built i e.1.reading) same h
+        ] in
+        let number = number_passes p.built greatest name v.now e.1.reading fit takes passes reads in
+        inr (v.now, rw (found, is, number.0) refl, number.1)
+
+    at : (x : Option MatchedArg) → matched_of (found_of m) name ≡ x → MayGiveNumber greatest name m
+    at None found = inl (rw found refl)
+    at (Some x) found =
+        let e = entry_by_id (EntryPasses p.built) (found_of m).entries.items name x (p.parsed (p.from.globals ∙ r.local)).values found in
+        valued e.0 (found ∙ ap Some (sym e.1)) ((bytes_eq-Decides e.0.0.now name).0 e.2) e.3 e.0.1.vals.items refl
 
 -- a parse of the program's words gives its options
 pub gives_options : (c : Command) (m : ArgMatches) → ReadsOptions c → IsParsedFrom c m → GivesOptions m
 gives_options c m r p =
     record {
-      max_neighbors = gives_number c m p r 128 (codes "max-neighbors") refl r.max_neighbors;
-      credit_max = gives_number c m p r 10 (codes "tx-credit-max") refl r.credit_max;
-      fast_init = gives_number c m p r 8 (codes "tx-fast-init") refl r.fast_init;
-      reinit = gives_number c m p r 10 (codes "reinit-delay") refl r.reinit;
-      connections = gives_number c m p r 65535 (codes "connections") refl r.connections;
+      max_neighbors = gives_number c m p r 128 (codes "max-neighbors") refl refl r.max_neighbors;
+      credit_max = gives_number c m p r 10 (codes "tx-credit-max") refl refl r.credit_max;
+      fast_init = gives_number c m p r 8 (codes "tx-fast-init") refl refl r.fast_init;
+      reinit = gives_number c m p r 10 (codes "reinit-delay") refl refl r.reinit;
+      connections = gives_number c m p r 65535 (codes "connections") refl refl r.connections;
+      listen = may_give_number c m p r 65535 (codes "listen") refl;
       mac = gives_text c m p r (codes "mac") refl r.mac;
       hostname = gives_text c m p r (codes "hostname") refl r.hostname;
       role = gives_text c m p r (codes "role") refl r.role;

@@ -1,8 +1,10 @@
 -- What a parse gives, read as options.
-use Rattle.std.proofs.Common.{◌≡◌, ◌∙◌, ℕ, List, [], Option, Some, None, Result, Ok, Err, refl, sym, ap, subst, inl, inr, Bor, map, option_map, codes, true}
+use Rattle.std.proofs.Common.{◌≡◌, ◌∙◌, ℕ, List, [], Option, Some, None, Result, Ok, Err, refl, sym, ap, subst, inl, inr, Bor, map, option_map, codes, true, arith}
 use Rattle.std.specs.Prelude.{IfOk, IfErr, ◌⊎◌, unwrap_or}
 use Rattle.std.specs.Str.Parse.{ParsesUnsigned}
-use Rattle.clap.specs.Matches.{ReadsOne, found_of}
+use Rattle.clap.specs.Matches.{ReadsOne, found_of, one_text}
+use Rattle.clap.specs.Words.{without_minus}
+use Rattle.clap.proofs.CallerReads.{signed_reads}
 use Rattle.clap.specs.Walk.{Rule, Text, byte_or_zero, rows_of}
 use Rattle.clap.specs.declared.builder.value_parser.ValueParser.{ValueParser}
 use Rattle.clap.specs.declared.builder.value_parser.ValueParser.TheVariants.{Names}
@@ -15,7 +17,9 @@ use Rattle.clap.specs.declared.error.kind.ErrorKind.TheVariants.{OutOfMemory}
 use Rattle.clap.specs.declared.parser.matches.ArgMatches.{ArgMatches}
 use Rattle.clap.proofs.WalkLemmas.{byte_read}
 use Rattle.clap.proofs.OnLiterals.{clap_on_literals}
-use Rattle.lldpa.specs.Usage.{AreRoles, IsParse, MayFail, program, role_rule, text_rule}
+use Rattle.lldpa.specs.declared.arguments.Listening.{Listening}
+use Rattle.lldpa.specs.Arguments.{MayGiveNumber}
+use Rattle.lldpa.specs.Usage.{AreRoles, AsksListening, IsParse, MayFail, WritesNumber, program, role_rule, text_rule}
 
 pub reads_byte : (E : Type 0) (G : List ℕ → Result ℕ E → Type 0) (t : List ℕ) (r : Option ℕ) → ReadsOne G t r
     → ((u : List ℕ) (x : Result ℕ E) → G u x → ParsesUnsigned 8 10 u x) → (v : ℕ) → r ≡ Some v → v ≡ byte_or_zero t
@@ -61,3 +65,40 @@ parse_kinds a roles words (Err e) named is fails = go (fails (ap is_simple_and_f
 pub role_ruled : (q : ValueParser) (roles : Bor (List (Bor (List ℕ)))) (r : Rule) → q ≡ Names roles → AreRoles roles
     → r ≡ record (text_rule (codes "role") (codes "station")) { parser = Some q } → (names : Bor (List (Bor (List ℕ)))) × AreRoles names × (r ≡ role_rule names)
 role_ruled q roles r e named is = (roles, named, is ∙ ap (λ (p : ValueParser). record (text_rule (codes "role") (codes "station")) { parser = Some p }) e)
+
+-- ## Listening
+
+-- the number that was read of a text is the one that it writes
+pub number_written : (E : Type 0) (G : List ℕ → Result ℕ E → Type 0) (t : List ℕ) (r : Option ℕ) → ReadsOne G t r
+    → ((u : List ℕ) (x : Result ℕ E) → G u x → ParsesUnsigned 16 10 u x) → (v : ℕ) → r ≡ Some v → WritesNumber (Some t) v
+number_written E G t (Some w) read only v e =
+    let same : w ≡ v = ap (λ o. unwrap_or o 0) e in
+    subst (λ (n : ℕ). WritesNumber (Some t) n) same (only t (Ok w) read)
+number_written E G t None read only v e = cc
+
+-- a port was read: so there is a text that writes it
+pub listens : (E : Type 0) (G : List ℕ → Result ℕ E → Type 0) (port connections : Option Text) (r : Option ℕ) (n many : ℕ) → (port ≡ None → r ≡ None) → ((t : List ℕ) → port ≡ Some t → ReadsOne G t r)
+    → ((u : List ℕ) (x : Result ℕ E) → G u x → ParsesUnsigned 16 10 u x) → WritesNumber connections many → r ≡ Some n → AsksListening port connections (Some (record { port = n; connections = many }))
+listens E G None connections r n many none read only counted is = let bad = none refl in cc
+listens E G (Some t) connections r n many none read only counted is = (number_written E G t r (read t refl) only n is, counted)
+
+-- no port was read: so there is no text, since every given one has a number
+pub listens_not : (E : Type 0) (G : List ℕ → Result ℕ E → Type 0) (m : ArgMatches) (connections : Option Text) (r : Option ℕ) → MayGiveNumber 65535 (codes "listen") m
+    → ((t : List ℕ) → one_text (found_of m) (codes "listen") ≡ Some t → ReadsOne G t r) → ((u : List ℕ) (x : Result ℕ E) → G u x → ParsesUnsigned 16 10 u x) → r ≡ None
+    → AsksListening (one_text (found_of m) (codes "listen")) connections None
+listens_not E G m connections r (inl none) read only is = rw none refl
+listens_not E G m connections r (inr given) read only is =
+    let got = signed_reads E G 16 1 65535 given.0 r (read (without_minus given.0) given.1) only (omega arith) given.2 in
+    let bad : None ≡ Some got.0 = sym is ∙ got.1 in
+    cc
+
+-- where nothing was asked for, there is no text
+pub not_asked : (port connections : Option Text) (asked : Option Listening) → AsksListening port connections asked → asked ≡ None → port ≡ None
+not_asked None connections asked h is = refl
+not_asked (Some t) connections None h is = absurd h
+not_asked (Some t) connections (Some listening) h is = cc
+
+-- where listening was asked for, there is one
+pub was_asked : (port connections : Option Text) (asked : Option Listening) (listening : Listening) → AsksListening port connections asked → asked ≡ Some listening → (t : Text) × (port ≡ Some t)
+was_asked None connections asked listening h is = let bad : None ≡ Some listening = sym h ∙ is in cc
+was_asked (Some t) connections asked listening h is = (t, refl)

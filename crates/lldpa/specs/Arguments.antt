@@ -1,5 +1,5 @@
 -- What the program's options take, and what a parse of its words gives.
-use Rattle.std.specs.Prelude.{◌≡◌, ◌≤◌, ◌||◌, ℕ, Bool, true, false, if◌then◌else◌, List, Option, Some, None, is_some, codes, pos}
+use Rattle.std.specs.Prelude.{◌≡◌, ◌≤◌, ◌⊎◌, ◌||◌, ℕ, Bool, true, false, if◌then◌else◌, List, Option, Some, None, is_some, codes, pos}
 use Rattle.std.specs.List.{All, Any}
 use Rattle.std.specs.Str.{bytes_eq}
 use Rattle.clap.specs.Facts.{WantsDefault, least_values}
@@ -19,13 +19,15 @@ greatest_of name =
     else if bytes_eq name (codes "tx-fast-init") then Some 8
     else if bytes_eq name (codes "reinit-delay") then Some 10
     else if bytes_eq name (codes "connections") then Some 65535
+    else if bytes_eq name (codes "listen") then Some 65535
     else None
 
--- the options that have a default
+-- the options that have a default: those that take a number, but for `--listen`, and three more
 abbrev pub has_default : List ℕ → Bool
 has_default name =
-    is_some (greatest_of name)
-    || bytes_eq name (codes "mac") || bytes_eq name (codes "hostname") || bytes_eq name (codes "role")
+    if bytes_eq name (codes "listen") then false
+    else (is_some (greatest_of name)
+    || bytes_eq name (codes "mac") || bytes_eq name (codes "hostname") || bytes_eq name (codes "role"))
 
 -- the argument takes one value at a use, and has a default
 pub record HasValue (a : Arg) : Type 0 where
@@ -73,6 +75,10 @@ abbrev pub GivesNumber : ℕ → List ℕ → ArgMatches → Type 0
 GivesNumber greatest name m =
     (text : List ℕ) × (one_text (found_of m) name ≡ Some (without_minus text)) × IsSignedIn (pos 1) (pos greatest) text
 
+-- they gave it no text, or a number from 1 to the greatest
+abbrev pub MayGiveNumber : ℕ → List ℕ → ArgMatches → Type 0
+MayGiveNumber greatest name m = (one_text (found_of m) name ≡ None) ⊎ GivesNumber greatest name m
+
 -- what a parse of the program's words gives, where it succeeds
 pub record GivesOptions (m : ArgMatches) : Type 0 where
   pub max_neighbors : GivesNumber 128 (codes "max-neighbors") m
@@ -80,6 +86,7 @@ pub record GivesOptions (m : ArgMatches) : Type 0 where
   pub fast_init : GivesNumber 8 (codes "tx-fast-init") m
   pub reinit : GivesNumber 10 (codes "reinit-delay") m
   pub connections : GivesNumber 65535 (codes "connections") m
+  pub listen : MayGiveNumber 65535 (codes "listen") m
   pub mac : GivesText (codes "mac") m
   pub hostname : GivesText (codes "hostname") m
   pub role : GivesText (codes "role") m

@@ -1,5 +1,5 @@
 -- What a run of the program over its streams leaves.
-use Rattle.std.specs.Prelude.{◌≡◌, ◌⊎◌, ℕ, true, List, Option, None, Result, is_ok, is_some, codes}
+use Rattle.std.specs.Prelude.{◌≡◌, ◌⊎◌, ℕ, true, List, Option, Some, None, Result, is_ok, codes}
 use Rattle.std.specs.Io.KnownBytes.{Consumes, Keeps}
 use Rattle.clap.specs.Walk.{Row, Text, one_of}
 use Rattle.lldp_engine.specs.AgentState.{AgentState}
@@ -29,14 +29,16 @@ pub record RanBy (options : Options) (to_come left old new : Option (List ℕ)) 
   pub ran : Ran options to_come left old new result
   pub done : status ≡ 0 → is_ok result ≡ true
 
--- the words ask to listen
-abbrev pub Listens : List Row → Type 0
-Listens rows = is_some (one_of (codes "listen") rows) ≡ true
+-- What became of reader and writer, by the text of `--listen`: where there is none, the trace of the reader was run; where there is one,
+-- nothing was read and nothing written.
+abbrev pub RanBut : Option Text → Options → Option (List ℕ) → Option (List ℕ) → Option (List ℕ) → Option (List ℕ) → ℕ → Type 0
+RanBut None options to_come left old new status = RanBy options to_come left old new status
+RanBut (Some port) options to_come left old new status = Keeps to_come left × Keeps old new
 
--- What became of reader and writer: the trace of the reader was run, or the words ask to listen, and nothing was read and nothing written.
+-- the same by the words
 abbrev pub RanAs : List Row → Options → Option (List ℕ) → Option (List ℕ) → Option (List ℕ) → Option (List ℕ) → ℕ → Type 0
 RanAs rows options to_come left old new status =
-    RanBy options to_come left old new status ⊎ (Listens rows × Keeps to_come left × Keeps old new)
+    RanBut (one_of (codes "listen") rows) options to_come left old new status
 
 -- The words have no fault by `clap`'s own specification; their options, of which each is the value of its words, have no fault
 -- either; and the program did as they ask.

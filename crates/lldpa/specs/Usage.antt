@@ -1,8 +1,9 @@
 -- The command line of the program as `clap` reads it, and what its words ask for.
-use Rattle.std.specs.Prelude.{◌≡◌, ◌⊎◌, ℕ, true, false, if◌then◌else◌, List, [], ◌∷◌, Option, Some, None, map, option_map, unwrap_or, codes, pos}
+use Rattle.std.specs.Prelude.{◌≡◌, ◌⊎◌, ℕ, true, false, if◌then◌else◌, List, [], ◌∷◌, Option, Some, None, Ok, map, option_map, unwrap_or, codes, pos}
 use Rattle.std.specs.Str.{bytes_eq}
 use Rattle.std.specs.Borrow.{Bor}
 use Rattle.std.specs.Net.Grammar.{IsDotted}
+use Rattle.std.specs.Str.Parse.{ParsesUnsigned}
 use Rattle.clap.specs.Lexer.{usize_max}
 use Rattle.clap.specs.Walk.{Row, Rule, Text, all_of, byte_or_zero, first_of, one_of}
 use Rattle.clap.specs.Simple.{App, matches_of, new_app, new_rule, on_top, with_rule}
@@ -16,6 +17,7 @@ use Rattle.lldp_engine.specs.declared.options.Role.{Role}
 use Rattle.lldp_engine.specs.declared.options.Role.TheVariants.{Station, Bridge, Router}
 use Rattle.lldp_engine.specs.Options.{Options}
 use Rattle.lldpa.specs.Addresses.{IsMac}
+use Rattle.lldpa.specs.declared.arguments.Listening.{Listening}
 use Rattle.lldpa.specs.declared.arguments.AddressFault.{AddressFault}
 use Rattle.lldpa.specs.declared.arguments.AddressFault.TheVariants.{Mac, Management}
 
@@ -125,6 +127,18 @@ pub record Asks (rows : List Row) (o : Options) : Type 0 where
   pub reinit : option_map byte_or_zero (one_of (codes "reinit-delay") rows) ≡ Some o.reinit
   pub receives : one_of (codes "receive-only") rows ≡ Some (codes "true") → o.receive_only ≡ true
   pub sends : one_of (codes "receive-only") rows ≡ Some (codes "false") → o.receive_only ≡ false
+
+-- the text writes this number
+abbrev pub WritesNumber : Option Text → ℕ → Type 0
+WritesNumber None n = ⊥
+WritesNumber (Some text) n = ParsesUnsigned {E = Unit {0}} 16 10 text (Ok n)
+
+-- By the texts of `--listen` and `--connections`: nothing where there is none to listen, else the port and how many connections.
+abbrev pub AsksListening : Option Text → Option Text → Option Listening → Type 0
+AsksListening None connections listening = listening ≡ None
+AsksListening (Some port) connections None = ⊥
+AsksListening (Some port) connections (Some listening) =
+    WritesNumber (Some port) listening.port × WritesNumber connections listening.connections
 
 -- a parse takes the words, and gives these rows
 pub record IsParse (words : List Text) (rows : List Row) : Type 0 where

@@ -1,10 +1,10 @@
 //! What the words of the program ask for.
-ghost use Rattle.std.specs.Prelude.{◌≡◌, ◌≤◌, ◌⊎◌, ℕ, List, IfOk, IfErr, Some, None, false, true, is_some, codes, map, option_map};
+ghost use Rattle.std.specs.Prelude.{◌≡◌, ◌≤◌, ◌⊎◌, ℕ, List, IfOk, IfErr, Some, None, false, codes, map, option_map};
 ghost use Rattle.std.specs.Borrow.{Bor};
 ghost use Rattle.clap.specs.Words.{IsPlainArg, app_of, first_value, found_of, kind_of, one_text, rows_of, rule_of};
 ghost use Rattle.clap.specs.Walk.{byte_or_zero};
 ghost use Rattle.clap.specs.declared.error.kind.ErrorKind.TheVariants as ErrorKind;
-ghost use Rattle.lldpa.specs.Usage.{AreRoles, Asks, AsksManagement, HasBadAddress, IsParse, WritesNoIpv4, MayFail, listen_rule, management_rule, number_rule, ports_rule, program, receive_only_rule, role_named, role_rule, text_rule, valued_rule};
+ghost use Rattle.lldpa.specs.Usage.{AreRoles, Asks, AsksListening, AsksManagement, HasBadAddress, IsParse, WritesNoIpv4, WritesNumber, MayFail, listen_rule, management_rule, number_rule, ports_rule, program, receive_only_rule, role_named, role_rule, text_rule, valued_rule};
 ghost use Rattle.lldp_engine.specs.Options.{InRange, options_of as plain_options};
 ghost use Rattle.lldpa.specs.Arguments.{GivesNumber, GivesOptions, GivesText, HasValue, IsArgument, ReadsOptions, greatest_of};
 
@@ -224,7 +224,8 @@ pub fn options_of<'m>(matches: &'m ArgMatches<'_>) -> Result<Options<'m>, Addres
 /// Where the words ask to listen, and for how many connections. None where they do not.
 pub fn listening_of(matches: &ArgMatches<'_>) -> Option<Listening>
     requires given { GivesOptions matches.now }
-    ensures asked { is_some result ≡ true → is_some (one_text (found_of matches.now) (codes "listen")) ≡ true }
+    ensures { AsksListening (one_text (found_of matches.now) (codes "listen"))
+        (one_text (found_of matches.now) (codes "connections")) result }
 {
     match matches.get_one::<u16>(LISTEN) {
         None => None,
@@ -238,6 +239,7 @@ pub fn listening_of(matches: &ArgMatches<'_>) -> Option<Listening>
 /// The number of connections.
 fn connections_of(matches: &ArgMatches<'_>) -> u16
     requires given { GivesNumber 65535 (codes "connections") matches.now }
+    ensures { WritesNumber (one_text (found_of matches.now) (codes "connections")) result }
 {
     matches.get_one::<u16>(CONNECTIONS).unwrap()
 }

@@ -1,4 +1,4 @@
-use Rattle.std.proofs.Common.{refl, replicate, ◌∷◌, []}
+use Rattle.std.proofs.Common.{refl, ◌∷◌, []}
 use Rattle.std.proofs.lemmas.Result.{err_from_is_err_and}
 use Rattle.lldp_engine.specs.Event.{tick}
 use Rattle.lldpa.specs.Items.{happens}

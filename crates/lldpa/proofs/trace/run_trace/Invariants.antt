@@ -1,4 +1,4 @@
-use Rattle.std.proofs.Common.{◌≡◌, ◌≤◌, ◌<◌, ◌+◌, ◌^◌, [], take}
+use Rattle.std.proofs.Common.{◌≡◌, ◌≤◌, ◌<◌, ◌+◌, ◌^◌, take}
 use Rattle.lldpa.proofs.Progress.{Progress}
 use Rattle.lldpa.proofs.trace.run_trace.Given as goal
 

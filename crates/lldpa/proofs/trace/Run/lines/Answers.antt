@@ -4,7 +4,7 @@ use Rattle.std.proofs.lemmas.Result.{err_from_is_err_and}
 use Rattle.lldpa.specs.Lines.{ended_lines, unfinished}
 use Rattle.lldpa.specs.Items.{items_of, items_of_lines}
 use Rattle.lldpa.proofs.LineLemmas.{one_more_line, no_lf_left, all_lines, the_rest, lines_then}
-use Rattle.lldpa.proofs.RunLemmas.{nothing_runs, runs_same, runs_then, runs_cut_off, line_more, lines_left}
+use Rattle.lldpa.proofs.RunLemmas.{nothing_runs, runs_then, runs_cut_off, line_more, lines_left}
 use Rattle.lldpa.proofs.trace.Run.lines.Goals as goal
 
 pub returns-in_err-line-clause-run : goal.returns-in_err-line-clause-run
