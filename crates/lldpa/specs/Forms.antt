@@ -1,11 +1,12 @@
 -- What one line of a trace says, checked from left to right.
-use Rattle.std.specs.Prelude.{ℕ, List, [], ◌∷◌, length, codes, Result, Ok, Err, nat_lt, ◌==◌, ◌||◌, Bool, true, false, Option, Some, None, if◌then◌else◌}
+use Rattle.std.specs.Prelude.{ℕ, List, [], ◌∷◌, length, codes, Result, Ok, Err, nat_lt, ◌==◌, Bool, true, false, if◌then◌else◌}
 use Rattle.std.specs.Str.{bytes_eq}
 use Rattle.hex.specs.Hex.{decode_of}
 use Rattle.lldp_engine.specs.declared.fault.CommandFault.{CommandFault}
 use Rattle.lldp_engine.specs.declared.fault.CommandFault.TheVariants.{Unknown, NoSuchPort, Extra, Quote}
 use Rattle.lldp_engine.specs.Fault.{text_of as command_fault_text}
-use Rattle.lldp_engine.specs.Words.{words_of}
+use Rattle.lldp_engine.specs.Words.{words_of, is_separator}
+use Rattle.lldp_engine.specs.Forms.{or_fault}
 use Rattle.lldp_engine.specs.Number.{number_of}
 use Rattle.lldp_engine.specs.AgentState.{AgentState, names_of}
 use Rattle.lldp_engine.specs.Request.{Request}
@@ -33,11 +34,6 @@ abbrev pub of_command : {A : Type 0} → Result A CommandFault → Result A Line
 of_command (Ok x) = Ok x
 of_command (Err fault) = Err (Command fault)
 
--- what is there, or this fault
-abbrev pub or_fault : {A : Type 0} → CommandFault → Option A → Result A LineFault
-or_fault fault (Some x) = Ok x
-or_fault fault None = Err (Command fault)
-
 -- the octets that hexadecimal digits spell, or Hex
 abbrev pub or_hex : {E : Type 0} → Result (List ℕ) E → Result (List ℕ) LineFault
 or_hex (Ok octets) = Ok octets
@@ -59,10 +55,10 @@ tick_form (word ∷ words) = do
 unfoldable pub frame_form : AgentState → List (List ℕ) → Result Reading LineFault
 frame_form agent [] = Err (Command Unknown)
 frame_form agent (name ∷ []) = do
-  port ← or_fault NoSuchPort (place_of (names_of agent) name)
+  port ← of_command (or_fault (place_of (names_of agent) name) NoSuchPort)
   Err (Command Unknown)
 frame_form agent (name ∷ digits ∷ words) = do
-  port ← or_fault NoSuchPort (place_of (names_of agent) name)
+  port ← of_command (or_fault (place_of (names_of agent) name) NoSuchPort)
   octets ← or_hex (decode_of digits)
   complete words (arrival port octets)
 
@@ -70,7 +66,7 @@ frame_form agent (name ∷ digits ∷ words) = do
 unfoldable pub link_form : AgentState → Bool → List (List ℕ) → Result Reading LineFault
 link_form agent up [] = Err (Command Unknown)
 link_form agent up (name ∷ words) = do
-  port ← or_fault NoSuchPort (place_of (names_of agent) name)
+  port ← of_command (or_fault (place_of (names_of agent) name) NoSuchPort)
   complete words (link port up)
 
 -- a command, or its fault
@@ -87,14 +83,10 @@ form_of agent line (word ∷ words) =
     else if bytes_eq word (codes "down") then link_form agent false words
     else command_form agent line
 
--- a space or a tab
-abbrev pub is_blank : ℕ → Bool
-is_blank octet = octet == 32 || octet == 9
-
 -- nothing but spaces and tabs, or `#` as the first other octet
 abbrev pub is_skipped : List ℕ → Bool
 is_skipped [] = true
-is_skipped (octet ∷ octets) = if is_blank octet then is_skipped octets else octet == 35
+is_skipped (octet ∷ octets) = if is_separator octet then is_skipped octets else octet == 35
 
 -- What a line says to an agent, or its fault. The checks in order: its length, at most 4,096 octets; nothing to
 -- do; its words, and bad quotes; its form.
@@ -102,7 +94,7 @@ unfoldable pub reading_of : AgentState → List ℕ → Result Reading LineFault
 reading_of agent line =
     if nat_lt 4096 (length line) then Err TooLong
     else if is_skipped line then Ok skipped
-    else or_fault Quote (words_of line) >>= form_of agent line
+    else of_command (or_fault (words_of line) Quote) >>= form_of agent line
 
 -- the line that a refused line gives, without LF
 abbrev pub fault_text : LineFault → List ℕ
