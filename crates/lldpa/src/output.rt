@@ -13,7 +13,7 @@ ghost use Rattle.lldpa.specs.Told.{told, Between};
 
 use crate::device::{DeviceFault, Sink};
 use crate::waiting::Waiting;
-use lldp_engine::{Agent, LineSink, Marks, Show};
+use lldp_engine::{Agent, Frame, LineSink, Marks, Show};
 
 /// Writes all of the octets.
 fn send<W: Sink>(sink: &mut W, octets: &[u8]) -> Result<(), DeviceFault>
@@ -113,8 +113,10 @@ impl<W: Sink> Output<'_, W> {
         ensures { Between W.taken W.failures W.place self.old self.new
             (Puts (flat_map (mark_line (names_of agent.now) agent.now.configuration) marks.now.items)) }
     {
+        let mut frame = Frame::new();
         for (port, mark) in marks.as_slice() {
-            self.sent(agent.port_name(*port), agent.frame(*port, *mark).as_slice());
+            agent.write_frame(*port, *mark, &mut frame);
+            self.sent(agent.port_name(*port), frame.as_slice());
         }
     }
 

@@ -10,4 +10,4 @@ loop-port-init g c = puts_nothing _
 pub loop-port-preserved : goal.loop-port-preserved
 loop-port-preserved g c =
     mark_next (names_of c.args.agent.now) c.args.agent.now.configuration c.as_slice-port-items.result.now c.loop-port.port-index _ c.port_name.result.now c.as_slice.result.now _ _ _ c.loop-port-test.true
-    c.port_name.ensures.name (c.as_slice.ensures.value ∙ c.frame.ensures.octets) c.loop-port.invariant c.sent.ensures
+    c.port_name.ensures.name (c.as_slice.ensures.value ∙ c.write_frame.ensures.octets) c.loop-port.invariant c.sent.ensures
