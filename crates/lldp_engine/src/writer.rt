@@ -9,20 +9,22 @@ use std::marker::Model;
 /// A line, at most 2,048 octets, without its line feed.
 pub type Line = ArrayVec<u8, 2048>;
 
-/// A line that is being written. Each method asks for the room that it may need, so no line is cut.
+/// A line that is being written. Each method asks for the room that it may need, so no line is cut. Beginning anew leaves
+/// the octets where they are, which an `ArrayVec` would blank.
 #[derive(Drop)]
 pub(crate) struct Writer {
-    line: Line,
+    room: [u8; 2048],
+    len: usize,
 }
 
 impl Model for Writer {
-    ghost use Rattle.std.specs.Prelude.{ℕ, List, ◌≤◌, length};
+    ghost use Rattle.std.specs.Prelude.{ℕ, List, ◌≤◌, take};
 
     ghost Value = { List ℕ };
 
-    ghost view = { λ w. w.line.items };
+    ghost view = { λ w. take w.len w.room };
 
-    ghost invariant = { λ w. length w.line.items ≤ 2048 };
+    ghost invariant = { λ w. w.len ≤ 2048 };
 }
 
 impl Writer {
@@ -30,7 +32,8 @@ impl Writer {
         ensures { result ≡ [] }
     {
         Writer {
-            line: ArrayVec::new(),
+            room: [0; 2048],
+            len: 0,
         }
     }
 
@@ -39,7 +42,7 @@ impl Writer {
         requires { length key.now ≤ 2048 }
         ensures { self.new ≡ key.now }
     {
-        self.line.clear();
+        self.len = 0;
         self.text(key);
     }
 
@@ -48,7 +51,7 @@ impl Writer {
         ensures value { self.new ≡ self.old ++ octet ∷ [] }
         ensures len { length self.new ≡ length self.old + 1 }
     {
-        self.line.push(octet);
+        self.text(&[octet]);
     }
 
     /// Octets that stand as they are.
@@ -57,7 +60,9 @@ impl Writer {
         ensures value { self.new ≡ self.old ++ octets.now }
         ensures len { length self.new ≡ length self.old + length octets.now }
     {
-        let _ = self.line.try_extend_from_slice(octets);
+        let end = self.len + octets.len();
+        self.room[self.len..end].copy_from_slice(octets);
+        self.len = end;
     }
 
     /// What stands between the items of a list: nothing before the first.
@@ -73,15 +78,13 @@ impl Writer {
 
     /// Octets in hexadecimal.
     pub fn hex(&mut self, octets: &[u8])
-        requires room { length self.old + 2 * length octets.now ≤ 2048 }
-        requires short { length octets.now ≤ 511 }
+        requires { length self.old + 2 * length octets.now ≤ 2048 }
         ensures value { self.new ≡ self.old ++ encode_lower octets.now }
         ensures len { length self.new ≡ length self.old + 2 * length octets.now }
     {
-        let mut digits = [0u8; 1022];
-        let room = &mut digits[..2 * octets.len()];
-        let _ = hex::encode_to_slice(octets, room);
-        self.text(room);
+        let end = self.len + 2 * octets.len();
+        let _ = hex::encode_to_slice(octets, &mut self.room[self.len..end]);
+        self.len = end;
     }
 
     /// One octet in hexadecimal.
@@ -90,9 +93,7 @@ impl Writer {
         ensures value { self.new ≡ self.old ++ encode_lower (octet ∷ []) }
         ensures len { length self.new ≡ length self.old + 2 }
     {
-        let mut digits = [0u8; 2];
-        let _ = hex::encode_to_slice(&[octet], &mut digits);
-        self.text(&digits);
+        self.hex(&[octet]);
     }
 
     fn escape(&mut self, octet: u8)
@@ -152,6 +153,6 @@ impl Writer {
         ensures value { result.now ≡ self.now }
         ensures short { length result.now ≤ 2048 }
     {
-        self.line.as_slice()
+        &self.room[..self.len]
     }
 }
