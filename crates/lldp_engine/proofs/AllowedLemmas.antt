@@ -99,5 +99,5 @@ calls_told : (o : Options) (past : List Happened) → AreTaken o past → AreTol
 calls_told o [] h = tt
 calls_told o (now ∷ past) h = all_told o.max_neighbors (call_at now.event (status_after o past) (up_after past)) (calls_after o past) h.0 (calls_told o past h.1)
 
-pub table_stands : (o : Options) (past : List Happened) → InRange o → AreTaken o past → TableStands (port_table o past) o.max_neighbors (calls_after o past)
+pub table_stands : (o : Options) (past : List Happened) → InRange o → AreTaken o past → TableStands o.max_neighbors (calls_after o past) (port_table o past)
 table_stands o past r h = stands_left o.max_neighbors (calls_after o past) (omega (arith, r.neighbors)) (omega (arith, r.neighbors)) (calls_told o past h)

@@ -6,6 +6,7 @@ use Rattle.lldp_table.specs.Events.{Neighbor}
 use Rattle.lldp_table.specs.Contents.{Contents, IsHeld}
 use Rattle.lldp_table.specs.Standing.{Stands as TableStands}
 use Rattle.lldp_table.specs.Positions.{IsNewBefore}
+use Rattle.lldp_table.proofs.StandingLemmas.{stands_limit, stands_neighbors}
 use Rattle.lldp_table.proofs.LiveLemmas.{last_stored_from_held, held_from_last_stored}
 use Rattle.lldp_table.proofs.ListLemmas.{sound_from_stands}
 use Rattle.lldp_table.proofs.OrderLemmas.{neighbors_in_order}
@@ -42,9 +43,9 @@ module _ (o : Options) (past : List Happened) (p : PortState) (h : p ≡ port_af
   table_is = ap (λ (q : PortState). q.table) h
 
 pub table_reads : (past : Past) (agent : AgentState) (i : ℕ) (p : PortState) → i < length past.options.names → Stands past agent → p ≡ port_after past.options (past_of past i) p.name
-    → TableStands p.table past.options.max_neighbors (calls_after past.options (past_of past i))
+    → TableStands past.options.max_neighbors (calls_after past.options (past_of past i)) p.table
 table_reads past agent i p lt h is =
-    subst (λ (t : Contents). TableStands t past.options.max_neighbors (calls_after past.options (past_of past i))) (sym (table_is past.options (past_of past i) p is))
+    subst (λ (t : Contents). TableStands past.options.max_neighbors (calls_after past.options (past_of past i)) t) (sym (table_is past.options (past_of past i) p is))
     (table_stands past.options (past_of past i) h.in_range (allowed_taken past.options i past.events lt h.allowed))
 
 -- ## The promise of a port
@@ -53,18 +54,18 @@ short_ones : (xs : List Neighbor) → AllByRecursion IsHeld xs → AllByRecursio
 short_ones [] h = tt
 short_ones (x ∷ xs) h = (h.0.told.short, short_ones xs h.1)
 
-holds_last_stored : (o : Options) (past : List Happened) (table : Contents) → TableStands table o.max_neighbors (calls_after o past) → HoldsLastStored o past table
+holds_last_stored : (o : Options) (past : List Happened) (table : Contents) → TableStands o.max_neighbors (calls_after o past) table → HoldsLastStored o past table
 holds_last_stored o past table h =
     let calls = calls_after o past in
     let sound = sound_from_stands table o.max_neighbors calls h in
     record {
       exactly = λ x. (
-        λ held. last_stored_from_held o.max_neighbors calls x (subst (λ (xs : List Neighbor). Contains xs x) h.holds held),
-        λ last. subst (λ (xs : List Neighbor). Contains xs x) (sym h.holds) (held_from_last_stored o.max_neighbors calls x last),
+        λ held. last_stored_from_held o.max_neighbors calls x (subst (λ (xs : List Neighbor). Contains xs x) (stands_neighbors table o.max_neighbors calls h) held),
+        λ last. subst (λ (xs : List Neighbor). Contains xs x) (sym (stands_neighbors table o.max_neighbors calls h)) (held_from_last_stored o.max_neighbors calls x last),
       );
       once = sound.distinct;
-      in_order = subst (λ (xs : List Neighbor). AllPairs (IsNewBefore (told_after o past)) xs) (sym h.holds) (neighbors_in_order (told_after o past));
-      limit = h.limit_is;
+      in_order = subst (λ (xs : List Neighbor). AllPairs (IsNewBefore (told_after o past)) xs) (sym (stands_neighbors table o.max_neighbors calls h)) (neighbors_in_order (told_after o past));
+      limit = stands_limit table o.max_neighbors calls h;
       few = sound.few;
       short = short_ones table.neighbors sound.held;
     }

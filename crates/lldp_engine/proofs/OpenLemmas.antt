@@ -6,11 +6,11 @@ use Rattle.std.proofs.lemmas.Bool.Decides.{nat_tests}
 use Rattle.lldp_table.specs.Contents.{newly_opened}
 use Rattle.lldp_table.specs.Events.{events_of}
 use Rattle.lldp_table.specs.Standing.{table_of}
-use Rattle.lldp_table.proofs.StandingLemmas.{stands_open, stands_is}
+use Rattle.lldp_table.proofs.StandingLemmas.{stands_open}
 use Rattle.lldp_engine.specs.Options.{Options, InRange, is_port_name}
 use Rattle.lldp_transmit.specs.Machine.{opened as opened_machine}
 use Rattle.lldp_transmit.specs.Standing.{machine_of}
-use Rattle.lldp_transmit.proofs.Standing.{stands_at_first, stands_is as machine_is}
+use Rattle.lldp_transmit.proofs.Standing.{stands_at_first}
 use Rattle.lldp_engine.specs.Configuration.{configuration_at_opening}
 use Rattle.lldp_engine.specs.Counters.{counters_of}
 use Rattle.lldp_engine.specs.AgentState.{AgentState, PortState}
@@ -29,8 +29,8 @@ no_events limit = refl
 port_opened : (o : Options) (name : List ℕ) → InRange o → opened_port o name ≡ port_after o [] name
 unfolding port_after
 port_opened o name r =
-    let table : newly_opened o.max_neighbors ≡ table_of o.max_neighbors [] = stands_is _ o.max_neighbors [] (stands_open o.max_neighbors (omega (arith, r.neighbors)) (omega (arith, r.neighbors))) in
-    let machine : opened_machine (settings_of o) ≡ machine_of (settings_of o) [] = machine_is (settings_of o) [] _ (stands_at_first (settings_of o) (settings_in_range o r)) in
+    let table : newly_opened o.max_neighbors ≡ table_of o.max_neighbors [] = (stands_open o.max_neighbors (omega (arith, r.neighbors)) (omega (arith, r.neighbors))).is in
+    let machine : opened_machine (settings_of o) ≡ machine_of (settings_of o) [] = (stands_at_first (settings_of o) (settings_in_range o r)).is in
     let counters : none_counted ≡ counters_of [] (events_of o.max_neighbors []) [] = sym counted_none ∙ ap (λ es. counters_of [] es []) (sym (no_events o.max_neighbors)) in
     rw (table, machine, counters) refl
 

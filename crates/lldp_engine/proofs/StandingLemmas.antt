@@ -7,7 +7,7 @@ use Rattle.lldp_table.specs.Events.{Call, learn, forget, purge, tick as tick_cal
 use Rattle.lldp_table.specs.Contents.{Contents, table_after, after_tick, learn_answer}
 use Rattle.lldp_table.specs.Standing.{table_of, IsTold, Stands as TableStands}
 use Rattle.lldp_table.specs.declared.learned.Learned.{Learned}
-use Rattle.lldp_table.proofs.StandingLemmas.{stands_is, carries as table_carries, events-more, learn_answers}
+use Rattle.lldp_table.proofs.StandingLemmas.{carries as table_carries, events-more, learn_answers}
 use Rattle.lldp_table.proofs.LiveLemmas.{aged_out-count}
 use Rattle.lldp_transmit.specs.declared.event.Cause.{Cause}
 use Rattle.lldp_transmit.specs.declared.event.Mark.{Mark}
@@ -15,7 +15,7 @@ use Rattle.lldp_transmit.specs.History.{Settings, History}
 use Rattle.lldp_transmit.specs.Machine.{Machine, stepped}
 use Rattle.lldp_transmit.specs.Moments.{moments, is_up}
 use Rattle.lldp_transmit.specs.Standing.{AreSettings, machine_of}
-use Rattle.lldp_transmit.proofs.Standing.{carries as machine_carries, marks as machine_marks, stands_is as machine_is, stands_left as machine_stands}
+use Rattle.lldp_transmit.proofs.Standing.{carries as machine_carries, marks as machine_marks, stands_left as machine_left}
 use Rattle.lldp_engine.specs.declared.status.Status.{Status}
 use Rattle.lldp_engine.specs.declared.counters.Counters.{Counters}
 use Rattle.lldp_engine.specs.Options.{Options, InRange}
@@ -39,10 +39,10 @@ use Rattle.lldp_engine.proofs.RightLemmas.{links_are}
 -- ## The table of a port
 
 -- a call on the table that calls leave
-table_called : (opened : ℕ) (calls : List Call) (call : Call) → TableStands (table_of opened calls) opened calls → IsTold (table_of opened calls) call → table_after (table_of opened calls) call ≡ table_of opened (call ∷ calls)
-table_called opened calls call h t = stands_is _ opened (call ∷ calls) (table_carries (table_of opened calls) opened calls call h t)
+table_called : (opened : ℕ) (calls : List Call) (call : Call) → TableStands opened calls (table_of opened calls) → IsTold (table_of opened calls) call → table_after (table_of opened calls) call ≡ table_of opened (call ∷ calls)
+table_called opened calls call h t = (table_carries (table_of opened calls) opened calls call h t).is
 
-table_told : (opened : ℕ) (calls : List Call) (call : Option Call) → TableStands (table_of opened calls) opened calls → IfSome call (IsTold (table_of opened calls)) → told (table_of opened calls) call ≡ table_of opened (cons_option call calls)
+table_told : (opened : ℕ) (calls : List Call) (call : Option Call) → TableStands opened calls (table_of opened calls) → IfSome call (IsTold (table_of opened calls)) → told (table_of opened calls) call ≡ table_of opened (cons_option call calls)
 table_told opened calls None h t = refl
 table_told opened calls (Some call) h t = table_called opened calls call h t
 
@@ -54,7 +54,7 @@ aged opened calls new h =
     let after : length new.neighbors ≡ length (neighbors (ticked ∷ events_of opened calls)) = ap (λ (t : Contents). length t.neighbors) h ∙ ap (λ es. length (neighbors es)) (events-more opened tick_call calls) in
     omega (arith, aged_out-count (events_of opened calls), after)
 
-module _ (opened : ℕ) (calls : List Call) (heard : List Heard) (marks : List Mark) (s : TableStands (table_of opened calls) opened calls) where
+module _ (opened : ℕ) (calls : List Call) (heard : List Heard) (marks : List Mark) (s : TableStands opened calls (table_of opened calls)) where
   -- what is counted of something heard
   one_counted : (h : Option Heard) → with_heard (learn_answer (table_of opened calls)) (counters_of heard (events_of opened calls) marks) h
       ≡ counters_of (cons_option h heard) (events_of opened (cons_option (option_and_then call_of h) calls)) marks
@@ -139,7 +139,7 @@ module _ (o : Options) (past : List Happened) (now : Happened) (r : InRange o) (
   abbrev machine : Machine
   machine = machine_of (settings_of o) (causes_after o past)
 
-  stands : TableStands table o.max_neighbors (calls_after o past)
+  stands : TableStands o.max_neighbors (calls_after o past) table
   stands = table_stands o past r taken.1
 
   cause_is : cause_at now.event given machine.up (learn_answer table) ≡ cause_at now.event given up answers
@@ -151,13 +151,12 @@ module _ (o : Options) (past : List Happened) (now : Happened) (r : InRange o) (
   machine_is_next =
       let e = caused_at o now past in
       ap (λ (c : Cause). (stepped machine c now.interval).0) cause_is
-      ∙ machine_is (settings_of o) (e ∷ causes_after o past) _
-      (machine_carries (settings_of o) (causes_after o past) machine e (machine_stands (settings_of o) (causes_after o past) (settings_in_range o r)))
+      ∙ (machine_carries (settings_of o) (causes_after o past) machine e (machine_left (settings_of o) (causes_after o past) (settings_in_range o r))).is
 
   mark_is : (stepped machine (cause_at now.event given machine.up (learn_answer table)) now.interval).1 ≡ mark_after o (now ∷ past)
   mark_is =
       ap (λ (c : Cause). (stepped machine c now.interval).1) cause_is
-      ∙ machine_marks (settings_of o) (causes_after o past) machine (caused_at o now past) (machine_stands (settings_of o) (causes_after o past) (settings_in_range o r))
+      ∙ machine_marks (settings_of o) (causes_after o past) machine (caused_at o now past) (machine_left (settings_of o) (causes_after o past) (settings_in_range o r))
 
   table_is_next : told table (call_at now.event given machine.up) ≡ port_table o (now ∷ past)
   table_is_next = ap (λ (u : Bool). told table (call_at now.event given u)) (up_is o past) ∙ table_told o.max_neighbors (calls_after o past) (call_at now.event given up) stands taken.0

@@ -135,7 +135,7 @@ impl<A: Allocator> Agent<A> {
     pub fn table(&self, port: u8) -> &Table<A>
         requires { IsPort self.now port }
         ensures value { option_map (λ p. p.table) (slice_get self.now.ports port) ≡ Some result.now }
-        ensures past { (past : Past) → Stands past self.now → TableStands result.now past.options.max_neighbors (calls_after past.options (past_of past port)) }
+        ensures past { (past : Past) → Stands past self.now → TableStands past.options.max_neighbors (calls_after past.options (past_of past port)) result.now }
     {
         self.ports[port as usize].table()
     }

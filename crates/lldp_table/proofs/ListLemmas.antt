@@ -9,29 +9,25 @@ use Rattle.lldp_table.specs.Contents.{Contents, IsSound}
 use Rattle.lldp_table.specs.Standing.{Stands, AreTold, table_of}
 use Rattle.lldp_table.specs.Positions.{IsLive, HasRoom}
 use Rattle.lldp_table.proofs.EventLemmas.{live-named}
-use Rattle.lldp_table.proofs.StandingLemmas.{stands_open, stands_is, carries}
+use Rattle.lldp_table.proofs.StandingLemmas.{stands_open, carries}
 use Rattle.lldp_table.proofs.SoundLemmas.{sound_open, sound_after}
 use Rattle.lldp_table.proofs.LiveLemmas.{last_from_live, live_from_last}
 
 -- ## Standing and soundness
 
-stands_itself : (table : Contents) (opened : ℕ) (calls : List Call) → Stands table opened calls → Stands (table_of opened calls) opened calls
-stands_itself table opened calls h = subst (λ (x : Contents). Stands x opened calls) (stands_is table opened calls h) h
-
 -- the table that calls leave stands for them
-pub stands_left : (opened : ℕ) (calls : List Call) → 0 < opened → opened ≤ 128 → AreTold opened calls → Stands (table_of opened calls) opened calls
-stands_left opened [] l m t = stands_itself _ opened [] (stands_open opened l m)
-stands_left opened (call ∷ calls) l m t = stands_itself _ opened (call ∷ calls) (carries (table_of opened calls) opened calls call (stands_left opened calls l m t.1) t.0)
+pub stands_left : (opened : ℕ) (calls : List Call) → 0 < opened → opened ≤ 128 → AreTold opened calls → Stands opened calls (table_of opened calls)
+stands_left opened calls l m t = record { least = l; most = m; told = t; is = refl }
 
 -- and is sound
 pub sound_left : (opened : ℕ) (calls : List Call) → 0 < opened → opened ≤ 128 → AreTold opened calls → IsSound (table_of opened calls)
-sound_left opened [] l m t = subst IsSound (stands_is _ opened [] (stands_open opened l m)) (sound_open opened l m)
+sound_left opened [] l m t = subst IsSound (stands_open opened l m).is (sound_open opened l m)
 sound_left opened (call ∷ calls) l m t =
-    subst IsSound (stands_is _ opened (call ∷ calls) (carries (table_of opened calls) opened calls call (stands_left opened calls l m t.1) t.0))
+    subst IsSound (carries (table_of opened calls) opened calls call (stands_left opened calls l m t.1) t.0).is
     (sound_after (table_of opened calls) call (sound_left opened calls l m t.1) t.0)
 
-pub sound_from_stands : (table : Contents) (opened : ℕ) (calls : List Call) → Stands table opened calls → IsSound table
-sound_from_stands table opened calls h = subst IsSound (sym (stands_is table opened calls h)) (sound_left opened calls h.least h.most h.told)
+pub sound_from_stands : (table : Contents) (opened : ℕ) (calls : List Call) → Stands opened calls table → IsSound table
+sound_from_stands table opened calls h = subst IsSound (sym h.is) (sound_left opened calls h.least h.most h.told)
 
 -- ## What is answered
 

@@ -172,10 +172,10 @@ aged_out-count past =
     let counted = aged_and_left (λ (x : Neighbor). is_none (live x.msap (ticked ∷ past))) (neighbors past) (gone_as_aged past (neighbors past) each_live) in
     ap (λ xs. aged_out past + length xs) (neighbors-ticked past) ∙ counted
 
-pub tick_answers : (old new : Contents) (opened : ℕ) (calls : List Call) (n : ℕ) → Stands old opened calls → Stands new opened (tick ∷ calls) → n + length new.neighbors ≡ length old.neighbors → n ≡ aged_out (events_of opened calls)
+pub tick_answers : (old new : Contents) (opened : ℕ) (calls : List Call) (n : ℕ) → Stands opened calls old → Stands opened (tick ∷ calls) new → n + length new.neighbors ≡ length old.neighbors → n ≡ aged_out (events_of opened calls)
 unfolding events_of
 tick_answers old new opened calls n h k e =
     let a = aged_out-count (events_of opened calls) in
-    let b : length new.neighbors ≡ length (neighbors (ticked ∷ events_of opened calls)) = ap length k.holds in
-    let c : length old.neighbors ≡ length (neighbors (events_of opened calls)) = ap length h.holds in
+    let b : length new.neighbors ≡ length (neighbors (ticked ∷ events_of opened calls)) = ap (λ (t : Contents). length t.neighbors) k.is in
+    let c : length old.neighbors ≡ length (neighbors (events_of opened calls)) = ap (λ (t : Contents). length t.neighbors) h.is in
     omega arith

@@ -5,7 +5,14 @@ use Rattle.lldp_table.specs.Contents.{Contents, IsExtent}
 
 -- the table that these calls leave, by the definitions alone
 abbrev pub table_of : ℕ → List Call → Contents
-table_of opened calls = record { capacity = opened; limit = limit_after opened (events_of opened calls); neighbors = neighbors (events_of opened calls); too_many_left = too_many_left (events_of opened calls) }
+table_of opened calls =
+    let past = events_of opened calls in
+    record {
+      capacity = opened;
+      limit = limit_after opened past;
+      neighbors = neighbors past;
+      too_many_left = too_many_left past;
+    }
 
 -- a new limit: from 1 to the limit of opening, and no more neighbors than it are held
 pub record IsNewLimit (table : Contents) (limit : ℕ) : Type 0 where
@@ -27,13 +34,13 @@ AreTold opened [] = Unit {0}
 AreTold opened (call ∷ calls) = IsTold (table_of opened calls) call × AreTold opened calls
 
 -- The table stands for a limit of opening, from 1 to 128, and a list of calls, each of which could be given, the newest
--- first: it holds the neighbors that those calls leave live, in the order in which each was last new, and its limit and
--- its too-many timer are as they leave them.
-pub record Stands (table : Contents) (opened : ℕ) (calls : List Call) : Type 0 where
+-- first: it is the one that they leave.
+pub record Stands (opened : ℕ) (calls : List Call) (table : Contents) : Type 0 where
   pub least : 0 < opened
   pub most : opened ≤ 128
   pub told : AreTold opened calls
-  pub capacity_is : table.capacity ≡ opened
-  pub limit_is : table.limit ≡ limit_after opened (events_of opened calls)
-  pub holds : table.neighbors ≡ neighbors (events_of opened calls)
-  pub too_many : table.too_many_left ≡ too_many_left (events_of opened calls)
+  pub is : table ≡ table_of opened calls
+
+-- for each limit of opening and list of calls that the table stands for
+abbrev pub ForEachCalls : Contents → (ℕ → List Call → Type 0) → Type 0
+ForEachCalls table P = (opened : ℕ) (calls : List Call) → Stands opened calls table → P opened calls

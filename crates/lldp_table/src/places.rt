@@ -2,28 +2,33 @@
 ghost use Rattle.std.specs.Prelude.{◌≡◌, ◌≤◌, ◌<◌, ◌+◌, ◌*◌, true, false, List, length, take, map, MatchOption, slice_index_or, sum_by, IsPermutation, nat_eq, vec_capacity};
 ghost use Rattle.std.specs.List.{list_any, filter_map, AllByRecursion, IsDistinct};
 ghost use Rattle.lldp_pdu.specs.View.{msap_seen};
-ghost use Rattle.lldp_table.specs.Stored.{Stored};
+ghost use Rattle.lldp_table.specs.Stored.{Stored, tag_of};
 ghost use Rattle.lldp_table.specs.Msap.{same_msap};
 ghost use Rattle.lldp_table.specs.Contents.{aged};
 ghost use Rattle.lldp_table.specs.Queue.{holds, ticks_left, IsTimed};
 ghost use Rattle.lldp_table.specs.Layout.{blank, msap_at, octets_at, neighbors_at, with_next};
 
 use crate::queue::{Queue, place_in};
-use crate::slot::{Slot, tag_of};
+use crate::slot::Slot;
 use crate::times::Accesses;
 use arrayvec::ArrayVec;
 use lldp_pdu::Msap;
 use std::alloc::Allocator;
 use std::sync::ledger::Ledger;
 
-/// The place of the slot whose frame has this MSAP identifier.
-pub(crate) fn place_of(slots: &[Slot], order: &[u8], name: &Msap<'_>) -> Option<usize>
-    requires { AllByRecursion (λ i. i < length slots.now) order.now }
+/// The place of the slot whose frame has this MSAP identifier, whose tag is given.
+pub(crate) fn place_of(
+    slots: &[Slot],
+    order: &[u8],
+    name: &Msap<'_>,
+    tag: u32,
+) -> Option<usize>
+    requires tag { tag ≡ tag_of (msap_seen name.now) }
+    requires within { AllByRecursion (λ i. i < length slots.now) order.now }
     ensures { MatchOption result
         (list_any (same_msap (msap_seen name.now)) (map (msap_at slots.now) order.now) ≡ false)
         (λ at. (at < length order.now) × (same_msap (msap_seen name.now) (msap_at slots.now (slice_index_or order.now at 0)) ≡ true)) }
 {
-    let tag = tag_of(name);
     for (at, slot) in order.iter().enumerate() {
         if slots[*slot as usize].is_named(name, tag) {
             return Some(at);

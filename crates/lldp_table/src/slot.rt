@@ -114,15 +114,16 @@ impl Slot {
         name.chassis == held.chassis && name.port == held.port
     }
 
-    /// Stores a frame in place of the one before.
-    pub(crate) fn store(&mut self, octets: &[u8], ttl: u16)
-        requires { length octets.now ≤ 1500 }
+    /// Stores a frame, whose name has this tag, in place of the one before.
+    pub(crate) fn store(&mut self, octets: &[u8], ttl: u16, tag: u32)
+        requires short { length octets.now ≤ 1500 }
+        requires tag { tag ≡ tag_of_name (msap_of octets.now) }
         ensures octets { self.new.octets ≡ octets.now }
         ensures ttl { self.new.ttl ≡ ttl }
     {
         self.octets.clear();
         self.octets.try_extend_from_slice(octets).unwrap();
         self.ttl = ttl;
-        self.tag = tag_of(&msap_in(octets));
+        self.tag = tag;
     }
 }

@@ -4,13 +4,13 @@ ghost use Rattle.lldp_pdu.specs.Kept.{kept_of};
 ghost use Rattle.lldp_pdu.specs.View.{msap_seen};
 ghost use Rattle.lldp_table.specs.Contents.{IsExtent, IsHeld, IsSound, holds_name, learn_answer, after_learn, after_forget, after_purge, after_tick, after_set_limit, newly_opened};
 ghost use Rattle.lldp_table.specs.Events.{Call, learn, forget, purge, tick, set_limit, live, answer, aged_out, events_of};
-ghost use Rattle.lldp_table.specs.Standing.{Stands};
+ghost use Rattle.lldp_table.specs.Standing.{Stands, ForEachCalls};
 
 use crate::entry::Entry;
 use crate::learned::Learned;
 use crate::places::{age_out, lefts_of, octets_of, place_of, write_next};
 use crate::queue::Queue;
-use crate::slot::Slot;
+use crate::slot::{Slot, tag_of};
 use crate::times::Accesses;
 use arrayvec::ArrayVec;
 use lldp_pdu::{Info, Msap};
@@ -55,7 +55,7 @@ impl<A: Allocator> Table<A> {
         requires least { 0 < limit }
         requires most { limit ≤ 128 }
         ensures empty { IfOk result (λ table. table ≡ newly_opened limit) }
-        ensures stands { IfOk result (λ table. Stands table limit []) }
+        ensures stands { IfOk result (λ table. Stands limit [] table) }
     {
         Ok(Table {
             slots: Vec::with_capacity(alloc, limit as usize)?,
@@ -74,16 +74,19 @@ impl<A: Allocator> Table<A> {
         ensures after { self.new ≡ after_learn self.old info.now.msap info.now.ttl info.now.octets }
         ensures told { IsExtent info.now.msap info.now.ttl info.now.octets }
         ensures kept { kept_of info.now.octets ≡ info.now.kept }
-        ensures answers { (opened : ℕ) (calls : List Call) → Stands self.old opened calls → result ≡ answer opened info.now.msap (events_of opened calls) }
-        ensures stands { (opened : ℕ) (calls : List Call) → Stands self.old opened calls → Stands self.new opened (learn info.now.msap info.now.ttl info.now.octets ∷ calls) }
+        ensures answers { ForEachCalls self.old (λ opened calls.
+            result ≡ answer opened info.now.msap (events_of opened calls)) }
+        ensures stands { ForEachCalls self.old (λ opened calls.
+            Stands opened (learn info.now.msap info.now.ttl info.now.octets ∷ calls) self.new) }
     {
         let name = info.msap();
+        let tag = tag_of(&name);
         let ttl = info.ttl();
         let octets = info.octets();
         let used = self.used as usize;
-        if let Some(at) = place_of(&self.slots, &self.order[..used], &name) {
+        if let Some(at) = place_of(&self.slots, &self.order[..used], &name, tag) {
             let slot = self.order[at];
-            self.slots[slot as usize].store(octets, ttl);
+            self.slots[slot as usize].store(octets, ttl, tag);
             self.queue.leave(slot);
             self.queue.enter(slot, ttl);
             return Learned::Refreshed;
@@ -91,7 +94,7 @@ impl<A: Allocator> Table<A> {
         if self.used < self.limit {
             write_next(&mut self.slots, &mut self.order, used);
             let slot = self.order[used];
-            self.slots[slot as usize].store(octets, ttl);
+            self.slots[slot as usize].store(octets, ttl, tag);
             self.queue.enter(slot, ttl);
             self.used += 1;
             return Learned::New;
@@ -104,11 +107,13 @@ impl<A: Allocator> Table<A> {
     pub fn forget(&mut self, msap: &Msap<'_>) -> bool
         ensures answer { result ≡ holds_name self.old (msap_seen msap.now) }
         ensures after { self.new ≡ after_forget self.old (msap_seen msap.now) }
-        ensures answers { (opened : ℕ) (calls : List Call) → Stands self.old opened calls → result ≡ is_some (live (msap_seen msap.now) (events_of opened calls)) }
-        ensures stands { (opened : ℕ) (calls : List Call) → Stands self.old opened calls → Stands self.new opened (forget (msap_seen msap.now) ∷ calls) }
+        ensures answers { ForEachCalls self.old (λ opened calls.
+            result ≡ is_some (live (msap_seen msap.now) (events_of opened calls))) }
+        ensures stands { ForEachCalls self.old (λ opened calls.
+            Stands opened (forget (msap_seen msap.now) ∷ calls) self.new) }
     {
         let used = self.used as usize;
-        match place_of(&self.slots, &self.order[..used], msap) {
+        match place_of(&self.slots, &self.order[..used], msap, tag_of(msap)) {
             None => false,
             Some(at) => {
                 let slot = self.order.remove(at);
@@ -123,7 +128,8 @@ impl<A: Allocator> Table<A> {
     /// Gives up all neighbors, and ends the too-many condition.
     pub fn purge(&mut self)
         ensures after { self.new ≡ after_purge self.old }
-        ensures stands { (opened : ℕ) (calls : List Call) → Stands self.old opened calls → Stands self.new opened (purge ∷ calls) }
+        ensures stands { ForEachCalls self.old (λ opened calls.
+            Stands opened (purge ∷ calls) self.new) }
     {
         self.used = 0;
         self.queue.clear();
@@ -136,8 +142,10 @@ impl<A: Allocator> Table<A> {
     pub fn tick(&mut self) -> u8
         ensures answer { result + length self.new.neighbors ≡ length self.old.neighbors }
         ensures after { self.new ≡ after_tick self.old }
-        ensures answers { (opened : ℕ) (calls : List Call) → Stands self.old opened calls → result ≡ aged_out (events_of opened calls) }
-        ensures stands { (opened : ℕ) (calls : List Call) → Stands self.old opened calls → Stands self.new opened (tick ∷ calls) }
+        ensures answers { ForEachCalls self.old (λ opened calls.
+            result ≡ aged_out (events_of opened calls)) }
+        ensures stands { ForEachCalls self.old (λ opened calls.
+            Stands opened (tick ∷ calls) self.new) }
     {
         self.tick_from::<Brand>(Blank::new(1))
     }
@@ -180,7 +188,8 @@ impl<A: Allocator> Table<A> {
         requires most { limit ≤ self.old.capacity }
         requires held { length self.old.neighbors ≤ limit }
         ensures after { self.new ≡ after_set_limit self.old limit }
-        ensures stands { (opened : ℕ) (calls : List Call) → Stands self.old opened calls → Stands self.new opened (set_limit limit ∷ calls) }
+        ensures stands { ForEachCalls self.old (λ opened calls.
+            Stands opened (set_limit limit ∷ calls) self.new) }
     {
         self.limit = limit;
     }

@@ -1,6 +1,6 @@
 -- The law: a step carries standing from every history to that history and the event.
 use Rattle.std.specs.Prelude.{◌≡◌, ℕ, ◌-◌, ◌≤◌, Bool, true, false, cond, not, ◌&&◌, ◌||◌, nat_le, List, [], ◌∷◌, IsTrue, ◌↔◌}
-use Rattle.std.proofs.Common.{refl, ap, sym, ◌∙◌, arith}
+use Rattle.std.proofs.Common.{refl, ap, sym, subst, ◌∙◌, arith}
 use Rattle.std.proofs.lemmas.Bool.Decides.{nat_tests}
 use Rattle.lldp_transmit.specs.declared.event.Cause.{Cause}
 use Rattle.lldp_transmit.specs.declared.event.Cause.TheVariants.{Nothing}
@@ -8,9 +8,10 @@ use Rattle.lldp_transmit.specs.declared.event.Mark.{Mark}
 use Rattle.lldp_transmit.specs.declared.event.Mark.TheVariants.{Quiet, Ordinary, Shutdown}
 use Rattle.lldp_transmit.specs.Machine.{Machine, opened, stepped}
 use Rattle.lldp_transmit.specs.History.{Settings, Event, History, event, is_tick, is_down}
-use Rattle.lldp_transmit.specs.Moments.{Moment, moments, moment, mark_of, mark_at, unlabelled, is_active, is_allowed, is_waiting, open_at, allowed_after}
+use Rattle.lldp_transmit.specs.Moments.{Moment, moments, moment, mark_of, mark_at, unlabelled, is_active, is_allowed, is_waiting, open_at, allowed_after, is_up}
 use Rattle.std.specs.List.{list_any}
 use Rattle.lldp_transmit.specs.Fronts.{since, from_last}
+use Rattle.lldp_transmit.specs.Remaining.{credit_left}
 use Rattle.lldp_transmit.specs.Standing.{Stands, AreSettings, machine_of}
 use Rattle.lldp_transmit.proofs.Windows.{one_if, begun, wanted, bucket, IsPaid, open_is, paid_moments, bucket_le, credit_is}
 use Rattle.lldp_transmit.proofs.Counters.{until_start-cons, until_signal-cons, signals_left-cons, is_waiting-cons, is_active-cons, wanted-cons}
@@ -111,35 +112,36 @@ carries_counts s h t e most counts =
     (counted_on s past t e.cause e.interval (moment s past e) (stepped t e.cause e.interval) counts labels makes, marked_on s past t e.cause e.interval (moment s past e) (stepped t e.cause e.interval) labels makes)
 
 -- between what the machine stands for, by the windows, and its counters, by the bucket
-counts_of : (s : Settings) (h : History) (t : Machine) → Stands s h t → Counts s (moments s h) t
-counts_of s h t k = record {
-  credit_max = k.credit_max;
-  fast_init = k.fast_init;
-  reinit = k.reinit;
-  credit = k.credit ∙ credit_is s (moments s h) (paid_moments s h k.in_range.some_credit);
-  wait = k.wait;
-  timer = k.timer;
-  left = k.left;
-  waiting = k.waiting;
-  active = k.active;
-  allowed = k.allowed;
-  up = k.up;
+-- the machine that events leave has such counters
+counts_left : (s : Settings) (h : History) → AreSettings s → Counts s (moments s h) (machine_of s h)
+unfolding machine_of
+counts_left s h r = record {
+  credit_max = refl;
+  fast_init = refl;
+  reinit = refl;
+  credit = credit_is s (moments s h) (paid_moments s h r.some_credit);
+  wait = refl;
+  timer = refl;
+  left = refl;
+  waiting = refl;
+  active = refl;
+  allowed = refl;
+  up = refl;
 }
 
+counts_of : (s : Settings) (h : History) (t : Machine) → Stands s h t → Counts s (moments s h) t
+counts_of s h t k = subst (λ (x : Machine). Counts s (moments s h) x) (sym k.is) (counts_left s h k.in_range)
+
+machine_by : (t : Machine) (max fast reinit credit wait timer left : ℕ) (waiting active allowed up : Bool) → t.credit_max ≡ max → t.fast_init ≡ fast → t.reinit ≡ reinit → t.credit ≡ credit → t.wait ≡ wait
+    → t.timer ≡ timer → t.left ≡ left → t.waiting ≡ waiting → t.active ≡ active → t.allowed ≡ allowed → t.up ≡ up
+    → t ≡ record { credit_max = max; fast_init = fast; reinit = reinit; credit = credit; wait = wait; timer = timer; left = left; waiting = waiting; active = active; allowed = allowed; up = up }
+machine_by t max fast reinit credit wait timer left waiting active allowed up a b c d e f g h i j k = rw (← a, ← b, ← c, ← d, ← e, ← f, ← g, ← h, ← i, ← j, ← k) refl
+
 stands_of : (s : Settings) (h : History) (t : Machine) → AreSettings s → Counts s (moments s h) t → Stands s h t
+unfolding machine_of
 stands_of s h t r k = record {
   in_range = r;
-  credit_max = k.credit_max;
-  fast_init = k.fast_init;
-  reinit = k.reinit;
-  credit = k.credit ∙ sym (credit_is s (moments s h) (paid_moments s h r.some_credit));
-  wait = k.wait;
-  timer = k.timer;
-  left = k.left;
-  waiting = k.waiting;
-  active = k.active;
-  allowed = k.allowed;
-  up = k.up;
+  is = machine_by t _ _ _ _ _ _ _ _ _ _ _ k.credit_max k.fast_init k.reinit (k.credit ∙ sym (credit_is s (moments s h) (paid_moments s h r.some_credit))) k.wait k.timer k.left k.waiting k.active k.allowed k.up;
 }
 
 -- A step carries standing from every history to that history and the event.
@@ -152,47 +154,30 @@ marks s h t e k = (carries_counts s h t e k.in_range.some_credit (counts_of s h 
 
 -- A machine as it is opened stands for no events.
 pub stands_at_first : (s : Settings) → AreSettings s → Stands s [] (opened s)
-stands_at_first s r = record {
-  in_range = r;
-  credit_max = refl;
-  fast_init = refl;
-  reinit = refl;
-  credit = refl;
-  wait = refl;
-  timer = refl;
-  left = refl;
-  waiting = refl;
-  active = refl;
-  allowed = refl;
-  up = refl;
-}
+unfolding machine_of
+stands_at_first s r = record { in_range = r; is = refl }
 
--- What stands for a history is the machine that the history leaves, and that one stands for it.
+-- The machine that a history leaves stands for it.
 pub stands_left : (s : Settings) (h : History) → AreSettings s → Stands s h (machine_of s h)
-unfolding machine_of
-stands_left s h r = record {
-  in_range = r;
-  credit_max = refl;
-  fast_init = refl;
-  reinit = refl;
-  credit = refl;
-  wait = refl;
-  timer = refl;
-  left = refl;
-  waiting = refl;
-  active = refl;
-  allowed = refl;
-  up = refl;
-}
+stands_left s h r = record { in_range = r; is = refl }
 
-machine_by : (t : Machine) (max fast reinit credit wait timer left : ℕ) (waiting active allowed up : Bool) → t.credit_max ≡ max → t.fast_init ≡ fast → t.reinit ≡ reinit → t.credit ≡ credit → t.wait ≡ wait
-    → t.timer ≡ timer → t.left ≡ left → t.waiting ≡ waiting → t.active ≡ active → t.allowed ≡ allowed → t.up ≡ up
-    → t ≡ record { credit_max = max; fast_init = fast; reinit = reinit; credit = credit; wait = wait; timer = timer; left = left; waiting = waiting; active = active; allowed = allowed; up = up }
-machine_by t max fast reinit credit wait timer left waiting active allowed up a b c d e f g h i j k = rw (← a, ← b, ← c, ← d, ← e, ← f, ← g, ← h, ← i, ← j, ← k) refl
+-- What a machine that stands for a history holds.
+module _ (s : Settings) (h : History) (t : Machine) (k : Stands s h t) where
+  pub credit_stands : t.credit ≡ credit_left s (moments s h)
+  unfolding machine_of
+  credit_stands = ap (λ (t : Machine). t.credit) k.is
 
-pub stands_is : (s : Settings) (h : History) (t : Machine) → Stands s h t → t ≡ machine_of s h
-unfolding machine_of
-stands_is s h t k = machine_by t _ _ _ _ _ _ _ _ _ _ _ k.credit_max k.fast_init k.reinit k.credit k.wait k.timer k.left k.waiting k.active k.allowed k.up
+  pub active_stands : t.active ≡ is_active (moments s h)
+  unfolding machine_of
+  active_stands = ap (λ (t : Machine). t.active) k.is
+
+  pub allowed_stands : t.allowed ≡ is_allowed s (moments s h)
+  unfolding machine_of
+  allowed_stands = ap (λ (t : Machine). t.allowed) k.is
+
+  pub up_stands : t.up ≡ is_up (moments s h)
+  unfolding machine_of
+  up_stands = ap (λ (t : Machine). t.up) k.is
 
 -- Where nothing concerns a port, its machine stands for that event too, and no frame goes.
 pub nothing_changes : (s : Settings) (h : History) (t : Machine) (interval : ℕ) → Stands s h t → Stands s (event Nothing interval ∷ h) t

@@ -1,4 +1,4 @@
--- A machine stands for a history: each thing that it holds has the value that the definitions give.
+-- What a machine is after a history.
 use Rattle.std.specs.Prelude.{◌≡◌, ◌≤◌}
 use Rattle.lldp_transmit.specs.History.{Settings, History}
 use Rattle.lldp_transmit.specs.Machine.{Machine}
@@ -13,21 +13,6 @@ pub record AreSettings (s : Settings) : Type 0 where
   pub most_fast : s.fast_init ≤ 8
   pub some_wait : 1 ≤ s.reinit
   pub most_wait : s.reinit ≤ 10
-
--- the machine stands for these settings and this history
-pub record Stands (s : Settings) (h : History) (t : Machine) : Type 0 where
-  pub in_range : AreSettings s
-  pub credit_max : t.credit_max ≡ s.credit_max
-  pub fast_init : t.fast_init ≡ s.fast_init
-  pub reinit : t.reinit ≡ s.reinit
-  pub credit : t.credit ≡ credit_left s (moments s h)
-  pub wait : t.wait ≡ until_start s (moments s h)
-  pub timer : t.timer ≡ until_signal s (moments s h)
-  pub left : t.left ≡ signals_left s (moments s h)
-  pub waiting : t.waiting ≡ is_waiting (moments s h)
-  pub active : t.active ≡ is_active (moments s h)
-  pub allowed : t.allowed ≡ is_allowed s (moments s h)
-  pub up : t.up ≡ is_up (moments s h)
 
 -- the machine that these events leave, by the definitions alone
 unfoldable pub machine_of : Settings → History → Machine
@@ -46,6 +31,11 @@ machine_of s h =
       allowed = is_allowed s past;
       up = is_up past;
     }
+
+-- The machine stands for these settings, each in its range, and this history: it is the one that these events leave.
+pub record Stands (s : Settings) (h : History) (t : Machine) : Type 0 where
+  pub in_range : AreSettings s
+  pub is : t ≡ machine_of s h
 
 -- for each history that the machine stands for
 abbrev pub ForEachHistory : Machine → (Settings → History → Type 0) → Type 0

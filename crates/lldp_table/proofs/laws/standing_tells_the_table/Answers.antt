@@ -1,15 +1,12 @@
-use Rattle.lldp_table.proofs.StandingLemmas.{stands_open, stands_is, learn_answers, events-more}
+use Rattle.lldp_table.proofs.StandingLemmas.{stands_open, learn_answers, events-more}
 use Rattle.lldp_table.proofs.LiveLemmas.{aged_out-count}
 use Rattle.lldp_table.proofs.laws.standing_tells_the_table.Goals as goal
 
 pub returns-clause-opened : goal.returns-clause-opened
 returns-clause-opened c = stands_open
 
-pub returns-clause-is : goal.returns-clause-is
-returns-clause-is c = stands_is
-
 pub returns-clause-learned : goal.returns-clause-learned
-returns-clause-learned c = learn_answers
+returns-clause-learned c = λ table name opened calls h. learn_answers table opened calls name h
 
 pub returns-clause-event : goal.returns-clause-event
 returns-clause-event c = events-more

@@ -16,4 +16,4 @@ returns-clause-empty g c =
     ap (λ n. record (newly_opened c.args.limit) { capacity = n }) exact
 
 pub returns-clause-stands : goal.returns-clause-stands
-returns-clause-stands g c = subst (λ (table : Contents). Stands table c.args.limit []) (sym (returns-clause-empty g c)) (stands_open c.args.limit c.requires.least c.requires.most)
+returns-clause-stands g c = subst (λ (table : Contents). Stands c.args.limit [] table) (sym (returns-clause-empty g c)) (stands_open c.args.limit c.requires.least c.requires.most)

@@ -3,8 +3,12 @@ use Rattle.std.proofs.Common.{ap, ◌∙◌, sym, subst}
 use Rattle.lldp_transmit.specs.Moments.{moments}
 use Rattle.lldp_transmit.specs.Positions.{IsLeastRoom}
 use Rattle.lldp_transmit.proofs.Sending.{credit_reads}
+use Rattle.lldp_transmit.proofs.Standing.{credit_stands}
 use Rattle.lldp_transmit.proofs.machine.Transmit.credit.Goals as goal
+
+pub returns-clause-left : goal.returns-clause-left
+returns-clause-left c = λ s past k. ap (λ t. t.credit) c.self.view_is ∙ credit_stands s past c.args.self.now k
 
 pub returns-clause-least : goal.returns-clause-least
 returns-clause-least c = λ s past k.
-    subst (IsLeastRoom s (moments s past)) (sym (ap (λ t. t.credit) c.self.view_is ∙ k.credit)) (credit_reads s past k.in_range.some_credit)
+    subst (IsLeastRoom s (moments s past)) (sym (returns-clause-left c s past k)) (credit_reads s past k.in_range.some_credit)
