@@ -8,7 +8,7 @@ use Rattle.std.specs.Int.{w16, to_be_bytes}
 use Rattle.lldp_pdu.specs.WellFormed.{is_well_formed}
 use Rattle.lldp_pdu.specs.Tlv.{TlvUnit, spelling, spellings}
 use Rattle.lldp_pdu.specs.Draft.{Draft, CanPut, CanPutEach, CanBuild, with_tlv, all_tlvs}
-use Rattle.lldp_transmit.specs.declared.event.Mark.TheVariants.{Ordinary, Shutdown}
+use Rattle.lldp_transmit.specs.declared.event.Mark.TheVariants.{Ordinary}
 use Rattle.lldp_engine.specs.declared.options.Role.{Role}
 use Rattle.lldp_engine.specs.declared.options.Role.TheVariants.{Station, Bridge, Router}
 use Rattle.lldp_engine.specs.Configuration.{Configuration, sent_ttl}
@@ -93,9 +93,6 @@ module _ (c : Configuration) (name : List ℕ) (some : 0 < length name) (short :
     ttl = fits;
     puts = puts;
   }
-
-  pub can_leave : CanBuild (draft_of c name Shutdown)
-  can_leave = can_begin 0 (omega arith) [] tt
 
   module _ (h : HasShortTexts c) where
     second_length : length (spellings (all_tlvs second)) ≤ 305

@@ -125,9 +125,6 @@ module _ (queue0 : List Due) (order0 : List ℕ) (used : ℕ) (timed : IsTimed q
 
     -- the slot that was taken out of the queue
     module _ (slot : ℕ) (queue' : List Due) (e : queue ≡ due slot 0 ∷ queue') where
-      pub used_slot : list_any (nat_eq slot) (take kept order) ≡ true
-      used_slot = sym (h.queued.same slot) ∙ ap (holds slot) e ∙ or_left (nat_eq slot slot) (holds slot queue') (eq-eqb slot slot refl)
-
       pub kept_some : 0 < kept
       kept_some = omega (arith, short, h.queued.count, ap length e)
 
@@ -163,9 +160,6 @@ module _ (queue0 : List Due) (order0 : List ℕ) (used : ℕ) (timed : IsTimed q
 
       pub aging_ends : (slots : List Stored) → neighbors_at slots (ticks_left queue) (take kept order) ≡ filter_map aged (neighbors_at slots (ticks_left queue0) (take used order0))
       aging_ends slots = sym (all_live slots queue runs (take kept order) (all_queued queue (take kept order) h.queued)) ∙ h.living slots
-
-      pub timed_ends : IsTimed queue (take kept order)
-      timed_ends = record { queued = h.queued; running = runs }
 
 -- ## Tables
 

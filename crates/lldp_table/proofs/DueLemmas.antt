@@ -105,12 +105,6 @@ module _ (times : List ℕ) where
           ∙ ap (λ q. q ++ enter slot (rest - gap) others) (sym (take-dues slots k l))
           ∙ ap (λ n. take n queue ++ enter slot (rest - gap) (drop n queue)) one
 
-      -- last
-      pub enters_last : length slots ≤ k → enter slot left queue ≡ take k queue ++ put slot rest (drop k queue)
-      enters_last l =
-          let none : drop k queue ≡ [] = drop_of_length-le queue (omega (arith, length-dues slots, l)) in
-          p ∙ ap (λ q. take k queue ++ enter slot rest q) none ∙ ap (λ q. take k queue ++ put slot rest q) (sym none)
-
 -- ## A slot that enters
 
 map-insert : {X Y : Type 0} (f : X → Y) (xs : List X) (k : ℕ) (x : X) → map f (insert xs k x) ≡ insert (map f xs) k (f x)

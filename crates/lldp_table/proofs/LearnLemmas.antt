@@ -53,12 +53,6 @@ module _ (capacity : ℕ) (slots : List Stored) (queue : List Due) (order : List
     parted : IsPermutation in_use (s ∷ others)
     parted = subst (λ i. IsPermutation in_use (i ∷ others)) (get_or-take used order at 0 l) (one-out in_use at there)
 
-    pub is_queued : holds s queue ≡ true
-    is_queued = holds_it queue in_use h.timed.queued s apart others parted
-
-    pub within_128 : s < 128
-    within_128 = omega (arith, index_within capacity slots (ticks_left queue) order used limit too_many h.laid at l, h.laid.written, h.laid.sound.most)
-
     -- it is out of the queue
     left_queued : IsQueued (leave s queue) others
     left_queued = queued_leave queue in_use h.timed.queued s apart others parted
