@@ -1,4 +1,5 @@
-//! The bodies of TLVs: which are well formed, and the fields of two (IEEE 802.1AB-2009, 8.5 and 8.6).
+//! The bodies of TLVs: which are well formed, and the fields of two (IEEE 802.1AB-2009, 8.5 and
+//! 8.6).
 ghost use Rattle.std.specs.Prelude.{◌≡◌};
 ghost use Rattle.std.specs.Option.{option_map};
 ghost use Rattle.lldp_pdu.specs.Capabilities.{caps_of};
@@ -13,8 +14,8 @@ use crate::tlv_type::{
     SYSTEM_CAPABILITIES, SYSTEM_DESCRIPTION, TIME_TO_LIVE,
 };
 
-/// The fields of System Capabilities. None exactly where the body is not well formed: it has not four octets, or a bit is
-/// enabled that is not available (IEEE 802.1AB-2009, 8.5.8).
+/// The fields of System Capabilities. None exactly where the body is not well formed: it has not
+/// four octets, or a bit is enabled that is not available (IEEE 802.1AB-2009, 8.5.8).
 pub fn caps(body: &[u8]) -> Option<Caps>
     ensures { result ≡ caps_of body.now }
 {
@@ -26,8 +27,9 @@ pub fn caps(body: &[u8]) -> Option<Caps>
     (enabled & available == enabled).then_some(Caps { available, enabled })
 }
 
-/// The fields of a Management Address. None exactly where the body is not well formed: `m`, its first octet, is not 2 to 32,
-/// the OID has more than 128 octets, or the body is longer or shorter than these say (IEEE 802.1AB-2009, 8.5.9).
+/// The fields of a Management Address. None exactly where the body is not well formed: `m`, its
+/// first octet, is not 2 to 32, the OID has more than 128 octets, or the body is longer or shorter
+/// than these say (IEEE 802.1AB-2009, 8.5.9).
 pub fn mgmt(body: &[u8]) -> Option<Mgmt<'_>>
     ensures { option_map address_seen result ≡ address_of body.now }
 {

@@ -51,12 +51,14 @@ impl Builder {
     ghost use Rattle.std.specs.Prelude.{◌≡◌, ◌<◌, ◌≤◌, [], length, None, OnOk, OnErr};
     ghost use Rattle.lldp_pdu.specs.Msap.{IsIdentifier};
 
-    /// Begins one with the mandatory TLVs: the bodies of the Chassis ID and the Port ID, of 2 to 256 octets each, and the TTL
-    /// in seconds. A TTL of 0 makes it a shutdown LLDPDU, which has no other TLVs.
+    /// Begins one with the mandatory TLVs: the bodies of the Chassis ID and the Port ID, of 2 to
+    /// 256 octets each, and the TTL in seconds. A TTL of 0 makes it a shutdown LLDPDU, which has no
+    /// other TLVs.
     pub fn begin(chassis: &[u8], port: &[u8], ttl: u16) -> Builder
         requires chassis { IsIdentifier chassis.now }
         requires port { IsIdentifier port.now }
-        ensures { result ≡ record { msap = record { chassis = chassis.now; port = port.now }; ttl = ttl; tlvs = [] } }
+        ensures { result
+            ≡ record { msap = record { chassis = chassis.now; port = port.now }; ttl = ttl; tlvs = [] } }
     {
         let mut octets = ArrayVec::new();
         append_tlv(&mut octets, CHASSIS_ID, chassis);
@@ -96,12 +98,15 @@ impl Builder {
 
     /// Puts a TLV behind those before it.
     ///
-    /// Err, with nothing changed, is the first of these checks that fails. Kind: the kind is not 4 to 127, or one of 4 to 7 that
-    /// was put before, or the TTL is 0. Body: the body has more than 511 octets or is not well formed for its kind. Full: the
-    /// TLV and the End Of LLDPDU do not fit in 1,500 octets.
+    /// Err, with nothing changed, is the first of these checks that fails. Kind: the kind is not 4
+    /// to 127, or one of 4 to 7 that was put before, or the TTL is 0. Body: the body has more than
+    /// 511 octets or is not well formed for its kind. Full: the TLV and the End Of LLDPDU do not
+    /// fit in 1,500 octets.
     pub fn put(&mut self, kind: u8, body: &[u8]) -> Result<(), BuildFault>
-        ensures fault { result_err result ≡ put_fault self.old (record { kind = kind; body = body.now }) }
-        ensures ok { OnOk result (self.new ≡ with_tlv self.old (record { kind = kind; body = body.now })) }
+        ensures fault { result_err result
+            ≡ put_fault self.old (record { kind = kind; body = body.now }) }
+        ensures ok { OnOk result (self.new
+            ≡ with_tlv self.old (record { kind = kind; body = body.now })) }
         ensures err { OnErr result (self.new ≡ self.old) }
     {
         if let Some(fault) = self.refusal(&Tlv { kind, body }) {

@@ -85,7 +85,8 @@ fn mandatory_tlvs(pdu: &[u8]) -> Result<Mandatory<'_>, PduFault>
 }
 
 fn optional_tlvs(after: &[u8]) -> Result<Optional<'_>, PduFault>
-    ensures repeated { result_err result ≡ (if list_any is_mandatory (before_end (cut after.now).tlvs) then Some Repeated else None) }
+    ensures repeated { result_err result
+        ≡ (if list_any is_mandatory (before_end (cut after.now).tlvs) then Some Repeated else None) }
     ensures ok { IfOk result (λ o. IsSurveyOf after.now o.octets.now o.discarded o.unrecognized) }
 {
     let mut tlvs = Tlvs::new(after);
@@ -126,10 +127,12 @@ fn optional_tlvs(after: &[u8]) -> Result<Optional<'_>, PduFault>
     })
 }
 
-/// Examines an LLDPDU of any length. The answer borrows from it, and the octets of an Info are a front of it.
+/// Examines an LLDPDU of any length. The answer borrows from it, and the octets of an Info are a
+/// front of it.
 ///
-/// Err is the first check that fails, in the order of `PduFault`, Truncated being checked at each of the three places. With a
-/// TTL of 0 nothing behind the third TLV is read (IEEE 802.1AB-2009, 8.2 and 9.2.7.7).
+/// Err is the first check that fails, in the order of `PduFault`, Truncated being checked at each
+/// of the three places. With a TTL of 0 nothing behind the third TLV is read (IEEE 802.1AB-2009,
+/// 8.2 and 9.2.7.7).
 pub fn examine(pdu: &[u8]) -> Result<Examined<'_>, PduFault>
     ensures fault { result_err result ≡ fault_of pdu.now }
     ensures answer { IfOk result (Answers pdu.now) }

@@ -51,8 +51,9 @@ impl<'a> Info<'a> {
         self.ttl
     }
 
-    /// The kept TLVs, in order: of type 4 to 127, well formed, and at most one of each of the types 4 to 7. They are read again
-    /// from the octets, so a walk costs time linear in them and nothing is stored.
+    /// The kept TLVs, in order: of type 4 to 127, well formed, and at most one of each of the types
+    /// 4 to 7. They are read again from the octets, so a walk costs time linear in them and nothing
+    /// is stored.
     pub fn kept(&self) -> Kept<'a>
         ensures value { result ≡ self.now.kept }
         ensures each { AllByRecursion IsKeptTlv self.now.kept }
@@ -61,7 +62,8 @@ impl<'a> Info<'a> {
         Kept::of(self.optional)
     }
 
-    /// The extent: the octets before the End Of LLDPDU, or before a TLV that is not complete. They tell the same again.
+    /// The extent: the octets before the End Of LLDPDU, or before a TLV that is not complete. They
+    /// tell the same again.
     pub fn octets(&self) -> &'a [u8]
         ensures value { result.now ≡ self.now.octets }
         ensures again { TellsItself self.now }

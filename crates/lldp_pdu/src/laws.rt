@@ -15,29 +15,36 @@ ghost use Rattle.lldp_pdu.specs.Frame.{nearest_bridge, lldp_ethertype, lldpdu_of
 /// Each list of octets has a cut, and no other.
 pub fn one_cut()
     ensures is_cut { (octets : List ℕ) → AreOctets octets → IsCut octets (cut octets) }
-    ensures only { (octets : List ℕ) (c : Cut) → AreOctets octets → IsCut octets c → c ≡ cut octets }
+    ensures only { (octets : List ℕ) (c : Cut) → AreOctets octets → IsCut octets c →
+        c ≡ cut octets }
 {}
 
 /// `Tlvs`, asked until it has no more, gives the TLVs of the cut, and is left with its rest.
 pub fn whole_cut()
-    ensures tlvs { (octets left : List ℕ) (given : List Tlv) → YieldsThen GivesFirstTlv octets given None left → map unit_of given ≡ (cut octets).tlvs }
-    ensures rest { (octets left : List ℕ) (given : List Tlv) → YieldsThen GivesFirstTlv octets given None left → left ≡ (cut octets).rest }
+    ensures tlvs { (octets left : List ℕ) (given : List Tlv) →
+        YieldsThen GivesFirstTlv octets given None left → map unit_of given ≡ (cut octets).tlvs }
+    ensures rest { (octets left : List ℕ) (given : List Tlv) →
+        YieldsThen GivesFirstTlv octets given None left → left ≡ (cut octets).rest }
 {}
 
 /// The extent of a sound LLDPDU with a TTL above 0 tells the same as the LLDPDU.
 pub fn extent_tells_the_same()
-    ensures info { (octets : List ℕ) → AreOctets octets → fault_of octets ≡ None → 0 < ttl_of octets → IsInfo (info_of octets) }
-    ensures again { (octets : List ℕ) → AreOctets octets → fault_of octets ≡ None → 0 < ttl_of octets → TellsItself (info_of octets) }
+    ensures info { (octets : List ℕ) → AreOctets octets → fault_of octets ≡ None →
+        0 < ttl_of octets → IsInfo (info_of octets) }
+    ensures again { (octets : List ℕ) → AreOctets octets → fault_of octets ≡ None →
+        0 < ttl_of octets → TellsItself (info_of octets) }
 {}
 
 /// An LLDPDU begins with its extent.
 pub fn begins_with_extent()
-    ensures { (octets : List ℕ) → AreOctets octets → (more : List ℕ) × (octets ≡ extent octets ++ more) }
+    ensures { (octets : List ℕ) → AreOctets octets →
+        (more : List ℕ) × (octets ≡ extent octets ++ more) }
 {}
 
 /// An LLDPDU of at most 1,500 octets behind the three fields of an LLDP frame is that frame's.
 pub fn frame_has_lldpdu()
-    ensures { (source lldpdu : List ℕ) → length source ≡ 6 → length lldpdu ≤ 1500 → lldpdu_of (nearest_bridge ++ source ++ lldp_ethertype ++ lldpdu) ≡ Some lldpdu }
+    ensures { (source lldpdu : List ℕ) → length source ≡ 6 → length lldpdu ≤ 1500 →
+        lldpdu_of (nearest_bridge ++ source ++ lldp_ethertype ++ lldpdu) ≡ Some lldpdu }
 {}
 
 /// A TLV is put exactly where it passes each check.
@@ -45,8 +52,8 @@ pub fn put_succeeds()
     ensures { (draft : Draft) (tlv : TlvUnit) → CanPut draft tlv ↔ (put_fault draft tlv ≡ None) }
 {}
 
-/// What a `Builder` can build has at most 1,500 octets and is examined back to what was begun and put, however its octets
-/// were written.
+/// What a `Builder` can build has at most 1,500 octets and is examined back to what was begun and
+/// put, however its octets were written.
 pub fn drafts_are_read_back()
     ensures short { (draft : Draft) → CanBuild draft → length (lldpdu_octets draft) ≤ 1500 }
     ensures told { (draft : Draft) → CanBuild draft → IsReadBack draft (lldpdu_octets draft) }
@@ -54,5 +61,6 @@ pub fn drafts_are_read_back()
 
 /// A body is a well-formed Management Address with these fields exactly where it is their spelling.
 pub fn management_address_is_spelled()
-    ensures { (body : List ℕ) (address : Address) → AreOctets body → (address_of body ≡ Some address) ↔ IsSpelled body address }
+    ensures { (body : List ℕ) (address : Address) → AreOctets body →
+        (address_of body ≡ Some address) ↔ IsSpelled body address }
 {}

@@ -18,14 +18,17 @@ pub fn carries_standing()
         ForEachCalls table (λ opened calls. Stands opened (call ∷ calls) (table_after table call)) }
 {}
 
-/// A table that stands for a list of calls is the one that they leave, an empty one where there was none; and it answers as
-/// the definitions do of the list.
+/// A table that stands for a list of calls is the one that they leave, an empty one where there was
+/// none; and it answers as the definitions do of the list.
 pub fn standing_tells_the_table()
-    ensures opened { (opened : ℕ) → 0 < opened → opened ≤ 128 → Stands opened [] (newly_opened opened) }
+    ensures opened { (opened : ℕ) → 0 < opened → opened ≤ 128 →
+        Stands opened [] (newly_opened opened) }
     ensures learned { (table : Contents) (name : MsapId) →
-        ForEachCalls table (λ opened calls. learn_answer table name ≡ answer opened name (events_of opened calls)) }
+        ForEachCalls table (λ opened calls. learn_answer table name
+        ≡ answer opened name (events_of opened calls)) }
     ensures event { (opened : ℕ) (call : Call) (calls : List Call) →
-        events_of opened (call ∷ calls) ≡ event_of opened call (events_of opened calls) ∷ events_of opened calls }
+        events_of opened (call ∷ calls)
+        ≡ event_of opened call (events_of opened calls) ∷ events_of opened calls }
     ensures aged { (past : List TableEvent) →
         aged_out past + length (neighbors (ticked ∷ past)) ≡ length (neighbors past) }
 {}
@@ -37,16 +40,19 @@ pub fn calls_leave_sound_tables()
         IsSound (table_after table call) }
 {}
 
-/// The extent of a sound LLDPDU of at most 1,500 octets can be stored, and a stored one has few kept TLVs.
+/// The extent of a sound LLDPDU of at most 1,500 octets can be stored, and a stored one has few
+/// kept TLVs.
 pub fn extents_can_be_stored()
-    ensures stored { (pdu : List ℕ) → AreOctets pdu → fault_of pdu ≡ None → 0 < ttl_of pdu → length pdu ≤ 1500 →
+    ensures stored { (pdu : List ℕ) → AreOctets pdu → fault_of pdu ≡ None → 0 < ttl_of pdu →
+        length pdu ≤ 1500 →
         IsExtent (msap_of pdu) (ttl_of pdu) (extent pdu) }
     ensures few { (neighbor : Neighbor) → IsHeld neighbor →
         12 + 2 * length (kept_of neighbor.octets) ≤ length neighbor.octets }
 {}
 
-/// A table that stands for a list of calls holds for each name its last stored frame that has not expired, and nothing
-/// else, in the order in which the names were last new, and never more neighbors than the limit, nor 1,500 octets for each.
+/// A table that stands for a list of calls holds for each name its last stored frame that has not
+/// expired, and nothing else, in the order in which the names were last new, and never more
+/// neighbors than the limit, nor 1,500 octets for each.
 pub fn holds_last_stored_frames()
     ensures held { (table : Contents) (neighbor : Neighbor) → ForEachCalls table (λ opened calls.
         Contains table.neighbors neighbor ↔ IsLastStored (events_of opened calls) neighbor) }
@@ -55,10 +61,12 @@ pub fn holds_last_stored_frames()
     ensures sound { (table : Contents) → ForEachCalls table (λ opened calls. IsSound table) }
 {}
 
-/// The same of the list of calls itself, and that there is a table for each list of calls that could be given.
+/// The same of the list of calls itself, and that there is a table for each list of calls that
+/// could be given.
 pub fn lists_leave_last_stored_frames()
     ensures held { (opened : ℕ) (calls : List Call) (neighbor : Neighbor) →
-        Contains (neighbors (events_of opened calls)) neighbor ↔ IsLastStored (events_of opened calls) neighbor }
+        Contains (neighbors (events_of opened calls)) neighbor
+        ↔ IsLastStored (events_of opened calls) neighbor }
     ensures order { (opened : ℕ) (calls : List Call) →
         AllPairs (IsNewBefore (events_of opened calls)) (neighbors (events_of opened calls)) }
     ensures sound { (opened : ℕ) (calls : List Call) → 0 < opened → opened ≤ 128 →
@@ -67,25 +75,31 @@ pub fn lists_leave_last_stored_frames()
         AreTold opened calls → Stands opened calls (table_of opened calls) }
 {}
 
-/// A frame is a refresh exactly where a neighbor of its name is live, new exactly where none is and fewer than the limit
-/// in force are live, and else it is dropped.
+/// A frame is a refresh exactly where a neighbor of its name is live, new exactly where none is and
+/// fewer than the limit in force are live, and else it is dropped.
 pub fn answers_by_what_is_live()
     ensures refreshed { (opened : ℕ) (calls : List Call) (name : MsapId) →
-        (answer opened name (events_of opened calls) ≡ Refreshed) ↔ IsLive (events_of opened calls) name }
+        (answer opened name (events_of opened calls) ≡ Refreshed)
+        ↔ IsLive (events_of opened calls) name }
     ensures new { (opened : ℕ) (calls : List Call) (name : MsapId) →
         (answer opened name (events_of opened calls) ≡ New)
         ↔ ((¬ (IsLive (events_of opened calls) name)) × HasRoom opened (events_of opened calls)) }
     ensures dropped { (opened : ℕ) (calls : List Call) (name : MsapId) →
         (answer opened name (events_of opened calls) ≡ Dropped)
-        ↔ ((¬ (IsLive (events_of opened calls) name)) × (¬ (HasRoom opened (events_of opened calls)))) }
+        ↔ ((¬ (IsLive (events_of opened calls) name))
+        × (¬ (HasRoom opened (events_of opened calls)))) }
 {}
 
-/// What is left of the too-many timer is the most that any frame dropped since the last purge has left of its TTL.
+/// What is left of the too-many timer is the most that any frame dropped since the last purge has
+/// left of its TTL.
 pub fn keeps_the_greatest_dropped()
-    ensures one { (events : List TableEvent) → 0 < too_many_left events → WasDropped events (too_many_left events) }
-    ensures most { (events : List TableEvent) (left : ℕ) → WasDropped events left → left ≤ too_many_left events }
+    ensures one { (events : List TableEvent) → 0 < too_many_left events →
+        WasDropped events (too_many_left events) }
+    ensures most { (events : List TableEvent) (left : ℕ) → WasDropped events left →
+        left ≤ too_many_left events }
     ensures one_held { (table : Contents) → 0 < table.too_many_left →
-        ForEachCalls table (λ opened calls. WasDropped (events_of opened calls) table.too_many_left) }
+        ForEachCalls table (λ opened calls.
+        WasDropped (events_of opened calls) table.too_many_left) }
     ensures most_held { (table : Contents) (left : ℕ) → ForEachCalls table (λ opened calls.
         WasDropped (events_of opened calls) left → left ≤ table.too_many_left) }
 {}

@@ -27,7 +27,9 @@ pub(crate) fn place_of(
     requires within { AllByRecursion (λ i. i < length slots.now) order.now }
     ensures { MatchOption result
         (list_any (same_msap (msap_seen name.now)) (map (msap_at slots.now) order.now) ≡ false)
-        (λ at. (at < length order.now) × (same_msap (msap_seen name.now) (msap_at slots.now (slice_index_or order.now at 0)) ≡ true)) }
+        (λ at. (at < length order.now)
+        × (same_msap (msap_seen name.now) (msap_at slots.now (slice_index_or order.now at 0))
+        ≡ true)) }
 {
     for (at, slot) in order.iter().enumerate() {
         if slots[*slot as usize].is_named(name, tag) {
@@ -57,8 +59,8 @@ pub(crate) fn write_next<A: Allocator>(
     }
 }
 
-/// A tick. Takes the slots whose neighbors expire out of the queue, and puts them behind the others in the order. Tells how
-/// many slots are still in use.
+/// A tick. Takes the slots whose neighbors expire out of the queue, and puts them behind the others
+/// in the order. Tells how many slots are still in use.
 #[inline(always)]
 pub(crate) fn age_out<L: Ledger>(
     queue: &mut Queue,
@@ -69,7 +71,9 @@ pub(crate) fn age_out<L: Ledger>(
     requires timed { IsTimed queue.old (take used order.old.items) }
     requires distinct { IsDistinct nat_eq order.old.items }
     requires used { used ≤ length order.old.items }
-    ensures neighbors { (slots : List Stored) → neighbors_at slots (ticks_left queue.new) (take result order.new.items) ≡ filter_map aged (neighbors_at slots (ticks_left queue.old) (take used order.old.items)) }
+    ensures neighbors { (slots : List Stored) →
+        neighbors_at slots (ticks_left queue.new) (take result order.new.items)
+        ≡ filter_map aged (neighbors_at slots (ticks_left queue.old) (take used order.old.items)) }
     ensures timed { IsTimed queue.new (take result order.new.items) }
     ensures moved { IsPermutation order.old.items order.new.items }
     ensures fewer { result ≤ used }

@@ -22,12 +22,16 @@ pub(crate) fn place_in(slots: &[u8], slot: u8) -> usize
     unreachable!()
 }
 
-/// The place at which a neighbor with so many ticks left enters, and the difference that it has there.
+/// The place at which a neighbor with so many ticks left enters, and the difference that it has
+/// there.
 fn place_for(slots: &[u8], times: &Times, left: u16) -> (usize, u16)
     requires { AllByRecursion (λ i. i < 128) slots.now }
     ensures within { result.0 ≤ length slots.now }
-    ensures place { (slot : ℕ) → enter slot left (dues times.now slots.now) ≡ take result.0 (dues times.now slots.now) ++ put slot result.1 (drop result.0 (dues times.now slots.now)) }
-    ensures less { result.0 < length slots.now → result.1 ≤ slice_index times.now (slice_index slots.now result.0) }
+    ensures place { (slot : ℕ) →
+        enter slot left (dues times.now slots.now) ≡ take result.0 (dues times.now slots.now)
+        ++ put slot result.1 (drop result.0 (dues times.now slots.now)) }
+    ensures less { result.0 < length slots.now →
+        result.1 ≤ slice_index times.now (slice_index slots.now result.0) }
     ensures most { result.1 ≤ left }
 {
     let mut rest = left;
@@ -50,9 +54,11 @@ fn lessen<L: Ledger>(
     accesses: &mut Accesses<L>,
 )
     requires queue { IsQueue times.old slots.now }
-    requires most { at < length slots.now → less ≤ slice_index times.old (slice_index slots.now at) }
+    requires most { at < length slots.now →
+        less ≤ slice_index times.old (slice_index slots.now at) }
     ensures all { length times.new ≡ 128 }
-    ensures after { dues times.new slots.now ≡ take at (dues times.old slots.now) ++ less_first less (drop at (dues times.old slots.now)) }
+    ensures after { dues times.new slots.now ≡ take at (dues times.old slots.now)
+        ++ less_first less (drop at (dues times.old slots.now)) }
 {
     if at >= slots.len() {
         return;
@@ -71,9 +77,11 @@ fn raise<L: Ledger>(
     accesses: &mut Accesses<L>,
 )
     requires queue { IsQueue times.old slots.now }
-    requires fits { at < length slots.now → more + slice_index times.old (slice_index slots.now at) < 2 ^ 16 }
+    requires fits { at < length slots.now →
+        more + slice_index times.old (slice_index slots.now at) < 2 ^ 16 }
     ensures all { length times.new ≡ 128 }
-    ensures after { dues times.new slots.now ≡ take at (dues times.old slots.now) ++ add_first more (drop at (dues times.old slots.now)) }
+    ensures after { dues times.new slots.now ≡ take at (dues times.old slots.now)
+        ++ add_first more (drop at (dues times.old slots.now)) }
 {
     if at >= slots.len() {
         return;
@@ -99,7 +107,8 @@ fn enter_into<L: Ledger>(
     requires parts { blank.parts ≡ L.parts }
     requires some { 0 < L.parts }
     ensures queue { IsQueue times.new slots.new.items }
-    ensures after { dues times.new slots.new.items ≡ enter slot left (dues times.old slots.old.items) }
+    ensures after { dues times.new slots.new.items
+        ≡ enter slot left (dues times.old slots.old.items) }
 {
     let mut accesses = Accesses::<L>::open(blank);
     let (at, rest) = place_for(slots.as_slice(), times, left);
@@ -128,7 +137,8 @@ fn leave_from<L: Ledger>(slots: &mut ArrayVec<u8, 128>, times: &mut Times, slot:
 /// The ticks left of each slot.
 fn lefts_in(slots: &[u8], times: &Times) -> [u16; 128]
     requires { IsQueue times.now slots.now }
-    ensures { AllByRecursion (λ i. slice_index result i ≡ ticks_left (dues times.now slots.now) i) slots.now }
+    ensures { AllByRecursion (λ i. slice_index result i
+        ≡ ticks_left (dues times.now slots.now) i) slots.now }
 {
     let mut lefts = [0; 128];
     let mut left = 0;
@@ -139,8 +149,8 @@ fn lefts_in(slots: &[u8], times: &Times) -> [u16; 128]
     lefts
 }
 
-/// The slots in use, in the order in which their neighbors expire, each with the difference of its ticks left to those of
-/// the slot before it.
+/// The slots in use, in the order in which their neighbors expire, each with the difference of its
+/// ticks left to those of the slot before it.
 #[derive(Drop)]
 pub(crate) struct Queue {
     slots: ArrayVec<u8, 128>,
@@ -230,7 +240,8 @@ impl Queue {
 
     /// The ticks left of each slot.
     pub(crate) fn lefts(&self) -> [u16; 128]
-        ensures { (slot : ℕ) → holds slot self.now ≡ true → slice_index result slot ≡ ticks_left self.now slot }
+        ensures { (slot : ℕ) → holds slot self.now ≡ true →
+            slice_index result slot ≡ ticks_left self.now slot }
     {
         lefts_in(self.slots.as_slice(), &self.times)
     }

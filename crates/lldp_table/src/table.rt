@@ -21,9 +21,11 @@ use std::sync::ledger::{Blank, Ledger};
 /// The neighbors of one port. Only `open` takes memory, and no other call is ever refused.
 #[derive(Drop)]
 pub struct Table<A: Allocator> {
-    /// The slots that were ever used. The room for all that may be held is taken at opening, and no slot is ever moved.
+    /// The slots that were ever used. The room for all that may be held is taken at opening, and no
+    /// slot is ever moved.
     slots: Vec<Slot, A>,
-    /// The index of each of these: first those in use, in the order in which their neighbors were last new.
+    /// The index of each of these: first those in use, in the order in which their neighbors were
+    /// last new.
     order: ArrayVec<u8, 128>,
     /// How many slots are in use.
     used: u8,
@@ -49,8 +51,8 @@ impl<A: Allocator> Model for Table<A> {
 }
 
 impl<A: Allocator> Table<A> {
-    /// An empty table. Takes the memory for `limit` neighbors of 1,500 octets each, at once; an error says that there
-    /// was none.
+    /// An empty table. Takes the memory for `limit` neighbors of 1,500 octets each, at once; an
+    /// error says that there was none.
     pub fn open(alloc: A, limit: u8) -> Result<Table<A>, AllocError>
         requires least { 0 < limit }
         requires most { limit ≤ 128 }
@@ -67,7 +69,8 @@ impl<A: Allocator> Table<A> {
         })
     }
 
-    /// Stores a frame where its neighbor is held, or where there is room for it; a frame that finds none is dropped.
+    /// Stores a frame where its neighbor is held, or where there is room for it; a frame that finds
+    /// none is dropped.
     pub fn learn(&mut self, info: &Info<'_>) -> Learned
         requires { length info.now.octets ≤ 1500 }
         ensures answer { result ≡ learn_answer self.old info.now.msap }
@@ -136,8 +139,9 @@ impl<A: Allocator> Table<A> {
         self.too_many = 0;
     }
 
-    /// A second has passed: one tick less is left of each neighbor and of the too-many timer. Tells how many neighbors
-    /// aged out. It stands with what it calls in the caller's loop, since most ticks look at the first neighbor alone.
+    /// A second has passed: one tick less is left of each neighbor and of the too-many timer. Tells
+    /// how many neighbors aged out. It stands with what it calls in the caller's loop, since most
+    /// ticks look at the first neighbor alone.
     #[inline(always)]
     pub fn tick(&mut self) -> u8
         ensures answer { result + length self.new.neighbors ≡ length self.old.neighbors }
@@ -162,8 +166,8 @@ impl<A: Allocator> Table<A> {
         self.tick_counted(&mut Accesses::<L>::open(blank))
     }
 
-    /// A tick that counts its accesses to stored times: at most two for each neighbor that ages out, and two more. It does
-    /// what `tick` does, which is this call with a count of its own.
+    /// A tick that counts its accesses to stored times: at most two for each neighbor that ages
+    /// out, and two more. It does what `tick` does, which is this call with a count of its own.
     #[inline(always)]
     pub fn tick_counted<L: Ledger>(&mut self, accesses: &mut Accesses<L>) -> u8
         ensures answer { result + length self.new.neighbors ≡ length self.old.neighbors }
@@ -182,7 +186,8 @@ impl<A: Allocator> Table<A> {
         gone
     }
 
-    /// Changes the limit in force, to one from 1 to that of opening and to no less than the number of neighbors held.
+    /// Changes the limit in force, to one from 1 to that of opening and to no less than the number
+    /// of neighbors held.
     pub fn set_limit(&mut self, limit: u8)
         requires least { 0 < limit }
         requires most { limit ≤ self.old.capacity }
@@ -255,8 +260,8 @@ impl<A: Allocator> Table<A> {
         }
     }
 
-    /// The neighbor at place `i` of the order, from 0. It goes over all neighbors: whoever reads each of them calls `lefts`
-    /// once, and `entry_with`.
+    /// The neighbor at place `i` of the order, from 0. It goes over all neighbors: whoever reads
+    /// each of them calls `lefts` once, and `entry_with`.
     pub fn entry(&self, i: u8) -> Entry<'_>
         requires { i < length self.now.neighbors }
         ensures value { slice_get self.now.neighbors i ≡ Some result }

@@ -10,7 +10,8 @@ use std::alloc::Allocator;
 use std::process::Abort;
 use std::test::Fail;
 
-/// A Chassis ID with the MAC 00:11:22:33:44:55, a Port ID with the interface name `eth` and this octet, a TTL and an End.
+/// A Chassis ID with the MAC 00:11:22:33:44:55, a Port ID with the interface name `eth` and this
+/// octet, a TTL and an End.
 fn lldpdu(port: u8, ttl: u8) -> [u8; 22] {
     [
         0x02, 0x07, 0x04, 0x00, 0x11, 0x22, 0x33, 0x44, 0x55, 0x04, 0x05, 0x05, b'e', b't', b'h',
@@ -197,8 +198,8 @@ fn kept_tlvs(rt: HostRuntime) -> Result<(), Fail> {
     Ok(())
 }
 
-/// The one allocation is for all neighbors, and is refused where there is less room. No call after it takes any, where
-/// none is left.
+/// The one allocation is for all neighbors, and is refused where there is less room. No call after
+/// it takes any, where none is left.
 #[test]
 fn memory(rt: HostRuntime) -> Result<(), Fail> {
     for limit in [1u8, 32, 128] {

@@ -1,10 +1,12 @@
-//! The stored times. A time is reached by a get or a set, which are counted, or by a look, which changes nothing.
+//! The stored times. A time is reached by a get or a set, which are counted, or by a look, which
+//! changes nothing.
 ghost use Rattle.std.specs.Prelude.{◌≡◌, ℕ, ◌+◌, ◌<◌, length, slice_index, slice_set};
 
 use std::marker::Model;
 use std::sync::ledger::{Blank, Book, Ledger, Share};
 
-/// How many gets and sets of stored times were made. It takes no bytes, and nothing but a get and a set changes it.
+/// How many gets and sets of stored times were made. It takes no bytes, and nothing but a get and a
+/// set changes it.
 #[derive(Drop)]
 pub struct Accesses<L: Ledger> {
     book: Book<L>,

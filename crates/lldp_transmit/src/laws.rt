@@ -1,4 +1,5 @@
-//! Laws over the definitions alone, for whoever composes with the machine or wants to believe the definitions.
+//! Laws over the definitions alone, for whoever composes with the machine or wants to believe the
+//! definitions.
 
 ghost use Rattle.std.specs.Prelude.{◌≡◌, ◌↔◌, IsTrue, ℕ, List, [], ◌∷◌, map};
 ghost use Rattle.lldp_transmit.specs.History.{Settings, Event, History, event};
@@ -16,7 +17,8 @@ pub fn opened_stands()
     ensures { (s : Settings) → AreSettings s → Stands s [] (opened s) }
 {}
 
-/// A step carries standing from every history to that history and the event, and answers the mark of the event.
+/// A step carries standing from every history to that history and the event, and answers the mark
+/// of the event.
 pub fn step_carries()
     ensures stands { (s : Settings) (past : History) (t : Machine) (e : Event) →
         Stands s past t → Stands s (e ∷ past) (stepped t e.cause e.interval).0 }
@@ -24,7 +26,8 @@ pub fn step_carries()
         Stands s past t → (stepped t e.cause e.interval).1 ≡ mark_at s (e ∷ past) }
 {}
 
-/// Where nothing concerns a port, its machine needs no call: it stands for that event too, and no frame goes.
+/// Where nothing concerns a port, its machine needs no call: it stands for that event too, and no
+/// frame goes.
 pub fn nothing_changes()
     ensures stands { (s : Settings) (past : History) (t : Machine) (interval : ℕ) →
         Stands s past t → Stands s (event Cause.Nothing interval ∷ past) t }
@@ -32,55 +35,68 @@ pub fn nothing_changes()
         Stands s past t → mark_at s (event Cause.Nothing interval ∷ past) ≡ Mark.Quiet }
 {}
 
-/// Whatever a port has seen, its windows hold: no run of events has more ordinary frames than txCreditMax and the ticks
-/// after its first event, nor more stops than one and one for each reinitDelay ticks; and up to no event has another
-/// choice of due and open events had more frames.
+/// Whatever a port has seen, its windows hold: no run of events has more ordinary frames than
+/// txCreditMax and the ticks after its first event, nor more stops than one and one for each
+/// reinitDelay ticks; and up to no event has another choice of due and open events had more frames.
 pub fn windows_hold()
     ensures { (s : Settings) (h : History) → AreSettings s → WindowsHold s h }
 {}
 
-/// The ordinary frames are themselves a choice of due and open events, so that none that is earlier can be better.
+/// The ordinary frames are themselves a choice of due and open events, so that none that is earlier
+/// can be better.
 pub fn frames_are_timely()
-    ensures { (s : Settings) (h : History) → AreTimely s (map (λ m. m.sent) (moments s h)) (moments s h) }
+    ensures { (s : Settings) (h : History) →
+        AreTimely s (map (λ m. m.sent) (moments s h)) (moments s h) }
 {}
 
-/// Active, rested, start and stop, said of positions: an active port has a start with no stop and no lost link since; it
-/// has rested where each stop is long enough ago.
+/// Active, rested, start and stop, said of positions: an active port has a start with no stop and
+/// no lost link since; it has rested where each stop is long enough ago.
 pub fn activity_by_positions()
-    ensures active { (s : Settings) (h : History) → IsTrue (is_active (moments s h)) ↔ HasStarted (moments s h) }
-    ensures rested { (s : Settings) (past : List Moment) → IsTrue (rested s past) ↔ HasRested s past }
+    ensures active { (s : Settings) (h : History) →
+        IsTrue (is_active (moments s h)) ↔ HasStarted (moments s h) }
+    ensures rested { (s : Settings) (past : List Moment) →
+        IsTrue (rested s past) ↔ HasRested s past }
     ensures start { (s : Settings) (h : History) (e : Event) →
-        IsTrue (moment s (moments s h) e).start ↔ IsStart s (moments s h) (moment s (moments s h) e) }
+        IsTrue (moment s (moments s h) e).start
+        ↔ IsStart s (moments s h) (moment s (moments s h) e) }
     ensures stop { (s : Settings) (h : History) (e : Event) →
         IsTrue (moment s (moments s h) e).stop ↔ IsStop s (moments s h) (moment s (moments s h) e) }
 {}
 
-/// Signals, bursts, distances and the end of the timer, said of positions: of the last signal and the last opening of a
-/// burst.
+/// Signals, bursts, distances and the end of the timer, said of positions: of the last signal and
+/// the last opening of a burst.
 pub fn signals_by_positions()
     ensures signal { (s : Settings) (h : History) (e : Event) →
-        IsTrue (moment s (moments s h) e).signal ↔ IsSignal s (moments s h) (moment s (moments s h) e) }
+        IsTrue (moment s (moments s h) e).signal
+        ↔ IsSignal s (moments s h) (moment s (moments s h) e) }
     ensures opening { (s : Settings) (h : History) (e : Event) →
-        IsTrue (moment s (moments s h) e).opening ↔ IsOpening s (moments s h) (moment s (moments s h) e) }
-    ensures left { (s : Settings) (ms : List Moment) (n : ℕ) → (n ≡ signals_left s ms) ↔ AreLeft s ms n }
+        IsTrue (moment s (moments s h) e).opening
+        ↔ IsOpening s (moments s h) (moment s (moments s h) e) }
+    ensures left { (s : Settings) (ms : List Moment) (n : ℕ) →
+        (n ≡ signals_left s ms) ↔ AreLeft s ms n }
     ensures distance { (s : Settings) (m : Moment) (before : List Moment) (d : ℕ) →
         (d ≡ distance s (m ∷ before)) ↔ IsDistance s m before d }
-    ensures timer { (s : Settings) (past : List Moment) (m : Moment) → IsTrue (timer_ends s past m) ↔ IsTimerEnd s past m }
+    ensures timer { (s : Settings) (past : List Moment) (m : Moment) →
+        IsTrue (timer_ends s past m) ↔ IsTimerEnd s past m }
 {}
 
-/// Waiting, due, open, sent and the credit, said of positions: a frame waits where a signal since the start has had
-/// none, and is due where the port is active too; a window is open where, with one frame more, each run that ends now is
-/// within its bound; the credit is the least that any run leaves of its bound, and no other number is.
+/// Waiting, due, open, sent and the credit, said of positions: a frame waits where a signal since
+/// the start has had none, and is due where the port is active too; a window is open where, with
+/// one frame more, each run that ends now is within its bound; the credit is the least that any run
+/// leaves of its bound, and no other number is.
 pub fn sending_by_positions()
     ensures waiting { (ms : List Moment) → IsTrue (is_waiting ms) ↔ HasWanted ms }
     ensures due { (s : Settings) (h : History) (e : Event) →
-        IsTrue (due (moments s h) (moment s (moments s h) e)) ↔ IsDue (moments s h) (moment s (moments s h) e) }
+        IsTrue (due (moments s h) (moment s (moments s h) e))
+        ↔ IsDue (moments s h) (moment s (moments s h) e) }
     ensures open { (s : Settings) (past : List Moment) (m : Moment) →
         AreSettings s → IsTrue (open_at s past m) ↔ IsOpen s past m }
     ensures credit { (s : Settings) (h : History) →
         AreSettings s → IsLeastRoom s (moments s h) (credit_left s (moments s h)) }
     ensures one_credit { (s : Settings) (ms : List Moment) (credit other : ℕ) →
         IsLeastRoom s ms credit → IsLeastRoom s ms other → credit ≡ other }
-    ensures sent { (s : Settings) (h : History) (e : Event) → AreSettings s → IsTrue (moment s (moments s h) e).sent
-        ↔ (IsDue (moments s h) (moment s (moments s h) e) × IsOpen s (moments s h) (moment s (moments s h) e)) }
+    ensures sent { (s : Settings) (h : History) (e : Event) → AreSettings s →
+        IsTrue (moment s (moments s h) e).sent
+        ↔ (IsDue (moments s h) (moment s (moments s h) e)
+        × IsOpen s (moments s h) (moment s (moments s h) e)) }
 {}

@@ -1,8 +1,8 @@
 //! When a port sends: the transmit machine of one port (IEEE 802.1AB-2009, clause 9).
 //!
-//! A port is told its events one by one and answers the frame that goes. What it answers is said by the whole list of
-//! events, without a counter: an ordinary frame goes exactly where one is due and its window is open, a shutdown frame
-//! exactly where an active port loses the right to transmit.
+//! A port is told its events one by one and answers the frame that goes. What it answers is said by
+//! the whole list of events, without a counter: an ordinary frame goes exactly where one is due and
+//! its window is open, a shutdown frame exactly where an active port loses the right to transmit.
 #![tactic(auto)]
 
 mod event;

@@ -73,8 +73,9 @@ impl Model for Transmit {
 impl Transmit {
     /// A machine with full credit, on a port whose link is up and that is not active.
     ///
-    /// `credit_max` is txCreditMax, 1 to 10; `fast_init` is txFastInit, 1 to 8; `reinit` is reinitDelay in seconds, 1
-    /// to 10; `allowed` tells whether the port may transmit from the start.
+    /// `credit_max` is txCreditMax, 1 to 10; `fast_init` is txFastInit, 1 to 8; `reinit` is
+    /// reinitDelay in seconds, 1 to 10; `allowed` tells whether the port may transmit from the
+    /// start.
     pub fn new(credit_max: u8, fast_init: u8, reinit: u8, allowed: bool) -> Self
         requires { AreSettings (settings credit_max fast_init reinit allowed) }
         ensures value { result ≡ opened (settings credit_max fast_init reinit allowed) }
@@ -95,30 +96,38 @@ impl Transmit {
         }
     }
 
-    /// Takes one event, with the tx-interval in force after it (1 to 3600 seconds), and tells which frame goes.
+    /// Takes one event, with the tx-interval in force after it (1 to 3600 seconds), and tells which
+    /// frame goes.
     ///
-    /// Where nothing changes by a `Stop` or an `Allow`, and for a `Change` or a `Neighbor` on a port that is not
-    /// active, that is none, and for a `Down`, an `Up` or `Nothing` always.
+    /// Where nothing changes by a `Stop` or an `Allow`, and for a `Change` or a `Neighbor` on a
+    /// port that is not active, that is none, and for a `Down`, an `Up` or `Nothing` always.
     pub fn event(&mut self, cause: Cause, interval: u16) -> Mark
         // What the machine is after the event, and its answer, computed from what it was.
         ensures next { self.new ≡ (stepped self.old cause interval).0 }
         ensures answer { result ≡ (stepped self.old cause interval).1 }
 
         // Whatever the machine stood for, it now stands for that and this event.
-        ensures stands { ForEachHistory self.old (λ s past. Stands s (event cause interval ∷ past) self.new) }
+        ensures stands { ForEachHistory self.old (λ s past.
+            Stands s (event cause interval ∷ past) self.new) }
 
-        // The mark is that of the event: Ordinary exactly where a frame is due and its window open, Shutdown exactly at a stop.
-        ensures mark { ForEachHistory self.old (λ s past. result ≡ mark_at s (event cause interval ∷ past)) }
+        // The mark is that of the event: Ordinary exactly where a frame is due and its window open,
+        // Shutdown exactly at a stop.
+        ensures mark { ForEachHistory self.old (λ s past. result
+            ≡ mark_at s (event cause interval ∷ past)) }
         ensures ordinary { ForEachHistory self.old (λ s past.
             (result ≡ Mark.Ordinary) ↔ IsDueAndOpen s past (event cause interval)) }
         ensures shutdown { ForEachHistory self.old (λ s past.
             (result ≡ Mark.Shutdown) ↔ StopsAt s past (event cause interval)) }
 
-        // No run of events up to this one has more frames than txCreditMax and the ticks after its first event, or more
-        // stops than one and one for each reinitDelay ticks. No other choice of due and open events has had more frames.
-        ensures bounded { ForEachHistory self.old (λ s past. IsBoundedWith s past (event cause interval) result) }
-        ensures few_stops { ForEachHistory self.old (λ s past. StopsRarelyWith s past (event cause interval) result) }
-        ensures earliest { ForEachHistory self.old (λ s past. IsEarliestWith s past (event cause interval) result) }
+        // No run of events up to this one has more frames than txCreditMax and the ticks after its
+        // first event, or more stops than one and one for each reinitDelay ticks. No other choice
+        // of due and open events has had more frames.
+        ensures bounded { ForEachHistory self.old (λ s past.
+            IsBoundedWith s past (event cause interval) result) }
+        ensures few_stops { ForEachHistory self.old (λ s past.
+            StopsRarelyWith s past (event cause interval) result) }
+        ensures earliest { ForEachHistory self.old (λ s past.
+            IsEarliestWith s past (event cause interval) result) }
     {
         self.step(cause, interval)
     }
@@ -181,7 +190,8 @@ impl Transmit {
 
     /// A tick adds one credit, at most to txCreditMax.
     fn refill(&mut self)
-        ensures { self.new ≡ record self.old { credit = min self.old.credit_max (self.old.credit + 1) } }
+        ensures { self.new
+            ≡ record self.old { credit = min self.old.credit_max (self.old.credit + 1) } }
     {
         if self.credit < self.credit_max {
             self.credit += 1;
@@ -190,7 +200,8 @@ impl Transmit {
 
     /// Both clocks run down.
     fn run_down(&mut self)
-        ensures { self.new ≡ record self.old { wait = self.old.wait - 1; timer = self.old.timer - 1 } }
+        ensures { self.new
+            ≡ record self.old { wait = self.old.wait - 1; timer = self.old.timer - 1 } }
     {
         self.timer = self.timer.saturating_sub(1);
         if self.wait > 0 {
@@ -254,7 +265,8 @@ impl Transmit {
     /// Whether the port may transmit: by the last `Stop` or `Allow`, else as it was opened.
     pub fn is_allowed(&self) -> bool
         ensures value { result ≡ self.now.allowed }
-        ensures allowed { ForEachHistory self.now (λ s past. result ≡ is_allowed s (moments s past)) }
+        ensures allowed { ForEachHistory self.now (λ s past. result
+            ≡ is_allowed s (moments s past)) }
     {
         self.allowed
     }

@@ -6,7 +6,8 @@ use std::alloc::{AllocError, Global};
 use std::process::Abort;
 use std::test::Fail;
 
-/// A Management Address, an organizationally specific TLV, one of the reserved type 9, and a System Description.
+/// A Management Address, an organizationally specific TLV, one of the reserved type 9, and a System
+/// Description.
 const MANY_KINDS: &[u8] = &[
     0x10, 0x18, 0x11, 0x02, 0x20, 0x01, 0x0d, 0xb8, 0x00, 0x00, 0x00, 0x00, 0x00, 0x00, 0x00, 0x00,
     0x00, 0x00, 0x00, 0x01, 0x02, 0x00, 0x00, 0x00, 0x07, 0x00, 0xfe, 0x04, 0x00, 0x12, 0x0f, 0x01,
@@ -92,8 +93,8 @@ fn cut_and_altered(rt: HostRuntime) -> Result<(), Fail> {
     Ok(())
 }
 
-/// The fronts of a frame of 36 octets. Of those with an Ethernet header, the LLDPDUs of up to 19 octets are refused, and
-/// that of 21 ends in a lone octet, which is one discarded TLV.
+/// The fronts of a frame of 36 octets. Of those with an Ethernet header, the LLDPDUs of up to 19
+/// octets are refused, and that of 21 ends in a lone octet, which is one discarded TLV.
 #[test]
 fn cut_frames(rt: HostRuntime) -> Result<(), Fail> {
     let frame = joined(&rt, &[HEADER, CHASSIS, PORT, TTL_120, END]);
@@ -120,8 +121,8 @@ fn cut_frames(rt: HostRuntime) -> Result<(), Fail> {
     Ok(())
 }
 
-/// A frame of 36 octets with one changed, at each place and to each other value: it is no LLDP frame exactly where the
-/// destination (6 octets) or the EtherType (2) is another.
+/// A frame of 36 octets with one changed, at each place and to each other value: it is no LLDP
+/// frame exactly where the destination (6 octets) or the EtherType (2) is another.
 #[test]
 fn one_octet_changed(rt: HostRuntime) -> Result<(), Fail> {
     let frame = joined(&rt, &[HEADER, CHASSIS, PORT, TTL_120, END]);

@@ -1,5 +1,6 @@
-//! An examination written from the definitions over whole lists, to compare `examine` with. It shares no code with the
-//! crate and may be slow: it cuts the whole list first, and looks for earlier TLVs anew at each TLV.
+//! An examination written from the definitions over whole lists, to compare `examine` with. It
+//! shares no code with the crate and may be slow: it cuts the whole list first, and looks for
+//! earlier TLVs anew at each TLV.
 use crate::PduFault;
 use std::alloc::{AllocError, Global};
 
@@ -10,7 +11,8 @@ pub struct Unit<'a> {
     pub body: &'a [u8],
 }
 
-/// The TLV that the octets begin with, and the octets after it. A header has 7 bits of type and 9 of length.
+/// The TLV that the octets begin with, and the octets after it. A header has 7 bits of type and 9
+/// of length.
 fn front(octets: &[u8]) -> Option<(Unit<'_>, &[u8])> {
     let high = *octets.first()?;
     let low = *octets.get(1)?;
@@ -116,7 +118,8 @@ impl<'a> Cut<'a> {
         Ok(kept)
     }
 
-    /// How many TLVs are discarded where so many are kept: the other later ones, and one that is not complete and ended the extent.
+    /// How many TLVs are discarded where so many are kept: the other later ones, and one that is
+    /// not complete and ended the extent.
     pub fn discarded(&self, kept: usize) -> usize {
         let incomplete = self.units.iter().all(|unit| unit.kind != 0) && !self.rest.is_empty();
         self.later()
@@ -152,7 +155,8 @@ fn is_capabilities(body: &[u8]) -> bool {
             .all(|(available, enabled)| available | enabled == *available)
 }
 
-/// An octet m of 2 to 32, m octets, 5 octets, an octet o up to 128, and o octets: there are an m and an o.
+/// An octet m of 2 to 32, m octets, 5 octets, an octet o up to 128, and o octets: there are an m
+/// and an o.
 fn is_management_address(body: &[u8]) -> bool {
     let has = |place: usize, octet: usize| body
         .get(place)

@@ -1,4 +1,5 @@
-//! A full table with random times to live, against a model that keeps the tick at which each neighbor expires.
+//! A full table with random times to live, against a model that keeps the tick at which each
+//! neighbor expires.
 ghost use Rattle.std.specs.Prelude.{◌<◌};
 
 use super::{lldpdu, told};
@@ -15,7 +16,8 @@ struct Held {
     expires: u32,
 }
 
-/// The neighbors in the order in which they were last new, and the tick until which there are too many.
+/// The neighbors in the order in which they were last new, and the tick until which there are too
+/// many.
 #[derive(Drop)]
 struct Expiries {
     held: ArrayVec<Held, 128>,
