@@ -42,27 +42,53 @@ fn expect_entry<A: Allocator>(rt: &impl Abort, table: &Table<A>, i: u8, pdu: &[u
     assert!(rt; entry.kept().next().is_none());
 }
 
+/// A frame comes, and this becomes of it.
+fn learns<A: Allocator>(rt: &impl Abort, table: &mut Table<A>, pdu: &[u8; 22], answer: Learned) {
+    assert_eq!(rt; table.learn(&told(rt, pdu)), answer);
+}
+
+/// The neighbor of the frame takes leave, and was held or not.
+fn forgets<A: Allocator>(rt: &impl Abort, table: &mut Table<A>, pdu: &[u8; 22], held: bool) {
+    assert_eq!(rt; table.forget(&told(rt, pdu).msap()), held);
+}
+
+/// So many ticks come, at each of which so many neighbors age out.
+fn ticks<A: Allocator>(rt: &impl Abort, table: &mut Table<A>, count: u8, gone: u8) {
+    for _ in 0..count {
+        assert_eq!(rt; table.tick(), gone);
+    }
+}
+
+/// Another limit, which the table can be given.
+fn limits<A: Allocator>(rt: &impl Abort, table: &mut Table<A>, limit: u8) {
+    assert!(rt; 0 < limit && limit <= table.capacity() && table.len() <= limit);
+    table.set_limit(limit);
+    assert_eq!(rt; table.limit(), limit);
+}
+
+/// How many neighbors and octets the table holds, and whether too many came.
+fn expect_held<A: Allocator>(rt: &impl Abort, table: &Table<A>, held: (u8, u32, bool)) {
+    assert_eq!(rt; (table.len(), table.octets(), table.too_many()), held);
+}
+
 #[test]
 fn table_of_one(rt: HostRuntime) -> Result<(), Fail> {
     let (a, b) = (lldpdu(b'0', 120), lldpdu(b'1', 120));
     let mut table = Table::open(rt.alloc(), 1)?;
     assert_eq!(rt; (table.len(), table.limit(), table.capacity()), (0, 1, 1));
-    assert_eq!(rt; table.learn(&told(&rt, &a)), Learned::New);
-    assert_eq!(rt; table.learn(&told(&rt, &b)), Learned::Dropped);
-    assert!(rt; table.too_many());
-    assert_eq!(rt; table.learn(&told(&rt, &a)), Learned::Refreshed);
+    learns(&rt, &mut table, &a, Learned::New);
+    learns(&rt, &mut table, &b, Learned::Dropped);
+    learns(&rt, &mut table, &a, Learned::Refreshed);
+    expect_held(&rt, &table, (1, 20, true));
     expect_entry(&rt, &table, 0, &a, 120);
     table.purge();
-    assert_eq!(rt;
-        (table.len(), table.octets(), table.too_many()),
-        (0, 0, false)
-    );
-    assert_eq!(rt; table.learn(&told(&rt, &b)), Learned::New);
+    expect_held(&rt, &table, (0, 0, false));
+    learns(&rt, &mut table, &b, Learned::New);
     expect_entry(&rt, &table, 0, &b, 120);
-    assert!(rt; !table.forget(&told(&rt, &a).msap()));
-    assert!(rt; table.forget(&told(&rt, &b).msap()));
-    assert!(rt; !table.forget(&told(&rt, &b).msap()));
-    assert_eq!(rt; table.tick(), 0);
+    forgets(&rt, &mut table, &a, false);
+    forgets(&rt, &mut table, &b, true);
+    forgets(&rt, &mut table, &b, false);
+    ticks(&rt, &mut table, 1, 0);
     Ok(())
 }
 
@@ -70,25 +96,17 @@ fn table_of_one(rt: HostRuntime) -> Result<(), Fail> {
 fn full_table(rt: HostRuntime) -> Result<(), Fail> {
     let (a, b) = (lldpdu(b'0', 120), lldpdu(b'1', 120));
     let mut table = Table::open(rt.alloc(), 2)?;
-    assert_eq!(rt; table.learn(&told(&rt, &a)), Learned::New);
-    assert_eq!(rt; table.learn(&told(&rt, &b)), Learned::New);
-    assert_eq!(rt; table.learn(&told(&rt, &lldpdu(b'2', 9))), Learned::Dropped);
-    assert_eq!(rt; table.learn(&told(&rt, &lldpdu(b'3', 5))), Learned::Dropped);
-    assert_eq!(rt; table.learn(&told(&rt, &a)), Learned::Refreshed);
-    for _ in 0..8 {
-        assert_eq!(rt; table.tick(), 0);
-    }
-    assert_eq!(rt;
-        (table.len(), table.octets(), table.too_many()),
-        (2, 40, true)
-    );
+    learns(&rt, &mut table, &a, Learned::New);
+    learns(&rt, &mut table, &b, Learned::New);
+    learns(&rt, &mut table, &lldpdu(b'2', 9), Learned::Dropped);
+    learns(&rt, &mut table, &lldpdu(b'3', 5), Learned::Dropped);
+    learns(&rt, &mut table, &a, Learned::Refreshed);
+    ticks(&rt, &mut table, 8, 0);
+    expect_held(&rt, &table, (2, 40, true));
     expect_entry(&rt, &table, 0, &a, 112);
     expect_entry(&rt, &table, 1, &b, 112);
-    assert_eq!(rt; table.tick(), 0);
-    assert_eq!(rt;
-        (table.len(), table.octets(), table.too_many()),
-        (2, 40, false)
-    );
+    ticks(&rt, &mut table, 1, 0);
+    expect_held(&rt, &table, (2, 40, false));
     expect_entry(&rt, &table, 0, &a, 111);
     expect_entry(&rt, &table, 1, &b, 111);
     Ok(())
@@ -98,13 +116,10 @@ fn full_table(rt: HostRuntime) -> Result<(), Fail> {
 fn room_after_expiry(rt: HostRuntime) -> Result<(), Fail> {
     let (a1, b) = (lldpdu(b'0', 1), lldpdu(b'1', 120));
     let mut table = Table::open(rt.alloc(), 1)?;
-    assert_eq!(rt; table.learn(&told(&rt, &a1)), Learned::New);
-    assert_eq!(rt; table.tick(), 1);
-    assert_eq!(rt; table.learn(&told(&rt, &b)), Learned::New);
-    assert_eq!(rt;
-        (table.len(), table.octets(), table.too_many()),
-        (1, 20, false)
-    );
+    learns(&rt, &mut table, &a1, Learned::New);
+    ticks(&rt, &mut table, 1, 1);
+    learns(&rt, &mut table, &b, Learned::New);
+    expect_held(&rt, &table, (1, 20, false));
     expect_entry(&rt, &table, 0, &b, 120);
     Ok(())
 }
@@ -113,23 +128,19 @@ fn room_after_expiry(rt: HostRuntime) -> Result<(), Fail> {
 fn refresh_to_an_earlier_expiry(rt: HostRuntime) -> Result<(), Fail> {
     let (a, c, d) = (lldpdu(b'0', 120), lldpdu(b'2', 9), lldpdu(b'3', 5));
     let mut table = Table::open(rt.alloc(), 3)?;
-    assert_eq!(rt; table.learn(&told(&rt, &a)), Learned::New);
-    assert_eq!(rt; table.learn(&told(&rt, &c)), Learned::New);
-    assert_eq!(rt; table.learn(&told(&rt, &d)), Learned::New);
-    assert_eq!(rt;
-        table.learn(&told(&rt, &lldpdu(b'0', 1))),
-        Learned::Refreshed
-    );
+    learns(&rt, &mut table, &a, Learned::New);
+    learns(&rt, &mut table, &c, Learned::New);
+    learns(&rt, &mut table, &d, Learned::New);
+    learns(&rt, &mut table, &lldpdu(b'0', 1), Learned::Refreshed);
     expect_entry(&rt, &table, 0, &lldpdu(b'0', 1), 1);
-    assert_eq!(rt; table.tick(), 1);
-    assert_eq!(rt; table.len(), 2);
+    ticks(&rt, &mut table, 1, 1);
+    expect_held(&rt, &table, (2, 40, false));
     expect_entry(&rt, &table, 0, &c, 8);
     expect_entry(&rt, &table, 1, &d, 4);
-    for gone in [0, 0, 0, 1] {
-        assert_eq!(rt; table.tick(), gone);
-    }
-    assert_eq!(rt; table.learn(&told(&rt, &a)), Learned::New);
-    assert_eq!(rt; table.len(), 2);
+    ticks(&rt, &mut table, 3, 0);
+    ticks(&rt, &mut table, 1, 1);
+    learns(&rt, &mut table, &a, Learned::New);
+    expect_held(&rt, &table, (2, 40, false));
     expect_entry(&rt, &table, 0, &c, 4);
     expect_entry(&rt, &table, 1, &a, 120);
     Ok(())
@@ -139,15 +150,13 @@ fn refresh_to_an_earlier_expiry(rt: HostRuntime) -> Result<(), Fail> {
 fn equal_expiries(rt: HostRuntime) -> Result<(), Fail> {
     let (a, b) = (lldpdu(b'0', 120), lldpdu(b'1', 120));
     let mut table = Table::open(rt.alloc(), 2)?;
-    assert_eq!(rt; table.learn(&told(&rt, &a)), Learned::New);
-    assert_eq!(rt; table.learn(&told(&rt, &b)), Learned::New);
-    for _ in 0..119 {
-        assert_eq!(rt; table.tick(), 0);
-    }
+    learns(&rt, &mut table, &a, Learned::New);
+    learns(&rt, &mut table, &b, Learned::New);
+    ticks(&rt, &mut table, 119, 0);
     expect_entry(&rt, &table, 0, &a, 1);
     expect_entry(&rt, &table, 1, &b, 1);
-    assert_eq!(rt; table.tick(), 2);
-    assert_eq!(rt; table.len(), 0);
+    ticks(&rt, &mut table, 1, 2);
+    expect_held(&rt, &table, (0, 0, false));
     Ok(())
 }
 
@@ -155,28 +164,20 @@ fn equal_expiries(rt: HostRuntime) -> Result<(), Fail> {
 fn lower_limit(rt: HostRuntime) -> Result<(), Fail> {
     let (a, b, c) = (lldpdu(b'0', 120), lldpdu(b'1', 120), lldpdu(b'2', 9));
     let mut table = Table::open(rt.alloc(), 3)?;
-    assert_eq!(rt; table.learn(&told(&rt, &a)), Learned::New);
-    assert_eq!(rt; table.learn(&told(&rt, &b)), Learned::New);
-    assert!(rt; table.len() <= 2 && table.capacity() == 3);
-    table.set_limit(2);
-    assert_eq!(rt; table.learn(&told(&rt, &c)), Learned::Dropped);
-    assert_eq!(rt;
-        (table.len(), table.octets(), table.too_many()),
-        (2, 40, true)
-    );
+    learns(&rt, &mut table, &a, Learned::New);
+    learns(&rt, &mut table, &b, Learned::New);
+    limits(&rt, &mut table, 2);
+    learns(&rt, &mut table, &c, Learned::Dropped);
+    expect_held(&rt, &table, (2, 40, true));
     expect_entry(&rt, &table, 0, &a, 120);
     expect_entry(&rt, &table, 1, &b, 120);
-    assert!(rt; table.len() <= 3 && table.capacity() == 3);
-    table.set_limit(3);
-    assert_eq!(rt; table.learn(&told(&rt, &c)), Learned::New);
-    assert_eq!(rt;
-        (table.len(), table.octets(), table.too_many()),
-        (3, 60, true)
-    );
+    limits(&rt, &mut table, 3);
+    learns(&rt, &mut table, &c, Learned::New);
+    expect_held(&rt, &table, (3, 60, true));
     expect_entry(&rt, &table, 0, &a, 120);
     expect_entry(&rt, &table, 1, &b, 120);
     expect_entry(&rt, &table, 2, &c, 9);
-    assert_eq!(rt; (table.limit(), table.capacity()), (3, 3));
+    assert_eq!(rt; table.capacity(), 3);
     Ok(())
 }
 
@@ -213,21 +214,17 @@ fn memory(rt: HostRuntime) -> Result<(), Fail> {
         assert!(rt; Vec::<u8, _>::with_capacity(&ample, 1).is_err());
         let used = ample.used();
         for port in 0..limit {
-            assert_eq!(rt; table.learn(&told(&rt, &lldpdu(port, 9))), Learned::New);
+            learns(&rt, &mut table, &lldpdu(port, 9), Learned::New);
             assert_eq!(rt; ample.used(), used);
         }
-        assert_eq!(rt;
-            table.learn(&told(&rt, &lldpdu(limit, 9))),
-            Learned::Dropped
-        );
-        assert_eq!(rt; table.learn(&told(&rt, &lldpdu(0, 1))), Learned::Refreshed);
+        learns(&rt, &mut table, &lldpdu(limit, 9), Learned::Dropped);
+        learns(&rt, &mut table, &lldpdu(0, 1), Learned::Refreshed);
         assert_eq!(rt; ample.used(), used);
-        assert!(rt; table.len() <= limit && table.capacity() == limit);
-        table.set_limit(limit);
+        limits(&rt, &mut table, limit);
         assert_eq!(rt; ample.used(), used);
-        assert_eq!(rt; table.tick(), 1);
+        ticks(&rt, &mut table, 1, 1);
         assert_eq!(rt; ample.used(), used);
-        assert_eq!(rt; table.forget(&told(&rt, &lldpdu(1, 9)).msap()), limit > 1);
+        forgets(&rt, &mut table, &lldpdu(1, 9), limit > 1);
         assert_eq!(rt; ample.used(), used);
         table.purge();
         assert_eq!(rt; ample.used(), used);

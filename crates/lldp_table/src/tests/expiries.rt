@@ -2,7 +2,7 @@
 //! neighbor expires.
 ghost use Rattle.std.specs.Prelude.{◌<◌};
 
-use super::{lldpdu, told};
+use super::{forgets, learns, lldpdu};
 use crate::*;
 use arrayvec::ArrayVec;
 use std::alloc::Allocator;
@@ -104,15 +104,9 @@ fn random_expiries(rt: HostRuntime) -> Result<(), Fail> {
         let port = random(&mut seed, 180);
         let ttl = random(&mut seed, 200) + 1;
         match random(&mut seed, 16) {
-            0 => assert_eq!(rt;
-                table.forget(&told(&rt, &lldpdu(port, 1)).msap()),
-                model.forget(port)
-            ),
+            0 => forgets(&rt, &mut table, &lldpdu(port, 1), model.forget(port)),
             1 | 2 => assert_eq!(rt; usize::from(table.tick()), model.tick()),
-            _ => assert_eq!(rt;
-                table.learn(&told(&rt, &lldpdu(port, ttl))),
-                model.learn(port, ttl)
-            ),
+            _ => learns(&rt, &mut table, &lldpdu(port, ttl), model.learn(port, ttl)),
         }
         if round == 2000 {
             table.purge();
