@@ -9,8 +9,8 @@ use Rattle.lldp_pdu.specs.WellFormed.{is_well_formed}
 use Rattle.lldp_pdu.specs.Tlv.{TlvUnit, spelling, spellings}
 use Rattle.lldp_pdu.specs.Draft.{Draft, CanPut, CanPutEach, CanBuild, with_tlv, all_tlvs}
 use Rattle.lldp_transmit.specs.declared.event.Mark.TheVariants.{Ordinary}
-use Rattle.lldp_engine.specs.declared.options.Role.{Role}
-use Rattle.lldp_engine.specs.declared.options.Role.TheVariants.{Station, Bridge, Router}
+use Rattle.lldp_engine.specs.declared.agent.options.Role.{Role}
+use Rattle.lldp_engine.specs.declared.agent.options.Role.TheVariants.{Station, Bridge, Router}
 use Rattle.lldp_engine.specs.Configuration.{Configuration, sent_ttl}
 use Rattle.lldp_engine.specs.Code.ShortText.{HasShortTexts}
 use Rattle.lldp_engine.specs.Frames.{unit, sent_msap, capabilities_of, management_body, management_tlvs, draft_of}
@@ -115,10 +115,16 @@ module _ (c : Configuration) (name : List ℕ) (some : 0 < length name) (short :
     can_describe : CanPutEach (begun (sent_ttl c)) (draft_of c name Ordinary).tlvs
     can_describe = (
       record { least = omega arith; greatest = omega arith; lives = lives; new = refl; short = omega (arith, short); well_formed = text_fits 4 name (inl refl) (omega (arith, short)); room = omega (arith, begun_length (sent_ttl c), short) },
-      (record { least = omega arith; greatest = omega arith; lives = lives; new = refl; short = omega (arith, h.hostname); well_formed = text_fits 5 c.hostname (inr (inl refl)) h.hostname; room = omega (arith, first_length, h.hostname) },
-      (record { least = omega arith; greatest = omega arith; lives = lives; new = refl; short = omega (arith, h.description); well_formed = text_fits 6 c.description (inr (inr refl)) h.description; room = omega (arith, second_length, h.description) },
-      (record { least = omega arith; greatest = omega arith; lives = lives; new = refl; short = omega (arith, four c.role); well_formed = role_fits c.role; room = omega (arith, third_length, four c.role) },
-      can_manage c.management h.management))),
+      (
+        record { least = omega arith; greatest = omega arith; lives = lives; new = refl; short = omega (arith, h.hostname); well_formed = text_fits 5 c.hostname (inr (inl refl)) h.hostname; room = omega (arith, first_length, h.hostname) },
+        (
+          record { least = omega arith; greatest = omega arith; lives = lives; new = refl; short = omega (arith, h.description); well_formed = text_fits 6 c.description (inr (inr refl)) h.description; room = omega (arith, second_length, h.description) },
+          (
+            record { least = omega arith; greatest = omega arith; lives = lives; new = refl; short = omega (arith, four c.role); well_formed = role_fits c.role; room = omega (arith, third_length, four c.role) },
+            can_manage c.management h.management,
+          ),
+        ),
+      ),
     )
 
     pub can_tell : CanBuild (draft_of c name Ordinary)

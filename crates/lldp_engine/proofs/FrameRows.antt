@@ -2,7 +2,7 @@
 use Rattle.std.proofs.Common.{◌≡◌, [], ◌∷◌, Some, None, refl}
 use Rattle.std.specs.Prelude.{codes}
 use Rattle.lldp_transmit.specs.declared.event.Mark.TheVariants.{Ordinary, Shutdown}
-use Rattle.lldp_engine.specs.declared.options.Role.TheVariants.{Station, Bridge}
+use Rattle.lldp_engine.specs.declared.agent.options.Role.TheVariants.{Station, Bridge}
 use Rattle.lldp_engine.specs.Configuration.{Configuration}
 use Rattle.lldp_engine.specs.Frames.{frame_of}
 

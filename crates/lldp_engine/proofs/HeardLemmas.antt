@@ -15,7 +15,7 @@ use Rattle.lldp_pdu.proofs.Cuts.{AreOctets-right}
 use Rattle.lldp_table.specs.Contents.{Contents}
 use Rattle.lldp_table.specs.Standing.{IsTold}
 use Rattle.lldp_table.proofs.ExtentLemmas.{lldpdu_is_extent}
-use Rattle.lldp_engine.specs.declared.status.Status.{Status}
+use Rattle.lldp_engine.specs.declared.port.status.Status.{Status}
 use Rattle.lldp_engine.specs.Status.{receives}
 use Rattle.lldp_engine.specs.Event as agent
 use Rattle.lldp_engine.specs.Event.{Event}

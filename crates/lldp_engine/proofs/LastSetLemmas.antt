@@ -2,7 +2,7 @@
 use Rattle.std.proofs.Common.{◌≡◌, ℕ, ◌⊎◌, inl, inr, Bool, true, false, List, [], ◌∷◌, ◌++◌, refl, ap, sym, ◌∙◌}
 use Rattle.std.specs.Prelude.{◌==◌}
 use Rattle.std.proofs.lemmas.Bool.Decides.{eqb_tells}
-use Rattle.lldp_engine.specs.declared.status.Status.{Status as PortStatus}
+use Rattle.lldp_engine.specs.declared.port.status.Status.{Status as PortStatus}
 use Rattle.lldp_engine.specs.Options.{Options}
 use Rattle.lldp_engine.specs.Event.{Event, frame, link, configure, hostname, description, interval, hold, limit, status}
 use Rattle.lldp_engine.specs.Configuration.{Configuration, configuration_at_opening, configured}

@@ -20,7 +20,7 @@ use Rattle.lldp_engine.specs.ConfigurationLines.{status_line, configuration_line
 use Rattle.lldp_engine.specs.Lines.{lines_of, octets_of}
 use Rattle.lldp_engine.specs.declared.command.Show.{Show}
 use Rattle.lldp_engine.specs.declared.command.Show.TheVariants.{Neighbors, Statistics, Chassis, Configuration as Configured}
-use Rattle.lldp_engine.specs.declared.lines.TheConstants.{MOST_LINES}
+use Rattle.lldp_engine.specs.declared.show.lines.TheConstants.{MOST_LINES}
 
 -- of a neighbor: 4, and at most (1500 - 12) / 2
 few_of_neighbor : (name : List ℕ) (number : ℕ) (neighbor : Neighbor) → IsHeld neighbor → length (neighbor_lines name number neighbor) ≤ 748

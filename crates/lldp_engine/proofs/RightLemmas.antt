@@ -8,7 +8,7 @@ use Rattle.lldp_transmit.specs.declared.event.Cause.{Cause}
 use Rattle.lldp_transmit.specs.declared.event.Cause.TheVariants.{Neighbor, Nothing}
 use Rattle.lldp_transmit.specs.History.{Settings, History, event as caused}
 use Rattle.lldp_transmit.specs.Moments.{moment, moments, up_after as up_by_cause, allowed_after, is_up, is_allowed}
-use Rattle.lldp_engine.specs.declared.status.Status.{Status}
+use Rattle.lldp_engine.specs.declared.port.status.Status.{Status}
 use Rattle.lldp_engine.specs.Options.{Options}
 use Rattle.lldp_engine.specs.Status.{transmits}
 use Rattle.lldp_engine.specs.Heard.{Heard, tells, heard_by}

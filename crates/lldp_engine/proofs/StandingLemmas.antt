@@ -16,8 +16,8 @@ use Rattle.lldp_transmit.specs.Machine.{Machine, stepped}
 use Rattle.lldp_transmit.specs.Moments.{moments, is_up}
 use Rattle.lldp_transmit.specs.Standing.{AreSettings, machine_of}
 use Rattle.lldp_transmit.proofs.Standing.{carries as machine_carries, marks as machine_marks, stands_left as machine_left}
-use Rattle.lldp_engine.specs.declared.status.Status.{Status}
-use Rattle.lldp_engine.specs.declared.counters.Counters.{Counters}
+use Rattle.lldp_engine.specs.declared.port.status.Status.{Status}
+use Rattle.lldp_engine.specs.declared.port.counters.Counters.{Counters}
 use Rattle.lldp_engine.specs.Options.{Options, InRange}
 use Rattle.lldp_engine.specs.Event.{Event, HasOctets}
 use Rattle.lldp_engine.specs.Configuration.{configured}

@@ -7,8 +7,8 @@ use Rattle.std.proofs.lemmas.Bool.{false≢true}
 use Rattle.std.proofs.lemmas.List.{nil_from_length}
 use Rattle.std.proofs.lemmas.Bool.Decides.{nat_tests}
 use Rattle.std.proofs.lemmas.List.Elements.{recursion_from_All}
-use Rattle.lldp_engine.specs.declared.fault.CommandFault.{CommandFault}
-use Rattle.lldp_engine.specs.declared.fault.CommandFault.TheVariants.{Quote}
+use Rattle.lldp_engine.specs.declared.command.fault.CommandFault.{CommandFault}
+use Rattle.lldp_engine.specs.declared.command.fault.CommandFault.TheVariants.{Quote}
 use Rattle.lldp_engine.specs.Words.{is_separator, is_quote, is_bare, is_unquote, may_end_word, begins_bare, begins_gap, between, bare, quoted, closed, words_from, words_of}
 
 -- separators in front of the words

@@ -2,8 +2,8 @@
 use Rattle.std.specs.Prelude.{ℕ, ◌&&◌, ◌==◌, if◌then◌else◌, List, [], ◌∷◌, map, decimal}
 use Rattle.std.specs.List.{join_with_byte}
 use Rattle.hex.specs.Hex.{encode_lower}
-use Rattle.lldp_engine.specs.declared.addresses.AddressKind.{AddressKind}
-use Rattle.lldp_engine.specs.declared.addresses.AddressKind.TheVariants.{Ipv4, Ipv6, Unknown}
+use Rattle.lldp_engine.specs.declared.show.addresses.AddressKind.{AddressKind}
+use Rattle.lldp_engine.specs.declared.show.addresses.AddressKind.TheVariants.{Ipv4, Ipv6, Unknown}
 
 -- A MAC address: pairs of hexadecimal digits joined by colons.
 abbrev pub mac_text : List ℕ → List ℕ

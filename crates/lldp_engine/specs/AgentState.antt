@@ -3,8 +3,8 @@ use Rattle.std.specs.Prelude.{◌≡◌, ℕ, ◌<◌, ◌≤◌, Bool, true, na
 use Rattle.std.specs.List.{list_all}
 use Rattle.lldp_table.specs.Contents.{Contents}
 use Rattle.lldp_transmit.specs.Machine.{Machine}
-use Rattle.lldp_engine.specs.declared.status.Status.{Status}
-use Rattle.lldp_engine.specs.declared.counters.Counters.{Counters}
+use Rattle.lldp_engine.specs.declared.port.status.Status.{Status}
+use Rattle.lldp_engine.specs.declared.port.counters.Counters.{Counters}
 use Rattle.lldp_engine.specs.Options.{is_text}
 use Rattle.lldp_engine.specs.Configuration.{Configuration}
 use Rattle.lldp_engine.specs.Event.{Event, tick, frame, link, configure, Setting, hostname, description, interval, hold, limit, status, update}

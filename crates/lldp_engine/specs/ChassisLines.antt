@@ -1,7 +1,7 @@
 -- The lines of `show chassis`.
 use Rattle.std.specs.Prelude.{ℕ, List, [], ◌∷◌, ◌++◌, Option, Some, None, codes}
-use Rattle.lldp_engine.specs.declared.options.Role.{Role}
-use Rattle.lldp_engine.specs.declared.options.Role.TheVariants.{Station, Bridge, Router}
+use Rattle.lldp_engine.specs.declared.agent.options.Role.{Role}
+use Rattle.lldp_engine.specs.declared.agent.options.Role.TheVariants.{Station, Bridge, Router}
 use Rattle.lldp_engine.specs.Configuration.{Configuration}
 use Rattle.lldp_engine.specs.Text.{escaped}
 use Rattle.lldp_engine.specs.Addresses.{mac_text, ipv4_text}

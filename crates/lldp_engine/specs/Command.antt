@@ -1,7 +1,7 @@
 -- What a line asks of an agent, by its words and the forms.
 use Rattle.std.specs.Prelude.{◌≡◌, ℕ, if◌then◌else◌, List, [], ◌∷◌, Option, Some, None, Result, Ok, Err}
-use Rattle.lldp_engine.specs.declared.fault.CommandFault.{CommandFault}
-use Rattle.lldp_engine.specs.declared.fault.CommandFault.TheVariants.{Quote, InUse}
+use Rattle.lldp_engine.specs.declared.command.fault.CommandFault.{CommandFault}
+use Rattle.lldp_engine.specs.declared.command.fault.CommandFault.TheVariants.{Quote, InUse}
 use Rattle.lldp_engine.specs.Event.{hostname, description, interval, hold, limit, status, update}
 use Rattle.lldp_engine.specs.AgentState.{AgentState, PortState, names_of, fits}
 use Rattle.lldp_engine.specs.Request.{Request, display, apply}

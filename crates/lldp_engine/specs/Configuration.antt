@@ -1,6 +1,6 @@
 -- How an agent is configured, and what an event makes of that.
 use Rattle.std.specs.Prelude.{ℕ, ◌+◌, ◌*◌, min, List, Option, codes}
-use Rattle.lldp_engine.specs.declared.options.Role.{Role}
+use Rattle.lldp_engine.specs.declared.agent.options.Role.{Role}
 use Rattle.lldp_engine.specs.Options.{Options}
 use Rattle.lldp_engine.specs.Event.{Event, tick, frame, link, configure, Setting, hostname, description, interval, hold, limit, status, update}
 

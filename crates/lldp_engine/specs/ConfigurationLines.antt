@@ -1,7 +1,7 @@
 -- The lines of `show configuration`.
 use Rattle.std.specs.Prelude.{ℕ, List, ◌∷◌, ◌++◌, length, map, codes, decimal}
-use Rattle.lldp_engine.specs.declared.status.Status.{Status}
-use Rattle.lldp_engine.specs.declared.status.Status.TheVariants.{RxAndTx, RxOnly, TxOnly, Disabled}
+use Rattle.lldp_engine.specs.declared.port.status.Status.{Status}
+use Rattle.lldp_engine.specs.declared.port.status.Status.TheVariants.{RxAndTx, RxOnly, TxOnly, Disabled}
 use Rattle.lldp_engine.specs.Configuration.{sent_ttl}
 use Rattle.lldp_engine.specs.AgentState.{AgentState, PortState}
 

@@ -4,7 +4,7 @@ use Rattle.lldp_table.specs.Events.{TableEvent, learned, forgot, purged, ticked,
 use Rattle.lldp_table.specs.declared.learned.Learned.TheVariants.{New, Refreshed, Dropped}
 use Rattle.lldp_transmit.specs.declared.event.Mark.{Mark}
 use Rattle.lldp_transmit.specs.declared.event.Mark.TheVariants.{Quiet, Ordinary, Shutdown}
-use Rattle.lldp_engine.specs.declared.counters.Counters.{Counters}
+use Rattle.lldp_engine.specs.declared.port.counters.Counters.{Counters}
 use Rattle.lldp_engine.specs.Heard.{Heard, refused, leaves, tells}
 
 abbrev pub wrapped : ℕ → ℕ

@@ -1,7 +1,7 @@
 -- What happens to an agent, as plain data.
 use Rattle.std.specs.Prelude.{ℕ, Bool, List}
 use Rattle.lldp_pdu.specs.Tlv.{AreOctets}
-use Rattle.lldp_engine.specs.declared.status.Status.{Status}
+use Rattle.lldp_engine.specs.declared.port.status.Status.{Status}
 
 -- what a command changes
 pub data Setting : Type 0 where

@@ -1,8 +1,8 @@
 -- An event of the program as plain data.
-use Rattle.lldp_engine.specs.declared.event.Event.{Event as CodeEvent}
-use Rattle.lldp_engine.specs.declared.event.Event.TheVariants.{Tick, Frame, Link, Set}
-use Rattle.lldp_engine.specs.declared.event.Setting.{Setting as CodeSetting}
-use Rattle.lldp_engine.specs.declared.event.Setting.TheVariants.{Hostname, Description, Interval, Hold, Limit, Status, Update}
+use Rattle.lldp_engine.specs.declared.agent.event.Event.{Event as CodeEvent}
+use Rattle.lldp_engine.specs.declared.agent.event.Event.TheVariants.{Tick, Frame, Link, Set}
+use Rattle.lldp_engine.specs.declared.agent.event.Setting.{Setting as CodeSetting}
+use Rattle.lldp_engine.specs.declared.agent.event.Setting.TheVariants.{Hostname, Description, Interval, Hold, Limit, Status, Update}
 use Rattle.lldp_engine.specs.Event.{Event, tick, frame, link, configure, Setting, hostname, description, interval, hold, limit, status, update}
 
 abbrev pub setting_of : CodeSetting → Setting

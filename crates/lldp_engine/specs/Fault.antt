@@ -1,7 +1,7 @@
 -- The faults of a command.
 use Rattle.std.specs.Prelude.{ℕ, List, codes}
-use Rattle.lldp_engine.specs.declared.fault.CommandFault.{CommandFault}
-use Rattle.lldp_engine.specs.declared.fault.CommandFault.TheVariants.{Unknown, NoSuchPort, Number, Range, Text, Extra, Quote, InUse}
+use Rattle.lldp_engine.specs.declared.command.fault.CommandFault.{CommandFault}
+use Rattle.lldp_engine.specs.declared.command.fault.CommandFault.TheVariants.{Unknown, NoSuchPort, Number, Range, Text, Extra, Quote, InUse}
 
 -- The line that tells a fault, without its end.
 abbrev pub text_of : CommandFault → List ℕ

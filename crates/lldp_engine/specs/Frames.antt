@@ -9,8 +9,8 @@ use Rattle.lldp_pdu.specs.Kept.{kept_of, discarded_of}
 use Rattle.lldp_pdu.specs.Draft.{Draft, lldpdu_octets}
 use Rattle.lldp_transmit.specs.declared.event.Mark.{Mark}
 use Rattle.lldp_transmit.specs.declared.event.Mark.TheVariants.{Quiet, Ordinary, Shutdown}
-use Rattle.lldp_engine.specs.declared.options.Role.{Role}
-use Rattle.lldp_engine.specs.declared.options.Role.TheVariants.{Station, Bridge, Router}
+use Rattle.lldp_engine.specs.declared.agent.options.Role.{Role}
+use Rattle.lldp_engine.specs.declared.agent.options.Role.TheVariants.{Station, Bridge, Router}
 use Rattle.lldp_engine.specs.Configuration.{Configuration, sent_ttl}
 
 abbrev pub unit : ℕ → List ℕ → TlvUnit

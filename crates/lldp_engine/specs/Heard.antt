@@ -6,7 +6,7 @@ use Rattle.lldp_pdu.specs.Frame.{lldpdu_of}
 use Rattle.lldp_pdu.specs.Fault.{fault_of}
 use Rattle.lldp_pdu.specs.Lldpdu.{ttl_of, msap_of}
 use Rattle.lldp_pdu.specs.Info.{LldpInfo, info_of}
-use Rattle.lldp_engine.specs.declared.status.Status.{Status}
+use Rattle.lldp_engine.specs.declared.port.status.Status.{Status}
 use Rattle.lldp_engine.specs.Status.{receives}
 
 -- what an LLDPDU says: it is refused, as it is not sound; or the neighbor of this name leaves, as its TTL is 0; or it

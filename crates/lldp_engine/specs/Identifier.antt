@@ -3,10 +3,10 @@ use Rattle.std.specs.Prelude.{ℕ, ◌==◌, if◌then◌else◌, List, ◌++◌
 use Rattle.hex.specs.Hex.{encode_lower}
 use Rattle.lldp_engine.specs.Text.{escaped}
 use Rattle.lldp_engine.specs.Addresses.{mac_text, ipv4_text, ipv6_text, address_kind}
-use Rattle.lldp_engine.specs.declared.addresses.AddressKind.{AddressKind}
-use Rattle.lldp_engine.specs.declared.addresses.AddressKind.TheVariants.{Ipv4, Ipv6, Unknown}
-use Rattle.lldp_engine.specs.declared.identifier.IdentifierKind.{IdentifierKind}
-use Rattle.lldp_engine.specs.declared.identifier.IdentifierKind.TheVariants.{Component, InterfaceAlias, PortComponent, Mac, Network, InterfaceName, CircuitId, Local, Other}
+use Rattle.lldp_engine.specs.declared.show.addresses.AddressKind.{AddressKind}
+use Rattle.lldp_engine.specs.declared.show.addresses.AddressKind.TheVariants.{Ipv4, Ipv6, Unknown}
+use Rattle.lldp_engine.specs.declared.show.identifier.IdentifierKind.{IdentifierKind}
+use Rattle.lldp_engine.specs.declared.show.identifier.IdentifierKind.TheVariants.{Component, InterfaceAlias, PortComponent, Mac, Network, InterfaceName, CircuitId, Local, Other}
 
 -- what a chassis ID is, by its subtype
 abbrev pub chassis_kind : ℕ → IdentifierKind

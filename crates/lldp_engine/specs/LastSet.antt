@@ -1,7 +1,7 @@
 -- What the last event that set something set, said of positions. A position of the events is a split of them: the events
 -- after it (newest first), the event there, and the events before it.
 use Rattle.std.specs.Prelude.{◌≡◌, ◌⊎◌, ℕ, Bool, true, List, ◌∷◌, ◌++◌, codes}
-use Rattle.lldp_engine.specs.declared.status.Status.{Status as PortStatus}
+use Rattle.lldp_engine.specs.declared.port.status.Status.{Status as PortStatus}
 use Rattle.lldp_engine.specs.Options.{Options}
 use Rattle.lldp_engine.specs.Status.{status_at_opening}
 use Rattle.lldp_engine.specs.Event.{Event, link, configure, hostname, description, interval, hold, limit, status}

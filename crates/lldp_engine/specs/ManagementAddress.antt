@@ -3,8 +3,8 @@ use Rattle.std.specs.Prelude.{ℕ, List, ◌++◌, length, codes, decimal}
 use Rattle.hex.specs.Hex.{encode_lower}
 use Rattle.lldp_pdu.specs.ManagementAddress.{Address}
 use Rattle.lldp_engine.specs.Addresses.{ipv4_text, ipv6_text, address_kind}
-use Rattle.lldp_engine.specs.declared.addresses.AddressKind.{AddressKind}
-use Rattle.lldp_engine.specs.declared.addresses.AddressKind.TheVariants.{Ipv4, Ipv6, Unknown}
+use Rattle.lldp_engine.specs.declared.show.addresses.AddressKind.{AddressKind}
+use Rattle.lldp_engine.specs.declared.show.addresses.AddressKind.TheVariants.{Ipv4, Ipv6, Unknown}
 
 -- an address of a kind; one of another family or length is `af`, the family, a colon and its octets in hexadecimal
 abbrev pub address_text : AddressKind → ℕ → List ℕ → List ℕ

@@ -2,10 +2,10 @@
 use Rattle.std.specs.Prelude.{◌≡◌, ℕ, ◌≤◌, ◌==◌, ◌&&◌, ◌||◌, not, nat_le, nat_lt, Bool, false, if◌then◌else◌, List, [], ◌∷◌, length, map, Option, Some, None}
 use Rattle.std.specs.List.{list_any, list_all}
 use Rattle.std.specs.Str.{bytes_eq}
-use Rattle.lldp_engine.specs.declared.options.Options.{Options as CodeOptions}
-use Rattle.lldp_engine.specs.declared.options.Role.{Role}
-use Rattle.lldp_engine.specs.declared.open.OpenFault.{OpenFault}
-use Rattle.lldp_engine.specs.declared.open.OpenFault.TheVariants.{Memory, NoPorts, TooManyPorts, PortName, SamePort, Text}
+use Rattle.lldp_engine.specs.declared.agent.options.Options.{Options as CodeOptions}
+use Rattle.lldp_engine.specs.declared.agent.options.Role.{Role}
+use Rattle.lldp_engine.specs.declared.agent.open.OpenFault.{OpenFault}
+use Rattle.lldp_engine.specs.declared.agent.open.OpenFault.TheVariants.{Memory, NoPorts, TooManyPorts, PortName, SamePort, Text}
 
 pub record Options : Type 0 where
   pub names : List (List ℕ)

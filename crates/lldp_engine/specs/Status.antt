@@ -1,7 +1,7 @@
 -- Statuses of a port (adminStatus, IEEE 802.1AB-2009, 9.2.5.1).
 use Rattle.std.specs.Prelude.{Bool, true, false, if◌then◌else◌}
-use Rattle.lldp_engine.specs.declared.status.Status.{Status}
-use Rattle.lldp_engine.specs.declared.status.Status.TheVariants.{RxAndTx, RxOnly, TxOnly, Disabled}
+use Rattle.lldp_engine.specs.declared.port.status.Status.{Status}
+use Rattle.lldp_engine.specs.declared.port.status.Status.TheVariants.{RxAndTx, RxOnly, TxOnly, Disabled}
 use Rattle.lldp_engine.specs.Options.{Options}
 
 -- a port of this status receives

@@ -16,15 +16,23 @@ ghost use Rattle.lldp_engine.specs.Standing.{Stands};
 ghost use Rattle.lldp_engine.specs.Step.{agent_after, agent_marks};
 ghost use Rattle.lldp_engine.specs.Headline.{PromisedStep};
 
-use crate::configuration::Configuration;
-use crate::counters::Counters;
-use crate::event::{Event, Setting};
-use crate::names::is_text;
-use crate::open::{OpenFault, fault_of};
-use crate::options::Options;
+pub(crate) mod configuration;
+pub(crate) mod event;
+pub(crate) mod frame;
+pub(crate) mod names;
+pub(crate) mod open;
+pub(crate) mod options;
+pub(crate) mod ports;
+
+use crate::agent::configuration::Configuration;
+use crate::agent::event::{Event, Setting};
+use crate::agent::names::is_text;
+use crate::agent::open::{OpenFault, fault_of};
+use crate::agent::options::Options;
+use crate::agent::ports::{Marks, all_fit, open_ports, place_of, take_event};
 use crate::port::Port;
-use crate::ports::{Marks, all_fit, open_ports, place_of, take_event};
-use crate::status::Status;
+use crate::port::counters::Counters;
+use crate::port::status::Status;
 use lldp_table::Table;
 use std::alloc::{Allocator, Global};
 use std::marker::Model;
@@ -49,13 +57,14 @@ impl<A: Allocator> Model for Agent<A> {
 }
 
 impl<A: Allocator> Agent<A> {
-    /// Opens an agent. The options are checked first, in the order of the faults' numbers from 2 on; then memory is
-    /// taken for the room of every neighbor, and none after that.
+    /// Opens an agent. The options are checked first, in the order of the faults' numbers from 2
+    /// on; then memory is taken for the room of every neighbor, and none after that.
     pub fn open(alloc: A, options: &Options<'_>) -> Result<Self, OpenFault>
     where
         A: Clone,
         requires { InRange (options_of options.now) }
-        ensures opened { IfOk result (λ agent. (first_fault (options_of options.now) ≡ None) × Stands (opened (options_of options.now)) agent) }
+        ensures opened { IfOk result (λ agent. (first_fault (options_of options.now) ≡ None)
+            × Stands (opened (options_of options.now)) agent) }
         ensures refused { IfErr result (λ fault. IsRefusal (options_of options.now) fault) }
     {
         if let Some(fault) = fault_of(options) {
@@ -99,7 +108,8 @@ impl<A: Allocator> Agent<A> {
         ensures name { result.now ≡ name_of self.now port }
         ensures some { 0 < length result.now }
         ensures short { length result.now ≤ 15 }
-        ensures past { (past : Past) → Stands past self.now → slice_get past.options.names port ≡ Some result.now }
+        ensures past { (past : Past) → Stands past self.now →
+            slice_get past.options.names port ≡ Some result.now }
     {
         self.ports[port as usize].name()
     }
@@ -108,7 +118,8 @@ impl<A: Allocator> Agent<A> {
     pub fn find_port(&self, name: &[u8]) -> Option<u8>
         ensures place { result ≡ place (names_of self.now) name.now }
         ensures exists { IfSome result (λ port. IsPort self.now port) }
-        ensures past { (past : Past) → Stands past self.now → result ≡ place past.options.names name.now }
+        ensures past { (past : Past) → Stands past self.now →
+            result ≡ place past.options.names name.now }
     {
         place_of(self.ports.as_slice(), name)
     }
@@ -117,7 +128,8 @@ impl<A: Allocator> Agent<A> {
     pub fn status(&self, port: u8) -> Status
         requires { IsPort self.now port }
         ensures value { option_map (λ p. p.status) (slice_get self.now.ports port) ≡ Some result }
-        ensures past { (past : Past) → Stands past self.now → result ≡ status_after past.options (past_of past port) }
+        ensures past { (past : Past) → Stands past self.now →
+            result ≡ status_after past.options (past_of past port) }
     {
         self.ports[port as usize].status()
     }
@@ -125,8 +137,10 @@ impl<A: Allocator> Agent<A> {
     /// Whether the link of a port is up.
     pub fn is_up(&self, port: u8) -> bool
         requires { IsPort self.now port }
-        ensures value { option_map (λ p. p.machine.up) (slice_get self.now.ports port) ≡ Some result }
-        ensures past { (past : Past) → Stands past self.now → result ≡ up_after (past_of past port) }
+        ensures value { option_map (λ p. p.machine.up) (slice_get self.now.ports port)
+            ≡ Some result }
+        ensures past { (past : Past) → Stands past self.now →
+            result ≡ up_after (past_of past port) }
     {
         self.ports[port as usize].is_up()
     }
@@ -134,8 +148,10 @@ impl<A: Allocator> Agent<A> {
     /// The neighbors of a port.
     pub fn table(&self, port: u8) -> &Table<A>
         requires { IsPort self.now port }
-        ensures value { option_map (λ p. p.table) (slice_get self.now.ports port) ≡ Some result.now }
-        ensures past { (past : Past) → Stands past self.now → TableStands past.options.max_neighbors (calls_after past.options (past_of past port)) result.now }
+        ensures value { option_map (λ p. p.table) (slice_get self.now.ports port)
+            ≡ Some result.now }
+        ensures past { (past : Past) → Stands past self.now →
+            TableStands past.options.max_neighbors (calls_after past.options (past_of past port)) result.now }
     {
         self.ports[port as usize].table()
     }
@@ -143,14 +159,16 @@ impl<A: Allocator> Agent<A> {
     /// The counters of a port.
     pub fn counters(&self, port: u8) -> &Counters
         requires { IsPort self.now port }
-        ensures value { option_map (λ p. p.counters) (slice_get self.now.ports port) ≡ Some result.now }
-        ensures past { (past : Past) → Stands past self.now → result.now ≡ counters_after past.options (past_of past port) }
+        ensures value { option_map (λ p. p.counters) (slice_get self.now.ports port)
+            ≡ Some result.now }
+        ensures past { (past : Past) → Stands past self.now →
+            result.now ≡ counters_after past.options (past_of past port) }
     {
         self.ports[port as usize].counters()
     }
 
-    /// Whether it accepts an event: its port exists, its value is in the range, its text has at most 255 printable
-    /// octets, and where it sets a limit no port holds more neighbors.
+    /// Whether it accepts an event: its port exists, its value is in the range, its text has at
+    /// most 255 printable octets, and where it sets a limit no port holds more neighbors.
     pub fn allows(&self, event: &Event<'_>) -> bool
         ensures { IsTrue result ↔ Allows self.now (event_of event.now) }
     {
@@ -188,13 +206,18 @@ impl<A: Allocator> Agent<A> {
         // What the agent is after the event, and which ports send, computed from what it was.
         ensures after { self.new ≡ agent_after (event_of event.entry) self.old }
         ensures marks { result.items ≡ agent_marks (event_of event.entry) self.old }
-        ensures sent { AllByRecursion (λ mark. IsPort self.new mark.0 × IsSent mark.1) result.items }
+        ensures sent { AllByRecursion (λ mark. IsPort self.new mark.0
+            × IsSent mark.1) result.items }
         // Whatever past the agent stood for, it now stands for that past with the event.
-        ensures stands { (past : Past) → Stands past self.old → Stands (with_event past (event_of event.entry)) self.new }
-        ensures marks_past { (past : Past) → Stands past self.old → result.items ≡ marks_of (with_event past (event_of event.entry)) }
-        // Each table holds the last stored frames that have not expired, and each port sends, as is answered, exactly
-        // what is due while its credit window is open, which no other choice does sooner.
-        ensures headline { (past : Past) → Stands past self.old → PromisedStep past (event_of event.entry) result.items self.new }
+        ensures stands { (past : Past) → Stands past self.old →
+            Stands (with_event past (event_of event.entry)) self.new }
+        ensures marks_past { (past : Past) → Stands past self.old →
+            result.items ≡ marks_of (with_event past (event_of event.entry)) }
+        // Each table holds the last stored frames that have not expired, and each port sends, as is
+        // answered, exactly what is due while its credit window is open, which no other choice does
+        // sooner.
+        ensures headline { (past : Past) → Stands past self.old →
+            PromisedStep past (event_of event.entry) result.items self.new }
     {
         self.configuration.take(&event);
         let interval = self.configuration.interval();

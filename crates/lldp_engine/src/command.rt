@@ -8,13 +8,19 @@ ghost use Rattle.lldp_engine.specs.Code.SaidSetting.{IsSaidRequest};
 ghost use Rattle.lldp_engine.specs.Past.{Past, agent_of};
 ghost use Rattle.lldp_engine.specs.Standing.{Stands};
 
+pub(crate) mod fault;
+pub(crate) mod forms;
+pub(crate) mod number;
+pub(crate) mod settings;
+pub(crate) mod words;
+
 use crate::agent::Agent;
-use crate::event::Setting;
-use crate::fault::CommandFault;
-use crate::forms::{is_word, next_word};
-use crate::ports::all_fit;
-use crate::settings::read_setting;
-use crate::words::{Words, split};
+use crate::agent::event::Setting;
+use crate::agent::ports::all_fit;
+use crate::command::fault::CommandFault;
+use crate::command::forms::{is_word, next_word};
+use crate::command::settings::read_setting;
+use crate::command::words::{Words, split};
 use std::alloc::Allocator;
 
 /// What a show command shows.
@@ -84,8 +90,10 @@ fn read_words<'l, A: Allocator>(
     mut words: Words<'l>,
 ) -> Result<Command<'l>, CommandFault>
     ensures read { MatchResult result
-        (λ command. said_by (names_of agent.now) agent.now.configuration.capacity words.entry ≡ Ok (request_of command))
-        (λ fault. said_by (names_of agent.now) agent.now.configuration.capacity words.entry ≡ Err fault) }
+        (λ command. said_by (names_of agent.now) agent.now.configuration.capacity words.entry
+        ≡ Ok (request_of command))
+        (λ fault. said_by (names_of agent.now) agent.now.configuration.capacity words.entry
+        ≡ Err fault) }
     ensures said { IfOk result (λ command. IsSaidRequest agent.now (request_of command)) }
 {
     let command = read_form(agent, &mut words)?;
@@ -102,7 +110,8 @@ fn unless_in_use<'l, A: Allocator>(
 ) -> Result<Command<'l>, CommandFault>
     requires { IsSaidRequest agent.now (request_of command) }
     ensures unused { MatchResult result
-        (λ c. unless_limit_in_use agent.now.ports (Ok (request_of command.entry)) ≡ Ok (request_of c))
+        (λ c. unless_limit_in_use agent.now.ports (Ok (request_of command.entry))
+        ≡ Ok (request_of c))
         (λ fault. unless_limit_in_use agent.now.ports (Ok (request_of command.entry)) ≡ Err fault) }
     ensures allowed { IfOk result (λ c. AllowsRequest agent.now (request_of c)) }
 {
@@ -115,8 +124,9 @@ fn unless_in_use<'l, A: Allocator>(
 }
 
 impl<A: Allocator> Agent<A> {
-    /// The command that a line gives, or the first fault: a bad quote anywhere, then the words from left to right, then a word too
-    /// many, then a limit below what a port holds. A line without words is `Unknown`. The agent allows what was read.
+    /// The command that a line gives, or the first fault: a bad quote anywhere, then the words from
+    /// left to right, then a word too many, then a limit below what a port holds. A line without
+    /// words is `Unknown`. The agent allows what was read.
     pub fn read_command<'l>(&self, line: &'l [u8]) -> Result<Command<'l>, CommandFault>
         ensures read { MatchResult result
             (λ command. command_of self.now line.now ≡ Ok (request_of command))
@@ -131,8 +141,10 @@ impl<A: Allocator> Agent<A> {
     }
 }
 
-/// A complete form never takes a further word, wherever it stands among the forms: any other form decides what is said of the word.
+/// A complete form never takes a further word, wherever it stands among the forms: any other form
+/// decides what is said of the word.
 pub fn complete_forms_take_no_word()
     ensures { (names : List (List ℕ)) (before after : List Form) (request : Request) (word : List ℕ) →
-        going_on names (before ++ complete request ∷ after) word ≡ going_on names (before ++ after) word }
+        going_on names (before ++ complete request ∷ after) word
+        ≡ going_on names (before ++ after) word }
 {}

@@ -1,6 +1,6 @@
 //! Laws of agents, for every past.
 ghost use Rattle.std.specs.Prelude.{◌≡◌, ◌↔◌, ℕ, Bool, List};
-ghost use Rattle.lldp_engine.specs.declared.status.Status.{Status as PortStatus};
+ghost use Rattle.lldp_engine.specs.declared.port.status.Status.{Status as PortStatus};
 ghost use Rattle.lldp_engine.specs.Options.{Options as Opened};
 ghost use Rattle.lldp_engine.specs.Event.{Event as Happening, HasOctets};
 ghost use Rattle.lldp_engine.specs.AgentState.{AgentState, Allows};
@@ -12,32 +12,40 @@ ghost use Rattle.lldp_engine.specs.Step.{agent_after, agent_marks};
 ghost use Rattle.lldp_engine.specs.LastSet.{IsLastStatus, IsLastLink, IsLastConfiguration};
 ghost use Rattle.lldp_engine.specs.Headline.{Promised};
 
-/// An event that is allowed carries standing from each past to that past with the event, and its marks are those of
-/// that past.
+/// An event that is allowed carries standing from each past to that past with the event, and its
+/// marks are those of that past.
 pub fn step_carries_standing()
-    ensures marks { (past : Past) (event : Happening) (agent : AgentState) → Stands past agent → Allows agent event → HasOctets event → agent_marks event agent ≡ marks_of (with_event past event) }
-    ensures stands { (past : Past) (event : Happening) (agent : AgentState) → Stands past agent → Allows agent event → HasOctets event → Stands (with_event past event) (agent_after event agent) }
+    ensures marks { (past : Past) (event : Happening) (agent : AgentState) → Stands past agent →
+        Allows agent event → HasOctets event →
+        agent_marks event agent ≡ marks_of (with_event past event) }
+    ensures stands { (past : Past) (event : Happening) (agent : AgentState) → Stands past agent →
+        Allows agent event → HasOctets event →
+        Stands (with_event past event) (agent_after event agent) }
 {}
 
-/// Each port's table holds the last stored frames that have not expired, and nothing else; and each port has sent exactly
-/// what was due while its credit window was open, by the right of its status, and no other choice has sent more sooner.
+/// Each port's table holds the last stored frames that have not expired, and nothing else; and each
+/// port has sent exactly what was due while its credit window was open, by the right of its status,
+/// and no other choice has sent more sooner.
 pub fn every_standing_agent_is_promised()
     ensures { (past : Past) (agent : AgentState) → Stands past agent → Promised past agent }
 {}
 
-/// Whatever a port has seen, by what its events were for its transmitting it has the right to transmit exactly where its
-/// status gives it, so that a status that gives the right gives it back; and its link is up exactly where its last link
-/// event says so.
+/// Whatever a port has seen, by what its events were for its transmitting it has the right to
+/// transmit exactly where its status gives it, so that a status that gives the right gives it back;
+/// and its link is up exactly where its last link event says so.
 pub fn the_right_follows_the_status()
     ensures { (options : Opened) (past : List Happened) → FollowsStatus options past }
 {}
 
-/// The status and the link of a port and the configuration, said of positions: each is what the last event that set it
-/// set, and no event after that one sets it; where none does, it is as it was opened.
+/// The status and the link of a port and the configuration, said of positions: each is what the
+/// last event that set it set, and no event after that one sets it; where none does, it is as it
+/// was opened.
 pub fn last_events_decide()
     ensures status { (options : Opened) (port : ℕ) (events : List Happening) (status : PortStatus) →
-        (status ≡ status_after options (port_past options port events)) ↔ IsLastStatus options port events status }
+        (status ≡ status_after options (port_past options port events))
+        ↔ IsLastStatus options port events status }
     ensures link { (options : Opened) (port : ℕ) (events : List Happening) (up : Bool) →
         (up ≡ up_after (port_past options port events)) ↔ IsLastLink port events up }
-    ensures configuration { (options : Opened) (events : List Happening) → IsLastConfiguration options events (configuration_after options events) }
+    ensures configuration { (options : Opened) (events : List Happening) →
+        IsLastConfiguration options events (configuration_after options events) }
 {}

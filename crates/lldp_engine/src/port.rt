@@ -7,12 +7,14 @@ ghost use Rattle.lldp_engine.specs.Port.Step.{opened_port, port_told, port_cause
 ghost use Rattle.lldp_engine.specs.Code.Taking.{FitsLimit};
 
 mod causes;
+pub(crate) mod counters;
 pub(crate) mod event;
 mod hearing;
+pub(crate) mod status;
 
-use crate::counters::Counters;
-use crate::options::Options;
-use crate::status::{Status, status_at_opening};
+use crate::agent::options::Options;
+use crate::port::counters::Counters;
+use crate::port::status::{Status, status_at_opening};
 use arrayvec::ArrayVec;
 use causes::{cause_of_link_event, cause_of_status};
 use event::PortEvent;

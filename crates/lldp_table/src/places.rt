@@ -17,12 +17,7 @@ use std::alloc::Allocator;
 use std::sync::ledger::Ledger;
 
 /// The place of the slot whose frame has this MSAP identifier, whose tag is given.
-pub(crate) fn place_of(
-    slots: &[Slot],
-    order: &[u8],
-    name: &Msap<'_>,
-    tag: u32,
-) -> Option<usize>
+pub(crate) fn place_of(slots: &[Slot], order: &[u8], name: &Msap<'_>, tag: u32) -> Option<usize>
     requires tag { tag ≡ tag_of (msap_seen name.now) }
     requires within { AllByRecursion (λ i. i < length slots.now) order.now }
     ensures { MatchOption result

@@ -2,8 +2,8 @@
 use Rattle.std.specs.Prelude.{ℕ, List, [], ◌∷◌, length, codes, Result, Ok, Err, nat_lt, ◌==◌, Bool, true, false, if◌then◌else◌}
 use Rattle.std.specs.Str.{bytes_eq}
 use Rattle.hex.specs.Hex.{decode_of}
-use Rattle.lldp_engine.specs.declared.fault.CommandFault.{CommandFault}
-use Rattle.lldp_engine.specs.declared.fault.CommandFault.TheVariants.{Unknown, NoSuchPort, Extra, Quote}
+use Rattle.lldp_engine.specs.declared.command.fault.CommandFault.{CommandFault}
+use Rattle.lldp_engine.specs.declared.command.fault.CommandFault.TheVariants.{Unknown, NoSuchPort, Extra, Quote}
 use Rattle.lldp_engine.specs.Fault.{text_of as command_fault_text}
 use Rattle.lldp_engine.specs.Words.{words_of, is_separator}
 use Rattle.lldp_engine.specs.Forms.{or_fault}

@@ -13,8 +13,8 @@ use Rattle.clap.specs.declared.builder.action.ArgAction.TheVariants.{Set, SetTru
 use Rattle.clap.specs.declared.builder.value_parser.ValueParser.TheVariants.{Signed, Names}
 use Rattle.clap.specs.declared.error.kind.ErrorKind.{ErrorKind}
 use Rattle.clap.specs.declared.error.kind.ErrorKind.TheVariants.{DisplayHelp, DisplayVersion}
-use Rattle.lldp_engine.specs.declared.options.Role.{Role}
-use Rattle.lldp_engine.specs.declared.options.Role.TheVariants.{Station, Bridge, Router}
+use Rattle.lldp_engine.specs.declared.agent.options.Role.{Role}
+use Rattle.lldp_engine.specs.declared.agent.options.Role.TheVariants.{Station, Bridge, Router}
 use Rattle.lldp_engine.specs.Options.{Options}
 use Rattle.lldpa.specs.Addresses.{IsMac}
 use Rattle.lldpa.specs.declared.arguments.Listening.{Listening}

@@ -5,7 +5,8 @@ ghost use Rattle.lldpa.specs.Addresses.{IsMac};
 
 use std::net::Ipv4Addr;
 
-/// Six pairs of hexadecimal digits of either case, joined by `:`. None where the text is nothing of the kind.
+/// Six pairs of hexadecimal digits of either case, joined by `:`. None where the text is nothing of
+/// the kind.
 pub fn read_mac(text: &str) -> Option<[u8; 6]>
     ensures { MatchOption result ((mac : List ℕ) → ¬ (IsMac text.now mac)) (IsMac text.now) }
 {
@@ -36,9 +37,11 @@ pub fn read_mac(text: &str) -> Option<[u8; 6]>
     Some(mac)
 }
 
-/// Four numbers from 0 to 255 without leading zeros, joined by `.`. None where the text is nothing of the kind.
+/// Four numbers from 0 to 255 without leading zeros, joined by `.`. None where the text is nothing
+/// of the kind.
 pub fn read_ipv4(text: &str) -> Option<[u8; 4]>
-    ensures { MatchOption result ((octets : List ℕ) → ¬ (IsDotted text.now octets)) (IsDotted text.now) }
+    ensures { MatchOption result ((octets : List ℕ) →
+        ¬ (IsDotted text.now octets)) (IsDotted text.now) }
 {
     let address: Ipv4Addr = text.parse().ok()?;
     Some(address.octets())

@@ -55,7 +55,8 @@ const CONNECTIONS_HELP: &str = "Connections to serve, 1 to 65535";
 
 const ROLES: &[&str] = &["station", "bridge", "router"];
 
-/// Where traces come over connections: a TCP port of 127.0.0.1, and how many connections are served. Both are from 1 on.
+/// Where traces come over connections: a TCP port of 127.0.0.1, and how many connections are
+/// served. Both are from 1 on.
 #[derive(Clone, Copy, Debug, PartialEq, Eq)]
 pub struct Listening {
     pub port: u16,
@@ -127,7 +128,8 @@ fn management<'a>(alloc: Global) -> Arg<'a>
 
 fn role<'a>(alloc: Global) -> Arg<'a>
     ensures fits { IsArgument (codes "role") result }
-    ensures rule { (roles : Bor (List (Bor (List ℕ)))) × AreRoles roles × (rule_of result ≡ role_rule roles) }
+    ensures rule { (roles : Bor (List (Bor (List ℕ)))) × AreRoles roles
+        × (rule_of result ≡ role_rule roles) }
 {
     valued(alloc, ROLE, "station")
         .value_name("ROLE")
@@ -163,11 +165,13 @@ fn ports<'a>(alloc: Global) -> Arg<'a>
     Arg::new(alloc, PORT).num_args(0..).hide(true)
 }
 
-/// Reads the words, of which the first is the program's name. Fails also where they ask for help or the version.
+/// Reads the words, of which the first is the program's name. Fails also where they ask for help or
+/// the version.
 pub fn parse<'a, S: AsStr>(alloc: Global, words: &'a [S]) -> Result<ArgMatches<'a>, Error>
     ensures options { IfOk result GivesOptions }
     ensures words { IfOk result (λ m. IsParse (map S.text words.entry.now) (rows_of (found_of m))) }
-    ensures kinds { IfErr result (λ e. (kind_of e ≡ ErrorKind.OutOfMemory) ⊎ MayFail (map S.text words.entry.now) (kind_of e)) }
+    ensures kinds { IfErr result (λ e. (kind_of e ≡ ErrorKind.OutOfMemory)
+        ⊎ MayFail (map S.text words.entry.now) (kind_of e)) }
 {
     command(alloc)?.try_get_matches_from(words)
 }
@@ -175,7 +179,8 @@ pub fn parse<'a, S: AsStr>(alloc: Global, words: &'a [S]) -> Result<ArgMatches<'
 /// The program's options and ports.
 fn command<'a>(alloc: Global) -> Result<Command<'a>, AllocError>
     ensures options { IfOk result ReadsOptions }
-    ensures app { IfOk result (λ c. (roles : Bor (List (Bor (List ℕ)))) × AreRoles roles × (app_of c ≡ program roles)) }
+    ensures app { IfOk result (λ c. (roles : Bor (List (Bor (List ℕ)))) × AreRoles roles
+        × (app_of c ≡ program roles)) }
 {
     Command::new(alloc, "lldpa")
         .version(VERSION)
@@ -201,7 +206,8 @@ fn command<'a>(alloc: Global) -> Result<Command<'a>, AllocError>
 pub fn options_of<'m>(matches: &'m ArgMatches<'_>) -> Result<Options<'m>, AddressFault>
     requires given { GivesOptions matches.now }
     ensures range { IfOk result (λ options. InRange (plain_options options)) }
-    ensures asks { IfOk result (λ options. Asks (rows_of (found_of matches.now)) (plain_options options)) }
+    ensures asks { IfOk result (λ options.
+        Asks (rows_of (found_of matches.now)) (plain_options options)) }
     ensures refused { IfErr result (HasBadAddress (rows_of (found_of matches.now))) }
 {
     let Some(mac) = read_mac(given(matches, MAC)) else {
@@ -255,8 +261,10 @@ fn given<'a>(matches: &ArgMatches<'a>, name: &str) -> &'a str
 /// The number of an option that has a default.
 fn number_of(matches: &ArgMatches<'_>, name: &str) -> u8
     requires given { (greatest : ℕ) × (greatest ≤ 255) × GivesNumber greatest name.now matches.now }
-    ensures range { (greatest : ℕ) → greatest ≤ 255 → GivesNumber greatest name.now matches.now → (1 ≤ result) × (result ≤ greatest) }
-    ensures value { option_map byte_or_zero (one_text (found_of matches.now) name.now) ≡ Some result }
+    ensures range { (greatest : ℕ) → greatest ≤ 255 → GivesNumber greatest name.now matches.now →
+        (1 ≤ result) × (result ≤ greatest) }
+    ensures value { option_map byte_or_zero (one_text (found_of matches.now) name.now)
+        ≡ Some result }
 {
     matches.get_one::<u8>(name).unwrap()
 }
@@ -273,7 +281,8 @@ fn role_of(name: &str) -> Role
 
 fn management_of(matches: &ArgMatches<'_>) -> Result<Option<[u8; 4]>, AddressFault>
     ensures asked { IfOk result (AsksManagement (first_value (found_of matches.now) (codes "management"))) }
-    ensures refused { IfErr result (λ fault. (fault ≡ AddressFault.Management) × WritesNoIpv4 (first_value (found_of matches.now) (codes "management"))) }
+    ensures refused { IfErr result (λ fault. (fault ≡ AddressFault.Management)
+        × WritesNoIpv4 (first_value (found_of matches.now) (codes "management"))) }
 {
     match matches.get_str(MANAGEMENT) {
         None => Ok(None),

@@ -1,4 +1,5 @@
-//! The buffer that a trace is read into. Its first octets are held: what has come of the line that isn't ended.
+//! The buffer that a trace is read into. Its first octets are held: what has come of the line that
+//! isn't ended.
 ghost use Rattle.std.specs.Prelude.{◌≡◌, ◌<◌, ◌≤◌, ◌+◌, ◌-◌, length, take, drop, IfOk, MatchResult, min};
 ghost use Rattle.lldpa.specs.Devices.{one_more, failures_after, ReadsMore};
 
@@ -22,8 +23,9 @@ pub fn read_more<S: Source>(
     source.read(&mut buffer[held..])
 }
 
-/// Moves the octets from start to end to the front, and holds them. Of a line that is too long already it holds one octet more than
-/// the longest line has, which is all that has to be known of it.
+/// Moves the octets from start to end to the front, and holds them. Of a line that is too long
+/// already it holds one octet more than the longest line has, which is all that has to be known of
+/// it.
 pub fn hold(buffer: &mut [u8], start: usize, end: usize) -> usize
     requires order { start ≤ end }
     requires within { end ≤ length buffer.old }

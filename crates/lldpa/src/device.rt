@@ -1,4 +1,5 @@
-//! Devices that a trace is read from and written to, and the adapters that make them of std's readers and writers.
+//! Devices that a trace is read from and written to, and the adapters that make them of std's
+//! readers and writers.
 ghost use Rattle.std.specs.Prelude.{◌≡◌, ◌<◌, ◌≤◌, ℕ, List, Option, length, IfOk};
 ghost use Rattle.std.specs.Io.KnownBytes.{ReadConsumes, WriteAppends};
 ghost use Rattle.std.specs.Borrow.{GName};
@@ -23,7 +24,8 @@ pub trait Source {
     /// Where it reads from, which no call changes: for an adapter the reference that it was lent.
     ghost place: { Self → GName };
 
-    /// Moves octets into the front of the room, and answers how many; 0 means that none are to come. A read that fails moves none.
+    /// Moves octets into the front of the room, and answers how many; 0 means that none are to
+    /// come. A read that fails moves none.
     fn read(&mut self, room: &mut [u8]) -> Result<usize, DeviceFault>
         requires { 0 < length room.old }
         ensures fits { IfOk result (λ n. n ≤ length room.new) }
@@ -42,7 +44,8 @@ pub trait Sink {
     /// Where it writes to, which no call changes: for an adapter the reference that it was lent.
     ghost place: { Self → GName };
 
-    /// Takes octets from the front, at least one, and answers how many. A write that fails takes none.
+    /// Takes octets from the front, at least one, and answers how many. A write that fails takes
+    /// none.
     fn write(&mut self, octets: &[u8]) -> Result<usize, DeviceFault>
         requires { 0 < length octets.now }
         ensures some { IfOk result (λ n. 0 < n) }
@@ -100,7 +103,8 @@ impl<R: Read> Source for FromReader<'_, R> {
     }
 }
 
-/// A sink of any writer, which it is lent. A write of the writer that takes no octet is a failed one.
+/// A sink of any writer, which it is lent. A write of the writer that takes no octet is a failed
+/// one.
 #[derive(Drop)]
 pub struct ToWriter<'a, W> {
     writer: &'a mut W,

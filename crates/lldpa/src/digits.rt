@@ -1,10 +1,12 @@
 //! Hexadecimal digits, sixteen octets at a time and without a branch for each.
 //!
-//! What is read and written is said by the definitions of the crate `hex`. This module is fast and nothing else: where it answers no,
-//! and wherever fewer than sixteen octets are to be read or written, `hex` itself decides and does the work.
+//! What is read and written is said by the definitions of the crate `hex`. This module is fast and
+//! nothing else: where it answers no, and wherever fewer than sixteen octets are to be read or
+//! written, `hex` itself decides and does the work.
 //!
-//! **Reading.** Thirty-two digits `c` stand in the lanes of one vector, and each lane becomes the value of its digit, or 16 or more
-//! where `c` is no digit. Lanes wrap round at 256. Two values are computed, and the lesser one is taken:
+//! **Reading.** Thirty-two digits `c` stand in the lanes of one vector, and each lane becomes the
+//! value of its digit, or 16 or more where `c` is no digit. Lanes wrap round at 256. Two values are
+//! computed, and the lesser one is taken:
 //!
 //! | `c` | `c - 58` | less 6, never below 0 | less 240 |
 //! |---|---|---|---|
@@ -17,19 +19,21 @@
 //! | `a` to `f`, 97 to 102, and so `A` to `F` | 0 to 5 | 0 to 5 | **10 to 15** |
 //! | every other | 6 to 255 | 6 to 245 | 16 to 255 |
 //!
-//! No `c` is below 16 in both. A pair of values, high and low, is then one number of 16 bits, `high + 256 * low`; times 4097 it is
-//! `high + 256 * (16 * high + low)` and what is cut off, so its upper half is the octet.
+//! No `c` is below 16 in both. A pair of values, high and low, is then one number of 16 bits, `high
+//! + 256 * low`; times 4097 it is `high + 256 * (16 * high + low)` and what is cut off, so its
+//! upper half is the octet.
 //!
-//! **What was met.** The values of all blocks are joined by `|`, lane by lane. The union is below 16 exactly where each part is, so
-//! one look at the end tells whether there was any octet that is no digit. Until then wrong octets may have been written, which
-//! nobody reads.
+//! **What was met.** The values of all blocks are joined by `|`, lane by lane. The union is below
+//! 16 exactly where each part is, so one look at the end tells whether there was any octet that is
+//! no digit. Until then wrong octets may have been written, which nobody reads.
 //!
-//! **Writing.** A value up to 9 is its distance from `0`, a greater one that and 39 more, which is its distance from `a`. The digits of
-//! the upper and of the lower four bits are put by turns.
+//! **Writing.** A value up to 9 is its distance from `0`, a greater one that and 39 more, which is
+//! its distance from `a`. The digits of the upper and of the lower four bits are put by turns.
 //!
-//! **The last block** begins sixteen octets before the end, wherever that is, and so may lie over the one before it. The octets under
-//! both are read from the same digits, or written from the same octets, a second time, with the same result. So nothing is left
-//! over that would have to be done octet by octet.
+//! **The last block** begins sixteen octets before the end, wherever that is, and so may lie over
+//! the one before it. The octets under both are read from the same digits, or written from the same
+//! octets, a second time, with the same result. So nothing is left over that would have to be done
+//! octet by octet.
 ghost use Rattle.std.specs.Prelude.{◌≡◌, ℕ, ◌↔◌, ◌<◌, ◌≤◌, ◌+◌, ◌*◌, ◌/◌, ◌%◌, length, true, slice_index, IsOk, IsTrue};
 ghost use Rattle.std.specs.List.{AllPass};
 ghost use Rattle.hex.specs.Hex.{decode_pairs, encode_lower, is_hex_digit, lower_digits};
@@ -57,7 +61,8 @@ fn values_of(digits: u8x32) -> u8x32
 #[inline(always)]
 fn octets_of(values: u8x32) -> u8x16
     ensures len { length result ≡ 16 }
-    ensures pairs { (k : ℕ) → k < 16 → slice_index values (2 * k) < 16 → slice_index values (2 * k + 1) < 16
+    ensures pairs { (k : ℕ) → k < 16 → slice_index values (2 * k) < 16 →
+        slice_index values (2 * k + 1) < 16
         → slice_index result k ≡ slice_index values (2 * k) * 16 + slice_index values (2 * k + 1) }
 {
     let pairs = u16x16::from_le_bytes(values) * u16x16::splat(4097);
@@ -86,7 +91,8 @@ fn decode_block(digits: &[u8], octets: &mut [u8], at: usize) -> u8x32
     requires fits { at + 16 ≤ length octets.old }
     requires digits { length digits.now ≡ 2 * length octets.old }
     ensures len { length octets.new ≡ length octets.old }
-    ensures pairs { AreSmall result → (i : ℕ) → at ≤ i → i < at + 16 → ArePairs digits.now octets.new i }
+    ensures pairs { AreSmall result → (i : ℕ) → at ≤ i → i < at + 16 →
+        ArePairs digits.now octets.new i }
     ensures small { AllPass is_hex_digit digits.now → AreSmall result }
     ensures rest { (i : ℕ) → i < at → slice_index octets.new i ≡ slice_index octets.old i }
 {
@@ -95,8 +101,8 @@ fn decode_block(digits: &[u8], octets: &mut [u8], at: usize) -> u8x32
     values
 }
 
-/// Reads pairs of digits, and answers whether it did: exactly where there are sixteen octets or more and each digit is one. Where it
-/// answers no, nothing is promised of the octets.
+/// Reads pairs of digits, and answers whether it did: exactly where there are sixteen octets or
+/// more and each digit is one. Where it answers no, nothing is promised of the octets.
 pub fn decode_digits(digits: &[u8], octets: &mut [u8]) -> bool
     requires { length digits.now ≡ 2 * length octets.old }
     ensures octets { result ≡ true → decode_pairs 0 digits.now ≡ Ok octets.new }
@@ -118,7 +124,8 @@ pub fn decode_digits(digits: &[u8], octets: &mut [u8]) -> bool
 /// The digits of values.
 #[inline(always)]
 fn digits_of(values: u8x16) -> u8x16
-    ensures { (k : ℕ) → k < 16 → slice_index values k < 16 → slice_index result k ≡ slice_index lower_digits (slice_index values k) }
+    ensures { (k : ℕ) → k < 16 → slice_index values k < 16 →
+        slice_index result k ≡ slice_index lower_digits (slice_index values k) }
 {
     let letters = values.simd_gt(u8x16::splat(9));
     let more = letters.select(u8x16::splat(b'a' - b'0' - 10), u8x16::splat(0));
@@ -129,7 +136,9 @@ fn digits_of(values: u8x16) -> u8x16
 #[inline(always)]
 fn by_turns(first: u8x16, second: u8x16) -> u8x32
     ensures len { length result ≡ 32 }
-    ensures turns { (k : ℕ) → k < 16 → (slice_index result (2 * k) ≡ slice_index first k) × (slice_index result (2 * k + 1) ≡ slice_index second k) }
+    ensures turns { (k : ℕ) → k < 16 →
+        (slice_index result (2 * k) ≡ slice_index first k)
+        × (slice_index result (2 * k + 1) ≡ slice_index second k) }
 {
     first.shuffle(
         second,

@@ -8,8 +8,7 @@ ghost use Rattle.lldpa.specs.Forms.{fault_text, is_skipped, or_hex, complete, ti
 ghost use Rattle.lldpa.specs.Work.{reading_of_work, said, AllowsWork};
 
 use crate::digits::decode_digits;
-use lldp_engine::number::number;
-use lldp_engine::{Agent, Command, CommandFault, Words, split};
+use lldp_engine::{Agent, Command, CommandFault, Words, number, split};
 use memchr::memchr3;
 
 /// How many octets a line has at most, its LF left out.
@@ -180,11 +179,12 @@ fn split_at_bare(text: &[u8]) -> (&[u8], &[u8])
     }
 }
 
-/// The port and the digits of `rx PORT HEX` as it is mostly written, with one space between words and no quotes. None of every other
-/// line.
+/// The port and the digits of `rx PORT HEX` as it is mostly written, with one space between words
+/// and no quotes. None of every other line.
 fn plain_frame<'l>(agent: &Agent, line: &'l [u8]) -> Option<(u8, &'l [u8])>
     requires { length line.now ≤ 4096 }
-    ensures reads { IfSome result (λ x. (octets : List ℕ) → decode_of x.1.now ≡ Ok octets → reading_of agent.now line.now ≡ Ok (arrival x.0 octets)) }
+    ensures reads { IfSome result (λ x. (octets : List ℕ) → decode_of x.1.now ≡ Ok octets →
+        reading_of agent.now line.now ≡ Ok (arrival x.0 octets)) }
     ensures even { IfSome result (λ x. length x.1.now % 2 ≡ 0) }
     ensures short { IfSome result (λ x. length x.1.now ≤ 4096) }
     ensures exists { IfSome result (λ x. IsPort agent.now x.0) }
@@ -205,8 +205,8 @@ fn plain_frame<'l>(agent: &Agent, line: &'l [u8]) -> Option<(u8, &'l [u8])>
     }
 }
 
-/// What a line, without its LF, asks of the agent, or its first fault. The octets of a frame stand in the room; else nothing is
-/// promised of the room.
+/// What a line, without its LF, asks of the agent, or its first fault. The octets of a frame stand
+/// in the room; else nothing is promised of the room.
 #[tactic(auto, unfolding(crate::specs::Forms::reading_of, crate::specs::Forms::form_of))]
 pub fn read_line<'l>(
     agent: &Agent,

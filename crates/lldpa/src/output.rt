@@ -28,7 +28,8 @@ fn send<W: Sink>(sink: &mut W, octets: &[u8]) -> Result<(), DeviceFault>
     Ok(())
 }
 
-/// What writes text to a sink, which it is lent. A text is gathered, and none of it waits once it is written.
+/// What writes text to a sink, which it is lent. A text is gathered, and none of it waits once it
+/// is written.
 #[derive(Drop)]
 pub struct Output<'w, W> {
     sink: &'w mut W,
@@ -55,7 +56,8 @@ impl<'w, W: Sink> Output<'w, W> {
 impl<W: Sink> Output<'_, W> {
     /// Begins a text. What a write that failed left is forgotten.
     fn begin(&mut self)
-        ensures { told W.taken W.failures W.place self.new ≡ begun (told W.taken W.failures W.place self.old) }
+        ensures { told W.taken W.failures W.place self.new
+            ≡ begun (told W.taken W.failures W.place self.old) }
     {
         self.waiting.clear();
         self.answer = Ok(());
@@ -109,7 +111,8 @@ impl<W: Sink> Output<'_, W> {
 
     /// Puts the lines of what ports send behind what waits.
     fn marks(&mut self, agent: &Agent, marks: &Marks)
-        requires { AllByRecursion (λ mark. IsPort agent.now mark.0 × IsSent mark.1) marks.now.items }
+        requires { AllByRecursion (λ mark. IsPort agent.now mark.0
+            × IsSent mark.1) marks.now.items }
         ensures { Between W.taken W.failures W.place self.old self.new
             (Puts (flat_map (mark_line (names_of agent.now) agent.now.configuration) marks.now.items)) }
     {
@@ -142,7 +145,8 @@ impl<W: Sink> Output<'_, W> {
 
     /// Writes the lines of what ports send.
     pub fn write_marks(&mut self, agent: &Agent, marks: &Marks) -> Result<(), DeviceFault>
-        requires { AllByRecursion (λ mark. IsPort agent.now mark.0 × IsSent mark.1) marks.now.items }
+        requires { AllByRecursion (λ mark. IsPort agent.now mark.0
+            × IsSent mark.1) marks.now.items }
         ensures { Between W.taken W.failures W.place self.old self.new
             (Writes (flat_map (mark_line (names_of agent.now) agent.now.configuration) marks.now.items) result) }
     {

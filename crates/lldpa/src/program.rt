@@ -30,14 +30,17 @@ const FAILED: u8 = 1;
 /// The words are bad, an opening was refused, or there was no memory.
 const REFUSED: u8 = 2;
 
-/// Runs the program on its words, of which the first is its name, and answers its status: 0 where the whole trace of the reader was
-/// run and its text was written, or the help or version that the words ask for; 1 where a stream failed or the trace was too long; 2
-/// where the words are bad, an opening was refused, or there is no memory. A fault is told on `faults`; that this fails changes no
-/// status. With status 2 nothing was written on the writer. It takes memory for its words and for opening alone.
+/// Runs the program on its words, of which the first is its name, and answers its status: 0 where
+/// the whole trace of the reader was run and its text was written, or the help or version that the
+/// words ask for; 1 where a stream failed or the trace was too long; 2 where the words are bad, an
+/// opening was refused, or there is no memory. A fault is told on `faults`; that this fails changes
+/// no status. With status 2 nothing was written on the writer. It takes memory for its words and
+/// for opening alone.
 ///
-/// Where the words ask to listen, the traces come over connections to a port of 127.0.0.1, and reader and writer are left alone. The
-/// port is bound after opening. Status 1 is then that it could not be bound, that a connection could not be accepted, or that one of
-/// them ended with a fault.
+/// Where the words ask to listen, the traces come over connections to a port of 127.0.0.1, and
+/// reader and writer are left alone. The port is bound after opening. Status 1 is then that it
+/// could not be bound, that a connection could not be accepted, or that one of them ended with a
+/// fault.
 pub fn run_program<S: AsStr, R: Read, W: Write, E: Write>(
     rt: &impl Net<Listener = TcpListener, Stream = TcpStream>,
     alloc: Global,
@@ -47,11 +50,14 @@ pub fn run_program<S: AsStr, R: Read, W: Write, E: Write>(
     faults: &mut E,
 ) -> u8
     ensures status { result ≤ REFUSED }
-    // Help or the version was asked for, or the words have no fault, and the trace was run with their options.
+    // Help or the version was asked for, or the words have no fault, and the trace was run with
+    // their options.
     ensures answered { result ≢ REFUSED → HasAnswered (map S.text words.now)
         (R.remaining reader.old) (R.remaining reader.new) (W.contents writer.old) (W.contents writer.new) result }
     // Refused, it has read nothing and written nothing.
-    ensures silent { result ≡ REFUSED → Keeps (R.remaining reader.old) (R.remaining reader.new) × Keeps (W.contents writer.old) (W.contents writer.new) }
+    ensures silent { result ≡ REFUSED →
+        Keeps (R.remaining reader.old) (R.remaining reader.new)
+        × Keeps (W.contents writer.old) (W.contents writer.new) }
 {
     match parse(alloc, words) {
         Ok(matches) => run_matches(rt, alloc, &matches, reader, writer, faults),
@@ -70,10 +76,14 @@ fn run_matches<R: Read, W: Write, E: Write>(
 ) -> u8
     requires given { GivesOptions matches.now }
     ensures status { result ≤ REFUSED }
-    ensures ran { result ≢ REFUSED → (options : Options) × Asks (rows_of (found_of matches.now)) options × (fault_of options ≡ None)
+    ensures ran { result ≢ REFUSED →
+        (options : Options) × Asks (rows_of (found_of matches.now)) options
+        × (fault_of options ≡ None)
         × RanAs (rows_of (found_of matches.now)) options (R.remaining reader.old) (R.remaining reader.new)
         (W.contents writer.old) (W.contents writer.new) result }
-    ensures silent { result ≡ REFUSED → Keeps (R.remaining reader.old) (R.remaining reader.new) × Keeps (W.contents writer.old) (W.contents writer.new) }
+    ensures silent { result ≡ REFUSED →
+        Keeps (R.remaining reader.old) (R.remaining reader.new)
+        × Keeps (W.contents writer.old) (W.contents writer.new) }
 {
     let options = match options_of(matches) {
         Ok(options) => options,
@@ -90,7 +100,8 @@ fn run_matches<R: Read, W: Write, E: Write>(
 
 /// Writes the help or version that was asked for, or tells what is wrong with the words.
 fn answer_words<W: Write, E: Write>(error: &Error, writer: &mut W, faults: &mut E) -> u8
-    ensures refused { (kind_of error.now ≢ ErrorKind.DisplayHelp) → (kind_of error.now ≢ ErrorKind.DisplayVersion) →
+    ensures refused { (kind_of error.now ≢ ErrorKind.DisplayHelp) →
+        (kind_of error.now ≢ ErrorKind.DisplayVersion) →
         (result ≡ REFUSED) × Keeps (W.contents writer.old) (W.contents writer.new) }
     ensures status { result ≤ REFUSED }
     ensures silent { result ≡ REFUSED → Keeps (W.contents writer.old) (W.contents writer.new) }

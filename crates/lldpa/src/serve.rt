@@ -44,8 +44,9 @@ fn count_fault(ran: Result<(), RunFault>) -> u16
     }
 }
 
-/// Runs a trace on so many connections, one after the other and the next one also after a fault, and answers how many ended with a
-/// fault. The agent goes from one connection to the next as it is. Where accepting failed it stands for the connections served so far.
+/// Runs a trace on so many connections, one after the other and the next one also after a fault,
+/// and answers how many ended with a fault. The agent goes from one connection to the next as it
+/// is. Where accepting failed it stands for the connections served so far.
 pub fn serve(agent: &mut Agent, listener: &TcpListener, connections: u16) -> Result<u16, ServeFault>
     ensures few { IfOk result (λ faulty. faulty ≤ connections) }
     // So many traces were run, and the answer counts those that ended with a fault.

@@ -1,4 +1,5 @@
-//! What no transcript of `examples/` can show: devices that give and take little at a time and fail, altered frames, connections.
+//! What no transcript of `examples/` can show: devices that give and take little at a time and
+//! fail, altered frames, connections.
 ghost use Rattle.lldp_engine.specs.Options.{InRange, options_of};
 
 mod devices;

@@ -106,17 +106,20 @@ impl<W: Sink> Run<'_, '_, W> {
 
     /// What one line asks for.
     fn line(&mut self, line: &[u8]) -> Result<(), DeviceFault>
-        ensures { Performs W.taken W.failures W.place self.old self.new (λ past. items_of past line.now) result }
+        ensures { Performs W.taken W.failures W.place self.old self.new (λ past.
+            items_of past line.now) result }
     {
         let read = read_line(self.agent, line, &mut self.room);
         run_work(self.agent, &mut self.output, read)
     }
 
-    /// Each line whose LF is among the octets, of which the first were searched before. Answers where the rest begins.
+    /// Each line whose LF is among the octets, of which the first were searched before. Answers
+    /// where the rest begins.
     fn lines(&mut self, octets: &[u8], searched: usize) -> Result<usize, DeviceFault>
         requires within { searched ≤ length octets.now }
         requires no_line { ended_lines (take searched octets.now) ≡ [] }
-        ensures rest { IfOk result (λ start. (start ≤ length octets.now) × (drop start octets.now ≡ unfinished octets.now)) }
+        ensures rest { IfOk result (λ start. (start ≤ length octets.now)
+            × (drop start octets.now ≡ unfinished octets.now)) }
         ensures run { Performs W.taken W.failures W.place self.old self.new
             (λ past. items_of_lines past (ended_lines octets.now)) result }
     {
@@ -143,28 +146,33 @@ impl<W: Sink> Run<'_, '_, W> {
     }
 }
 
-/// Runs a trace over the agent: reads it to its end, works on each line as soon as its LF was read, and writes what the lines ask to
-/// see. It reads at most 4,294,967,295 times, into a buffer of fixed size, and does not flush. Every failed read or write ends it.
-/// A last line without LF is a line too; one over 4,096 octets is passed over and refused.
+/// Runs a trace over the agent: reads it to its end, works on each line as soon as its LF was read,
+/// and writes what the lines ask to see. It reads at most 4,294,967,295 times, into a buffer of
+/// fixed size, and does not flush. Every failed read or write ends it. A last line without LF is a
+/// line too; one over 4,096 octets is passed over and refused.
 pub fn run_trace<S: Source, W: Sink>(
     agent: &mut Agent,
     reader: &mut S,
     writer: &mut W,
 ) -> Result<(), RunFault>
-    // What was read, what was written for it, and what the agent stands for then and keeps its promise for.
+    // What was read, what was written for it, and what the agent stands for then and keeps its
+    // promise for.
     ensures run { HasRun (S.to_come reader.old) (S.to_come reader.new) (W.taken writer.old) (W.taken writer.new) agent.old agent.new result }
-    // Over any devices, also those that tell nothing: the agent stands for its past and some more events. Then each table holds the
-    // last stored frames that have not expired, and each port has sent exactly what was due while its credit window was open; no
-    // run of events has more frames, nor more stops, than its bound, and no other choice has sent more up to any event.
+    // Over any devices, also those that tell nothing: the agent stands for its past and some more
+    // events. Then each table holds the last stored frames that have not expired, and each port has
+    // sent exactly what was due while its credit window was open; no run of events has more frames,
+    // nor more stops, than its bound, and no other choice has sent more up to any event.
     ensures headline { (past : Past) → Stands past agent.old → KeepsOn past agent.new }
-    // Read is answered exactly where a read failed, Write exactly where a write did, once and as the last call; where the answer is
-    // another, InputTooLong among them, no device failed.
+    // Read is answered exactly where a read failed, Write exactly where a write did, once and as
+    // the last call; where the answer is another, InputTooLong among them, no device failed.
     ensures reads { S.failures reader.new ≡ read_failures_after (S.failures reader.old) result }
     ensures writes { W.failures writer.new ≡ write_failures_after (W.failures writer.old) result }
     // The devices are the ones that were lent.
-    ensures places { (S.place reader.new ≡ S.place reader.old) × (W.place writer.new ≡ W.place writer.old) }
+    ensures places { (S.place reader.new ≡ S.place reader.old)
+        × (W.place writer.new ≡ W.place writer.old) }
     ensures calls { S.calls reader.new ≤ S.calls reader.old + 4294967295 }
-    ensures too_long { result ≡ Err RunFault.InputTooLong → S.calls reader.old < 2 ^ 63 → S.calls reader.new ≡ S.calls reader.old + 4294967295 }
+    ensures too_long { result ≡ Err RunFault.InputTooLong → S.calls reader.old < 2 ^ 63 →
+        S.calls reader.new ≡ S.calls reader.old + 4294967295 }
 {
     let mut run = Run {
         agent,

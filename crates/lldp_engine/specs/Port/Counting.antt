@@ -7,8 +7,8 @@ use Rattle.lldp_table.specs.declared.learned.Learned.TheVariants.{New, Refreshed
 use Rattle.lldp_table.specs.Contents.{Contents, learn_answer, after_tick}
 use Rattle.lldp_transmit.specs.declared.event.Mark.{Mark}
 use Rattle.lldp_transmit.specs.declared.event.Mark.TheVariants.{Quiet, Ordinary, Shutdown}
-use Rattle.lldp_engine.specs.declared.status.Status.{Status}
-use Rattle.lldp_engine.specs.declared.counters.Counters.{Counters}
+use Rattle.lldp_engine.specs.declared.port.status.Status.{Status}
+use Rattle.lldp_engine.specs.declared.port.counters.Counters.{Counters}
 use Rattle.lldp_engine.specs.Heard.{Heard, refused, leaves, tells}
 use Rattle.lldp_engine.specs.Counters.{wrapped}
 use Rattle.lldp_engine.specs.Port.Event.{PortEvent, tick}

@@ -7,7 +7,7 @@ use Rattle.lldp_table.specs.declared.learned.Learned.{Learned}
 use Rattle.lldp_table.specs.declared.learned.Learned.TheVariants.{New, Refreshed, Dropped}
 use Rattle.lldp_transmit.specs.declared.event.Cause.{Cause}
 use Rattle.lldp_transmit.specs.declared.event.Cause.TheVariants.{Tick, Change, Neighbor, Stop, Allow, Down, Up, Nothing}
-use Rattle.lldp_engine.specs.declared.status.Status.{Status}
+use Rattle.lldp_engine.specs.declared.port.status.Status.{Status}
 use Rattle.lldp_engine.specs.Status.{receives, transmits}
 use Rattle.lldp_engine.specs.Heard.{Heard, refused, leaves, tells, heard_by}
 use Rattle.lldp_engine.specs.Port.Event.{PortEvent, tick, frame, link, status, limit, change, nothing}

@@ -1,6 +1,6 @@
 -- What happens to one port, and whose an agent's event is.
 use Rattle.std.specs.Prelude.{ℕ, ◌==◌, Bool, if◌then◌else◌, List}
-use Rattle.lldp_engine.specs.declared.status.Status.{Status}
+use Rattle.lldp_engine.specs.declared.port.status.Status.{Status}
 use Rattle.lldp_engine.specs.Event as agent
 
 -- a second has passed; these octets came; its link came or went; it was given a status; the limit of its neighbors was

@@ -8,8 +8,8 @@ use Rattle.lldp_transmit.specs.declared.event.Mark.{Mark}
 use Rattle.lldp_transmit.specs.History.{Settings, settings, Event as Caused, event as caused, History}
 use Rattle.lldp_transmit.specs.Moments.{mark_at}
 use Rattle.lldp_transmit.specs.Standing.{machine_of}
-use Rattle.lldp_engine.specs.declared.status.Status.{Status}
-use Rattle.lldp_engine.specs.declared.counters.Counters.{Counters}
+use Rattle.lldp_engine.specs.declared.port.status.Status.{Status}
+use Rattle.lldp_engine.specs.declared.port.counters.Counters.{Counters}
 use Rattle.lldp_engine.specs.Options.{Options}
 use Rattle.lldp_engine.specs.Status.{status_at_opening, transmits}
 use Rattle.lldp_engine.specs.Heard.{Heard}

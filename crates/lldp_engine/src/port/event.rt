@@ -4,7 +4,7 @@ ghost use Rattle.lldp_pdu.specs.Tlv.{AreOctets};
 ghost use Rattle.lldp_engine.specs.Port.Event.{frame};
 ghost use Rattle.lldp_engine.specs.Port.EventView.{port_event_of};
 
-use crate::status::Status;
+use crate::port::status::Status;
 
 /// What happens to a port.
 #[derive(Clone, Copy)]

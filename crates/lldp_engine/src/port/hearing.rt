@@ -15,8 +15,10 @@ use std::alloc::Allocator;
 impl<A: Allocator> Port<A> {
     /// Octets came.
     pub(crate) fn receive(&mut self, octets: &[u8]) -> Cause
-        ensures after { self.new ≡ hears_if self.old (heard_by self.old.status self.old.machine.up octets.now) }
-        ensures cause { result ≡ cause_of_heard (learn_answer self.old.table) (heard_by self.old.status self.old.machine.up octets.now) }
+        ensures after { self.new
+            ≡ hears_if self.old (heard_by self.old.status self.old.machine.up octets.now) }
+        ensures cause { result
+            ≡ cause_of_heard (learn_answer self.old.table) (heard_by self.old.status self.old.machine.up octets.now) }
     {
         if !self.status.receives() {
             return Cause::Nothing;
@@ -34,7 +36,8 @@ impl<A: Allocator> Port<A> {
     fn hear(&mut self, pdu: &[u8]) -> Cause
         requires { length pdu.now ≤ 1500 }
         ensures after { self.new ≡ hears_if self.old (Some (heard_of pdu.now)) }
-        ensures cause { result ≡ cause_of_heard (learn_answer self.old.table) (Some (heard_of pdu.now)) }
+        ensures cause { result
+            ≡ cause_of_heard (learn_answer self.old.table) (Some (heard_of pdu.now)) }
     {
         self.counters.count_received();
         match examine(pdu) {

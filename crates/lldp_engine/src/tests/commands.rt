@@ -110,7 +110,8 @@ fn statuses(rt: HostRuntime) -> Result<(), Fail> {
     Ok(())
 }
 
-/// Each of these lines has this fault, for an agent of the ports eth0 and eth1 that was opened for 3 neighbors.
+/// Each of these lines has this fault, for an agent of the ports eth0 and eth1 that was opened for
+/// 3 neighbors.
 fn expect_fault(
     rt: &impl Abort,
     alloc: Global,

@@ -1,4 +1,5 @@
-//! Worked examples of what an agent tells of itself: its chassis, its configuration, and the frames that it sends.
+//! Worked examples of what an agent tells of itself: its chassis, its configuration, and the frames
+//! that it sends.
 use super::{expect_lines, options};
 use crate::{Agent, Event, Frame, OpenFault, Options, Role, Setting, Show, Status};
 use lldp_transmit::Mark;

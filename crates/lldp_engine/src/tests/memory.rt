@@ -46,8 +46,9 @@ fn expect_refused(
     Ok(())
 }
 
-/// Each allocation of an opening is refused in turn: that of the ports, for which there is one unit too little, and that of
-/// the table of each port, behind those before it. Where there is just enough, none is.
+/// Each allocation of an opening is refused in turn: that of the ports, for which there is one unit
+/// too little, and that of the table of each port, behind those before it. Where there is just
+/// enough, none is.
 fn refuse_each(rt: &impl Abort, alloc: Global, ports: &[&str], limit: u8) -> Result<(), Fail> {
     let table = table_size(rt, alloc, limit)?;
     let all = agent_size(rt, alloc, ports, limit)?;
@@ -196,8 +197,8 @@ fn take<A: Allocator>(rt: &impl Abort, agent: &mut Agent<A>, happening: &Happeni
     }
 }
 
-/// Each event, and all that is read of the agent after it, is as with memory where a heap is full after the opening; and
-/// where there is more, none of it is taken.
+/// Each event, and all that is read of the agent after it, is as with memory where a heap is full
+/// after the opening; and where there is more, none of it is taken.
 fn expect_none_taken(rt: &impl Abort, alloc: Global, past: &[Happening]) -> Result<(), Fail> {
     let options = Options {
         receive_only: false,
@@ -237,7 +238,8 @@ fn status(status: Status) -> Happening {
     set(Setting::Status { port: 0, status })
 }
 
-/// Changes beyond the credit, a stop and a start, every setting, and a link that goes down and comes up.
+/// Changes beyond the credit, a stop and a start, every setting, and a link that goes down and
+/// comes up.
 #[test]
 fn none_after_opening(rt: HostRuntime) -> Result<(), Fail> {
     let past = [

@@ -177,7 +177,8 @@ fn address_and_local_identifiers(rt: HostRuntime) -> Result<(), Fail> {
     Ok(())
 }
 
-/// A Management Address, two organizationally specific TLVs, a reserved one and a System Description.
+/// A Management Address, two organizationally specific TLVs, a reserved one and a System
+/// Description.
 #[test]
 fn all_kinds_of_tlvs(rt: HostRuntime) -> Result<(), Fail> {
     let mut agent = open(&rt, rt.alloc(), &["eth0"], 32)?;

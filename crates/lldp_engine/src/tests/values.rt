@@ -1,8 +1,8 @@
 //! Worked examples of values.
-use crate::capabilities::write_capabilities;
-use crate::identifier::{write_chassis, write_port};
-use crate::management_address::write_management_address;
-use crate::writer::Writer;
+use crate::show::capabilities::write_capabilities;
+use crate::show::identifier::{write_chassis, write_port};
+use crate::show::management_address::write_management_address;
+use crate::show::writer::Writer;
 use lldp_pdu::{Caps, caps, mgmt};
 use std::process::Abort;
 

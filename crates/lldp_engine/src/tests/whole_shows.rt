@@ -21,7 +21,8 @@ fn lldpdu(port: u8, number: u8) -> [u8; 24] {
     octets
 }
 
-/// So many neighbors come on each port. They have none, one or two TLVs besides the mandatory ones, by their numbers.
+/// So many neighbors come on each port. They have none, one or two TLVs besides the mandatory ones,
+/// by their numbers.
 fn hear_all(rt: &impl Abort, agent: &mut Agent, neighbors: u8) -> Result<(), Fail> {
     for port in 0..agent.ports() {
         for number in 0..neighbors {
@@ -78,7 +79,8 @@ fn expect_same(rt: &impl Abort, agent: &Agent, show: Show, step: u32, lines: u32
     assert!(rt; agent.show_line(&show, lines).is_none());
 }
 
-/// All shows. Of the neighbors, 642 lines a port, each 11th line is compared, since `show_line` costs all lines before it.
+/// All shows. Of the neighbors, 642 lines a port, each 11th line is compared, since `show_line`
+/// costs all lines before it.
 #[test]
 fn every_table_full(rt: HostRuntime) -> Result<(), Fail> {
     let mut agent = open(&rt, rt.alloc(), &NAMES, 128)?;

@@ -1,5 +1,5 @@
 //! The words of lines, and the numbers among them.
-use crate::number::number;
+use crate::command::number::number;
 use crate::{CommandFault, split};
 use std::test::Fail;
 

@@ -1,10 +1,12 @@
-//! A reader that gives little at a time, a writer that takes little at a time, and that both fail; and no network.
+//! A reader that gives little at a time, a writer that takes little at a time, and that both fail;
+//! and no network.
 ghost use Rattle.std.specs.Prelude.{◌≤◌};
 
 use std::io::{Error, ErrorKind, Read, Result, Write};
 use std::net::{Net, SocketAddr, TcpListener, TcpStream};
 
-/// Gives its octets in pieces of these sizes, and is interrupted at one call, which is a failure like any other.
+/// Gives its octets in pieces of these sizes, and is interrupted at one call, which is a failure
+/// like any other.
 #[derive(Drop)]
 pub struct Drip<'a> {
     octets: &'a [u8],
@@ -64,7 +66,8 @@ pub enum Burn {
     AtFlush,
 }
 
-/// Takes pieces of this size, and fails once after so many octets, or where it is flushed. What is written after that shows.
+/// Takes pieces of this size, and fails once after so many octets, or where it is flushed. What is
+/// written after that shows.
 #[derive(Drop)]
 pub struct Fuse {
     octets: [u8; 4096],

@@ -29,7 +29,8 @@ fn compare_read(rt: &impl Abort, digits: &[u8])
     }
 }
 
-/// Writes so many octets by both, and compares. Gives the digits, the letters among them by turns in upper case.
+/// Writes so many octets by both, and compares. Gives the digits, the letters among them by turns
+/// in upper case.
 fn compare_written(rt: &impl Abort, count: usize) -> [u8; 2 * MOST]
     requires { count ≤ 1024 }
 {
@@ -66,7 +67,8 @@ fn every_length(rt: HostRuntime) {
     }
 }
 
-/// Every octet at each place, where the last block stands alone, lies over the one before it, and follows it.
+/// Every octet at each place, where the last block stands alone, lies over the one before it, and
+/// follows it.
 #[test]
 fn every_octet(rt: HostRuntime) {
     for count in [15, 16, 17, 31, 32] {

@@ -32,7 +32,8 @@ fn reader_that_fails_inside_a_line(rt: HostRuntime) -> Result<(), Fail> {
     Ok(())
 }
 
-/// Runs the full table by a reader that gives an octet at each call and fails at one, and compares what was written until then.
+/// Runs the full table by a reader that gives an octet at each call and fails at one, and compares
+/// what was written until then.
 fn fails_at_call(
     rt: &impl Abort,
     alloc: Global,
@@ -105,7 +106,8 @@ const FULL_TABLE: &[(&str, &[&str])] = &[
     ),
 ];
 
-/// The lines whose LF came before the read that fails were done, no others, and the reader is not asked again.
+/// The lines whose LF came before the read that fails were done, no others, and the reader is not
+/// asked again.
 #[test]
 fn reader_that_fails(rt: HostRuntime) -> Result<(), Fail> {
     let mut input = Vec::new(rt.alloc());
@@ -152,7 +154,8 @@ const MORE_OUTPUT: &[&str] = &[
     "lldp.eth0.drops=0",
 ];
 
-/// Runs the lines with a writer that fails after so many octets, and then those that were not done, and more.
+/// Runs the lines with a writer that fails after so many octets, and then those that were not done,
+/// and more.
 fn fails_at(rt: &impl Abort, alloc: Global, octets: usize, burn: Burn) -> Result<(), Fail> {
     let mut agent = open(rt, alloc, &sending(&["eth0"]))?;
     let mut input = Vec::new(alloc);
@@ -180,7 +183,8 @@ fn fails_at(rt: &impl Abort, alloc: Global, octets: usize, burn: Burn) -> Result
     Ok(())
 }
 
-/// Exactly the octets before the fault were written, and the agent stands for the events up to the one whose output failed.
+/// Exactly the octets before the fault were written, and the agent stands for the events up to the
+/// one whose output failed.
 #[test]
 fn writer_that_fails(rt: HostRuntime) -> Result<(), Fail> {
     for octets in 0..6 * SENT_OCTETS {

@@ -45,7 +45,8 @@ lldp.eth0.drops=0
 /// What they begin with where one was.
 const RECEIVED: &[u8] = b"lldp.eth0.sent=0\nlldp.eth0.shutdowns=0\nlldp.eth0.received=1\n";
 
-/// Runs a line over an agent of its own, and tells whether a frame was received. Where none was, nothing else was counted.
+/// Runs a line over an agent of its own, and tells whether a frame was received. Where none was,
+/// nothing else was counted.
 fn is_received(rt: &impl Abort, alloc: Global, line: &[u8]) -> Result<bool, Fail> {
     let mut options = only_receiving(&["eth0"]);
     options.max_neighbors = 1;
@@ -60,8 +61,8 @@ fn is_received(rt: &impl Abort, alloc: Global, line: &[u8]) -> Result<bool, Fail
     Ok(heard)
 }
 
-/// A frame with one octet changed, at each place and to each other value: it is received except where the destination (6 octets) or
-/// the EtherType (2) is another.
+/// A frame with one octet changed, at each place and to each other value: it is received except
+/// where the destination (6 octets) or the EtherType (2) is another.
 #[test]
 fn one_octet_changed(rt: HostRuntime) -> Result<(), Fail> {
     let mut unheard = 0u32;

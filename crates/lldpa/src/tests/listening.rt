@@ -37,7 +37,8 @@ impl Net for OnePort<'_> {
     }
 }
 
-/// Runs the program, which has a trace on standard input that it is not to read, and compares what it answers.
+/// Runs the program, which has a trace on standard input that it is not to read, and compares what
+/// it answers.
 fn run(
     rt: &impl Abort,
     alloc: Global,

@@ -21,7 +21,8 @@ pub const SENT: &str =
 pub const HEARD: &str =
     "rx eth0 0180c200000e00112233445588cc02070400112233445504050565746830060200780000";
 
-/// A neighbor with a TTL of 1 that is shown and ages out, lines that are refused, and a last line without LF.
+/// A neighbor with a TTL of 1 that is shown and ages out, lines that are refused, and a last line
+/// without LF.
 pub const INPUT: &[u8] =
     b"rx eth0 0180c200000e00112233445588cc02070400112233445504050565746830060200010000
 show neighbors
@@ -100,8 +101,10 @@ fn any_pieces(rt: HostRuntime) -> Result<(), Fail> {
 
 /// The text of an input: what a caller knows of it from public contracts alone.
 fn text_of_input(alloc: Global, agent: &mut Agent, input: &[u8]) -> Result<Vec<u8>, RunFault>
-    ensures text { IfOk result (λ out. (past : Past) → Stands past agent.old → out.items ≡ text past input.now) }
-    ensures stands { OnOk result ((past : Past) → Stands past agent.old → Stands (after_input past input.now) agent.new) }
+    ensures text { IfOk result (λ out. (past : Past) → Stands past agent.old →
+        out.items ≡ text past input.now) }
+    ensures stands { OnOk result ((past : Past) → Stands past agent.old →
+        Stands (after_input past input.now) agent.new) }
 {
     let mut octets = input;
     let mut out = Vec::new(alloc);

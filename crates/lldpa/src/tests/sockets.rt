@@ -184,7 +184,8 @@ fn many_connections(rt: HostRuntime) -> Result<(), Fail> {
     Ok(())
 }
 
-/// What comes over a connection whose client reads each answer before it sends its next lines. It fails where an answer is another.
+/// What comes over a connection whose client reads each answer before it sends its next lines. It
+/// fails where an answer is another.
 #[derive(Drop)]
 struct Conversation<'a> {
     client: TcpStream,
@@ -252,7 +253,8 @@ fn answers_come_at_once(rt: HostRuntime) -> Result<(), Fail> {
     Ok(())
 }
 
-/// What comes over a connection whose client is gone at the second read, with an answer that it did not read.
+/// What comes over a connection whose client is gone at the second read, with an answer that it did
+/// not read.
 #[derive(Drop)]
 struct Reset<'a> {
     client: Option<TcpStream>,

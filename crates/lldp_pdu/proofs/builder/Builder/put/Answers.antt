@@ -6,12 +6,15 @@ use Rattle.lldp_pdu.proofs.builder.Builder.put.Goals as goal
 pub append_tlv-requires : goal.append_tlv-requires
 append_tlv-requires c =
     let u : TlvUnit = record { kind = c.args.kind; body = c.args.body.now } in
-    let p = passes c.args.self.now u (sym c.in_default.ensures) in
-    (
+    let p = passes c.args.self.now u (sym c.in_default.ensures) in (
       omega arith,
-      (omega (arith, p.greatest),
-      (omega (arith, p.short),
-      omega (arith, p.room, put_length c.args.self.now u, long c.args.self.now u c.self.inside.octets.items c.self.inside.met.types c.self.inside.lives c.self.view_is c.self.invariant))),
+      (
+        omega (arith, p.greatest),
+        (
+          omega (arith, p.short),
+          omega (arith, p.room, put_length c.args.self.now u, long c.args.self.now u c.self.inside.octets.items c.self.inside.met.types c.self.inside.lives c.self.view_is c.self.invariant),
+        ),
+      ),
     )
 
 pub invariant_of-self : goal.invariant_of-self

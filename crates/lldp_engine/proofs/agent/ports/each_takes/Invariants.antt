@@ -1,0 +1,14 @@
+use Rattle.std.proofs.Common.{◌≡◌, ◌≤◌, length, take}
+use Rattle.lldp_engine.specs.Port.Event.{each_port}
+use Rattle.lldp_engine.specs.Port.EventView.{port_event_of}
+use Rattle.lldp_engine.specs.Step.{marks_step}
+use Rattle.lldp_engine.proofs.PortsLemmas.{so_far}
+use Rattle.lldp_engine.proofs.agent.ports.each_takes.Given as goal
+
+-- the ports before this one have taken the event, and what they send is noted
+abbrev pub invariant-loop-i : goal.invariant-loop-i
+invariant-loop-i g l = record {
+  ports : l.ports ≡ so_far (port_event_of l.fn.event) l.fn.interval l.i l.fn.ports;
+  marks : l.marks.items ≡ marks_step (each_port (port_event_of l.fn.event)) l.fn.interval 0 (take l.i l.fn.ports);
+  few : length l.marks.items ≤ l.i;
+}

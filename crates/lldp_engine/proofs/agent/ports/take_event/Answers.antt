@@ -1,0 +1,29 @@
+use Rattle.std.proofs.Common.{set, ap, sym, ◌∙◌}
+use Rattle.lldp_engine.specs.AgentState.{PortState}
+use Rattle.lldp_engine.specs.Port.EventView.{port_event_of}
+use Rattle.lldp_engine.specs.Port.Step.{port_step, port_mark}
+use Rattle.lldp_engine.specs.Code.Taking.{FitsLimit}
+use Rattle.lldp_engine.proofs.PortsLemmas.{at_own, one_port_after, one_port_marks}
+use Rattle.lldp_engine.proofs.agent.ports.take_event.Goals as goal
+
+pub take-mark-requires : goal.take-mark-requires
+take-mark-requires g c =
+    let e = port_event_of c.in-OnePort.own in
+    let can = rw c.in-OnePort.is at c.requires.can in
+    rw (← c.index-ports-port.is) (at_own (λ (port : PortState). FitsLimit e port.table) c.in-OnePort.port c.args.ports.now c.index-ports-port.result can.0 c.index-ports-port.is can.1)
+
+pub returns-in-OnePort-clause-after : goal.returns-in-OnePort-clause-after
+returns-in-OnePort-clause-after g c =
+    let e = port_event_of c.in-OnePort.own in
+    let q = c.in-OnePort.port in
+    let can = rw c.in-OnePort.is at c.requires.can in
+    rw c.in-OnePort.is (ap (set c.args.ports.now q) (c.take-mark.ensures.after ∙ ap (port_step e c.args.interval) (sym c.index-ports-port.is))
+    ∙ one_port_after e c.args.interval q c.args.ports.now c.index-ports-port.result can.0 c.index-ports-port.is)
+
+pub returns-in-OnePort-clause-marks : goal.returns-in-OnePort-clause-marks
+returns-in-OnePort-clause-marks g c =
+    let e = port_event_of c.in-OnePort.own in
+    let q = c.in-OnePort.port in
+    let can = rw c.in-OnePort.is at c.requires.can in
+    let mark = c.take-mark.ensures.mark ∙ ap (port_mark e c.args.interval) (sym c.index-ports-port.is) in
+    rw (c.in-OnePort.is, c.note.ensures.noted, c.new-marks.ensures, mark) (one_port_marks e c.args.interval q c.args.ports.now c.index-ports-port.result can.0 c.index-ports-port.is)

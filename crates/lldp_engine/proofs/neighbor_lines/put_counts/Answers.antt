@@ -1,8 +1,0 @@
-use Rattle.std.proofs.Common.{rules}
-use Rattle.lldp_engine.proofs.LinesTaken.{takes_none, takes_line}
-use Rattle.lldp_engine.proofs.neighbor_lines.put_counts.Goals as goal
-
-pub returns : goal.returns
-returns g c =
-    takes_line _ _ c.put_port_number.new.sink _ _ _ (search rules) (takes_line _ _ c.put_port_number-2.new.sink _ _ _ (search rules)
-    (takes_line _ _ c.put_too_many.new.sink _ _ _ (search rules) (takes_none _ _)))

@@ -1,0 +1,8 @@
+use Rattle.std.proofs.Common.{rules}
+use Rattle.lldp_engine.proofs.LinesTaken.{takes_line}
+use Rattle.lldp_engine.proofs.show.neighbor_lines.put_neighbor.Goals as goal
+
+pub returns : goal.returns
+returns g c =
+    takes_line _ _ c.put_chassis_id.new.sink _ _ _ (search rules) (takes_line _ _ c.put_port_id.new.sink _ _ _ (search rules)
+    (takes_line _ _ c.put_neighbor_number.new.sink _ _ _ (search rules) (takes_line _ _ c.put_neighbor_number-2.new.sink _ _ _ (search rules) (search rules))))

@@ -1,0 +1,73 @@
+//! What happens to an agent.
+ghost use Rattle.std.specs.Prelude.{◌≡◌};
+ghost use Rattle.lldp_engine.specs.Event.{HasOctets};
+ghost use Rattle.lldp_engine.specs.EventView.{setting_of, event_of};
+ghost use Rattle.lldp_engine.specs.Port.Event.{whose_setting, whose};
+ghost use Rattle.lldp_engine.specs.Port.EventView.{whose_of};
+
+use crate::port::event::{PortEvent, Whose};
+use crate::port::status::Status;
+
+/// What a command changes.
+#[derive(Clone, Copy, Debug, PartialEq, Eq)]
+pub enum Setting<'a> {
+    /// The system name, a text.
+    Hostname(&'a [u8]),
+    /// The system description, a text.
+    Description(&'a [u8]),
+    /// The tx-interval in seconds, 1 to 3600.
+    Interval(u16),
+    /// The tx-hold, 1 to 100.
+    Hold(u8),
+    /// How many neighbors each port may hold, 1 to the number given at opening.
+    Limit(u8),
+    /// The status of the port of this number.
+    Status { port: u8, status: Status },
+    /// Nothing, but it is a local change.
+    Update,
+}
+
+/// What happens to an agent.
+#[derive(Clone, Copy, Debug, PartialEq, Eq)]
+pub enum Event<'a> {
+    /// A second has passed.
+    Tick,
+    /// These octets came on the port of this number.
+    Frame { port: u8, octets: &'a [u8] },
+    /// The link of the port of this number came up, or went down.
+    Link { port: u8, up: bool },
+    /// A command was accepted.
+    Set(Setting<'a>),
+}
+
+impl<'a> Setting<'a> {
+    /// Whose it is, and what it is for that port or for each.
+    fn whose(&self) -> Whose<'a>
+        ensures { whose_of result ≡ whose_setting (setting_of self.now) }
+    {
+        match self {
+            Setting::Status { port, status } => Whose::OnePort(*port, PortEvent::Status(*status)),
+            Setting::Limit(neighbors) => Whose::EachPort(PortEvent::Limit(*neighbors)),
+            Setting::Hostname(_)
+            | Setting::Description(_)
+            | Setting::Interval(_)
+            | Setting::Hold(_)
+            | Setting::Update => Whose::EachPort(PortEvent::Change),
+        }
+    }
+}
+
+impl<'a> Event<'a> {
+    /// Whose it is, and what it is for that port or for each.
+    pub(crate) fn whose(&self) -> Whose<'a>
+        ensures value { whose_of result ≡ whose (event_of self.now) }
+        ensures octets { HasOctets (event_of self.now) }
+    {
+        match self {
+            Event::Tick => Whose::EachPort(PortEvent::Tick),
+            Event::Frame { port, octets } => Whose::OnePort(*port, PortEvent::came(octets)),
+            Event::Link { port, up } => Whose::OnePort(*port, PortEvent::Link(*up)),
+            Event::Set(setting) => setting.whose(),
+        }
+    }
+}

@@ -1,0 +1,130 @@
+//! The ports of an agent.
+ghost use Rattle.std.specs.Prelude.{◌≡◌, ◌<◌, ◌≤◌, ◌+◌, ◌++◌, [], IsTrue, map, length, IfOk};
+ghost use Rattle.std.specs.List.{list_all};
+ghost use Rattle.lldp_engine.specs.Options.{options_of, InRange, is_port_name};
+ghost use Rattle.lldp_engine.specs.AgentState.{fits};
+ghost use Rattle.lldp_engine.specs.Past.{sending};
+ghost use Rattle.lldp_engine.specs.Place.{place_from};
+ghost use Rattle.lldp_engine.specs.Port.Event.{each_port, tick};
+ghost use Rattle.lldp_engine.specs.Port.EventView.{port_event_of, whose_of};
+ghost use Rattle.lldp_engine.specs.Port.Step.{opened_port};
+ghost use Rattle.lldp_engine.specs.Step.{ports_step, marks_step};
+ghost use Rattle.lldp_engine.specs.Code.Taking.{AllFit, CanTake};
+
+use crate::agent::options::Options;
+use crate::port::Port;
+use crate::port::event::{PortEvent, Whose};
+use arrayvec::ArrayVec;
+use lldp_transmit::Mark;
+use std::alloc::{AllocError, Allocator};
+
+/// The ports that send, rising, each with what it sends.
+pub type Marks = ArrayVec<(u8, Mark), 64>;
+
+/// The ports of the options. Takes the memory of their tables.
+pub(crate) fn open_ports<A: Allocator + Clone>(
+    alloc: A,
+    options: &Options<'_>,
+) -> Result<Vec<Port<A>, A>, AllocError>
+    requires names { IsTrue (list_all is_port_name (options_of options.now).names) }
+    requires range { InRange (options_of options.now) }
+    ensures { IfOk result (λ ports. ports.items
+        ≡ map (opened_port (options_of options.now)) (options_of options.now).names) }
+{
+    let mut ports = Vec::with_capacity(alloc.clone()?, options.ports.len())?;
+    for name in options.ports {
+        ports.push(Port::open(alloc.clone()?, name.as_bytes(), options)?)?;
+    }
+    Ok(ports)
+}
+
+/// Notes what a port sends, if anything.
+fn note(marks: &mut Marks, port: u8, mark: Mark)
+    requires { length marks.old.items < 64 }
+    ensures noted { marks.new.items ≡ marks.old.items ++ sending port mark [] }
+    ensures few { length marks.new.items ≤ length marks.old.items + 1 }
+{
+    if mark != Mark::Quiet {
+        marks.push((port, mark));
+    }
+}
+
+/// The ports take an event, with the tx-interval in force after it: the one whose event it is
+/// alone, else each.
+pub(crate) fn take_event<A: Allocator>(
+    ports: &mut [Port<A>],
+    event: &Whose<'_>,
+    interval: u16,
+) -> Marks
+    requires few { length ports.old ≤ 64 }
+    requires can { CanTake (whose_of event.now) ports.old }
+    ensures after { ports.new ≡ ports_step (whose_of event.now) interval 0 ports.old }
+    ensures marks { result.items ≡ marks_step (whose_of event.now) interval 0 ports.old }
+{
+    match event {
+        Whose::OnePort(port, own) => {
+            let mark = ports[*port as usize].take(own, interval);
+            let mut marks = ArrayVec::new();
+            note(&mut marks, *port, mark);
+            marks
+        }
+        Whose::EachPort(PortEvent::Tick) => each_ticks(ports, interval),
+        Whose::EachPort(each) => each_takes(ports, each, interval),
+    }
+}
+
+/// Each port takes a tick.
+fn each_ticks<A: Allocator>(ports: &mut [Port<A>], interval: u16) -> Marks
+    requires { length ports.old ≤ 64 }
+    ensures after { ports.new ≡ ports_step (each_port tick) interval 0 ports.old }
+    ensures marks { result.items ≡ marks_step (each_port tick) interval 0 ports.old }
+{
+    let mut marks = ArrayVec::new();
+    for (i, port) in ports.iter_mut().enumerate() {
+        let mark = port.tick(interval);
+        note(&mut marks, i as u8, mark);
+    }
+    marks
+}
+
+/// Each port takes an event.
+fn each_takes<A: Allocator>(ports: &mut [Port<A>], event: &PortEvent<'_>, interval: u16) -> Marks
+    requires few { length ports.old ≤ 64 }
+    requires limits { AllFit (port_event_of event.now) ports.old }
+    ensures after { ports.new
+        ≡ ports_step (each_port (port_event_of event.now)) interval 0 ports.old }
+    ensures marks { result.items
+        ≡ marks_step (each_port (port_event_of event.now)) interval 0 ports.old }
+{
+    let mut marks = ArrayVec::new();
+    for (i, port) in ports.iter_mut().enumerate() {
+        let mark = port.take(event, interval);
+        note(&mut marks, i as u8, mark);
+    }
+    marks
+}
+
+/// Whether no port holds more neighbors than this.
+pub(crate) fn all_fit<A: Allocator>(ports: &[Port<A>], most: u8) -> bool
+    ensures { result ≡ fits ports.now most }
+{
+    for port in ports {
+        if port.table().len() > most {
+            return false;
+        }
+    }
+    true
+}
+
+/// The place of the port of that name, from 0.
+pub(crate) fn place_of<A: Allocator>(ports: &[Port<A>], name: &[u8]) -> Option<u8>
+    requires { length ports.now ≤ 64 }
+    ensures { result ≡ place_from 0 (map (λ p. p.name) ports.now) name.now }
+{
+    for (i, port) in ports.iter().enumerate() {
+        if port.name() == name {
+            return Some(i as u8);
+        }
+    }
+    None
+}

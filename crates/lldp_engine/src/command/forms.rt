@@ -1,0 +1,109 @@
+//! The words of a command, one after the other, as the forms have them.
+ghost use Rattle.std.specs.Prelude.{◌≡◌, ℕ, ◌≤◌, List, [], ◌∷◌, true, IfOk, MatchResult};
+ghost use Rattle.std.specs.Str.{bytes_eq};
+ghost use Rattle.lldp_engine.specs.Options.{is_text as is_printable_text};
+ghost use Rattle.lldp_engine.specs.AgentState.{names_of, IsPort};
+ghost use Rattle.lldp_engine.specs.Forms.{Form, word, port, number, text, status, status_of as status_word};
+ghost use Rattle.lldp_engine.specs.Command.{Reads};
+
+use crate::agent::Agent;
+use crate::agent::names::is_text;
+use crate::command::fault::CommandFault;
+use crate::command::number::number as number_in;
+use crate::command::words::Words;
+use crate::port::status::Status;
+use std::alloc::Allocator;
+
+pub(crate) fn is_word(word: &[u8], expected: &str) -> bool
+    ensures { result ≡ bytes_eq word.now expected.now }
+{
+    word == expected.as_bytes()
+}
+
+/// The next word. One that is missing is `Unknown`.
+pub(crate) fn next_word<'l>(words: &mut Words<'l>) -> Result<&'l [u8], CommandFault>
+    ensures { MatchResult result
+        (λ word. words.old ≡ word.now ∷ words.new)
+        (λ fault. (fault ≡ CommandFault.Unknown) × (words.old ≡ [])) }
+{
+    words.next().ok_or(CommandFault::Unknown)
+}
+
+/// Takes the next word, which is to be this one.
+pub(crate) fn expect_word(words: &mut Words<'_>, expected: &str) -> Result<(), CommandFault>
+    ensures { (names : List (List ℕ)) (next : Form) →
+        Reads names (word expected.now next ∷ []) words.old result (λ _. next ∷ []) words.new }
+{
+    if is_word(next_word(words)?, expected) {
+        Ok(())
+    } else {
+        Err(CommandFault::Unknown)
+    }
+}
+
+/// The next word, which is to be a text.
+pub(crate) fn next_text<'l>(words: &mut Words<'l>) -> Result<&'l [u8], CommandFault>
+    ensures reads { (names : List (List ℕ)) (next : List ℕ → Form) →
+        Reads names (text next ∷ []) words.old result (λ t. next t.now ∷ []) words.new }
+    ensures is_text { IfOk result (λ t. is_printable_text t.now ≡ true) }
+{
+    let word = next_word(words)?;
+    if !is_text(word) {
+        return Err(CommandFault::Text);
+    }
+    Ok(word)
+}
+
+/// The next word, which is to be a number in this range.
+pub(crate) fn next_number(
+    words: &mut Words<'_>,
+    least: u16,
+    greatest: u16,
+) -> Result<u16, CommandFault>
+    ensures reads { (names : List (List ℕ)) (next : ℕ → Form) →
+        Reads names (number least greatest next ∷ []) words.old result (λ n.
+        next n ∷ []) words.new }
+    ensures in_range { IfOk result (λ n. (least ≤ n) × (n ≤ greatest)) }
+{
+    let word = next_word(words)?;
+    number_in(word, least, greatest)
+}
+
+/// The next word, which is to be the name of a port.
+pub(crate) fn next_port<A: Allocator>(
+    agent: &Agent<A>,
+    words: &mut Words<'_>,
+) -> Result<u8, CommandFault>
+    ensures reads { (next : ℕ → Form) →
+        Reads (names_of agent.now) (port next ∷ []) words.old result (λ p. next p ∷ []) words.new }
+    ensures exists { IfOk result (λ p. IsPort agent.now p) }
+{
+    let name = next_word(words)?;
+    agent.find_port(name).ok_or(CommandFault::NoSuchPort)
+}
+
+/// The status that a word names.
+fn status_of(word: &[u8]) -> Option<Status>
+    ensures { result ≡ status_word word.now }
+{
+    if is_word(word, "rx-and-tx") {
+        Some(Status::RxAndTx)
+    } else if is_word(word, "rx-only") {
+        Some(Status::RxOnly)
+    } else if is_word(word, "tx-only") {
+        Some(Status::TxOnly)
+    } else if is_word(word, "disabled") {
+        Some(Status::Disabled)
+    } else {
+        None
+    }
+}
+
+/// The next word, which is to be a status.
+pub(crate) fn next_status(words: &mut Words<'_>) -> Result<Status, CommandFault>
+    ensures { (names : List (List ℕ)) (next : Status → Form) →
+        Reads names (status next ∷ []) words.old result (λ s. next s ∷ []) words.new }
+{
+    let name = next_word(words)?;
+    status_of(name).ok_or(CommandFault::Unknown)
+}

@@ -1,0 +1,94 @@
+//! The commands that set something, and how words give them.
+ghost use Rattle.std.specs.Prelude.{◌∷◌, codes, IfOk};
+ghost use Rattle.lldp_engine.specs.EventView.{setting_of};
+ghost use Rattle.lldp_engine.specs.AgentState.{names_of};
+ghost use Rattle.lldp_engine.specs.Request.{apply};
+ghost use Rattle.lldp_engine.specs.Command.{Says};
+ghost use Rattle.lldp_engine.specs.Code.SaidSetting.{IsSaid};
+
+use crate::agent::Agent;
+use crate::agent::event::Setting;
+use crate::command::fault::CommandFault;
+use crate::command::forms::{
+    expect_word, is_word, next_number, next_port, next_status, next_text, next_word,
+};
+use crate::command::words::Words;
+use std::alloc::Allocator;
+
+/// What follows `configure system`.
+fn read_system<'l, A: Allocator>(
+    agent: &Agent<A>,
+    words: &mut Words<'l>,
+) -> Result<Setting<'l>, CommandFault>
+    ensures says { Says (names_of agent.now) agent.now.configuration.capacity (codes "configure" ∷ codes "system" ∷ words.old)
+        result (λ s. apply (setting_of s)) words.new }
+    ensures said { IfOk result (λ s. IsSaid agent.now (setting_of s)) }
+{
+    let word = next_word(words)?;
+    if is_word(word, "hostname") {
+        Ok(Setting::Hostname(next_text(words)?))
+    } else if is_word(word, "description") {
+        Ok(Setting::Description(next_text(words)?))
+    } else {
+        Err(CommandFault::Unknown)
+    }
+}
+
+/// What follows `configure lldp`.
+fn read_lldp<'l, A: Allocator>(
+    agent: &Agent<A>,
+    words: &mut Words<'l>,
+) -> Result<Setting<'l>, CommandFault>
+    ensures says { Says (names_of agent.now) agent.now.configuration.capacity (codes "configure" ∷ codes "lldp" ∷ words.old)
+        result (λ s. apply (setting_of s)) words.new }
+    ensures said { IfOk result (λ s. IsSaid agent.now (setting_of s)) }
+{
+    let word = next_word(words)?;
+    let capacity = agent.configuration().capacity;
+    if is_word(word, "tx-interval") {
+        Ok(Setting::Interval(next_number(words, 1, 3600)?))
+    } else if is_word(word, "tx-hold") {
+        Ok(Setting::Hold(next_number(words, 1, 100)? as u8))
+    } else if is_word(word, "max-neighbors") {
+        Ok(Setting::Limit(next_number(words, 1, u16::from(capacity))? as u8))
+    } else {
+        Err(CommandFault::Unknown)
+    }
+}
+
+/// What follows `configure ports`.
+fn read_ports<'l, A: Allocator>(
+    agent: &Agent<A>,
+    words: &mut Words<'l>,
+) -> Result<Setting<'l>, CommandFault>
+    ensures says { Says (names_of agent.now) agent.now.configuration.capacity (codes "configure" ∷ codes "ports" ∷ words.old)
+        result (λ s. apply (setting_of s)) words.new }
+    ensures said { IfOk result (λ s. IsSaid agent.now (setting_of s)) }
+{
+    let port = next_port(agent, words)?;
+    expect_word(words, "lldp")?;
+    expect_word(words, "status")?;
+    let status = next_status(words)?;
+    Ok(Setting::Status { port, status })
+}
+
+/// What follows `configure`.
+pub(crate) fn read_setting<'l, A: Allocator>(
+    agent: &Agent<A>,
+    words: &mut Words<'l>,
+) -> Result<Setting<'l>, CommandFault>
+    ensures says { Says (names_of agent.now) agent.now.configuration.capacity (codes "configure" ∷ words.old)
+        result (λ s. apply (setting_of s)) words.new }
+    ensures said { IfOk result (λ s. IsSaid agent.now (setting_of s)) }
+{
+    let word = next_word(words)?;
+    if is_word(word, "system") {
+        read_system(agent, words)
+    } else if is_word(word, "lldp") {
+        read_lldp(agent, words)
+    } else if is_word(word, "ports") {
+        read_ports(agent, words)
+    } else {
+        Err(CommandFault::Unknown)
+    }
+}

@@ -1,0 +1,77 @@
+//! System Capabilities.
+ghost use Rattle.std.specs.Prelude.{◌≡◌, ◌+◌, ◌*◌, ◌<◌, ◌≤◌, ◌++◌, length};
+ghost use Rattle.lldp_engine.specs.Capabilities.{capability_name as name_of, is_set as is_set_of, on_or_off as on_or_off_of, capability_text, capabilities_text};
+
+use crate::show::writer::Writer;
+use lldp_pdu::Caps;
+
+/// How many bits there are.
+const BITS: u8 = 16;
+
+/// The name of a bit.
+fn capability_name(bit: u8) -> &'static [u8]
+    requires { bit < 16 }
+    ensures value { result.now ≡ name_of bit }
+    ensures short { length result.now ≤ 8 }
+{
+    match bit {
+        0 => b"Other",
+        1 => b"Repeater",
+        2 => b"Bridge",
+        3 => b"Wlan",
+        4 => b"Router",
+        5 => b"Tel",
+        6 => b"Docsis",
+        7 => b"Station",
+        8 => b"Cvlan",
+        9 => b"Svlan",
+        10 => b"Tpmr",
+        11 => b"bit11",
+        12 => b"bit12",
+        13 => b"bit13",
+        14 => b"bit14",
+        _ => b"bit15",
+    }
+}
+
+fn is_set(bits: u16, bit: u8) -> bool
+    requires { bit < 16 }
+    ensures { result ≡ is_set_of bits bit }
+{
+    (bits >> bit) & 1 == 1
+}
+
+fn on_or_off(on: bool) -> &'static [u8]
+    ensures value { result.now ≡ on_or_off_of on }
+    ensures short { length result.now ≤ 3 }
+{
+    if on { b"on" } else { b"off" }
+}
+
+/// Writes one capability, and whether it is enabled.
+fn write_capability(line: &mut Writer, caps: Caps, bit: u8)
+    requires room { length line.old + 12 ≤ 2048 }
+    requires known { bit < 16 }
+    ensures value { line.new ≡ line.old ++ capability_text caps bit }
+    ensures len { length line.new ≤ length line.old + 12 }
+{
+    line.text(capability_name(bit));
+    line.text(b":");
+    line.text(on_or_off(is_set(caps.enabled, bit)));
+}
+
+/// Writes the available capabilities.
+pub(crate) fn write_capabilities(line: &mut Writer, caps: Caps)
+    requires room { length line.old + 208 ≤ 2048 }
+    ensures value { line.new ≡ line.old ++ capabilities_text caps }
+    ensures len { length line.new ≤ length line.old + 208 }
+{
+    let mut written = 0;
+    for bit in 0..BITS {
+        if is_set(caps.available, bit) {
+            line.separator(b',', written);
+            write_capability(line, caps, bit);
+            written += 1;
+        }
+    }
+}

@@ -1,0 +1,59 @@
+//! The lines of show commands.
+ghost use Rattle.std.specs.Prelude.{◌≡◌, ◌<◌, ◌≤◌, ℕ, List, length, IsSome, slice_get};
+ghost use Rattle.std.specs.Option.{option_map};
+ghost use Rattle.lldp_engine.specs.Lines.{octets_of, lines_of};
+ghost use Rattle.lldp_engine.specs.Past.{Past, agent_of};
+ghost use Rattle.lldp_engine.specs.Standing.{Stands};
+ghost use Rattle.lldp_engine.specs.Takes.{Takes};
+
+use crate::agent::Agent;
+use crate::command::Show;
+use crate::show::chassis_lines::put_chassis;
+use crate::show::configuration_lines::put_configuration;
+use crate::show::line_sink::LineSink;
+use crate::show::neighbor_lines::put_neighbors;
+use crate::show::one_line::OneLine;
+use crate::show::statistics_lines::put_statistics;
+use crate::show::writer::{Line, Writer};
+use std::alloc::Allocator;
+
+/// No show has more lines: each of 64 ports has 3 and those of 128 neighbors, each of which has 4
+/// and one for each of 744 kept TLVs. Of the 1,500 octets of a neighbor the mandatory TLVs take 12
+/// at least, and a kept TLV takes 2.
+pub const MOST_LINES: u32 = 64 * (3 + 128 * (4 + 744));
+
+impl<A: Allocator> Agent<A> {
+    /// Gives the lines of a show, in their order, to a sink. It takes no memory, and costs what it
+    /// shows. Where the sink is done, as behind a write that failed, the show ends within one
+    /// neighbor's lines.
+    pub fn show_lines<S: LineSink>(&self, show: &Show, sink: &mut S)
+        ensures value { Takes S.takes sink.old sink.new (lines_of show.now self.now) }
+        ensures few { length (lines_of show.now self.now) ≤ MOST_LINES }
+        ensures past { (past : Past) → Stands past self.now →
+            Takes S.takes sink.old sink.new (lines_of show.now (agent_of past)) }
+    {
+        let configuration = self.configuration();
+        let ports = self.all_ports();
+        let mut line = Writer::new();
+        match show {
+            Show::Neighbors => put_neighbors(sink, &mut line, ports),
+            Show::Statistics => put_statistics(sink, &mut line, ports),
+            Show::Chassis => put_chassis(sink, &mut line, configuration),
+            Show::Configuration => put_configuration(sink, &mut line, configuration, ports),
+        }
+    }
+
+    /// Line `i` of a show, from 0, without its line feed; None from the first `i` past the last
+    /// line on. It costs as much as all lines up to that one: whoever wants several takes them from
+    /// `show_lines`.
+    pub fn show_line(&self, show: &Show, i: u32) -> Option<Line>
+        ensures line { option_map octets_of result ≡ slice_get (lines_of show.now self.now) i }
+        ensures few { IsSome result → i < MOST_LINES }
+        ensures past { (past : Past) → Stands past self.now →
+            option_map octets_of result ≡ slice_get (lines_of show.now (agent_of past)) i }
+    {
+        let mut sink = OneLine::new(i);
+        self.show_lines(show, &mut sink);
+        sink.into_line()
+    }
+}

@@ -1,0 +1,46 @@
+//! Management Addresses.
+ghost use Rattle.std.specs.Prelude.{◌≡◌, ◌+◌, ◌≤◌, ◌++◌, length};
+ghost use Rattle.lldp_pdu.specs.View.{address_seen};
+ghost use Rattle.lldp_engine.specs.Addresses.{address_kind as kind_of_address};
+ghost use Rattle.lldp_engine.specs.ManagementAddress.{address_text, management_text};
+
+use crate::show::addresses::{AddressKind, address_kind, write_ipv4, write_ipv6};
+use crate::show::writer::Writer;
+use lldp_pdu::Mgmt;
+
+/// Writes an address of any family.
+fn write_address(line: &mut Writer, family: u8, octets: &[u8])
+    requires room { length line.old + 80 ≤ 2048 }
+    requires short { length octets.now ≤ 31 }
+    ensures value { line.new ≡ line.old
+        ++ address_text (kind_of_address family (length octets.now)) family octets.now }
+    ensures len { length line.new ≤ length line.old + 80 }
+{
+    match address_kind(family, octets.len()) {
+        AddressKind::Ipv4 => write_ipv4(line, octets),
+        AddressKind::Ipv6 => write_ipv6(line, octets),
+        AddressKind::Unknown => {
+            line.text(b"af");
+            line.decimal(u32::from(family));
+            line.text(b":");
+            line.hex(octets);
+        }
+    }
+}
+
+/// Writes a management address.
+pub(crate) fn write_management_address(line: &mut Writer, address: Mgmt<'_>)
+    requires room { length line.old + 360 ≤ 2048 }
+    requires short { length address.address.now ≤ 31 }
+    requires oid { length address.oid.now ≤ 128 }
+    ensures value { line.new ≡ line.old ++ management_text (address_seen address.entry) }
+    ensures len { length line.new ≤ length line.old + 360 }
+{
+    write_address(line, address.family, address.address);
+    line.text(b",");
+    line.decimal(u32::from(address.numbering));
+    line.text(b",");
+    line.decimal(address.interface);
+    line.text(b",");
+    line.hex(address.oid);
+}
