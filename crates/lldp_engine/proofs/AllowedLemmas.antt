@@ -24,8 +24,8 @@ use Rattle.lldp_engine.proofs.PortsLemmas.{own_or_nothing}
 -- ## The limit of opening never changes
 
 pub configured-capacity : (event : Event) (c : Configuration) → (configured event c).capacity ≡ c.capacity
-configured-capacity (agent.configure (agent.hostname text)) c = refl
-configured-capacity (agent.configure setting) c = refl
+configured-capacity (agent.set (agent.hostname text)) c = refl
+configured-capacity (agent.set setting) c = refl
 configured-capacity event c = refl
 
 capacity_stays : (o : Options) (events : List Event) → (configuration_after o events).capacity ≡ o.max_neighbors
@@ -68,8 +68,8 @@ fits_limit : (o : Options) (i : ℕ) (events : List Event) (event : Event) → i
     → FitsLimit (for_port i (whose event)) (port_table o (port_past o i events))
 fits_limit o i events (agent.frame port octets) lt a = own_or_nothing (λ e. FitsLimit e (port_table o (port_past o i events))) (port == i) (frame octets) tt tt
 fits_limit o i events (agent.link port up) lt a = own_or_nothing (λ e. FitsLimit e (port_table o (port_past o i events))) (port == i) (link up) tt tt
-fits_limit o i events (agent.configure (agent.status port given)) lt a = own_or_nothing (λ e. FitsLimit e (port_table o (port_past o i events))) (port == i) (status given) tt tt
-fits_limit o i events (agent.configure (agent.limit n)) lt a = limit_fits o i events n lt a
+fits_limit o i events (agent.set (agent.status port given)) lt a = own_or_nothing (λ e. FitsLimit e (port_table o (port_past o i events))) (port == i) (status given) tt tt
+fits_limit o i events (agent.set (agent.limit n)) lt a = limit_fits o i events n lt a
 fits_limit o i events event lt a = tt
 
 -- ## What a past tells a table

@@ -77,7 +77,7 @@ event_told table event given up h f = tt
 pub octets_for : (i : ℕ) (event : Event) → agent.HasOctets event → HasOctets (for_port i (whose event))
 octets_for i (agent.frame port octets) h = own_or_nothing HasOctets (port == i) (frame octets) h tt
 octets_for i (agent.link port up) h = own_or_nothing HasOctets (port == i) (link up) tt tt
-octets_for i (agent.configure (agent.status port given)) h = own_or_nothing HasOctets (port == i) (status given) tt tt
+octets_for i (agent.set (agent.status port given)) h = own_or_nothing HasOctets (port == i) (status given) tt tt
 octets_for i event h = tt
 
 -- ## What the examination of an LLDPDU says of it

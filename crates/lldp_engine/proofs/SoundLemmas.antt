@@ -116,6 +116,6 @@ limit_for_all capacity n (p ∷ ps) least most f s =
 pub can_take : (now : AgentState) (event : Event) → Allows now event → AllSound now.configuration.capacity now.ports → CanTake (whose event) now.ports
 can_take now (agent.frame port octets) a s = (a, none_for_all now.ports)
 can_take now (agent.link port up) a s = (a, none_for_all now.ports)
-can_take now (agent.configure (agent.status port given)) a s = (a, none_for_all now.ports)
-can_take now (agent.configure (agent.limit n)) a s = limit_for_all now.configuration.capacity n now.ports a.least a.most a.held s
+can_take now (agent.set (agent.status port given)) a s = (a, none_for_all now.ports)
+can_take now (agent.set (agent.limit n)) a s = limit_for_all now.configuration.capacity n now.ports a.least a.most a.held s
 can_take now event a s = none_for_all now.ports

@@ -5,7 +5,7 @@ use Rattle.std.proofs.lemmas.Bool.Decides.{nat_tests}
 use Rattle.lldp_transmit.specs.declared.event.Mark.{Mark}
 use Rattle.lldp_transmit.specs.declared.event.Mark.TheVariants.{Quiet, Ordinary, Shutdown}
 use Rattle.lldp_engine.specs.Options.{is_text}
-use Rattle.lldp_engine.specs.Event.{Event, configure, hostname, description}
+use Rattle.lldp_engine.specs.Event.{Event, set, hostname, description}
 use Rattle.lldp_engine.specs.Configuration.{Configuration, configured}
 use Rattle.lldp_engine.specs.AgentState.{AgentState, PortState, Allows}
 use Rattle.lldp_engine.specs.Past.{sending}
@@ -20,8 +20,8 @@ short_text : (text : List ℕ) → is_text text ≡ true → length text ≤ 255
 short_text text h = grind (arith, nat_tests, h)
 
 pub allowed_short : (now : AgentState) (event : Event) → Allows now event → HasShortText event
-allowed_short now (configure (hostname text)) a = short_text text a
-allowed_short now (configure (description text)) a = short_text text a
+allowed_short now (set (hostname text)) a = short_text text a
+allowed_short now (set (description text)) a = short_text text a
 allowed_short now event a = tt
 
 -- its configuration first, then its ports with the tx-interval in force

@@ -7,7 +7,7 @@ use Rattle.lldp_engine.specs.declared.port.status.Status.{Status}
 use Rattle.lldp_engine.specs.declared.port.counters.Counters.{Counters}
 use Rattle.lldp_engine.specs.Options.{is_text}
 use Rattle.lldp_engine.specs.Configuration.{Configuration}
-use Rattle.lldp_engine.specs.Event.{Event, tick, frame, link, configure, Setting, hostname, description, interval, hold, limit, status, update}
+use Rattle.lldp_engine.specs.Event.{Event, tick, frame, link, set, Setting, hostname, description, interval, hold, limit, status, update}
 
 -- a port: whether its link is up stands in its transmit machine
 pub record PortState : Type 0 where
@@ -58,4 +58,4 @@ abbrev pub Allows : AgentState → Event → Type 0
 Allows agent tick = Unit {0}
 Allows agent (frame port octets) = IsPort agent port
 Allows agent (link port up) = IsPort agent port
-Allows agent (configure setting) = AllowsSetting agent setting
+Allows agent (set setting) = AllowsSetting agent setting

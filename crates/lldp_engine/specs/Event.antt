@@ -18,7 +18,7 @@ pub data Event : Type 0 where
   tick : Event
   frame : (port : ℕ) (octets : List ℕ) → Event
   link : (port : ℕ) (up : Bool) → Event
-  configure : (setting : Setting) → Event
+  set : (setting : Setting) → Event
 
 -- what came are octets, as in every event of the program
 abbrev pub HasOctets : Event → Type 0

@@ -3,7 +3,7 @@ use Rattle.lldp_engine.specs.declared.agent.event.Event.{Event as CodeEvent}
 use Rattle.lldp_engine.specs.declared.agent.event.Event.TheVariants.{Tick, Frame, Link, Set}
 use Rattle.lldp_engine.specs.declared.agent.event.Setting.{Setting as CodeSetting}
 use Rattle.lldp_engine.specs.declared.agent.event.Setting.TheVariants.{Hostname, Description, Interval, Hold, Limit, Status, Update}
-use Rattle.lldp_engine.specs.Event.{Event, tick, frame, link, configure, Setting, hostname, description, interval, hold, limit, status, update}
+use Rattle.lldp_engine.specs.Event.{Event, tick, frame, link, set, Setting, hostname, description, interval, hold, limit, status, update}
 
 abbrev pub setting_of : CodeSetting → Setting
 setting_of (Hostname text) = hostname text.now
@@ -18,4 +18,4 @@ abbrev pub event_of : CodeEvent → Event
 event_of Tick = tick
 event_of (Frame port octets) = frame port octets.now
 event_of (Link port up) = link port up
-event_of (Set setting) = configure (setting_of setting)
+event_of (Set setting) = set (setting_of setting)

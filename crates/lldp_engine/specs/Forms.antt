@@ -10,12 +10,13 @@ use Rattle.lldp_engine.specs.Options.{is_text}
 use Rattle.lldp_engine.specs.Number.{number_of}
 use Rattle.lldp_engine.specs.Place.{place_of}
 use Rattle.lldp_engine.specs.Event.{hostname, description, interval, hold, limit, status as port_status, update}
-use Rattle.lldp_engine.specs.Request.{Request, display, apply}
+use Rattle.lldp_engine.specs.Answer.{or_fault, on_ok}
+use Rattle.lldp_engine.specs.Command.{Command, show, set}
 
 -- What a command may still say: nothing more; a fixed word and what follows it; or an argument, which the rest may
 -- depend on.
 pub data Form : Type 0 where
-  complete : Request → Form
+  complete : Command → Form
   word : List ℕ → Form → Form
   port : (ℕ → Form) → Form
   number : ℕ → ℕ → (ℕ → Form) → Form
@@ -25,17 +26,17 @@ pub data Form : Type 0 where
 -- THE FORMS, for a limit of opening.
 abbrev pub forms : ℕ → List Form
 forms capacity =
-    word (codes "show") (word (codes "neighbors") (complete (display Neighbors)))
-    ∷ word (codes "show") (word (codes "statistics") (complete (display Statistics)))
-    ∷ word (codes "show") (word (codes "chassis") (complete (display Chassis)))
-    ∷ word (codes "show") (word (codes "configuration") (complete (display Configuration)))
-    ∷ word (codes "configure") (word (codes "system") (word (codes "hostname") (text (λ t. complete (apply (hostname t))))))
-    ∷ word (codes "configure") (word (codes "system") (word (codes "description") (text (λ t. complete (apply (description t))))))
-    ∷ word (codes "configure") (word (codes "lldp") (word (codes "tx-interval") (number 1 3600 (λ n. complete (apply (interval n))))))
-    ∷ word (codes "configure") (word (codes "lldp") (word (codes "tx-hold") (number 1 100 (λ n. complete (apply (hold n))))))
-    ∷ word (codes "configure") (word (codes "lldp") (word (codes "max-neighbors") (number 1 capacity (λ n. complete (apply (limit n))))))
-    ∷ word (codes "configure") (word (codes "ports") (port (λ p. word (codes "lldp") (word (codes "status") (status (λ s. complete (apply (port_status p s))))))))
-    ∷ word (codes "update") (complete (apply update))
+    word (codes "show") (word (codes "neighbors") (complete (show Neighbors)))
+    ∷ word (codes "show") (word (codes "statistics") (complete (show Statistics)))
+    ∷ word (codes "show") (word (codes "chassis") (complete (show Chassis)))
+    ∷ word (codes "show") (word (codes "configuration") (complete (show Configuration)))
+    ∷ word (codes "configure") (word (codes "system") (word (codes "hostname") (text (λ t. complete (set (hostname t))))))
+    ∷ word (codes "configure") (word (codes "system") (word (codes "description") (text (λ t. complete (set (description t))))))
+    ∷ word (codes "configure") (word (codes "lldp") (word (codes "tx-interval") (number 1 3600 (λ n. complete (set (interval n))))))
+    ∷ word (codes "configure") (word (codes "lldp") (word (codes "tx-hold") (number 1 100 (λ n. complete (set (hold n))))))
+    ∷ word (codes "configure") (word (codes "lldp") (word (codes "max-neighbors") (number 1 capacity (λ n. complete (set (limit n))))))
+    ∷ word (codes "configure") (word (codes "ports") (port (λ p. word (codes "lldp") (word (codes "status") (status (λ s. complete (set (port_status p s))))))))
+    ∷ word (codes "update") (complete (set update))
     ∷ []
 
 -- The word of each status.
@@ -47,22 +48,14 @@ status_of w =
     else if bytes_eq w (codes "disabled") then Some Disabled
     else None
 
-abbrev pub then_form : {A : Type 0} → Result A CommandFault → (A → Form) → Result Form CommandFault
-then_form (Ok a) next = Ok (next a)
-then_form (Err fault) next = Err fault
-
-abbrev pub or_fault : {A : Type 0} → Option A → CommandFault → Result A CommandFault
-or_fault (Some a) fault = Ok a
-or_fault None fault = Err fault
-
 -- What is left of a form behind a word, or what is wrong with the word for this form. The names of the ports are given.
 abbrev pub after_word : List (List ℕ) → Form → List ℕ → Result Form CommandFault
-after_word names (complete request) w = Err Extra
+after_word names (complete command) w = Err Extra
 after_word names (word expected next) w = if bytes_eq w expected then Ok next else Err Unknown
-after_word names (port next) w = then_form (or_fault (place_of names w) NoSuchPort) next
-after_word names (number least greatest next) w = then_form (number_of w least greatest) next
+after_word names (port next) w = on_ok next (or_fault (place_of names w) NoSuchPort)
+after_word names (number least greatest next) w = on_ok next (number_of w least greatest)
 after_word names (text next) w = if is_text w then Ok (next w) else Err Text
-after_word names (status next) w = then_form (or_fault (status_of w) Unknown) next
+after_word names (status next) w = on_ok next (or_fault (status_of w) Unknown)
 
 -- One form more: those that go on with the word are kept. Where none does, the first fault is told, but Extra is the weakest: it
 -- yields to every other fault.
@@ -79,9 +72,9 @@ going_on names [] w = Err Extra
 going_on names (form ∷ others) w = and_form (after_word names form w) (going_on names others w)
 
 -- What is said where no word is left.
-abbrev pub completed : List Form → Result Request CommandFault
+abbrev pub completed : List Form → Result Command CommandFault
 completed [] = Err Unknown
-completed (complete request ∷ others) = Ok request
+completed (complete command ∷ others) = Ok command
 completed (word expected next ∷ others) = completed others
 completed (port next ∷ others) = completed others
 completed (number least greatest next ∷ others) = completed others
@@ -89,7 +82,7 @@ completed (text next ∷ others) = completed others
 completed (status next ∷ others) = completed others
 
 -- The words are compared with the forms from left to right; the first that no form goes on with gives the fault.
-abbrev pub read_forms : List (List ℕ) → Result (List Form) CommandFault → List (List ℕ) → Result Request CommandFault
+abbrev pub read_forms : List (List ℕ) → Result (List Form) CommandFault → List (List ℕ) → Result Command CommandFault
 read_forms names (Err fault) words = Err fault
 read_forms names (Ok left) [] = completed left
 read_forms names (Ok left) (w ∷ words) = read_forms names (going_on names left w) words

@@ -4,22 +4,22 @@ use Rattle.std.specs.Prelude.{◌≡◌, ◌⊎◌, ℕ, Bool, true, List, ◌�
 use Rattle.lldp_engine.specs.declared.port.status.Status.{Status as PortStatus}
 use Rattle.lldp_engine.specs.Options.{Options}
 use Rattle.lldp_engine.specs.Status.{status_at_opening}
-use Rattle.lldp_engine.specs.Event.{Event, link, configure, hostname, description, interval, hold, limit, status}
+use Rattle.lldp_engine.specs.Event.{Event, link, set, hostname, description, interval, hold, limit, status}
 use Rattle.lldp_engine.specs.Configuration.{Configuration, configuration_at_opening}
 
--- none of these events sets it; `set` is the event that sets it to a value
+-- none of these events sets it; `make` is the event that sets it to a value
 abbrev pub NoneSets : {X : Type 0} → (X → Event) → List Event → Type 0
-NoneSets set events = (later earlier : List Event) (value : _) → events ≡ later ++ set value ∷ earlier → ⊥
+NoneSets make events = (later earlier : List Event) (value : _) → events ≡ later ++ make value ∷ earlier → ⊥
 
 -- The value is what the last event that sets it set; where none does, the first value.
 abbrev pub IsLastSet : {X : Type 0} → (X → Event) → X → List Event → X → Type 0
-IsLastSet set first events value =
-    ((later earlier : List Event) × (events ≡ later ++ set value ∷ earlier) × NoneSets set later)
-    ⊎ (NoneSets set events × (value ≡ first))
+IsLastSet make first events value =
+    ((later earlier : List Event) × (events ≡ later ++ make value ∷ earlier) × NoneSets make later)
+    ⊎ (NoneSets make events × (value ≡ first))
 
 -- the status of port i: by its last status command
 abbrev pub IsLastStatus : Options → ℕ → List Event → PortStatus → Type 0
-IsLastStatus o i events value = IsLastSet (λ given. configure (status i given)) (status_at_opening o) events value
+IsLastStatus o i events value = IsLastSet (λ given. set (status i given)) (status_at_opening o) events value
 
 -- the link of port i: by its last link event
 abbrev pub IsLastLink : ℕ → List Event → Bool → Type 0
@@ -33,9 +33,9 @@ without_commands o c =
 
 -- The configuration: each part that a command sets by the last such command, and the others as they were opened.
 pub record IsLastConfiguration (o : Options) (events : List Event) (c : Configuration) : Type 0 where
-  pub by_hostname : IsLastSet (λ text. configure (hostname text)) o.hostname events c.hostname
-  pub by_description : IsLastSet (λ text. configure (description text)) (codes "lldpa") events c.description
-  pub by_interval : IsLastSet (λ seconds. configure (interval seconds)) 30 events c.interval
-  pub by_hold : IsLastSet (λ times. configure (hold times)) 4 events c.hold
-  pub by_limit : IsLastSet (λ neighbors. configure (limit neighbors)) o.max_neighbors events c.limit
+  pub by_hostname : IsLastSet (λ text. set (hostname text)) o.hostname events c.hostname
+  pub by_description : IsLastSet (λ text. set (description text)) (codes "lldpa") events c.description
+  pub by_interval : IsLastSet (λ seconds. set (interval seconds)) 30 events c.interval
+  pub by_hold : IsLastSet (λ times. set (hold times)) 4 events c.hold
+  pub by_limit : IsLastSet (λ neighbors. set (limit neighbors)) o.max_neighbors events c.limit
   pub others : without_commands o c ≡ configuration_at_opening o

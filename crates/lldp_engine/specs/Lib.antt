@@ -14,12 +14,13 @@ pub mod Step
 pub mod Standing
 pub mod LastSet
 pub mod Headline
+pub mod Answer
 pub mod Fault
 pub mod Words
 pub mod Number
-pub mod Request
-pub mod Forms
 pub mod Command
+pub mod Forms
+pub mod Given
 pub mod Frames
 pub mod Text
 pub mod Addresses

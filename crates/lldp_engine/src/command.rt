@@ -1,10 +1,11 @@
 //! The commands, and how a line gives one.
-ghost use Rattle.std.specs.Prelude.{◌≡◌, ℕ, List, ◌∷◌, ◌++◌, Ok, Err, IfOk, MatchResult, codes};
-ghost use Rattle.lldp_engine.specs.AgentState.{names_of};
-ghost use Rattle.lldp_engine.specs.Request.{Request, request_of, display, AllowsRequest};
+ghost use Rattle.std.specs.Prelude.{◌≡◌, ℕ, List, ◌∷◌, ◌++◌, Ok, IfOk, codes};
+ghost use Rattle.lldp_engine.specs.AgentState.{AgentState};
+ghost use Rattle.lldp_engine.specs.Answer.{on_ok};
+ghost use Rattle.lldp_engine.specs.Command.{Command as CommandSaid, show, command_of, AllowsCommand};
 ghost use Rattle.lldp_engine.specs.Forms.{Form, complete, going_on};
-ghost use Rattle.lldp_engine.specs.Command.{said_by, unless_in_use as unless_limit_in_use, command_of, Says};
-ghost use Rattle.lldp_engine.specs.Code.SaidSetting.{IsSaidRequest};
+ghost use Rattle.lldp_engine.specs.Given.{said_by, unless_in_use as unless_limit_in_use, command_said, command_given, Says};
+ghost use Rattle.lldp_engine.specs.Code.SaidSetting.{IsSaidCommand};
 ghost use Rattle.lldp_engine.specs.Past.{Past, agent_of};
 ghost use Rattle.lldp_engine.specs.Standing.{Stands};
 
@@ -47,8 +48,8 @@ pub enum Command<'l> {
 
 /// What follows `show`.
 fn read_show(words: &mut Words<'_>) -> Result<Show, CommandFault>
-    ensures { (names : List (List ℕ)) (capacity : ℕ) →
-        Says names capacity (codes "show" ∷ words.old) result (λ show. display show) words.new }
+    ensures { (agent : AgentState) →
+        Says agent (codes "show" ∷ words.old) result (λ what. show what) words.new }
 {
     let word = next_word(words)?;
     if is_word(word, "neighbors") {
@@ -64,20 +65,20 @@ fn read_show(words: &mut Words<'_>) -> Result<Show, CommandFault>
     }
 }
 
-/// A command but for the end of its words.
+/// A command of this first word and those behind it, but for the end of the words.
 fn read_form<'l, A: Allocator>(
     agent: &Agent<A>,
+    first: &[u8],
     words: &mut Words<'l>,
 ) -> Result<Command<'l>, CommandFault>
-    ensures says { Says (names_of agent.now) agent.now.configuration.capacity words.old result request_of words.new }
-    ensures said { IfOk result (λ command. IsSaidRequest agent.now (request_of command)) }
+    ensures says { Says agent.now (first.now ∷ words.old) result command_of words.new }
+    ensures said { IfOk result (λ command. IsSaidCommand agent.now (command_of command)) }
 {
-    let word = next_word(words)?;
-    if is_word(word, "show") {
+    if is_word(first, "show") {
         Ok(Command::Show(read_show(words)?))
-    } else if is_word(word, "configure") {
+    } else if is_word(first, "configure") {
         Ok(Command::Set(read_setting(agent, words)?))
-    } else if is_word(word, "update") {
+    } else if is_word(first, "update") {
         Ok(Command::Set(Setting::Update))
     } else {
         Err(CommandFault::Unknown)
@@ -85,18 +86,15 @@ fn read_form<'l, A: Allocator>(
 }
 
 /// The command that these words say.
-fn read_words<'l, A: Allocator>(
+fn read_whole<'l, A: Allocator>(
     agent: &Agent<A>,
+    first: &[u8],
     mut words: Words<'l>,
 ) -> Result<Command<'l>, CommandFault>
-    ensures read { MatchResult result
-        (λ command. said_by (names_of agent.now) agent.now.configuration.capacity words.entry
-        ≡ Ok (request_of command))
-        (λ fault. said_by (names_of agent.now) agent.now.configuration.capacity words.entry
-        ≡ Err fault) }
-    ensures said { IfOk result (λ command. IsSaidRequest agent.now (request_of command)) }
+    ensures read { on_ok command_of result ≡ said_by agent.now (first.now ∷ words.entry) }
+    ensures said { IfOk result (λ command. IsSaidCommand agent.now (command_of command)) }
 {
-    let command = read_form(agent, &mut words)?;
+    let command = read_form(agent, first, &mut words)?;
     match words.next() {
         None => Ok(command),
         Some(_) => Err(CommandFault::Extra),
@@ -108,12 +106,10 @@ fn unless_in_use<'l, A: Allocator>(
     agent: &Agent<A>,
     command: Command<'l>,
 ) -> Result<Command<'l>, CommandFault>
-    requires { IsSaidRequest agent.now (request_of command) }
-    ensures unused { MatchResult result
-        (λ c. unless_limit_in_use agent.now.ports (Ok (request_of command.entry))
-        ≡ Ok (request_of c))
-        (λ fault. unless_limit_in_use agent.now.ports (Ok (request_of command.entry)) ≡ Err fault) }
-    ensures allowed { IfOk result (λ c. AllowsRequest agent.now (request_of c)) }
+    requires { IsSaidCommand agent.now (command_of command) }
+    ensures unused { on_ok command_of result
+        ≡ unless_limit_in_use agent.now.ports (Ok (command_of command.entry)) }
+    ensures allowed { IfOk result (λ c. AllowsCommand agent.now (command_of c)) }
 {
     match command {
         Command::Set(Setting::Limit(limit)) if !all_fit(agent.all_ports(), limit) => {
@@ -124,27 +120,40 @@ fn unless_in_use<'l, A: Allocator>(
 }
 
 impl<A: Allocator> Agent<A> {
-    /// The command that a line gives, or the first fault: a bad quote anywhere, then the words from
-    /// left to right, then a word too many, then a limit below what a port holds. A line without
-    /// words is `Unknown`. The agent allows what was read.
-    pub fn read_command<'l>(&self, line: &'l [u8]) -> Result<Command<'l>, CommandFault>
-        ensures read { MatchResult result
-            (λ command. command_of self.now line.now ≡ Ok (request_of command))
-            (λ fault. command_of self.now line.now ≡ Err fault) }
-        ensures allowed { IfOk result (λ command. AllowsRequest self.now (request_of command)) }
-        ensures past { (past : Past) → Stands past self.now → MatchResult result
-            (λ command. command_of (agent_of past) line.now ≡ Ok (request_of command))
-            (λ fault. command_of (agent_of past) line.now ≡ Err fault) }
+    /// The command that words give, the first and those behind it, or the first fault: the words
+    /// from left to right, then a word too many, then a limit below what a port holds. The agent
+    /// allows what was read.
+    pub fn read_words<'l>(
+        &self,
+        first: &[u8],
+        behind: Words<'l>,
+    ) -> Result<Command<'l>, CommandFault>
+        ensures read { on_ok command_of result
+            ≡ command_said self.now (first.now ∷ behind.entry) }
+        ensures allowed { IfOk result (λ command. AllowsCommand self.now (command_of command)) }
     {
-        let command = read_words(self, split(line)?)?;
+        let command = read_whole(self, first, behind)?;
         unless_in_use(self, command)
+    }
+
+    /// The command that a line gives, or the first fault: a bad quote anywhere, then those of
+    /// `read_words`. A line without words is `Unknown`. The agent allows what was read.
+    pub fn read_command<'l>(&self, line: &'l [u8]) -> Result<Command<'l>, CommandFault>
+        ensures read { on_ok command_of result ≡ command_given self.now line.now }
+        ensures allowed { IfOk result (λ command. AllowsCommand self.now (command_of command)) }
+        ensures past { (past : Past) → Stands past self.now →
+            on_ok command_of result ≡ command_given (agent_of past) line.now }
+    {
+        let mut words = split(line)?;
+        let first = next_word(&mut words)?;
+        self.read_words(first, words)
     }
 }
 
 /// A complete form never takes a further word, wherever it stands among the forms: any other form
 /// decides what is said of the word.
 pub fn complete_forms_take_no_word()
-    ensures { (names : List (List ℕ)) (before after : List Form) (request : Request) (word : List ℕ) →
-        going_on names (before ++ complete request ∷ after) word
+    ensures { (names : List (List ℕ)) (before after : List Form) (command : CommandSaid) (word : List ℕ) →
+        going_on names (before ++ complete command ∷ after) word
         ≡ going_on names (before ++ after) word }
 {}

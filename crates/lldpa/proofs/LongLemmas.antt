@@ -4,13 +4,13 @@ use Rattle.std.proofs.lemmas.Bool.{cases_lt, lt-ltb}
 use Rattle.std.proofs.lemmas.List.{take_all}
 use Rattle.lldp_engine.specs.Past.{Past}
 use Rattle.lldpa.specs.Lines.{ended_lines, unfinished, if_any}
-use Rattle.lldpa.specs.Forms.{reading_of}
+use Rattle.lldpa.specs.Forms.{work_given}
 use Rattle.lldpa.specs.Items.{refused, after_all, items_of, items_of_lines}
 use Rattle.lldpa.specs.declared.line.LineFault.TheVariants.{TooLong}
 use Rattle.lldpa.proofs.LineLemmas.{onto_all, ended_lines-onto, unfinished_no_lf, no_lf-take}
 
 pub too_long : (past : Past) (line : List ℕ) → 4096 < length line → items_of past line ≡ refused TooLong ∷ []
-unfolding reading_of
+unfolding work_given
 too_long past line h = let e : nat_lt 4096 (length line) ≡ true = lt-ltb 4096 (length line) h in rw e refl
 
 same_first : (past : Past) (l m : List ℕ) (ls : List (List ℕ)) → items_of past l ≡ items_of past m → items_of_lines past (l ∷ ls) ≡ items_of_lines past (m ∷ ls)

@@ -9,7 +9,8 @@ use Rattle.lldp_engine.specs.AgentState.{AgentState, names_of}
 use Rattle.lldp_engine.specs.Place.{place_of}
 use Rattle.lldp_engine.specs.Words.{is_bare, is_separator, words_of, AreWords}
 use Rattle.lldp_engine.proofs.WordsGrammar.{read_from_spelled}
-use Rattle.lldpa.specs.Forms.{reading_of, form_of, frame_form, arrival}
+use Rattle.lldpa.specs.Forms.{work_given, form_of, frame_form}
+use Rattle.lldpa.specs.Work.{frame}
 
 -- a digit is no separator and no quote
 digit_is_bare : (c : ℕ) → is_hex_digit c ≡ true → is_bare c ≡ true
@@ -33,8 +34,8 @@ plain_words name digits n nb d db =
 -- what such a line says
 pub plain_reading : (agent : AgentState) (line name digits octets : List ℕ) (port : ℕ) → line ≡ 114 ∷ 120 ∷ 32 ∷ name ++ 32 ∷ digits → length line ≤ 4096
     → 0 < length name → AllPass is_bare name → 0 < length digits → place_of (names_of agent) name ≡ Some port → decode_of digits ≡ Ok octets
-    → reading_of agent line ≡ Ok (arrival port octets)
-unfolding reading_of form_of frame_form
+    → work_given agent line ≡ Ok (frame port octets)
+unfolding work_given form_of frame_form
 plain_reading agent line name digits octets port e short n nb d p o =
     let bare : AllPass is_bare digits = λ i d l. digit_is_bare (get_or digits i d) ((decode_of-ok digits octets o).1 i d l) in
     let words = plain_words name digits n nb d bare in

@@ -12,8 +12,9 @@ use Rattle.lldp_engine.specs.AgentState.{AgentState}
 use Rattle.lldp_engine.proofs.HeadlineLemmas.{promised as keeps_promise}
 use Rattle.lldpa.specs.declared.line.LineFault.{LineFault}
 use Rattle.lldpa.specs.Lines.{ended}
-use Rattle.lldpa.specs.Forms.{Reading, reading_of}
-use Rattle.lldpa.specs.Items.{Item, happens, shows, refused, after, after_all, text_of, text_of_all, items_of_reading, items_of, items_of_lines}
+use Rattle.lldpa.specs.Forms.{work_given}
+use Rattle.lldpa.specs.Work.{Work}
+use Rattle.lldpa.specs.Items.{Item, happens, shows, refused, after, after_all, text_of, text_of_all, items_of_work, items_of, items_of_lines}
 use Rattle.lldpa.specs.declared.device.DeviceFault.{DeviceFault}
 use Rattle.lldpa.specs.Output.{IsWritten, IsCutOff, WrittenBy, Output, Writes}
 use Rattle.lldpa.specs.Runs.{Done, Failed, Ended, RunsItems}
@@ -88,8 +89,8 @@ pub failed_same : (past : Past) (xs ys : List Item) (a b : Option (List ℕ)) (a
 failed_same past xs ys a b agent e h = rw (← e) h
 
 -- what a line was read as is what it asks for after the past
-pub items_read : (past : Past) (agent : AgentState) (line : List ℕ) (read : Result Reading LineFault) → Stands past agent → read ≡ reading_of agent line → items_of_reading read ≡ items_of past line
-items_read past agent line read h is = ap items_of_reading (is ∙ ap (λ seen. reading_of seen line) (h.is))
+pub items_read : (past : Past) (agent : AgentState) (line : List ℕ) (read : Result Work LineFault) → Stands past agent → read ≡ work_given agent line → items_of_work read ≡ items_of past line
+items_read past agent line read h is = ap items_of_work (is ∙ ap (λ seen. work_given seen line) (h.is))
 
 -- ## A part of a run and another
 

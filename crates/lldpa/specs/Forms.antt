@@ -6,28 +6,14 @@ use Rattle.lldp_engine.specs.declared.command.fault.CommandFault.{CommandFault}
 use Rattle.lldp_engine.specs.declared.command.fault.CommandFault.TheVariants.{Unknown, NoSuchPort, Extra, Quote}
 use Rattle.lldp_engine.specs.Fault.{text_of as command_fault_text}
 use Rattle.lldp_engine.specs.Words.{words_of, is_separator}
-use Rattle.lldp_engine.specs.Forms.{or_fault}
+use Rattle.lldp_engine.specs.Answer.{or_fault, on_ok, ◌>>=◌}
 use Rattle.lldp_engine.specs.Number.{number_of}
 use Rattle.lldp_engine.specs.AgentState.{AgentState, names_of}
-use Rattle.lldp_engine.specs.Request.{Request}
 use Rattle.lldp_engine.specs.Place.{place_of}
-use Rattle.lldp_engine.specs.Command.{command_of}
+use Rattle.lldp_engine.specs.Given.{command_said}
 use Rattle.lldpa.specs.declared.line.LineFault.{LineFault}
 use Rattle.lldpa.specs.declared.line.LineFault.TheVariants.{TooLong, Hex, Command}
-
--- what a line says: nothing, some ticks, a frame on a port, that a port's link came or went, or a command
-pub data Reading : Type 0 where
-  skipped : Reading
-  ticks : ℕ → Reading
-  arrival : ℕ → List ℕ → Reading
-  link : ℕ → Bool → Reading
-  order : Request → Reading
-
--- Steps that may fail, the first fault first.
-infixl 10 ◌>>=◌
-abbrev pub ◌>>=◌ : {A B : Type 0} → Result A LineFault → (A → Result B LineFault) → Result B LineFault
-(Ok x) >>= f = f x
-(Err fault) >>= f = Err fault
+use Rattle.lldpa.specs.Work.{Work, skip, ticks, frame, link, command}
 
 -- a fault of a command as one of a line
 abbrev pub of_command : {A : Type 0} → Result A CommandFault → Result A LineFault
@@ -40,19 +26,19 @@ or_hex (Ok octets) = Ok octets
 or_hex (Err fault) = Err Hex
 
 -- a complete form: a word behind it is Extra
-abbrev pub complete : List (List ℕ) → Reading → Result Reading LineFault
-complete [] reading = Ok reading
-complete (word ∷ words) reading = Err (Command Extra)
+abbrev pub complete : List (List ℕ) → Work → Result Work LineFault
+complete [] work = Ok work
+complete (word ∷ words) work = Err (Command Extra)
 
 -- `tick` and `tick N`, behind the first word: one tick, or N, from 1 to 65535
-unfoldable pub tick_form : List (List ℕ) → Result Reading LineFault
+unfoldable pub tick_form : List (List ℕ) → Result Work LineFault
 tick_form [] = Ok (ticks 1)
 tick_form (word ∷ words) = do
   n ← of_command (number_of word 1 65535)
   complete words (ticks n)
 
 -- `rx PORT HEX`, behind the first word: a frame that came on a port
-unfoldable pub frame_form : AgentState → List (List ℕ) → Result Reading LineFault
+unfoldable pub frame_form : AgentState → List (List ℕ) → Result Work LineFault
 frame_form agent [] = Err (Command Unknown)
 frame_form agent (name ∷ []) = do
   port ← of_command (or_fault (place_of (names_of agent) name) NoSuchPort)
@@ -60,28 +46,28 @@ frame_form agent (name ∷ []) = do
 frame_form agent (name ∷ digits ∷ words) = do
   port ← of_command (or_fault (place_of (names_of agent) name) NoSuchPort)
   octets ← or_hex (decode_of digits)
-  complete words (arrival port octets)
+  complete words (frame port octets)
 
 -- `up PORT` and `down PORT`, behind the first word: the link of a port came, or went
-unfoldable pub link_form : AgentState → Bool → List (List ℕ) → Result Reading LineFault
+unfoldable pub link_form : AgentState → Bool → List (List ℕ) → Result Work LineFault
 link_form agent up [] = Err (Command Unknown)
 link_form agent up (name ∷ words) = do
   port ← of_command (or_fault (place_of (names_of agent) name) NoSuchPort)
   complete words (link port up)
 
 -- a command, or its fault
-abbrev pub command_form : AgentState → List ℕ → Result Reading LineFault
-command_form agent line = of_command (command_of agent line) >>= λ request. Ok (order request)
+abbrev pub command_form : AgentState → List (List ℕ) → Result Work LineFault
+command_form agent words = on_ok command (of_command (command_said agent words))
 
--- the words of a line: `tick`, `rx`, `up` and `down` begin forms of a trace, and every other line is read as a command
-unfoldable pub form_of : AgentState → List ℕ → List (List ℕ) → Result Reading LineFault
-form_of agent line [] = Err (Command Unknown)
-form_of agent line (word ∷ words) =
+-- the words of a line: `tick`, `rx`, `up` and `down` begin forms of a trace, and all others are those of a command
+unfoldable pub form_of : AgentState → List (List ℕ) → Result Work LineFault
+form_of agent [] = Err (Command Unknown)
+form_of agent (word ∷ words) =
     if bytes_eq word (codes "tick") then tick_form words
     else if bytes_eq word (codes "rx") then frame_form agent words
     else if bytes_eq word (codes "up") then link_form agent true words
     else if bytes_eq word (codes "down") then link_form agent false words
-    else command_form agent line
+    else command_form agent (word ∷ words)
 
 -- nothing but spaces and tabs, or `#` as the first other octet
 abbrev pub is_skipped : List ℕ → Bool
@@ -90,11 +76,11 @@ is_skipped (octet ∷ octets) = if is_separator octet then is_skipped octets els
 
 -- What a line says to an agent, or its fault. The checks in order: its length, at most 4,096 octets; nothing to
 -- do; its words, and bad quotes; its form.
-unfoldable pub reading_of : AgentState → List ℕ → Result Reading LineFault
-reading_of agent line =
+unfoldable pub work_given : AgentState → List ℕ → Result Work LineFault
+work_given agent line =
     if nat_lt 4096 (length line) then Err TooLong
-    else if is_skipped line then Ok skipped
-    else of_command (or_fault (words_of line) Quote) >>= form_of agent line
+    else if is_skipped line then Ok skip
+    else of_command (or_fault (words_of line) Quote) >>= form_of agent
 
 -- the line that a refused line gives, without LF
 abbrev pub fault_text : LineFault → List ℕ

@@ -2,13 +2,15 @@
 use Rattle.std.specs.Prelude.{ℕ, List, [], ◌∷◌, ◌++◌, replicate, Result, Ok, Err}
 use Rattle.std.specs.List.{flat_map}
 use Rattle.lldp_engine.specs.declared.command.Show.{Show}
-use Rattle.lldp_engine.specs.Event.{Event, tick, frame, link as link_event, configure}
+use Rattle.lldp_engine.specs.Event.{Event, tick}
+use Rattle.lldp_engine.specs.Event as event
 use Rattle.lldp_engine.specs.Past.{Past, with_event, agent_of}
-use Rattle.lldp_engine.specs.Request.{display, apply}
+use Rattle.lldp_engine.specs.Command.{show, set}
 use Rattle.lldp_engine.specs.Lines.{lines_of as show_lines}
 use Rattle.lldpa.specs.Lines.{ended, lines_of}
-use Rattle.lldpa.specs.Forms.{Reading, skipped, ticks, arrival, link, order, reading_of, fault_text}
+use Rattle.lldpa.specs.Forms.{work_given, fault_text}
 use Rattle.lldpa.specs.Sent.{sent_text}
+use Rattle.lldpa.specs.Work.{Work, skip, ticks, frame, link, command}
 use Rattle.lldpa.specs.declared.line.LineFault.{LineFault}
 
 -- one thing that a line asks for: an event, a show, or the fault that refuses it
@@ -17,24 +19,24 @@ pub data Item : Type 0 where
   shows : Show → Item
   refused : LineFault → Item
 
--- what a reading asks for: nothing, N ticks, one other event, one show, or one fault
-abbrev pub items_of_reading : Result Reading LineFault → List Item
-items_of_reading (Ok skipped) = []
-items_of_reading (Ok (ticks n)) = replicate n (happens tick)
-items_of_reading (Ok (arrival port octets)) = happens (frame port octets) ∷ []
-items_of_reading (Ok (link port up)) = happens (link_event port up) ∷ []
-items_of_reading (Ok (order (apply setting))) = happens (configure setting) ∷ []
-items_of_reading (Ok (order (display show))) = shows show ∷ []
-items_of_reading (Err fault) = refused fault ∷ []
+-- what work asks for: nothing, N ticks, one other event, one show, or one fault
+abbrev pub items_of_work : Result Work LineFault → List Item
+items_of_work (Ok skip) = []
+items_of_work (Ok (ticks n)) = replicate n (happens tick)
+items_of_work (Ok (frame port octets)) = happens (event.frame port octets) ∷ []
+items_of_work (Ok (link port up)) = happens (event.link port up) ∷ []
+items_of_work (Ok (command (set setting))) = happens (event.set setting) ∷ []
+items_of_work (Ok (command (show what))) = shows what ∷ []
+items_of_work (Err fault) = refused fault ∷ []
 
 -- what a line asks for after this past
 abbrev pub items_of : Past → List ℕ → List Item
-items_of past line = items_of_reading (reading_of (agent_of past) line)
+items_of past line = items_of_work (work_given (agent_of past) line)
 
 -- the past after an item: an event joins it, and nothing else does
 abbrev pub after : Past → Item → Past
 after past (happens event) = with_event past event
-after past (shows show) = past
+after past (shows what) = past
 after past (refused fault) = past
 
 -- the past after items in order
@@ -45,7 +47,7 @@ after_all past (item ∷ items) = after_all (after past item) items
 -- the text of an item: the lines of what ports send at the event; the lines of the show; the line of the fault
 abbrev pub text_of : Past → Item → List ℕ
 text_of past (happens event) = sent_text (with_event past event)
-text_of past (shows show) = flat_map ended (show_lines show (agent_of past))
+text_of past (shows what) = flat_map ended (show_lines what (agent_of past))
 text_of past (refused fault) = ended (fault_text fault)
 
 -- the texts of items in order, each after those before it

@@ -1,30 +1,31 @@
--- What a line was read as, as plain data.
-use Rattle.std.specs.Prelude.{◌≤◌, Result, Ok, Err}
-use Rattle.lldp_engine.specs.Event.{frame, link as link_event}
+-- What one line of a trace asks for, as plain data.
+use Rattle.std.specs.Prelude.{ℕ, ◌≤◌, Bool, List}
+use Rattle.lldp_engine.specs.Event as event
 use Rattle.lldp_engine.specs.AgentState.{AgentState, Allows}
-use Rattle.lldp_engine.specs.Request.{request_of, AllowsRequest}
-use Rattle.lldpa.specs.declared.line.LineFault.{LineFault}
-use Rattle.lldpa.specs.declared.line.Work.{Work}
-use Rattle.lldpa.specs.declared.line.Work.TheVariants.{Skip, Ticks, Frame, Link, Command}
-use Rattle.lldpa.specs.Forms.{Reading, skipped, ticks, arrival, link, order}
+use Rattle.lldp_engine.specs.Command.{Command, command_of, AllowsCommand}
+use Rattle.lldpa.specs.declared.line.Work.{Work as CodeWork}
+use Rattle.lldpa.specs.declared.line.Work.TheVariants as code
 
--- what work says
-abbrev pub reading_of_work : Work → Reading
-reading_of_work Skip = skipped
-reading_of_work (Ticks n) = ticks n
-reading_of_work (Frame port octets) = arrival port octets.now
-reading_of_work (Link port up) = link port up
-reading_of_work (Command command) = order (request_of command)
+-- nothing, some ticks, a frame on a port, that the link of a port came or went, or a command
+pub data Work : Type 0 where
+  skip : Work
+  ticks : ℕ → Work
+  frame : (port : ℕ) (octets : List ℕ) → Work
+  link : (port : ℕ) (up : Bool) → Work
+  command : Command → Work
 
--- what a line was read as, or its fault
-abbrev pub said : Result Work LineFault → Result Reading LineFault
-said (Ok work) = Ok (reading_of_work work)
-said (Err fault) = Err fault
+-- work of the program as plain data
+abbrev pub work_of : CodeWork → Work
+work_of code.Skip = skip
+work_of (code.Ticks n) = ticks n
+work_of (code.Frame port octets) = frame port octets.now
+work_of (code.Link port up) = link port up
+work_of (code.Command given) = command (command_of given)
 
 -- the agent accepts the events of the work, and its ticks are one at least
 abbrev pub AllowsWork : AgentState → Work → Type 0
-AllowsWork agent Skip = Unit {0}
-AllowsWork agent (Ticks n) = 1 ≤ n
-AllowsWork agent (Frame port octets) = Allows agent (frame port octets.now)
-AllowsWork agent (Link port up) = Allows agent (link_event port up)
-AllowsWork agent (Command command) = AllowsRequest agent (request_of command)
+AllowsWork agent skip = Unit {0}
+AllowsWork agent (ticks n) = 1 ≤ n
+AllowsWork agent (frame port octets) = Allows agent (event.frame port octets)
+AllowsWork agent (link port up) = Allows agent (event.link port up)
+AllowsWork agent (command given) = AllowsCommand agent given

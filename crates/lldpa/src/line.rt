@@ -1,11 +1,12 @@
 //! One line of a trace, and what it asks for.
-ghost use Rattle.std.specs.Prelude.{◌≡◌, ◌≤◌, length, ℕ, List, IfOk, IfErr, IfSome, ◌*◌, ◌%◌, ◌++◌};
+ghost use Rattle.std.specs.Prelude.{◌≡◌, ◌≤◌, length, ℕ, List, ◌∷◌, IfOk, IfErr, IfSome, ◌*◌, ◌%◌, ◌++◌};
 ghost use Rattle.std.specs.List.{AllByRecursion, AllPass};
 ghost use Rattle.lldp_engine.specs.Words.{is_bare};
 ghost use Rattle.hex.specs.Hex.{decode_of};
 ghost use Rattle.lldp_engine.specs.AgentState.{AgentState, IsPort};
-ghost use Rattle.lldpa.specs.Forms.{fault_text, is_skipped, or_hex, complete, tick_form, frame_form, link_form, command_form, reading_of, arrival};
-ghost use Rattle.lldpa.specs.Work.{reading_of_work, said, AllowsWork};
+ghost use Rattle.lldp_engine.specs.Answer.{on_ok};
+ghost use Rattle.lldpa.specs.Forms.{fault_text, is_skipped, or_hex, complete, tick_form, frame_form, link_form, command_form, work_given};
+ghost use Rattle.lldpa.specs.Work.{frame, work_of, AllowsWork};
 
 use crate::digits::decode_digits;
 use lldp_engine::{Agent, Command, CommandFault, Words, number, split};
@@ -68,7 +69,7 @@ fn is_skipped_line(line: &[u8]) -> bool
 
 /// The work, where no word follows it.
 fn completed<'l>(mut words: Words<'_>, work: Work<'l>) -> Result<Work<'l>, LineFault>
-    ensures said { said result ≡ complete words.entry (reading_of_work work.entry) }
+    ensures read { on_ok work_of result ≡ complete words.entry (work_of work.entry) }
     ensures same { IfOk result (λ done. done ≡ work.entry) }
 {
     match words.next() {
@@ -80,8 +81,9 @@ fn completed<'l>(mut words: Words<'_>, work: Work<'l>) -> Result<Work<'l>, LineF
 /// `tick` and `tick N`, behind their first word.
 #[tactic(auto, unfolding(crate::specs::Forms::tick_form))]
 fn read_tick<'l>(mut words: Words<'_>) -> Result<Work<'l>, LineFault>
-    ensures said { said result ≡ tick_form words.entry }
-    ensures allowed { (agent : AgentState) → IfOk result (AllowsWork agent) }
+    ensures read { on_ok work_of result ≡ tick_form words.entry }
+    ensures allowed { (agent : AgentState) →
+        IfOk result (λ work. AllowsWork agent (work_of work)) }
 {
     let Some(word) = words.next() else {
         return Ok(Work::Ticks(1));
@@ -117,8 +119,8 @@ fn read_frame<'l>(
     room: &'l mut [u8; 2048],
 ) -> Result<Work<'l>, LineFault>
     requires { AllByRecursion (λ word. length word ≤ 4096) words }
-    ensures said { said result ≡ frame_form agent.now words.entry }
-    ensures allowed { IfOk result (AllowsWork agent.now) }
+    ensures read { on_ok work_of result ≡ frame_form agent.now words.entry }
+    ensures allowed { IfOk result (λ work. AllowsWork agent.now (work_of work)) }
 {
     let Some(name) = words.next() else {
         return Err(LineFault::Command(CommandFault::Unknown));
@@ -138,8 +140,8 @@ fn read_frame<'l>(
 /// `up PORT` and `down PORT`, behind their first word.
 #[tactic(auto, unfolding(crate::specs::Forms::link_form))]
 fn read_link<'l>(agent: &Agent, mut words: Words<'_>, up: bool) -> Result<Work<'l>, LineFault>
-    ensures said { said result ≡ link_form agent.now up words.entry }
-    ensures allowed { IfOk result (AllowsWork agent.now) }
+    ensures read { on_ok work_of result ≡ link_form agent.now up words.entry }
+    ensures allowed { IfOk result (λ work. AllowsWork agent.now (work_of work)) }
 {
     let Some(name) = words.next() else {
         return Err(LineFault::Command(CommandFault::Unknown));
@@ -150,12 +152,12 @@ fn read_link<'l>(agent: &Agent, mut words: Words<'_>, up: bool) -> Result<Work<'
     completed(words, Work::Link { port, up })
 }
 
-/// A command.
-fn read_order<'l>(agent: &Agent, line: &'l [u8]) -> Result<Work<'l>, LineFault>
-    ensures said { said result ≡ command_form agent.now line.now }
-    ensures allowed { IfOk result (AllowsWork agent.now) }
+/// A command, of its first word and those behind it.
+fn read_order<'l>(agent: &Agent, first: &[u8], words: Words<'l>) -> Result<Work<'l>, LineFault>
+    ensures read { on_ok work_of result ≡ command_form agent.now (first.now ∷ words.entry) }
+    ensures allowed { IfOk result (λ work. AllowsWork agent.now (work_of work)) }
 {
-    match agent.read_command(line) {
+    match agent.read_words(first, words) {
         Ok(command) => Ok(Work::Command(command)),
         Err(fault) => Err(LineFault::Command(fault)),
     }
@@ -184,7 +186,7 @@ fn split_at_bare(text: &[u8]) -> (&[u8], &[u8])
 fn plain_frame<'l>(agent: &Agent, line: &'l [u8]) -> Option<(u8, &'l [u8])>
     requires { length line.now ≤ 4096 }
     ensures reads { IfSome result (λ x. (octets : List ℕ) → decode_of x.1.now ≡ Ok octets →
-        reading_of agent.now line.now ≡ Ok (arrival x.0 octets)) }
+        work_given agent.now line.now ≡ Ok (frame x.0 octets)) }
     ensures even { IfSome result (λ x. length x.1.now % 2 ≡ 0) }
     ensures short { IfSome result (λ x. length x.1.now ≤ 4096) }
     ensures exists { IfSome result (λ x. IsPort agent.now x.0) }
@@ -207,14 +209,14 @@ fn plain_frame<'l>(agent: &Agent, line: &'l [u8]) -> Option<(u8, &'l [u8])>
 
 /// What a line, without its LF, asks of the agent, or its first fault. The octets of a frame stand
 /// in the room; else nothing is promised of the room.
-#[tactic(auto, unfolding(crate::specs::Forms::reading_of, crate::specs::Forms::form_of))]
+#[tactic(auto, unfolding(crate::specs::Forms::work_given, crate::specs::Forms::form_of))]
 pub fn read_line<'l>(
     agent: &Agent,
     line: &'l [u8],
     room: &'l mut [u8; 2048],
 ) -> Result<Work<'l>, LineFault>
-    ensures said { said result ≡ reading_of agent.now line.now }
-    ensures allowed { IfOk result (AllowsWork agent.now) }
+    ensures read { on_ok work_of result ≡ work_given agent.now line.now }
+    ensures allowed { IfOk result (λ work. AllowsWork agent.now (work_of work)) }
 {
     if line.len() > LONGEST {
         return Err(LineFault::TooLong);
@@ -248,6 +250,6 @@ pub fn read_line<'l>(
     } else if word == b"down".as_slice() {
         read_link(agent, words, false)
     } else {
-        read_order(agent, line)
+        read_order(agent, word, words)
     }
 }

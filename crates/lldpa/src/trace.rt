@@ -1,13 +1,14 @@
 //! A run over a trace.
 ghost use Rattle.std.specs.Prelude.{◌≡◌, ◌<◌, ◌≤◌, ◌+◌, ◌^◌, [], ◌∷◌, length, take, drop, replicate, IfOk};
 ghost use Rattle.lldp_engine.specs.AgentState.{Allows};
+ghost use Rattle.lldp_engine.specs.Answer.{on_ok};
 ghost use Rattle.lldp_engine.specs.Event.{tick};
 ghost use Rattle.lldp_engine.specs.EventView.{event_of};
 ghost use Rattle.lldp_engine.specs.Past.{Past};
 ghost use Rattle.lldp_engine.specs.Standing.{Stands};
 ghost use Rattle.lldpa.specs.Lines.{ended_lines, unfinished, if_any};
-ghost use Rattle.lldpa.specs.Work.{said, AllowsWork};
-ghost use Rattle.lldpa.specs.Items.{happens, after_all, items_of_reading, items_of, items_of_lines};
+ghost use Rattle.lldpa.specs.Work.{work_of, AllowsWork};
+ghost use Rattle.lldpa.specs.Items.{happens, after_all, items_of_work, items_of, items_of_lines};
 ghost use Rattle.lldpa.specs.Runs.{RunsItems, HasRun, KeepsOn, read_failures_after, write_failures_after};
 ghost use Rattle.lldpa.specs.Told.{Between};
 
@@ -76,9 +77,9 @@ fn run_work<W: Sink>(
     output: &mut Output<'_, W>,
     read: Result<Work<'_>, LineFault>,
 ) -> Result<(), DeviceFault>
-    requires { IfOk read (AllowsWork agent.old) }
+    requires { IfOk read (λ work. AllowsWork agent.old (work_of work)) }
     ensures { Between W.taken W.failures W.place output.old output.new
-        (RunsItems (λ _. items_of_reading (said read.entry)) result agent.old agent.new) }
+        (RunsItems (λ _. items_of_work (on_ok work_of read.entry)) result agent.old agent.new) }
 {
     match read {
         Ok(Work::Skip) => Ok(()),

@@ -3,7 +3,7 @@ use Rattle.std.specs.Prelude.{◌≡◌, ◌≤◌, true}
 use Rattle.lldp_engine.specs.Options.{is_text}
 use Rattle.lldp_engine.specs.AgentState.{AgentState, IsPort}
 use Rattle.lldp_engine.specs.Event.{Setting, hostname, description, interval, hold, limit, status, update}
-use Rattle.lldp_engine.specs.Request.{Request, display, apply}
+use Rattle.lldp_engine.specs.Command.{Command, show, set}
 
 -- The agent accepts the setting, unless it is a limit in use.
 abbrev pub IsSaid : AgentState → Setting → Type 0
@@ -16,6 +16,6 @@ IsSaid agent (status port given) = IsPort agent port
 IsSaid agent update = Unit {0}
 
 -- It accepts what is asked for, unless that is a limit in use.
-abbrev pub IsSaidRequest : AgentState → Request → Type 0
-IsSaidRequest agent (display show) = Unit {0}
-IsSaidRequest agent (apply setting) = IsSaid agent setting
+abbrev pub IsSaidCommand : AgentState → Command → Type 0
+IsSaidCommand agent (show what) = Unit {0}
+IsSaidCommand agent (set setting) = IsSaid agent setting

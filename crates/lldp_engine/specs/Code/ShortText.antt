@@ -1,12 +1,12 @@
 -- What the code asks of a setting's text, and what a configuration keeps of it.
 use Rattle.std.specs.Prelude.{◌≡◌, ◌≤◌, length, IfSome}
 use Rattle.lldp_engine.specs.Configuration.{Configuration}
-use Rattle.lldp_engine.specs.Event.{Event, configure, hostname, description}
+use Rattle.lldp_engine.specs.Event.{Event, set, hostname, description}
 
 -- its text, if it has one, has at most 255 octets
 abbrev pub HasShortText : Event → Type 0
-HasShortText (configure (hostname text)) = length text ≤ 255
-HasShortText (configure (description text)) = length text ≤ 255
+HasShortText (set (hostname text)) = length text ≤ 255
+HasShortText (set (description text)) = length text ≤ 255
 HasShortText event = Unit {0}
 
 -- its texts have at most 255 octets, and its management address has four

@@ -29,7 +29,7 @@ abbrev pub whose : agent.Event → Whose
 whose agent.tick = each_port tick
 whose (agent.frame port octets) = one_port port (frame octets)
 whose (agent.link port up) = one_port port (link up)
-whose (agent.configure setting) = whose_setting setting
+whose (agent.set setting) = whose_setting setting
 
 -- what it is for port i
 abbrev pub for_port : ℕ → Whose → PortEvent

@@ -4,7 +4,7 @@ ghost use Rattle.std.specs.Str.{bytes_eq};
 ghost use Rattle.lldp_engine.specs.Options.{is_text as is_printable_text};
 ghost use Rattle.lldp_engine.specs.AgentState.{names_of, IsPort};
 ghost use Rattle.lldp_engine.specs.Forms.{Form, word, port, number, text, status, status_of as status_word};
-ghost use Rattle.lldp_engine.specs.Command.{Reads};
+ghost use Rattle.lldp_engine.specs.Given.{Reads};
 
 use crate::agent::Agent;
 use crate::agent::names::is_text;

@@ -1,9 +1,8 @@
 //! The commands that set something, and how words give them.
 ghost use Rattle.std.specs.Prelude.{◌∷◌, codes, IfOk};
 ghost use Rattle.lldp_engine.specs.EventView.{setting_of};
-ghost use Rattle.lldp_engine.specs.AgentState.{names_of};
-ghost use Rattle.lldp_engine.specs.Request.{apply};
-ghost use Rattle.lldp_engine.specs.Command.{Says};
+ghost use Rattle.lldp_engine.specs.Command.{set};
+ghost use Rattle.lldp_engine.specs.Given.{Says};
 ghost use Rattle.lldp_engine.specs.Code.SaidSetting.{IsSaid};
 
 use crate::agent::Agent;
@@ -20,8 +19,8 @@ fn read_system<'l, A: Allocator>(
     agent: &Agent<A>,
     words: &mut Words<'l>,
 ) -> Result<Setting<'l>, CommandFault>
-    ensures says { Says (names_of agent.now) agent.now.configuration.capacity (codes "configure" ∷ codes "system" ∷ words.old)
-        result (λ s. apply (setting_of s)) words.new }
+    ensures says { Says agent.now (codes "configure" ∷ codes "system" ∷ words.old)
+        result (λ s. set (setting_of s)) words.new }
     ensures said { IfOk result (λ s. IsSaid agent.now (setting_of s)) }
 {
     let word = next_word(words)?;
@@ -39,8 +38,8 @@ fn read_lldp<'l, A: Allocator>(
     agent: &Agent<A>,
     words: &mut Words<'l>,
 ) -> Result<Setting<'l>, CommandFault>
-    ensures says { Says (names_of agent.now) agent.now.configuration.capacity (codes "configure" ∷ codes "lldp" ∷ words.old)
-        result (λ s. apply (setting_of s)) words.new }
+    ensures says { Says agent.now (codes "configure" ∷ codes "lldp" ∷ words.old)
+        result (λ s. set (setting_of s)) words.new }
     ensures said { IfOk result (λ s. IsSaid agent.now (setting_of s)) }
 {
     let word = next_word(words)?;
@@ -61,8 +60,8 @@ fn read_ports<'l, A: Allocator>(
     agent: &Agent<A>,
     words: &mut Words<'l>,
 ) -> Result<Setting<'l>, CommandFault>
-    ensures says { Says (names_of agent.now) agent.now.configuration.capacity (codes "configure" ∷ codes "ports" ∷ words.old)
-        result (λ s. apply (setting_of s)) words.new }
+    ensures says { Says agent.now (codes "configure" ∷ codes "ports" ∷ words.old)
+        result (λ s. set (setting_of s)) words.new }
     ensures said { IfOk result (λ s. IsSaid agent.now (setting_of s)) }
 {
     let port = next_port(agent, words)?;
@@ -77,8 +76,8 @@ pub(crate) fn read_setting<'l, A: Allocator>(
     agent: &Agent<A>,
     words: &mut Words<'l>,
 ) -> Result<Setting<'l>, CommandFault>
-    ensures says { Says (names_of agent.now) agent.now.configuration.capacity (codes "configure" ∷ words.old)
-        result (λ s. apply (setting_of s)) words.new }
+    ensures says { Says agent.now (codes "configure" ∷ words.old)
+        result (λ s. set (setting_of s)) words.new }
     ensures said { IfOk result (λ s. IsSaid agent.now (setting_of s)) }
 {
     let word = next_word(words)?;

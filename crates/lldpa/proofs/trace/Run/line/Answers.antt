@@ -5,5 +5,5 @@ use Rattle.lldpa.proofs.trace.Run.line.Goals as goal
 pub returns : goal.returns
 returns g c = record {
   agent = refl;
-  items_run = runs_same _ _ _ _ _ _ _ (λ past stands. items_read past _ c.args.line.now _ stands c.read_line-read.ensures.said) c.run_work.ensures;
+  items_run = runs_same _ _ _ _ _ _ _ (λ past stands. items_read past _ c.args.line.now _ stands c.read_line-read.ensures.read) c.run_work.ensures;
 }

@@ -1,0 +1,45 @@
+-- What a line asks of an agent, by its words and the forms.
+use Rattle.std.specs.Prelude.{◌≡◌, ℕ, if◌then◌else◌, List, [], ◌∷◌, Result, Ok, Err}
+use Rattle.lldp_engine.specs.declared.command.fault.CommandFault.{CommandFault}
+use Rattle.lldp_engine.specs.declared.command.fault.CommandFault.TheVariants.{Quote, InUse}
+use Rattle.lldp_engine.specs.Event.{hostname, description, interval, hold, limit, status, update}
+use Rattle.lldp_engine.specs.AgentState.{AgentState, PortState, names_of, fits}
+use Rattle.lldp_engine.specs.Answer.{or_fault, ◌>>=◌}
+use Rattle.lldp_engine.specs.Command.{Command, show, set}
+use Rattle.lldp_engine.specs.Forms.{Form, complete, forms, read_forms}
+use Rattle.lldp_engine.specs.Words.{words_of}
+
+-- What words say to an agent, by the forms.
+abbrev pub said_by : AgentState → List (List ℕ) → Result Command CommandFault
+said_by agent words = read_forms (names_of agent) (Ok (forms agent.configuration.capacity)) words
+
+-- A limit is in use where a port holds more neighbors. This comes after all other checks.
+abbrev pub unless_in_use : List PortState → Result Command CommandFault → Result Command CommandFault
+unless_in_use ports (Ok (set (limit n))) = if fits ports n then Ok (set (limit n)) else Err InUse
+unless_in_use ports (Ok (set (hostname t))) = Ok (set (hostname t))
+unless_in_use ports (Ok (set (description t))) = Ok (set (description t))
+unless_in_use ports (Ok (set (interval n))) = Ok (set (interval n))
+unless_in_use ports (Ok (set (hold n))) = Ok (set (hold n))
+unless_in_use ports (Ok (set (status p s))) = Ok (set (status p s))
+unless_in_use ports (Ok (set update)) = Ok (set update)
+unless_in_use ports (Ok (show what)) = Ok (show what)
+unless_in_use ports (Err fault) = Err fault
+
+-- What words ask of an agent.
+abbrev pub command_said : AgentState → List (List ℕ) → Result Command CommandFault
+command_said agent words = unless_in_use agent.ports (said_by agent words)
+
+-- What a line asks of an agent: what its words do, and one with a bad quote has none.
+abbrev pub command_given : AgentState → List ℕ → Result Command CommandFault
+command_given agent line = or_fault (words_of line) Quote >>= command_said agent
+
+-- A part of a command was read: what the words say in the forms is what the words left say in the forms left, or this is
+-- their fault.
+abbrev pub Reads : {A : Type 0} → List (List ℕ) → List Form → List (List ℕ) → Result A CommandFault → (A → List Form) → List (List ℕ) → Type 0
+Reads names left words (Ok a) then_left words_left = read_forms names (Ok left) words ≡ read_forms names (Ok (then_left a)) words_left
+Reads names left words (Err fault) then_left words_left = read_forms names (Ok left) words ≡ Err fault
+
+-- The words were read but for their end: they say this command if none is left, or this is their fault.
+abbrev pub Says : {A : Type 0} → AgentState → List (List ℕ) → Result A CommandFault → (A → Command) → List (List ℕ) → Type 0
+Says agent words (Ok a) command words_left = said_by agent words ≡ read_forms (names_of agent) (Ok (complete (command a) ∷ [])) words_left
+Says agent words (Err fault) command words_left = said_by agent words ≡ Err fault
