@@ -12,7 +12,7 @@ use Rattle.lldp_engine.specs.Options.{Options, InRange}
 use Rattle.lldp_engine.specs.Event as agent
 use Rattle.lldp_engine.specs.Event.{Event}
 use Rattle.lldp_engine.specs.Configuration.{Configuration, configured}
-use Rattle.lldp_engine.specs.AgentState.{Allows, fits, IsNewLimit as IsAgentsLimit}
+use Rattle.lldp_engine.specs.AgentState.{Allows, fits, AcceptsLimit}
 use Rattle.lldp_engine.specs.Past.{configuration_after, port_past, ports_after, agent_of, AreAllowed}
 use Rattle.lldp_engine.specs.Port.Event.{PortEvent, frame, link, status, whose, for_port}
 use Rattle.lldp_engine.specs.Port.Effects.{call_at}
@@ -53,7 +53,7 @@ fits_at o events n s (suc k) (name ∷ names) lt h =
     let place : s + 1 + k ≡ s + suc k = omega arith in
     subst (λ (i : ℕ). length (port_table o (port_past o i events)).neighbors ≤ n) place (fits_at o events n (s + 1) k names (omega arith) b.1)
 
-limit_fits : (o : Options) (i : ℕ) (events : List Event) (n : ℕ) → i < length o.names → IsAgentsLimit (agent_of (record { options = o; events = events })) n
+limit_fits : (o : Options) (i : ℕ) (events : List Event) (n : ℕ) → i < length o.names → AcceptsLimit (agent_of (record { options = o; events = events })) n
     → IsNewLimit (port_table o (port_past o i events)) n
 unfolding agent_of
 limit_fits o i events n lt a = record {

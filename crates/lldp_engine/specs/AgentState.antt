@@ -37,8 +37,8 @@ IsPort agent port = port < length agent.ports
 abbrev pub fits : List PortState → ℕ → Bool
 fits ports most = list_all (λ port. nat_le (length port.table.neighbors) most) ports
 
--- A new limit: from 1 to that of opening, and no port holds more.
-pub record IsNewLimit (agent : AgentState) (neighbors : ℕ) : Type 0 where
+-- A limit is from 1 to that of opening, and no port holds more.
+pub record AcceptsLimit (agent : AgentState) (neighbors : ℕ) : Type 0 where
   pub least : 1 ≤ neighbors
   pub most : neighbors ≤ agent.configuration.capacity
   pub held : fits agent.ports neighbors ≡ true
@@ -49,7 +49,7 @@ AllowsSetting agent (hostname text) = is_text text ≡ true
 AllowsSetting agent (description text) = is_text text ≡ true
 AllowsSetting agent (interval seconds) = (1 ≤ seconds) × (seconds ≤ 3600)
 AllowsSetting agent (hold times) = (1 ≤ times) × (times ≤ 100)
-AllowsSetting agent (limit neighbors) = IsNewLimit agent neighbors
+AllowsSetting agent (limit neighbors) = AcceptsLimit agent neighbors
 AllowsSetting agent (status port given) = IsPort agent port
 AllowsSetting agent update = Unit {0}
 

@@ -28,7 +28,7 @@ use crate::agent::configuration::Configuration;
 use crate::agent::event::{Event, Setting};
 use crate::agent::names::is_text;
 use crate::agent::open::{OpenFault, fault_of};
-use crate::agent::options::Options;
+use crate::agent::options::{MOST_HOLD, MOST_INTERVAL, Options};
 use crate::agent::ports::{Marks, all_fit, open_ports, place_of, take_event};
 use crate::port::Port;
 use crate::port::counters::Counters;
@@ -63,8 +63,8 @@ impl<A: Allocator> Agent<A> {
     where
         A: Clone,
         requires { InRange (options_of options.now) }
-        ensures opened { IfOk result (λ agent. (first_fault (options_of options.now) ≡ None)
-            × Stands (opened (options_of options.now)) agent) }
+        ensures checked { IfOk result (λ _. first_fault (options_of options.now) ≡ None) }
+        ensures opened { IfOk result (λ agent. Stands (opened (options_of options.now)) agent) }
         ensures refused { IfErr result (λ fault. IsRefusal (options_of options.now) fault) }
     {
         if let Some(fault) = fault_of(options) {
@@ -184,8 +184,8 @@ impl<A: Allocator> Agent<A> {
     {
         match setting {
             Setting::Hostname(text) | Setting::Description(text) => is_text(text),
-            Setting::Interval(seconds) => (1..=3600).contains(seconds),
-            Setting::Hold(times) => (1..=100).contains(times),
+            Setting::Interval(seconds) => (1..=MOST_INTERVAL).contains(seconds),
+            Setting::Hold(times) => (1..=MOST_HOLD).contains(times),
             Setting::Limit(neighbors) => self.allows_limit(*neighbors),
             Setting::Status { port, .. } => *port < self.ports(),
             Setting::Update => true,

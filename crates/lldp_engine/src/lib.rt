@@ -12,7 +12,9 @@ pub use agent::Agent;
 pub use agent::event::{Event, Setting};
 pub use agent::frame::Frame;
 pub use agent::open::OpenFault;
-pub use agent::options::{Options, Role};
+pub use agent::options::{
+    MOST_CREDIT, MOST_FAST, MOST_HOLD, MOST_INTERVAL, MOST_NEIGHBORS, MOST_REINIT, Options, Role,
+};
 pub use agent::ports::Marks;
 pub use command::fault::CommandFault;
 pub use command::number::number;

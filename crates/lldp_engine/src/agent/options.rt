@@ -2,6 +2,24 @@
 ghost use Rattle.std.specs.Prelude.{IsTrue, ◌↔◌};
 ghost use Rattle.lldp_engine.specs.Options.{InRange, options_of};
 
+/// The most neighbors that a port may be opened for.
+pub const MOST_NEIGHBORS: u8 = 128;
+
+/// The greatest txCreditMax.
+pub const MOST_CREDIT: u8 = 10;
+
+/// The greatest txFastInit.
+pub const MOST_FAST: u8 = 8;
+
+/// The greatest reinitDelay, in seconds.
+pub const MOST_REINIT: u8 = 10;
+
+/// The greatest tx-interval, in seconds.
+pub const MOST_INTERVAL: u16 = 3600;
+
+/// The greatest tx-hold.
+pub const MOST_HOLD: u8 = 100;
+
 /// What a station is.
 #[derive(Clone, Copy, Debug, PartialEq, Eq)]
 pub enum Role {
@@ -38,9 +56,9 @@ impl<'a> Options<'a> {
     pub fn in_range(&self) -> bool
         ensures { IsTrue result ↔ InRange (options_of self.now) }
     {
-        (1..=128).contains(&self.max_neighbors)
-            && (1..=10).contains(&self.credit_max)
-            && (1..=8).contains(&self.fast_init)
-            && (1..=10).contains(&self.reinit)
+        (1..=MOST_NEIGHBORS).contains(&self.max_neighbors)
+            && (1..=MOST_CREDIT).contains(&self.credit_max)
+            && (1..=MOST_FAST).contains(&self.fast_init)
+            && (1..=MOST_REINIT).contains(&self.reinit)
     }
 }

@@ -7,6 +7,7 @@ ghost use Rattle.lldp_engine.specs.Code.SaidSetting.{IsSaid};
 
 use crate::agent::Agent;
 use crate::agent::event::Setting;
+use crate::agent::options::{MOST_HOLD, MOST_INTERVAL};
 use crate::command::fault::CommandFault;
 use crate::command::forms::{
     expect_word, is_word, next_number, next_port, next_status, next_text, next_word,
@@ -45,9 +46,9 @@ fn read_lldp<'l, A: Allocator>(
     let word = next_word(words)?;
     let capacity = agent.configuration().capacity;
     if is_word(word, "tx-interval") {
-        Ok(Setting::Interval(next_number(words, 1, 3600)?))
+        Ok(Setting::Interval(next_number(words, 1, MOST_INTERVAL)?))
     } else if is_word(word, "tx-hold") {
-        Ok(Setting::Hold(next_number(words, 1, 100)? as u8))
+        Ok(Setting::Hold(next_number(words, 1, u16::from(MOST_HOLD))? as u8))
     } else if is_word(word, "max-neighbors") {
         Ok(Setting::Limit(next_number(words, 1, u16::from(capacity))? as u8))
     } else {

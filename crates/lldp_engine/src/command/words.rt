@@ -3,6 +3,7 @@ ghost use Rattle.std.specs.Prelude.{◌≡◌, ℕ, ◌<◌, ◌≤◌, List, []
 ghost use Rattle.std.specs.Option.{option_map};
 ghost use Rattle.std.specs.List.{AllPass, AllByRecursion};
 ghost use Rattle.std.specs.Iterator.{YieldsFirstRef, item_count};
+ghost use Rattle.lldp_engine.specs.Answer.{or_fault};
 ghost use Rattle.lldp_engine.specs.Words.{words_of, is_separator as separates, is_bare, is_unquote, may_end_word, begins_bare, begins_gap, AreWords};
 
 use crate::command::fault::CommandFault;
@@ -147,9 +148,7 @@ fn check_quotes(line: &[u8]) -> Result<(), CommandFault>
 /// not closed, and a closing one that neither a separator nor the end of the line follows are the
 /// fault `Quote`.
 pub fn split(line: &[u8]) -> Result<Words<'_>, CommandFault>
-    ensures words { MatchResult result
-        (λ words. words_of line.now ≡ Some words)
-        (λ fault. (fault ≡ CommandFault.Quote) × (words_of line.now ≡ None)) }
+    ensures words { result ≡ or_fault (words_of line.now) CommandFault.Quote }
     ensures short { IfOk result (λ words.
         AllByRecursion (λ word. length word ≤ length line.now) words) }
 {

@@ -8,7 +8,7 @@ use Rattle.lldp_engine.proofs.agent.Agent.open.Goals as goal
 pub returns-clause-opened : goal.returns-clause-opened
 returns-clause-opened g c =
     let o = options_of c.args.options.now in
-    (sym c.in_default.ensures.fault, opened_stands o _ c.requires c.open.ensures c.in_ok-ports.ensures)
+    opened_stands o _ c.requires c.open.ensures c.in_ok-ports.ensures
 
 pub invariant_of-result : goal.invariant_of-result
 invariant_of-result g c =
