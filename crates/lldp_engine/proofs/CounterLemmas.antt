@@ -2,6 +2,8 @@
 use Rattle.std.proofs.Common.{◌≡◌, ℕ, ◌+◌, Bool, true, false, List, [], ◌∷◌, length, filter, refl, arith, suc}
 use Rattle.std.specs.Prelude.{nat_lt, if◌then◌else◌}
 use Rattle.std.specs.Int.{from_bool}
+use Rattle.std.specs.List.{sum_by}
+use Rattle.std.proofs.lemmas.List.Sums.{sum_by-cons}
 use Rattle.lldp_pdu.specs.Msap.{MsapId}
 use Rattle.lldp_pdu.specs.Info.{LldpInfo}
 use Rattle.lldp_table.specs.Events.{TableEvent, learned, forgot, purged, ticked, limit_set, aged_out}
@@ -10,7 +12,7 @@ use Rattle.lldp_transmit.specs.declared.event.Mark.TheVariants.{Quiet, Ordinary,
 use Rattle.lldp_table.specs.declared.learned.Learned.{Learned}
 use Rattle.lldp_table.specs.declared.learned.Learned.TheVariants.{New, Refreshed, Dropped}
 use Rattle.lldp_engine.specs.Heard.{Heard, refused, leaves, tells}
-use Rattle.lldp_engine.specs.Counters.{wrapped, how_many, total, is_refused, is_error, discarded_tlvs, unrecognized_tlvs, is_dropped, all_aged_out, is_ordinary, is_shutdown, counters_of}
+use Rattle.lldp_engine.specs.Counters.{wrapped, is_refused, is_error, discarded_tlvs, unrecognized_tlvs, is_dropped, all_aged_out, is_ordinary, is_shutdown, counters_of}
 use Rattle.lldp_engine.specs.Port.Counting.{none_counted, with_received, with_refused, with_tlvs, with_answer, with_aged_out, with_mark}
 
 -- the counter counts on by n
@@ -38,26 +40,26 @@ module _ (heard : List Heard) (events : List TableEvent) (marks : List Mark) whe
   pub counted_refused : with_refused (with_received (counters_of heard events marks)) ≡ counters_of (refused ∷ heard) events marks
   unfolding counters_of
   counted_refused =
-      rw (counts_one (length heard), counts_one (how_many is_refused heard), counts_one (how_many is_error heard), ← counts_none (total discarded_tlvs heard), ← counts_none (total unrecognized_tlvs heard)) refl
+      rw (sum_by-cons discarded_tlvs refused heard, sum_by-cons unrecognized_tlvs refused heard, counts_one (length heard), counts_one (length (filter is_refused heard)), counts_one (length (filter is_error heard)), ← counts_none (sum_by discarded_tlvs heard), ← counts_none (sum_by unrecognized_tlvs heard)) refl
 
   pub counted_leaves : (msap : MsapId) → with_received (counters_of heard events marks) ≡ counters_of (leaves msap ∷ heard) (forgot msap ∷ events) marks
   unfolding counters_of
   counted_leaves msap =
-      rw (counts_one (length heard), ← counts_none (total discarded_tlvs heard), ← counts_none (total unrecognized_tlvs heard), ← counts_none (all_aged_out events)) refl
+      rw (sum_by-cons discarded_tlvs (leaves msap) heard, sum_by-cons unrecognized_tlvs (leaves msap) heard, counts_one (length heard), ← counts_none (sum_by discarded_tlvs heard), ← counts_none (sum_by unrecognized_tlvs heard), ← counts_none (all_aged_out events)) refl
 
   -- one that was stored
   counted_stored : (info : LldpInfo) (answer : Learned) → is_dropped (learned info.msap info.ttl info.octets answer) ≡ false
       → with_tlvs (with_received (counters_of heard events marks)) info.discarded info.unrecognized ≡ counters_of (tells info ∷ heard) (learned info.msap info.ttl info.octets answer ∷ events) marks
   unfolding counters_of
   counted_stored info answer d =
-      rw (d, counts_one (length heard), counts_if (nat_lt 0 info.discarded) (tells info) (filter is_error heard), counts (total discarded_tlvs heard) info.discarded, counts (total unrecognized_tlvs heard) info.unrecognized, ← counts_none (all_aged_out events)) refl
+      rw (sum_by-cons discarded_tlvs (tells info) heard, sum_by-cons unrecognized_tlvs (tells info) heard, d, counts_one (length heard), counts_if (nat_lt 0 info.discarded) (tells info) (filter is_error heard), counts (sum_by discarded_tlvs heard) info.discarded, counts (sum_by unrecognized_tlvs heard) info.unrecognized, ← counts_none (all_aged_out events)) refl
 
   -- one that was dropped
   counted_dropped : (info : LldpInfo)
       → with_answer (with_tlvs (with_received (counters_of heard events marks)) info.discarded info.unrecognized) Dropped ≡ counters_of (tells info ∷ heard) (learned info.msap info.ttl info.octets Dropped ∷ events) marks
   unfolding counters_of
   counted_dropped info =
-      rw (counts_one (how_many is_dropped events), counts_one (length heard), counts_if (nat_lt 0 info.discarded) (tells info) (filter is_error heard), counts (total discarded_tlvs heard) info.discarded, counts (total unrecognized_tlvs heard) info.unrecognized, ← counts_none (all_aged_out events)) refl
+      rw (sum_by-cons discarded_tlvs (tells info) heard, sum_by-cons unrecognized_tlvs (tells info) heard, counts_one (length (filter is_dropped events)), counts_one (length heard), counts_if (nat_lt 0 info.discarded) (tells info) (filter is_error heard), counts (sum_by discarded_tlvs heard) info.discarded, counts (sum_by unrecognized_tlvs heard) info.unrecognized, ← counts_none (all_aged_out events)) refl
 
   pub counted_tells : (info : LldpInfo) (answer : Learned)
       → with_answer (with_tlvs (with_received (counters_of heard events marks)) info.discarded info.unrecognized) answer ≡ counters_of (tells info ∷ heard) (learned info.msap info.ttl info.octets answer ∷ events) marks
@@ -80,5 +82,5 @@ module _ (heard : List Heard) (events : List TableEvent) (marks : List Mark) whe
   pub counted_mark : (mark : Mark) → with_mark (counters_of heard events marks) mark ≡ counters_of heard events (mark ∷ marks)
   unfolding counters_of
   counted_mark Quiet = refl
-  counted_mark Ordinary = rw (counts_one (how_many is_ordinary marks)) refl
-  counted_mark Shutdown = rw (counts_one (how_many is_shutdown marks)) refl
+  counted_mark Ordinary = rw (counts_one (length (filter is_ordinary marks))) refl
+  counted_mark Shutdown = rw (counts_one (length (filter is_shutdown marks))) refl

@@ -1,5 +1,6 @@
 -- The counters of a port (IEEE 802.1AB-2009, 9.2.6), each modulo 2^32.
 use Rattle.std.specs.Prelude.{ℕ, ◌+◌, ◌%◌, ◌^◌, Bool, true, false, nat_lt, if◌then◌else◌, List, [], ◌∷◌, length, filter}
+use Rattle.std.specs.List.{sum_by}
 use Rattle.lldp_table.specs.Events.{TableEvent, learned, forgot, purged, ticked, limit_set, is_tick, aged_out}
 use Rattle.lldp_table.specs.declared.learned.Learned.TheVariants.{New, Refreshed, Dropped}
 use Rattle.lldp_transmit.specs.declared.event.Mark.{Mark}
@@ -9,15 +10,6 @@ use Rattle.lldp_engine.specs.Heard.{Heard, refused, leaves, tells}
 
 abbrev pub wrapped : ℕ → ℕ
 wrapped n = n % 2 ^ 32
-
--- how many pass the test
-abbrev pub how_many : {X : Type 0} → (X → Bool) → List X → ℕ
-how_many test xs = length (filter test xs)
-
--- the numbers of all of them, added
-abbrev pub total : {X : Type 0} → (X → ℕ) → List X → ℕ
-total number [] = 0
-total number (x ∷ xs) = number x + total number xs
 
 -- ## Of one LLDPDU
 
@@ -79,13 +71,13 @@ is_shutdown Ordinary = false
 unfoldable pub counters_of : List Heard → List TableEvent → List Mark → Counters
 counters_of heard events marks =
     record {
-      sent = wrapped (how_many is_ordinary marks);
-      shutdowns = wrapped (how_many is_shutdown marks);
+      sent = wrapped (length (filter is_ordinary marks));
+      shutdowns = wrapped (length (filter is_shutdown marks));
       received = wrapped (length heard);
-      discarded = wrapped (how_many is_refused heard);
-      errors = wrapped (how_many is_error heard);
-      tlvs_discarded = wrapped (total discarded_tlvs heard);
-      unrecognized = wrapped (total unrecognized_tlvs heard);
+      discarded = wrapped (length (filter is_refused heard));
+      errors = wrapped (length (filter is_error heard));
+      tlvs_discarded = wrapped (sum_by discarded_tlvs heard);
+      unrecognized = wrapped (sum_by unrecognized_tlvs heard);
       ageouts = wrapped (all_aged_out events);
-      drops = wrapped (how_many is_dropped events);
+      drops = wrapped (length (filter is_dropped events));
     }
