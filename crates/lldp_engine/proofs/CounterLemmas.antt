@@ -13,7 +13,7 @@ use Rattle.lldp_table.specs.declared.learned.Learned.{Learned}
 use Rattle.lldp_table.specs.declared.learned.Learned.TheVariants.{New, Refreshed, Dropped}
 use Rattle.lldp_engine.specs.Heard.{Heard, refused, leaves, tells}
 use Rattle.lldp_engine.specs.Counters.{wrapped, is_refused, is_error, discarded_tlvs, unrecognized_tlvs, is_dropped, all_aged_out, is_ordinary, is_shutdown, counters_of}
-use Rattle.lldp_engine.specs.Port.Counting.{none_counted, with_received, with_refused, with_tlvs, with_answer, with_aged_out, with_mark}
+use Rattle.lldp_engine.specs.Code.Counting.{none_counted, with_received, with_refused, with_tlvs, with_answer, with_aged_out, with_mark}
 
 -- the counter counts on by n
 counts : (all n : ℕ) → wrapped (wrapped all + n) ≡ wrapped (n + all)

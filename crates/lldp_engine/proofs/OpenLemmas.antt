@@ -17,8 +17,8 @@ use Rattle.lldp_engine.specs.AgentState.{AgentState, PortState}
 use Rattle.lldp_engine.specs.Past.{opened, ports_after, agent_of}
 use Rattle.lldp_engine.specs.Port.Past.{settings_of, port_after}
 use Rattle.lldp_engine.specs.Standing.{Stands}
-use Rattle.lldp_engine.specs.Port.Counting.{none_counted}
-use Rattle.lldp_engine.specs.Port.Step.{opened_port}
+use Rattle.lldp_engine.specs.Code.Counting.{none_counted}
+use Rattle.lldp_engine.specs.Code.PortStep.{opened_port}
 use Rattle.lldp_engine.proofs.CounterLemmas.{counted_none}
 use Rattle.lldp_engine.proofs.StandingLemmas.{settings_in_range}
 

@@ -10,8 +10,8 @@ use Rattle.lldp_transmit.specs.declared.event.Mark.TheVariants.{Quiet, Ordinary,
 use Rattle.lldp_engine.specs.AgentState.{PortState}
 use Rattle.lldp_engine.specs.Past.{Sending, sending}
 use Rattle.lldp_engine.specs.Port.Event.{PortEvent, nothing, one_port, each_port, for_port}
-use Rattle.lldp_engine.specs.Port.Step.{port_step, port_mark}
-use Rattle.lldp_engine.specs.Step.{ports_step, marks_step}
+use Rattle.lldp_engine.specs.Code.PortStep.{port_step, port_mark}
+use Rattle.lldp_engine.specs.Code.Step.{ports_step, marks_step}
 
 -- what is true of an event and of nothing is true of what it is for a port
 pub own_or_nothing : (P : PortEvent → Type 0) (b : Bool) (event : PortEvent) → P event → P nothing → P (if b then event else nothing)

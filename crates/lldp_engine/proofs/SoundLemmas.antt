@@ -19,8 +19,8 @@ use Rattle.lldp_engine.specs.Port.Event.{PortEvent, Whose, one_port, each_port, 
 use Rattle.lldp_engine.specs.Port.Effects.{call_at}
 use Rattle.lldp_engine.specs.AgentState.{AgentState, PortState, Allows, fits}
 use Rattle.lldp_engine.specs.Sound.{IsSoundPort, AreSound}
-use Rattle.lldp_engine.specs.Port.Step.{opened_port, told, port_step}
-use Rattle.lldp_engine.specs.Step.{ports_step}
+use Rattle.lldp_engine.specs.Code.PortStep.{opened_port, told, port_step}
+use Rattle.lldp_engine.specs.Code.Step.{ports_step}
 use Rattle.lldp_engine.specs.Code.Taking.{FitsLimit, AllFit, CanTake}
 use Rattle.lldp_engine.proofs.HeardLemmas.{HasOctets, event_told}
 use Rattle.lldp_engine.proofs.PortsLemmas.{own_or_nothing}

@@ -26,12 +26,12 @@ use Rattle.lldp_engine.specs.Counters.{counters_of}
 use Rattle.lldp_engine.specs.AgentState.{PortState, AgentState, Allows}
 use Rattle.lldp_engine.specs.Past.{Past, with_event, configuration_after, happened, port_past, ports_after, agent_of, AreAllowed, sent_from, marks_of}
 use Rattle.lldp_engine.specs.Standing.{Stands}
-use Rattle.lldp_engine.specs.Step.{ports_step, marks_step, agent_after, agent_marks}
+use Rattle.lldp_engine.specs.Code.Step.{ports_step, marks_step, agent_after, agent_marks}
 use Rattle.lldp_engine.specs.Port.Event.{PortEvent, tick, frame, status, limit, whose}
 use Rattle.lldp_engine.specs.Port.Effects.{call_of, heard_at, call_at, cause_at, cause_of_answer, cause_of_heard, status_then}
 use Rattle.lldp_engine.specs.Port.Past.{Happened, status_after, up_after, heard_after, calls_after, told_after, settings_of, caused_at, causes_after, mark_after, marks_after, counters_after, port_after}
-use Rattle.lldp_engine.specs.Port.Counting.{with_heard, with_aged_out, with_event_counted, with_mark}
-use Rattle.lldp_engine.specs.Port.Step.{told, port_mark, port_step}
+use Rattle.lldp_engine.specs.Code.Counting.{with_heard, with_aged_out, with_event_counted, with_mark}
+use Rattle.lldp_engine.specs.Code.PortStep.{told, port_mark, port_step}
 use Rattle.lldp_engine.proofs.CounterLemmas.{counted_refused, counted_leaves, counted_tells, counted_second, counted_purged, counted_limit, counted_mark}
 use Rattle.lldp_engine.proofs.AllowedLemmas.{port_table, AreTaken, allowed_taken, table_stands}
 use Rattle.lldp_engine.proofs.RightLemmas.{links_are}

@@ -11,8 +11,8 @@ use Rattle.lldp_engine.specs.AgentState.{AgentState, PortState, Allows}
 use Rattle.lldp_engine.specs.Past.{sending}
 use Rattle.lldp_engine.specs.Frames.{IsSent}
 use Rattle.lldp_engine.specs.Port.Event.{Whose, whose, for_port}
-use Rattle.lldp_engine.specs.Port.Step.{port_mark}
-use Rattle.lldp_engine.specs.Step.{ports_step, marks_step, agent_after, agent_marks}
+use Rattle.lldp_engine.specs.Code.PortStep.{port_mark}
+use Rattle.lldp_engine.specs.Code.Step.{ports_step, marks_step, agent_after, agent_marks}
 use Rattle.lldp_engine.specs.Code.ShortText.{HasShortText}
 
 -- a text that is allowed is short

@@ -17,6 +17,7 @@ pub record PortState : Type 0 where
   pub machine : Machine
   pub counters : Counters
 
+-- an agent: how it is configured, and its ports in the order of opening
 pub record AgentState : Type 0 where
   pub configuration : Configuration
   pub ports : List PortState

@@ -10,6 +10,7 @@ capability_names =
     codes "Other" ∷ codes "Repeater" ∷ codes "Bridge" ∷ codes "Wlan" ∷ codes "Router" ∷ codes "Tel" ∷ codes "Docsis" ∷ codes "Station"
     ∷ codes "Cvlan" ∷ codes "Svlan" ∷ codes "Tpmr" ∷ codes "bit11" ∷ codes "bit12" ∷ codes "bit13" ∷ codes "bit14" ∷ codes "bit15" ∷ []
 
+-- the name of a bit
 abbrev pub capability_name : ℕ → List ℕ
 capability_name bit = slice_index_or capability_names bit []
 
@@ -17,9 +18,11 @@ capability_name bit = slice_index_or capability_names bit []
 abbrev pub capability_bits : List ℕ
 capability_bits = range_with_len 0 16
 
+-- a bit of a number is one
 abbrev pub is_set : ℕ → ℕ → Bool
 is_set n bit = bit_at n bit == 1
 
+-- whether a capability is enabled, as shown
 abbrev pub on_or_off : Bool → List ℕ
 on_or_off on = if on then codes "on" else codes "off"
 

@@ -6,9 +6,11 @@ use Rattle.lldp_engine.specs.Configuration.{Configuration}
 use Rattle.lldp_engine.specs.Text.{escaped}
 use Rattle.lldp_engine.specs.Addresses.{mac_text, ipv4_text}
 
+-- the line of the agent's MAC address
 abbrev pub mac_line : List ℕ → List ℕ
 mac_line mac = codes "local-chassis.mac=" ++ mac_text mac
 
+-- the one capability of a role, which is on
 abbrev pub role_text : Role → List ℕ
 role_text Station = codes "Station:on"
 role_text Bridge = codes "Bridge:on"
@@ -27,6 +29,7 @@ abbrev pub management_lines : Option (List ℕ) → List (List ℕ)
 management_lines None = []
 management_lines (Some address) = management_line address ∷ []
 
+-- The lines: MAC address, system name, system description, capabilities, management address where one was given.
 abbrev pub chassis_lines : Configuration → List (List ℕ)
 chassis_lines c =
     mac_line c.mac

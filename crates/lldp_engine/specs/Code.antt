@@ -1,5 +1,9 @@
--- What the code keeps while it shows, and what it asks of its own functions. Nothing here is to be believed: contracts of public
--- calls speak of other modules.
+-- What is shaped like the code: an event on the present data, port by port; what the sink of one line keeps; what the
+-- code asks of its own functions. The contract of `step` says what it computes by these, beside what it promises of
+-- every past, which is what is to be believed.
+pub mod Counting
+pub mod PortStep
+pub mod Step
 pub mod OneLineState
 pub mod ShortText
 pub mod Taking

@@ -48,6 +48,7 @@ with_setting (limit neighbors) c = record c { limit = neighbors }
 with_setting (status port given) c = c
 with_setting update c = c
 
+-- only a command changes how an agent is configured
 abbrev pub configured : Event → Configuration → Configuration
 configured tick c = c
 configured (frame port octets) c = c

@@ -5,6 +5,7 @@ use Rattle.lldp_engine.specs.declared.port.status.Status.TheVariants.{RxAndTx, R
 use Rattle.lldp_engine.specs.Configuration.{sent_ttl}
 use Rattle.lldp_engine.specs.AgentState.{AgentState, PortState}
 
+-- the word of a status
 abbrev pub status_text : Status → List ℕ
 status_text RxAndTx = codes "rx-and-tx"
 status_text RxOnly = codes "rx-only"

@@ -8,11 +8,13 @@ use Rattle.lldp_transmit.specs.declared.event.Mark.TheVariants.{Quiet, Ordinary,
 use Rattle.lldp_engine.specs.declared.port.counters.Counters.{Counters}
 use Rattle.lldp_engine.specs.Heard.{Heard, refused, leaves, tells}
 
+-- what a counter shows of a number
 abbrev pub wrapped : ℕ → ℕ
 wrapped n = n % 2 ^ 32
 
 -- ## Of one LLDPDU
 
+-- it was refused, as it is not sound
 abbrev pub is_refused : Heard → Bool
 is_refused refused = true
 is_refused (leaves msap) = false
@@ -55,11 +57,13 @@ all_aged_out (event ∷ past) = (if is_tick event then aged_out past else 0) + a
 
 -- ## Of what is sent at one event
 
+-- an ordinary frame went
 abbrev pub is_ordinary : Mark → Bool
 is_ordinary Ordinary = true
 is_ordinary Quiet = false
 is_ordinary Shutdown = false
 
+-- a shutdown frame went
 abbrev pub is_shutdown : Mark → Bool
 is_shutdown Shutdown = true
 is_shutdown Quiet = false

@@ -5,6 +5,7 @@ use Rattle.lldp_engine.specs.declared.agent.event.Setting.{Setting as CodeSettin
 use Rattle.lldp_engine.specs.declared.agent.event.Setting.TheVariants.{Hostname, Description, Interval, Hold, Limit, Status, Update}
 use Rattle.lldp_engine.specs.Event.{Event, tick, frame, link, set, Setting, hostname, description, interval, hold, limit, status, update}
 
+-- what a command sets, its text as octets
 abbrev pub setting_of : CodeSetting → Setting
 setting_of (Hostname text) = hostname text.now
 setting_of (Description text) = description text.now
@@ -14,6 +15,7 @@ setting_of (Limit neighbors) = limit neighbors
 setting_of (Status port given) = status port given
 setting_of Update = update
 
+-- an event, its octets as a list
 abbrev pub event_of : CodeEvent → Event
 event_of Tick = tick
 event_of (Frame port octets) = frame port octets.now

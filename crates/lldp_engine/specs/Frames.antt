@@ -13,6 +13,7 @@ use Rattle.lldp_engine.specs.declared.agent.options.Role.{Role}
 use Rattle.lldp_engine.specs.declared.agent.options.Role.TheVariants.{Station, Bridge, Router}
 use Rattle.lldp_engine.specs.Configuration.{Configuration, sent_ttl}
 
+-- a TLV of this type and body
 abbrev pub unit : ℕ → List ℕ → TlvUnit
 unit kind body = record { kind = kind; body = body }
 
@@ -24,6 +25,7 @@ sent_msap c name = record { chassis = 4 ∷ c.mac; port = 5 ∷ name }
 abbrev pub management_body : List ℕ → List ℕ
 management_body address = (5 ∷ 1 ∷ address) ++ (1 ∷ 0 ∷ 0 ∷ 0 ∷ 0 ∷ 0 ∷ [])
 
+-- the Management Address TLV (8.5.9), where there is an address
 abbrev pub management_tlvs : Option (List ℕ) → List TlvUnit
 management_tlvs None = []
 management_tlvs (Some address) = unit 8 (management_body address) ∷ []

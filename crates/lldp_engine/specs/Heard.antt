@@ -16,6 +16,7 @@ pub data Heard : Type 0 where
   leaves : (msap : MsapId) → Heard
   tells : (info : LldpInfo) → Heard
 
+-- what an LLDPDU says, by its first fault, its TTL and its parts
 unfoldable pub heard_of : List ℕ → Heard
 heard_of pdu = if is_some (fault_of pdu) then refused else (if ttl_of pdu == 0 then leaves (msap_of pdu) else tells (info_of pdu))
 

@@ -54,8 +54,10 @@ identifier_text CircuitId body = codes "circuit=" ++ escaped (drop 1 body)
 identifier_text Local body = codes "local=" ++ escaped (drop 1 body)
 identifier_text Other body = unhandled_text body
 
+-- a chassis ID as key and value
 abbrev pub chassis_text : List ℕ → List ℕ
 chassis_text body = identifier_text (chassis_kind (slice_index body 0)) body
 
+-- a port ID as key and value
 abbrev pub port_text : List ℕ → List ℕ
 port_text body = identifier_text (port_kind (slice_index body 0)) body

@@ -10,7 +10,6 @@ pub mod AgentState
 pub mod Port
 pub mod Place
 pub mod Past
-pub mod Step
 pub mod Standing
 pub mod LastSet
 pub mod Headline

@@ -38,6 +38,7 @@ abbrev pub numbered_lines : List ℕ → ℕ → List Neighbor → List (List �
 numbered_lines name number [] = []
 numbered_lines name number (neighbor ∷ others) = neighbor_lines name number neighbor ++ numbered_lines name (number + 1) others
 
+-- a yes or a no, as shown
 abbrev pub yes_or_no : Bool → List ℕ
 yes_or_no condition = if condition then codes "yes" else codes "no"
 

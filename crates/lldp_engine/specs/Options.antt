@@ -7,6 +7,7 @@ use Rattle.lldp_engine.specs.declared.agent.options.Role.{Role}
 use Rattle.lldp_engine.specs.declared.agent.open.OpenFault.{OpenFault}
 use Rattle.lldp_engine.specs.declared.agent.open.OpenFault.TheVariants.{Memory, NoPorts, TooManyPorts, PortName, SamePort, Text}
 
+-- what an agent is opened with: the names of its ports in order, its identity, its role, and the four numbers
 pub record Options : Type 0 where
   pub names : List (List ℕ)
   pub mac : List ℕ
@@ -19,6 +20,7 @@ pub record Options : Type 0 where
   pub reinit : ℕ
   pub receive_only : Bool
 
+-- options of the program as plain data
 abbrev pub options_of : CodeOptions → Options
 options_of o =
     record {

@@ -37,6 +37,7 @@ abbrev pub port_past : Options → ℕ → List Event → List Happened
 port_past o i [] = []
 port_past o i (event ∷ events) = happened o i event events ∷ port_past o i events
 
+-- what has happened to a port of an agent
 abbrev pub past_of : Past → ℕ → List Happened
 past_of past i = port_past past.options i past.events
 
@@ -64,6 +65,7 @@ AreAllowed o (event ∷ events) = Allows (agent_of (record { options = o; events
 abbrev pub Sending : Type 0
 Sending = ℕ × Mark
 
+-- a port that sends stands before the others that do, and one that is quiet does not
 abbrev pub sending : ℕ → Mark → List Sending → List Sending
 sending i Quiet others = others
 sending i Ordinary others = (i, Ordinary) ∷ others

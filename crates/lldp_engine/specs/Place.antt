@@ -7,5 +7,6 @@ abbrev pub place_from : ℕ → List (List ℕ) → List ℕ → Option ℕ
 place_from i [] word = None
 place_from i (name ∷ names) word = if bytes_eq name word then Some i else place_from (i + 1) names word
 
+-- the place of the port of a name, from 0
 abbrev pub place_of : List (List ℕ) → List ℕ → Option ℕ
 place_of names word = place_from 0 names word

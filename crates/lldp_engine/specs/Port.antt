@@ -4,6 +4,4 @@ pub mod Event
 pub mod EventView
 pub mod Effects
 pub mod Past
-pub mod Counting
-pub mod Step
 pub mod Headline

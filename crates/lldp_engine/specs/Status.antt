@@ -18,5 +18,6 @@ transmits RxOnly = false
 transmits TxOnly = true
 transmits Disabled = false
 
+-- each port begins by receiving and sending, or by receiving alone where that was asked for
 abbrev pub status_at_opening : Options → Status
 status_at_opening o = if o.receive_only then RxOnly else RxAndTx

@@ -13,7 +13,7 @@ ghost use Rattle.lldp_engine.specs.Port.Past.{status_after, up_after, calls_afte
 ghost use Rattle.lldp_engine.specs.Frames.{IsSent};
 ghost use Rattle.lldp_engine.specs.Sound.{AreSound};
 ghost use Rattle.lldp_engine.specs.Standing.{Stands};
-ghost use Rattle.lldp_engine.specs.Step.{agent_after, agent_marks};
+ghost use Rattle.lldp_engine.specs.Code.Step.{agent_after, agent_marks};
 ghost use Rattle.lldp_engine.specs.Headline.{PromisedStep};
 
 pub(crate) mod configuration;

@@ -8,7 +8,7 @@ ghost use Rattle.lldp_engine.specs.Past.{Past, with_event, configuration_after, 
 ghost use Rattle.lldp_engine.specs.Port.Past.{Happened, status_after, up_after};
 ghost use Rattle.lldp_engine.specs.Port.Headline.{FollowsStatus};
 ghost use Rattle.lldp_engine.specs.Standing.{Stands};
-ghost use Rattle.lldp_engine.specs.Step.{agent_after, agent_marks};
+ghost use Rattle.lldp_engine.specs.Code.Step.{agent_after, agent_marks};
 ghost use Rattle.lldp_engine.specs.LastSet.{IsLastStatus, IsLastLink, IsLastConfiguration};
 ghost use Rattle.lldp_engine.specs.Headline.{Promised};
 

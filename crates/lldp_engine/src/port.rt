@@ -3,7 +3,7 @@ ghost use Rattle.std.specs.Prelude.{◌≡◌, ◌≤◌, length, IfOk};
 ghost use Rattle.lldp_engine.specs.Options.{options_of, InRange};
 ghost use Rattle.lldp_engine.specs.Port.Event.{tick, status};
 ghost use Rattle.lldp_engine.specs.Port.EventView.{port_event_of};
-ghost use Rattle.lldp_engine.specs.Port.Step.{opened_port, port_told, port_cause, port_mark, port_step};
+ghost use Rattle.lldp_engine.specs.Code.PortStep.{opened_port, port_told, port_cause, port_mark, port_step};
 ghost use Rattle.lldp_engine.specs.Code.Taking.{FitsLimit};
 
 mod causes;

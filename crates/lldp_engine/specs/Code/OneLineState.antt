@@ -12,5 +12,6 @@ after_line before (Some kept) line = record { before = before; line = Some kept 
 after_line zero None line = record { before = 0; line = Some line }
 after_line (suc before) None line = record { before = before; line = None }
 
+-- it keeps the line where its turn came
 abbrev pub KeepsOne : OneLineState → OneLineState → List ℕ → Type 0
 KeepsOne old new line = new ≡ after_line old.before old.line line

@@ -11,6 +11,7 @@ abbrev pub FitsLimit : PortEvent → Contents → Type 0
 FitsLimit (limit neighbors) table = IsNewLimit table neighbors
 FitsLimit event table = Unit {0}
 
+-- such a limit is one for each port's table
 abbrev pub AllFit : PortEvent → List PortState → Type 0
 AllFit event ports = AllByRecursion (λ port. FitsLimit event port.table) ports
 

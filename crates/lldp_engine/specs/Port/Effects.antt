@@ -24,6 +24,7 @@ abbrev pub up_then : PortEvent → Bool → Bool
 up_then (link up) before = up
 up_then event before = before
 
+-- only octets that come are heard
 abbrev pub heard_at : PortEvent → Status → Bool → Option Heard
 heard_at (frame octets) before up = heard_by before up octets
 heard_at event before up = None

@@ -25,6 +25,7 @@ whose_setting (agent.status port given) = one_port port (status given)
 whose_setting (agent.limit neighbors) = each_port (limit neighbors)
 whose_setting setting = each_port change
 
+-- a tick is each port's, octets and a link event are one port's
 abbrev pub whose : agent.Event → Whose
 whose agent.tick = each_port tick
 whose (agent.frame port octets) = one_port port (frame octets)

@@ -5,6 +5,7 @@ use Rattle.lldp_engine.specs.declared.port.event.Whose.{Whose as CodeWhose}
 use Rattle.lldp_engine.specs.declared.port.event.Whose.TheVariants.{OnePort, EachPort}
 use Rattle.lldp_engine.specs.Port.Event.{PortEvent, tick, frame, link, status, limit, change, Whose, one_port, each_port}
 
+-- what happens to a port, its octets as a list
 abbrev pub port_event_of : CodePortEvent → PortEvent
 port_event_of variant.Tick = tick
 port_event_of (variant.Frame octets) = frame octets.now
@@ -13,6 +14,7 @@ port_event_of (variant.Status given) = status given
 port_event_of (variant.Limit neighbors) = limit neighbors
 port_event_of variant.Change = change
 
+-- whose an event is, and what it is there
 abbrev pub whose_of : CodeWhose → Whose
 whose_of (OnePort port event) = one_port port (port_event_of event)
 whose_of (EachPort event) = each_port (port_event_of event)

@@ -7,8 +7,8 @@ ghost use Rattle.lldp_engine.specs.Past.{sending};
 ghost use Rattle.lldp_engine.specs.Place.{place_from};
 ghost use Rattle.lldp_engine.specs.Port.Event.{each_port, tick};
 ghost use Rattle.lldp_engine.specs.Port.EventView.{port_event_of, whose_of};
-ghost use Rattle.lldp_engine.specs.Port.Step.{opened_port};
-ghost use Rattle.lldp_engine.specs.Step.{ports_step, marks_step};
+ghost use Rattle.lldp_engine.specs.Code.PortStep.{opened_port};
+ghost use Rattle.lldp_engine.specs.Code.Step.{ports_step, marks_step};
 ghost use Rattle.lldp_engine.specs.Code.Taking.{AllFit, CanTake};
 
 use crate::agent::options::Options;

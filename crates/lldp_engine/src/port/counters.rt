@@ -1,6 +1,6 @@
 //! The counters of a port (IEEE 802.1AB-2009, 9.2.6).
 ghost use Rattle.std.specs.Prelude.{◌≡◌};
-ghost use Rattle.lldp_engine.specs.Port.Counting.{with_received, with_refused, with_tlvs, with_answer, with_aged_out, with_mark};
+ghost use Rattle.lldp_engine.specs.Code.Counting.{with_received, with_refused, with_tlvs, with_answer, with_aged_out, with_mark};
 
 use lldp_table::Learned;
 use lldp_transmit::Mark;

@@ -3,8 +3,8 @@ ghost use Rattle.std.specs.Prelude.{◌≡◌, ◌≤◌, length, Some};
 ghost use Rattle.lldp_table.specs.Contents.{learn_answer, after_learn};
 ghost use Rattle.lldp_engine.specs.Heard.{heard_of, heard_by};
 ghost use Rattle.lldp_engine.specs.Port.Effects.{cause_of_answer, cause_of_heard};
-ghost use Rattle.lldp_engine.specs.Port.Counting.{with_tlvs, with_answer};
-ghost use Rattle.lldp_engine.specs.Port.Step.{hears_if};
+ghost use Rattle.lldp_engine.specs.Code.Counting.{with_tlvs, with_answer};
+ghost use Rattle.lldp_engine.specs.Code.PortStep.{hears_if};
 
 use super::Port;
 use lldp_pdu::{Examined, Info, examine, frame_pdu};

@@ -10,7 +10,7 @@ use Rattle.lldp_engine.specs.Past.{with_event}
 use Rattle.lldp_engine.specs.Sound.{AreSound}
 use Rattle.lldp_engine.specs.Standing.{Stands}
 use Rattle.lldp_engine.specs.Port.Event.{whose}
-use Rattle.lldp_engine.specs.Step.{agent_after, agent_marks, ports_step}
+use Rattle.lldp_engine.specs.Code.Step.{agent_after, agent_marks, ports_step}
 use Rattle.lldp_engine.proofs.AllowedLemmas.{configured-capacity}
 use Rattle.lldp_engine.proofs.AnswerLemmas.{promised_step}
 use Rattle.lldp_engine.proofs.HeardLemmas.{octets_for}

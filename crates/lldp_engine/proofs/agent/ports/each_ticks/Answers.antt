@@ -1,7 +1,7 @@
 use Rattle.std.proofs.Common.{List, get_or, refl, ap, sym, ◌∙◌, arith, add-one}
 use Rattle.lldp_engine.specs.Port.Event.{tick}
 use Rattle.lldp_engine.specs.AgentState.{PortState}
-use Rattle.lldp_engine.specs.Port.Step.{port_step, port_mark}
+use Rattle.lldp_engine.specs.Code.PortStep.{port_step, port_mark}
 use Rattle.lldp_engine.proofs.PortsLemmas.{one_more, all_taken}
 use Rattle.lldp_engine.proofs.agent.ports.each_ticks.Goals as goal
 

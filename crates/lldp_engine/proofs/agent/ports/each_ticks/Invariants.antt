@@ -1,6 +1,6 @@
 use Rattle.std.proofs.Common.{◌≡◌, ◌≤◌, length, take}
 use Rattle.lldp_engine.specs.Port.Event.{each_port, tick}
-use Rattle.lldp_engine.specs.Step.{marks_step}
+use Rattle.lldp_engine.specs.Code.Step.{marks_step}
 use Rattle.lldp_engine.proofs.PortsLemmas.{so_far}
 use Rattle.lldp_engine.proofs.agent.ports.each_ticks.Given as goal
 

@@ -1,6 +1,6 @@
 use Rattle.std.proofs.Common.{[], add-one}
 use Rattle.lldp_engine.specs.Options.{options_of}
-use Rattle.lldp_engine.specs.Port.Step.{opened_port}
+use Rattle.lldp_engine.specs.Code.PortStep.{opened_port}
 use Rattle.lldp_engine.proofs.OpenLemmas.{next_named, next_port}
 use Rattle.lldp_engine.proofs.agent.ports.open_ports.Goals as goal
 

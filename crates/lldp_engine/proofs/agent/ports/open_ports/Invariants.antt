@@ -1,7 +1,7 @@
 use Rattle.std.proofs.Common.{◌≡◌, take, drop, map, true}
 use Rattle.std.specs.List.{list_all}
 use Rattle.lldp_engine.specs.Options.{options_of, is_port_name}
-use Rattle.lldp_engine.specs.Port.Step.{opened_port}
+use Rattle.lldp_engine.specs.Code.PortStep.{opened_port}
 use Rattle.lldp_engine.proofs.agent.ports.open_ports.Given as goal
 
 -- the ports of the names before this one are opened, and the other names are names of ports

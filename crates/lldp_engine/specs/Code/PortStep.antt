@@ -12,7 +12,7 @@ use Rattle.lldp_engine.specs.AgentState.{PortState}
 use Rattle.lldp_engine.specs.Port.Event.{PortEvent}
 use Rattle.lldp_engine.specs.Port.Effects.{status_then, call_of, call_at, cause_at}
 use Rattle.lldp_engine.specs.Port.Past.{settings_of}
-use Rattle.lldp_engine.specs.Port.Counting.{none_counted, with_heard, with_event_counted, with_mark}
+use Rattle.lldp_engine.specs.Code.Counting.{none_counted, with_heard, with_event_counted, with_mark}
 
 -- a port as it is opened
 abbrev pub opened_port : Options → List ℕ → PortState

@@ -5,7 +5,7 @@ use Rattle.lldp_engine.specs.Configuration.{configured}
 use Rattle.lldp_engine.specs.AgentState.{AgentState, PortState}
 use Rattle.lldp_engine.specs.Past.{Sending, sending}
 use Rattle.lldp_engine.specs.Port.Event.{Whose, whose, for_port}
-use Rattle.lldp_engine.specs.Port.Step.{port_mark, port_step}
+use Rattle.lldp_engine.specs.Code.PortStep.{port_mark, port_step}
 
 -- the ports after an event of these, counted from i; n is the tx-interval in force after it
 abbrev pub ports_step : Whose → ℕ → ℕ → List PortState → List PortState
@@ -17,6 +17,7 @@ abbrev pub marks_step : Whose → ℕ → ℕ → List PortState → List Sendin
 marks_step event n i [] = []
 marks_step event n i (p ∷ ps) = sending i (port_mark (for_port i event) n p) (marks_step event n (i + 1) ps)
 
+-- an agent after an event: configured first, then each port with the tx-interval in force
 abbrev pub agent_after : Event → AgentState → AgentState
 agent_after event agent =
     let c = configured event agent.configuration in

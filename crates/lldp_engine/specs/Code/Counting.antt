@@ -14,15 +14,19 @@ use Rattle.lldp_engine.specs.Counters.{wrapped}
 use Rattle.lldp_engine.specs.Port.Event.{PortEvent, tick}
 use Rattle.lldp_engine.specs.Port.Effects.{heard_at}
 
+-- nothing was counted
 abbrev pub none_counted : Counters
 none_counted = record { sent = 0; shutdowns = 0; received = 0; discarded = 0; errors = 0; tlvs_discarded = 0; unrecognized = 0; ageouts = 0; drops = 0 }
 
+-- an LLDP frame came
 abbrev pub with_received : Counters → Counters
 with_received c = record c { received = wrapped (c.received + 1) }
 
+-- its LLDPDU was refused
 abbrev pub with_refused : Counters → Counters
 with_refused c = record c { discarded = wrapped (c.discarded + 1); errors = wrapped (c.errors + 1) }
 
+-- so many of its TLVs were discarded, and so many of those kept are unrecognized
 abbrev pub with_tlvs : Counters → ℕ → ℕ → Counters
 with_tlvs c discarded unrecognized =
     record c {
@@ -31,14 +35,17 @@ with_tlvs c discarded unrecognized =
       unrecognized = wrapped (c.unrecognized + unrecognized);
     }
 
+-- the table answered this to it
 abbrev pub with_answer : Counters → Learned → Counters
 with_answer c New = c
 with_answer c Refreshed = c
 with_answer c Dropped = record c { drops = wrapped (c.drops + 1) }
 
+-- so many neighbors aged out
 abbrev pub with_aged_out : Counters → ℕ → Counters
 with_aged_out c n = record c { ageouts = wrapped (c.ageouts + n) }
 
+-- this was sent
 abbrev pub with_mark : Counters → Mark → Counters
 with_mark c Quiet = c
 with_mark c Ordinary = record c { sent = wrapped (c.sent + 1) }
