@@ -18,7 +18,7 @@ pub use agent::options::{
 pub use agent::ports::Marks;
 pub use command::fault::CommandFault;
 pub use command::number::number;
-pub use command::words::{Words, split, words_are_spelled};
+pub use command::words::{Words, split, split_at_bare, words_are_spelled};
 pub use command::{Command, Show, complete_forms_take_no_word};
 pub use laws::{
     every_standing_agent_is_promised, last_events_decide, step_carries_standing,

@@ -1,7 +1,6 @@
 //! One line of a trace, and what it asks for.
 ghost use Rattle.std.specs.Prelude.{◌≡◌, ◌≤◌, length, ℕ, List, ◌∷◌, IfOk, IfErr, IfSome, ◌*◌, ◌%◌, ◌++◌};
-ghost use Rattle.std.specs.List.{AllByRecursion, AllPass};
-ghost use Rattle.lldp_engine.specs.Words.{is_bare};
+ghost use Rattle.std.specs.List.{AllByRecursion};
 ghost use Rattle.hex.specs.Hex.{decode_of};
 ghost use Rattle.lldp_engine.specs.AgentState.{AgentState, IsPort};
 ghost use Rattle.lldp_engine.specs.Answer.{on_ok};
@@ -9,8 +8,7 @@ ghost use Rattle.lldpa.specs.Forms.{fault_text, is_skipped, or_hex, complete, ti
 ghost use Rattle.lldpa.specs.Work.{frame, work_of, AllowsWork};
 
 use crate::digits::decode_digits;
-use lldp_engine::{Agent, Command, CommandFault, Words, number, split};
-use memchr::memchr3;
+use lldp_engine::{Agent, Command, CommandFault, Words, number, split, split_at_bare};
 
 /// How many octets a line has at most, its LF left out.
 pub const LONGEST: usize = 4096;
@@ -168,17 +166,6 @@ fn behind<'l>(text: &'l [u8], front: &[u8]) -> Option<&'l [u8]>
     ensures { IfSome result (λ rest. text.now ≡ front.now ++ rest.now) }
 {
     text.strip_prefix(front)
-}
-
-/// The octets before the next separator or quote, and what follows them.
-fn split_at_bare(text: &[u8]) -> (&[u8], &[u8])
-    ensures bare { AllPass is_bare result.0.now }
-    ensures whole { text.now ≡ result.0.now ++ result.1.now }
-{
-    match memchr3(b' ', b'\t', b'"', text) {
-        Some(end) => text.split_at(end),
-        None => (text, &[]),
-    }
 }
 
 /// The port and the digits of `rx PORT HEX` as it is mostly written, with one space between words

@@ -55,8 +55,9 @@ fn split_at_quote(text: &[u8]) -> Option<(&[u8], &[u8])>
     Some((&text[..end], &text[end + 1..]))
 }
 
-/// The octets before the next separator or quote, and what follows them.
-fn split_at_bare(text: &[u8]) -> (&[u8], &[u8])
+/// The octets before the next space, tab or `"`, and what follows them: the first word and the rest
+/// of a text that begins with an unquoted word.
+pub fn split_at_bare(text: &[u8]) -> (&[u8], &[u8])
     ensures bare { AllPass is_bare result.0.now }
     ensures whole { text.now ≡ result.0.now ++ result.1.now }
     ensures stops { begins_bare result.1.now ≡ false }
