@@ -1,5 +1,5 @@
 //! A reader that gives little at a time, a writer that takes little at a time, and that both fail;
-//! and no network.
+//! and a network.
 ghost use Rattle.std.specs.Prelude.{◌≤◌};
 
 use std::io::{Error, ErrorKind, Read, Result, Write};
@@ -12,12 +12,12 @@ pub struct Drip<'a> {
     octets: &'a [u8],
     first: usize,
     later: usize,
-    fails_at: Option<u32>,
-    calls: u32,
+    fails_at: Option<usize>,
+    calls: usize,
 }
 
 impl<'a> Drip<'a> {
-    pub fn new(octets: &'a [u8], first: usize, later: usize, fails_at: Option<u32>) -> Self {
+    pub fn new(octets: &'a [u8], first: usize, later: usize, fails_at: Option<usize>) -> Self {
         Drip {
             octets,
             first,
@@ -33,7 +33,7 @@ impl<'a> Drip<'a> {
     }
 
     /// How often it was read.
-    pub fn calls(&self) -> u32 {
+    pub fn calls(&self) -> usize {
         self.calls
     }
 }
@@ -126,17 +126,24 @@ impl Write for Fuse {
     }
 }
 
-/// A network without sockets.
+/// A network with one port, 127.0.0.1:4711, at which clients may wait already, or with none.
 #[derive(Drop)]
-pub struct NoNetwork;
+pub struct Network<'a> {
+    pub listener: Option<&'a TcpListener>,
+}
 
-impl Net for NoNetwork {
+impl Net for Network<'_> {
     type Stream = TcpStream;
 
     type Listener = TcpListener;
 
-    fn bind(&self, _addr: SocketAddr) -> Result<TcpListener> {
-        Err(Error::from(ErrorKind::Unsupported))
+    fn bind(&self, addr: SocketAddr) -> Result<TcpListener> {
+        match self.listener {
+            Some(listener) if addr == SocketAddr::from(([127, 0, 0, 1], 4711)) => {
+                listener.try_clone()
+            }
+            _ => Err(Error::from(ErrorKind::AddrNotAvailable)),
+        }
     }
 
     fn connect(&self, _addr: SocketAddr) -> Result<TcpStream> {

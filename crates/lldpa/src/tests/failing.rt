@@ -1,185 +1,153 @@
 //! Runs over devices that fail.
 use super::devices::{Burn, Drip, Fuse};
-use super::only_receiving;
-use super::runs::{HEARD, INPUT, OUTPUT, SENT, append_lines, open, run, sending};
+use super::runs::{
+    HEARD, INPUT, OUTPUT, SENT, expect_run, only_receiving, open, sending, statistics,
+};
 use crate::trace::RunFault;
-use std::alloc::Global;
 use std::process::Abort;
 use std::test::Fail;
 
-/// The tick whose LF was read was done, and the other one was not.
+/// The tick whose LF was read was done, and the other one was not: one second was counted, and the
+/// next frame comes with the thirtieth from there.
 #[test]
 fn reader_that_fails_inside_a_line(rt: HostRuntime) -> Result<(), Fail> {
-    let mut agent = open(&rt, rt.alloc(), &sending(&["eth0"]))?;
-    let mut output = Vec::new(rt.alloc());
-    append_lines(&mut output, &[SENT])?;
-    let mut fuse = Fuse::endless();
-    let mut drip = Drip::new(b"tick\ntick", 9, 9, Some(2));
-    assert_eq!(rt; run(&mut agent, &mut drip, &mut fuse), Err(RunFault::Read));
-    assert_eq!(rt; drip.calls(), 2);
-    assert_eq!(rt; fuse.taken(), output.as_slice());
-    // One second was counted: the next frame comes with the thirtieth from here.
-    for (line, sent) in [
-        (b"tick\n".as_slice(), b"".as_slice()),
-        (b"tick 28\n".as_slice(), b"".as_slice()),
-        (b"tick\n".as_slice(), output.as_slice()),
-    ] {
-        let mut fuse = Fuse::endless();
-        let ran = run(&mut agent, &mut Drip::whole(line), &mut fuse);
-        assert_eq!(rt; ran, Ok(()));
-        assert_eq!(rt; fuse.taken(), sent);
+    let rows: &[(&[u8], Option<usize>, Result<(), RunFault>, &str)] = &[
+        (b"tick\ntick", Some(2), Err(RunFault::Read), SENT),
+        (b"tick\n", None, Ok(()), ""),
+        (b"tick 28\n", None, Ok(()), ""),
+        (b"tick\n", None, Ok(()), SENT),
+    ];
+    let mut agent = open(&rt, &sending())?;
+    for (place, &(input, fails_at, answer, output)) in rows.iter().enumerate() {
+        let mut drip = Drip::new(input, usize::MAX, usize::MAX, fails_at);
+        let wanted = (answer, output.as_bytes());
+        expect_run(&rt, &mut agent, &mut drip, Fuse::endless(), wanted, place);
+        assert_eq!(rt; drip.calls(), 2);
     }
-    Ok(())
-}
-
-/// Runs the full table by a reader that gives an octet at each call and fails at one, and compares
-/// what was written until then.
-fn fails_at_call(
-    rt: &impl Abort,
-    alloc: Global,
-    input: &[u8],
-    call: u32,
-    output: &[u8],
-) -> Result<(), Fail> {
-    let mut options = only_receiving(&["eth0"]);
-    options.max_neighbors = 2;
-    let mut agent = open(rt, alloc, &options)?;
-    let mut drip = Drip::new(input, 1, 1, Some(call));
-    let mut fuse = Fuse::endless();
-    let ran = run(&mut agent, &mut drip, &mut fuse);
-    assert_eq!(rt; ran, Err(RunFault::Read), "at call {call}");
-    assert_eq!(rt; drip.calls(), call);
-    assert_eq!(rt; fuse.taken(), output, "at call {call}");
     Ok(())
 }
 
 /// The lines of frames of the neighbors eth1, eth2 for 9 seconds, and eth3 for 5 seconds.
 const HEARD_OTHER: &str =
-    "rx eth0 0180c200000e00112233445588cc02070400112233445504050565746831060200780000";
+    "rx eth0 0180c200000e00112233445588cc02070400112233445504050565746831060200780000\n";
 
 const HEARD_NINE: &str =
-    "rx eth0 0180c200000e00112233445588cc02070400112233445504050565746832060200090000";
+    "rx eth0 0180c200000e00112233445588cc02070400112233445504050565746832060200090000\n";
 
 const HEARD_FIVE: &str =
-    "rx eth0 0180c200000e00112233445588cc02070400112233445504050565746833060200050000";
+    "rx eth0 0180c200000e00112233445588cc02070400112233445504050565746833060200050000\n";
 
-/// Four neighbors where two are held at most.
-const FULL_TABLE: &[(&str, &[&str])] = &[
-    (HEARD, &[]),
-    (HEARD_OTHER, &[]),
-    (HEARD_NINE, &[]),
-    (HEARD_FIVE, &[]),
-    (HEARD, &[]),
-    ("tick 8", &[]),
-    (
-        "show neighbors",
-        &[
-            "lldp.eth0.neighbors=2",
-            "lldp.eth0.octets=40",
-            "lldp.eth0.too-many=yes",
-            "lldp.eth0.1.chassis.mac=00:11:22:33:44:55",
-            "lldp.eth0.1.port.ifname=eth0",
-            "lldp.eth0.1.ttl=120",
-            "lldp.eth0.1.expires=112",
-            "lldp.eth0.2.chassis.mac=00:11:22:33:44:55",
-            "lldp.eth0.2.port.ifname=eth1",
-            "lldp.eth0.2.ttl=120",
-            "lldp.eth0.2.expires=112",
-        ],
-    ),
-    ("tick", &[]),
-    (
-        "show neighbors",
-        &[
-            "lldp.eth0.neighbors=2",
-            "lldp.eth0.octets=40",
-            "lldp.eth0.too-many=no",
-            "lldp.eth0.1.chassis.mac=00:11:22:33:44:55",
-            "lldp.eth0.1.port.ifname=eth0",
-            "lldp.eth0.1.ttl=120",
-            "lldp.eth0.1.expires=111",
-            "lldp.eth0.2.chassis.mac=00:11:22:33:44:55",
-            "lldp.eth0.2.port.ifname=eth1",
-            "lldp.eth0.2.ttl=120",
-            "lldp.eth0.2.expires=111",
-        ],
-    ),
+const SHOWN_FULL: &str = "lldp.eth0.neighbors=2
+lldp.eth0.octets=40
+lldp.eth0.too-many=yes
+lldp.eth0.1.chassis.mac=00:11:22:33:44:55
+lldp.eth0.1.port.ifname=eth0
+lldp.eth0.1.ttl=120
+lldp.eth0.1.expires=112
+lldp.eth0.2.chassis.mac=00:11:22:33:44:55
+lldp.eth0.2.port.ifname=eth1
+lldp.eth0.2.ttl=120
+lldp.eth0.2.expires=112
+";
+
+const SHOWN_LATER: &str = "lldp.eth0.neighbors=2
+lldp.eth0.octets=40
+lldp.eth0.too-many=no
+lldp.eth0.1.chassis.mac=00:11:22:33:44:55
+lldp.eth0.1.port.ifname=eth0
+lldp.eth0.1.ttl=120
+lldp.eth0.1.expires=111
+lldp.eth0.2.chassis.mac=00:11:22:33:44:55
+lldp.eth0.2.port.ifname=eth1
+lldp.eth0.2.ttl=120
+lldp.eth0.2.expires=111
+";
+
+/// Four neighbors where two are held at most: lines, each with its text.
+const FULL_TABLE: &[(&str, &str)] = &[
+    (HEARD, ""),
+    (HEARD_OTHER, ""),
+    (HEARD_NINE, ""),
+    (HEARD_FIVE, ""),
+    (HEARD, ""),
+    ("tick 8\n", ""),
+    ("show neighbors\n", SHOWN_FULL),
+    ("tick\n", ""),
+    ("show neighbors\n", SHOWN_LATER),
 ];
+
+/// Runs the full table by a reader that gives an octet at each call and fails at one, and compares
+/// what was written until then.
+fn fails_at_call(
+    rt: &(impl Abort + AllocGlobal),
+    input: &str,
+    call: usize,
+    output: &str,
+) -> Result<(), Fail> {
+    let mut agent = open(rt, &only_receiving(2))?;
+    let mut drip = Drip::new(input.as_bytes(), 1, 1, Some(call));
+    let wanted = (Err(RunFault::Read), output.as_bytes());
+    expect_run(rt, &mut agent, &mut drip, Fuse::endless(), wanted, call);
+    assert_eq!(rt; drip.calls(), call);
+    Ok(())
+}
 
 /// The lines whose LF came before the read that fails were done, no others, and the reader is not
 /// asked again.
 #[test]
 fn reader_that_fails(rt: HostRuntime) -> Result<(), Fail> {
-    let mut input = Vec::new(rt.alloc());
-    for &(line, _) in FULL_TABLE {
-        append_lines(&mut input, &[line])?;
+    let mut input = String::new(rt.alloc());
+    for (line, _) in FULL_TABLE {
+        input.push_str(line)?;
     }
-    let mut output = Vec::new(rt.alloc());
-    let mut call = 1u32;
-    for &(line, lines) in FULL_TABLE {
-        for _octet in 0..=line.len() {
-            fails_at_call(&rt, rt.alloc(), &input, call, &output)?;
+    let mut output = String::new(rt.alloc());
+    let mut call = 1usize;
+    for (line, text) in FULL_TABLE {
+        for _octet in 0..line.len() {
+            fails_at_call(&rt, input.as_str(), call, output.as_str())?;
             call = call.saturating_add(1);
         }
-        append_lines(&mut output, lines)?;
+        output.push_str(text)?;
     }
     // The call that would have answered the end.
-    fails_at_call(&rt, rt.alloc(), &input, call, &output)
+    fails_at_call(&rt, input.as_str(), call, output.as_str())
 }
 
-/// Lines of which the first five and the eighth send a frame each.
-const LINES: &[&str] = &[
-    "tick", "update", "update", "update", "update", "update", "update", "tick", "tick",
+/// Lines of which the first five and the eighth send a frame each, and what they send.
+const LINES: [&str; 9] = [
+    "tick\n", "update\n", "update\n", "update\n", "update\n", "update\n", "update\n", "tick\n",
+    "tick\n",
 ];
 
-/// What they send.
-const FRAMES: &[&str] = &[SENT, SENT, SENT, SENT, SENT, SENT];
+const FRAMES: [&str; 6] = [SENT; 6];
 
 /// How many octets the line of a sent frame has, its LF among them.
 const SENT_OCTETS: usize = 141;
 
 /// Lines behind them. There is credit for one frame, and seven were sent then.
-const MORE: &[&str] = &["update", "update", "show statistics"];
-
-const MORE_OUTPUT: &[&str] = &[
-    SENT,
-    "lldp.eth0.sent=7",
-    "lldp.eth0.shutdowns=0",
-    "lldp.eth0.received=0",
-    "lldp.eth0.discarded=0",
-    "lldp.eth0.errors=0",
-    "lldp.eth0.tlvs-discarded=0",
-    "lldp.eth0.unrecognized=0",
-    "lldp.eth0.ageouts=0",
-    "lldp.eth0.drops=0",
-];
+const MORE: [&str; 3] = ["update\n", "update\n", "show statistics\n"];
 
 /// Runs the lines with a writer that fails after so many octets, and then those that were not done,
 /// and more.
-fn fails_at(rt: &impl Abort, alloc: Global, octets: usize, burn: Burn) -> Result<(), Fail> {
-    let mut agent = open(rt, alloc, &sending(&["eth0"]))?;
-    let mut input = Vec::new(alloc);
-    append_lines(&mut input, LINES)?;
-    let mut output = Vec::new(alloc);
-    append_lines(&mut output, FRAMES)?;
-    let mut fuse = Fuse::new(1, octets, burn);
-    let ran = run(&mut agent, &mut Drip::whole(&input), &mut fuse);
-    assert_eq!(rt; ran, Err(RunFault::Write));
-    assert_eq!(rt; Some(fuse.taken()), output.as_slice().get(..octets));
+fn fails_at(rt: &(impl Abort + AllocGlobal), octets: usize, burn: Burn) -> Result<(), Fail> {
+    let mut agent = open(rt, &sending())?;
+    let input = LINES.concat(rt.alloc())?;
+    let output = FRAMES.concat(rt.alloc())?;
+    let cut_off = output.as_bytes().get(..octets).unwrap_or(&[]);
+    let mut drip = Drip::whole(input.as_bytes());
+    let fuse = Fuse::new(1, octets, burn);
+    let wanted = (Err(RunFault::Write), cut_off);
+    expect_run(rt, &mut agent, &mut drip, fuse, wanted, octets);
     let frames = octets / SENT_OCTETS;
     let done = if frames < 5 { frames + 1 } else { 8 };
-    let mut rest = Vec::new(alloc);
-    append_lines(&mut rest, &LINES[done..])?;
-    append_lines(&mut rest, MORE)?;
-    append_lines(&mut output, MORE_OUTPUT)?;
-    let mut fuse = Fuse::endless();
-    let ran = run(&mut agent, &mut Drip::whole(&rest), &mut fuse);
-    assert_eq!(rt; ran, Ok(()));
-    assert_eq!(rt;
-        Some(fuse.taken()),
-        output.as_slice().get((frames + 1) * SENT_OCTETS..),
-        "after {octets} octets"
-    );
+    let mut input = LINES[done..].concat(rt.alloc())?;
+    input.push_str(MORE.concat(rt.alloc())?.as_str())?;
+    let mut output = FRAMES[(frames + 1).min(6)..].concat(rt.alloc())?;
+    output.push_str(SENT)?;
+    output.push_str(statistics(rt, 7, 0)?.as_str())?;
+    let mut drip = Drip::whole(input.as_bytes());
+    let wanted = (Ok(()), output.as_bytes());
+    expect_run(rt, &mut agent, &mut drip, Fuse::endless(), wanted, octets);
     Ok(())
 }
 
@@ -188,8 +156,8 @@ fn fails_at(rt: &impl Abort, alloc: Global, octets: usize, burn: Burn) -> Result
 #[test]
 fn writer_that_fails(rt: HostRuntime) -> Result<(), Fail> {
     for octets in 0..6 * SENT_OCTETS {
-        fails_at(&rt, rt.alloc(), octets, Burn::Interrupted)?;
-        fails_at(&rt, rt.alloc(), octets, Burn::TakesNone)?;
+        fails_at(&rt, octets, Burn::Interrupted)?;
+        fails_at(&rt, octets, Burn::TakesNone)?;
     }
     Ok(())
 }
@@ -199,11 +167,11 @@ fn writer_that_fails(rt: HostRuntime) -> Result<(), Fail> {
 fn writer_that_fails_inside_a_show(rt: HostRuntime) -> Result<(), Fail> {
     for octets in 0..OUTPUT.len() {
         for burn in [Burn::Error, Burn::TakesNone] {
-            let mut agent = open(&rt, rt.alloc(), &only_receiving(&["eth0"]))?;
-            let mut fuse = Fuse::new(1, octets, burn);
-            let ran = run(&mut agent, &mut Drip::whole(INPUT), &mut fuse);
-            assert_eq!(rt; ran, Err(RunFault::Write));
-            assert_eq!(rt; fuse.taken(), &OUTPUT[..octets]);
+            let mut agent = open(&rt, &only_receiving(32))?;
+            let mut drip = Drip::whole(INPUT);
+            let fuse = Fuse::new(1, octets, burn);
+            let wanted = (Err(RunFault::Write), &OUTPUT[..octets]);
+            expect_run(&rt, &mut agent, &mut drip, fuse, wanted, octets);
         }
     }
     Ok(())

@@ -1,60 +1,46 @@
 //! The program where its words ask to listen.
-use super::devices::{Drip, Fuse};
-use super::program::NONE;
-use super::sockets::{SHOWN, ask, expect_answer, learn, listen, send_and_leave};
+use super::devices::{Drip, Fuse, Network};
+use super::program::expect_status;
+use super::sockets::{ASK, ASK_IN_VAIN, Client, LEARN, LEAVE, listen, read_all, send_all};
 use crate::arguments::{listening_of, parse};
-use crate::program::run_program;
-use std::alloc::Global;
-use std::io;
-use std::io::{Error, ErrorKind};
-use std::net::{Net, SocketAddr, TcpListener, TcpStream};
+use std::net::{Net, TcpListener, TcpStream};
 use std::process::Abort;
 use std::test::Fail;
 
-const SOCKET_FAILED: &[u8] = b"lldpa: socket failed\n";
+const DONE: (u8, &str) = (0, "");
 
-/// A network with one port, 127.0.0.1:4711, at which clients may wait already.
-#[derive(Drop)]
-struct OnePort<'a> {
-    listener: &'a TcpListener,
-}
+const SOCKET_FAILED: (u8, &str) = (1, "lldpa: socket failed\n");
 
-impl Net for OnePort<'_> {
-    type Stream = TcpStream;
-
-    type Listener = TcpListener;
-
-    fn bind(&self, addr: SocketAddr) -> io::Result<TcpListener> {
-        if addr == SocketAddr::from(([127, 0, 0, 1], 4711)) {
-            self.listener.try_clone()
-        } else {
-            Err(Error::from(ErrorKind::AddrNotAvailable))
-        }
-    }
-
-    fn connect(&self, _addr: SocketAddr) -> io::Result<TcpStream> {
-        Err(Error::from(ErrorKind::Unsupported))
-    }
-}
-
-/// Runs the program, which has a trace on standard input that it is not to read, and compares what
-/// it answers.
+/// Runs the program, which leaves its streams alone, and compares what it answers.
 fn run(
-    rt: &impl Abort,
-    alloc: Global,
+    rt: &(impl Abort + AllocGlobal),
     net: &impl Net<Listener = TcpListener, Stream = TcpStream>,
-    words: &[&str],
-    status: u8,
-    told: &[u8],
-) {
+    words: &str,
+    wanted: (u8, &str),
+) -> Result<(), Fail> {
     let mut reader = Drip::whole(b"show chassis\n");
     let mut writer = Fuse::endless();
-    let mut faults = Fuse::endless();
-    let ended = run_program(net, alloc, words, &mut reader, &mut writer, &mut faults);
-    assert_eq!(rt; ended, status);
-    assert_eq!(rt; faults.taken(), told);
-    assert_eq!(rt; writer.taken(), b"".as_slice());
+    expect_status(rt, net, words, &mut reader, &mut writer, wanted)?;
     assert_eq!(rt; reader.calls(), 0);
+    assert_eq!(rt; writer.taken(), b"".as_slice());
+    Ok(())
+}
+
+/// Clients connect and send, the program runs with the words of each row, and they read.
+fn serve_all(
+    rt: &(impl Abort + AllocGlobal + Net<Stream = TcpStream, Listener = TcpListener>),
+    clients: &[Client<'_>],
+    rows: &[(&str, (u8, &str))],
+) -> Result<(), Fail> {
+    let listener = listen(rt)?;
+    let waiting = send_all(rt, &listener, clients)?;
+    let net = Network {
+        listener: Some(&listener),
+    };
+    for &(words, wanted) in rows {
+        run(rt, &net, words, wanted)?;
+    }
+    read_all(rt, waiting)
 }
 
 /// The port and the number of connections, as the words give them.
@@ -62,8 +48,8 @@ fn run(
 fn port_and_connections(rt: HostRuntime) -> Result<(), Fail> {
     let rows: &[(&[&str], Option<(u16, u16)>)] = &[
         (&["lldpa"], None),
-        (&["lldpa", "--connections", "7"], None),
-        (&["lldpa", "--listen", "1"], Some((1, 1))),
+        (&["lldpa", "--connections=7"], None),
+        (&["lldpa", "--listen=1"], Some((1, 1))),
         (
             &["lldpa", "--listen=65535", "--connections=65535"],
             Some((65535, 65535)),
@@ -80,103 +66,39 @@ fn port_and_connections(rt: HostRuntime) -> Result<(), Fail> {
 /// So many clients as were asked for are served, and the next one is not.
 #[test]
 fn serves_so_many(rt: HostRuntime) -> Result<(), Fail> {
-    let listener = listen(&rt)?;
-    let net = OnePort {
-        listener: &listener,
-    };
-    let first = learn(&rt, &listener)?;
-    let second = ask(&rt, &listener)?;
-    let third = ask(&rt, &listener)?;
-    let fourth = ask(&rt, &listener)?;
-    let words = [
-        "lldpa",
-        "--listen",
-        "4711",
-        "--receive-only",
-        "eth0",
-        "--connections",
-        "2",
-    ];
-    run(&rt, rt.alloc(), &net, &words, 0, b"");
-    expect_answer(&rt, rt.alloc(), first, b"")?;
-    expect_answer(&rt, rt.alloc(), second, SHOWN)?;
-    run(&rt, rt.alloc(), &net, &words[..5], 0, b"");
-    expect_answer(&rt, rt.alloc(), third, NONE)?;
-    run(&rt, rt.alloc(), &net, &words[..5], 0, b"");
-    expect_answer(&rt, rt.alloc(), fourth, NONE)
+    let two = "lldpa --listen 4711 --receive-only eth0 --connections 2";
+    let one = "lldpa --listen 4711 --receive-only eth0";
+    let clients = [LEARN, ASK, ASK_IN_VAIN, ASK_IN_VAIN];
+    serve_all(&rt, &clients, &[(two, DONE), (one, DONE), (one, DONE)])
 }
 
 /// A fault of one connection is told when all were served.
 #[test]
 fn faulty_connection(rt: HostRuntime) -> Result<(), Fail> {
-    let listener = listen(&rt)?;
-    let net = OnePort {
-        listener: &listener,
-    };
-    send_and_leave(&rt, &listener)?;
-    let second = ask(&rt, &listener)?;
-    let words = [
-        "lldpa",
-        "--receive-only",
-        "--listen=4711",
-        "--connections=2",
-        "eth0",
+    let words = "lldpa --receive-only --listen=4711 --connections=2 eth0";
+    serve_all(&rt, &[LEAVE, ASK_IN_VAIN], &[(words, SOCKET_FAILED)])
+}
+
+/// Nobody comes, or the port is another. The opening is refused before a port is bound.
+#[test]
+fn no_client(rt: HostRuntime) -> Result<(), Fail> {
+    let rows: &[(&str, (u8, &str))] = &[
+        ("lldpa --listen 4711 eth0", SOCKET_FAILED),
+        ("lldpa --listen 4712 eth0", SOCKET_FAILED),
+        ("lldpa --listen 4712 a.b", (2, "lldpa: bad port name\n")),
+        (
+            "lldpa --listen 4712 --mac 1 eth0",
+            (2, "lldpa: bad --mac\n"),
+        ),
     ];
-    run(&rt, rt.alloc(), &net, &words, 1, SOCKET_FAILED);
-    expect_answer(&rt, rt.alloc(), second, NONE)
+    serve_all(&rt, &[], rows)
 }
 
+/// A port of this host at which somebody else listens.
 #[test]
-fn nobody_to_accept(rt: HostRuntime) -> Result<(), Fail> {
+fn port_in_use(rt: HostRuntime) -> Result<(), Fail> {
     let listener = listen(&rt)?;
-    listener.set_nonblocking(true)?;
-    let net = OnePort {
-        listener: &listener,
-    };
-    run(
-        &rt,
-        rt.alloc(),
-        &net,
-        &["lldpa", "--listen", "4711", "eth0"],
-        1,
-        SOCKET_FAILED,
-    );
-    Ok(())
-}
-
-/// The port is bound after opening, and each other port is another.
-#[test]
-fn binding(rt: HostRuntime) -> Result<(), Fail> {
-    let listener = listen(&rt)?;
-    let net = OnePort {
-        listener: &listener,
-    };
-    let words = ["lldpa", "--listen", "4712", "eth0"];
-    run(&rt, rt.alloc(), &net, &words, 1, SOCKET_FAILED);
-    let words = ["lldpa", "--listen", "4712", "a.b"];
-    run(&rt, rt.alloc(), &net, &words, 2, b"lldpa: bad port name\n");
-    let words = ["lldpa", "--listen", "4712", "--mac", "1", "eth0"];
-    run(&rt, rt.alloc(), &net, &words, 2, b"lldpa: bad --mac\n");
-    let port = format!(in rt.alloc(); "{}", listener.local_addr()?.port())?;
-    let words = ["lldpa", "--listen", port.as_str(), "eth0"];
-    run(&rt, rt.alloc(), &rt, &words, 1, SOCKET_FAILED);
-    Ok(())
-}
-
-/// Without `--listen` the number of connections changes nothing.
-#[test]
-fn connections_alone(rt: HostRuntime) {
-    let mut writer = Fuse::endless();
-    let mut faults = Fuse::endless();
-    let status = run_program(
-        &rt,
-        rt.alloc(),
-        &["lldpa", "--connections", "2", "--receive-only", "eth0"],
-        &mut Drip::whole(b"show neighbors\n"),
-        &mut writer,
-        &mut faults,
-    );
-    assert_eq!(rt; status, 0);
-    assert_eq!(rt; writer.taken(), NONE);
-    assert_eq!(rt; faults.taken(), b"".as_slice());
+    let port = listener.local_addr()?.port();
+    let words = format!(in rt.alloc(); "lldpa --listen {port} eth0")?;
+    run(&rt, &rt, words.as_str(), SOCKET_FAILED)
 }

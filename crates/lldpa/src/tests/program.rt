@@ -1,95 +1,94 @@
-//! The program over streams that fail, and the words that no shell can give it.
-use super::devices::{Burn, Drip, Fuse, NoNetwork};
+//! The program over streams that fail, and words that no shell can give it.
+use super::devices::{Burn, Drip, Fuse, Network};
 use super::runs::{INPUT, OUTPUT};
 use crate::program::run_program;
-
-const WORDS: &[&str] = &["lldpa", "--receive-only", "eth0"];
+use std::net::{Net, TcpListener, TcpStream};
+use std::process::Abort;
+use std::test::Fail;
 
 /// What `show neighbors` gives where none is held.
-pub const NONE: &[u8] = b"lldp.eth0.neighbors=0\nlldp.eth0.octets=0\nlldp.eth0.too-many=no\n";
+pub const NONE: &str = "lldp.eth0.neighbors=0\nlldp.eth0.octets=0\nlldp.eth0.too-many=no\n";
 
-const WRITE_FAILED: &[u8] = b"lldpa: write failed\n";
+const READ_FAILED: &str = "lldpa: read failed\n";
+
+const WRITE_FAILED: &str = "lldpa: write failed\n";
+
+/// A limit that no test reaches.
+const FAR: usize = usize::MAX;
+
+const OFFLINE: Network<'static> = Network { listener: None };
+
+/// Runs the program with words, given with spaces between them, and compares its status and what it
+/// tells.
+pub fn expect_status(
+    rt: &(impl Abort + AllocGlobal),
+    net: &impl Net<Listener = TcpListener, Stream = TcpStream>,
+    words: &str,
+    reader: &mut Drip<'_>,
+    writer: &mut Fuse,
+    wanted: (u8, &str),
+) -> Result<(), Fail> {
+    let words: Vec<&str> = words.split_whitespace().collect(rt.alloc())?;
+    let mut faults = Fuse::endless();
+    let status = run_program(net, rt.alloc(), &words, reader, writer, &mut faults);
+    assert_eq!(rt; status, wanted.0);
+    assert_eq!(rt; faults.taken(), wanted.1.as_bytes());
+    Ok(())
+}
 
 #[test]
-fn streams_that_fail(rt: HostRuntime) {
-    let rows: &[(Option<u32>, usize, Burn, usize, &[u8])] = &[
-        (
-            Some(2),
-            usize::MAX,
-            Burn::Error,
-            OUTPUT.len() - NONE.len(),
-            b"lldpa: read failed\n",
-        ),
+fn streams_that_fail(rt: HostRuntime) -> Result<(), Fail> {
+    let words = "lldpa --receive-only eth0";
+    let before_end = OUTPUT.len() - NONE.len();
+    let rows: &[(Option<usize>, usize, Burn, usize, &str)] = &[
+        (Some(2), FAR, Burn::Error, before_end, READ_FAILED),
         (None, 10, Burn::Error, 10, WRITE_FAILED),
         (None, 10, Burn::Interrupted, 10, WRITE_FAILED),
         (None, 10, Burn::TakesNone, 10, WRITE_FAILED),
-        (None, usize::MAX, Burn::AtFlush, OUTPUT.len(), WRITE_FAILED),
-        (
-            Some(1),
-            usize::MAX,
-            Burn::AtFlush,
-            0,
-            b"lldpa: read failed\n",
-        ),
+        (None, FAR, Burn::AtFlush, OUTPUT.len(), WRITE_FAILED),
+        (Some(1), FAR, Burn::AtFlush, 0, READ_FAILED),
     ];
     for &(fails_at, burns_at, burn, taken, told) in rows {
-        let mut reader = Drip::new(INPUT, usize::MAX, usize::MAX, fails_at);
-        let mut writer = Fuse::new(usize::MAX, burns_at, burn);
-        let mut errors = Fuse::endless();
-        let ended = run_program(
-            &NoNetwork,
-            rt.alloc(),
-            WORDS,
-            &mut reader,
-            &mut writer,
-            &mut errors,
-        );
-        assert_eq!(rt; ended, 1);
+        let mut reader = Drip::new(INPUT, FAR, FAR, fails_at);
+        let mut writer = Fuse::new(FAR, burns_at, burn);
+        expect_status(&rt, &OFFLINE, words, &mut reader, &mut writer, (1, told))?;
         assert_eq!(rt; writer.taken(), &OUTPUT[..taken]);
-        assert_eq!(rt; errors.taken(), told);
     }
+    Ok(())
 }
 
 /// Wherever the writing ends, and at the flush.
 #[test]
-fn help_that_cannot_be_written(rt: HostRuntime) {
-    for word in ["--help", "--version"] {
+fn help_that_cannot_be_written(rt: HostRuntime) -> Result<(), Fail> {
+    let wanted = (1, WRITE_FAILED);
+    for words in ["lldpa --help", "lldpa --version"] {
         for (burns_at, burn) in [
             (0, Burn::Error),
             (5, Burn::Error),
             (5, Burn::TakesNone),
-            (usize::MAX, Burn::AtFlush),
+            (FAR, Burn::AtFlush),
         ] {
-            let mut errors = Fuse::endless();
-            let ended = run_program(
-                &NoNetwork,
-                rt.alloc(),
-                &["lldpa", word],
-                &mut Drip::whole(b""),
-                &mut Fuse::new(usize::MAX, burns_at, burn),
-                &mut errors,
-            );
-            assert_eq!(rt; ended, 1);
-            assert_eq!(rt; errors.taken(), WRITE_FAILED);
+            let mut reader = Drip::whole(b"");
+            let mut writer = Fuse::new(FAR, burns_at, burn);
+            expect_status(&rt, &OFFLINE, words, &mut reader, &mut writer, wanted)?;
         }
     }
+    Ok(())
 }
 
-/// No words at all count as the name alone.
+/// No words at all count as the name alone. Without `--listen` the number of connections changes
+/// nothing.
 #[test]
-fn no_words(rt: HostRuntime) {
-    let none: &[&str] = &[];
-    let mut writer = Fuse::endless();
-    let mut errors = Fuse::endless();
-    let ended = run_program(
-        &NoNetwork,
-        rt.alloc(),
-        none,
-        &mut Drip::whole(b"show chassis\n"),
-        &mut writer,
-        &mut errors,
-    );
-    assert_eq!(rt; ended, 2);
-    assert_eq!(rt; writer.taken(), b"".as_slice());
-    assert_eq!(rt; errors.taken(), b"lldpa: no ports\n".as_slice());
+fn no_words_and_no_listen(rt: HostRuntime) -> Result<(), Fail> {
+    let rows: &[(&str, (u8, &str), &str)] = &[
+        ("", (2, "lldpa: no ports\n"), ""),
+        ("lldpa --connections 2 --receive-only eth0", (0, ""), NONE),
+    ];
+    for &(words, wanted, written) in rows {
+        let mut reader = Drip::whole(b"show neighbors\n");
+        let mut writer = Fuse::endless();
+        expect_status(&rt, &OFFLINE, words, &mut reader, &mut writer, wanted)?;
+        assert_eq!(rt; writer.taken(), written.as_bytes());
+    }
+    Ok(())
 }

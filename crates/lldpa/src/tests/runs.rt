@@ -5,21 +5,20 @@ ghost use Rattle.lldp_engine.specs.Standing.{Stands};
 ghost use Rattle.lldpa.specs.Items.{text, after_input};
 
 use super::devices::{Drip, Fuse};
-use super::only_receiving;
 use crate::device::{FromReader, Source, ToWriter};
 use crate::trace::{RunFault, run_trace};
-use lldp_engine::{Agent, Options};
-use std::alloc::{AllocError, Global};
+use lldp_engine::{Agent, Options, Role};
+use std::alloc::Global;
 use std::process::Abort;
 use std::test::Fail;
 
 /// The line of an ordinary frame of port eth0 where no option is given.
 pub const SENT: &str =
-    "tx eth0 0180c200000e02000000000188cc02070402000000000104050565746830060200790804657468300a096c6f63616c686f73740c056c6c6470610e04008000800000";
+    "tx eth0 0180c200000e02000000000188cc02070402000000000104050565746830060200790804657468300a096c6f63616c686f73740c056c6c6470610e04008000800000\n";
 
 /// The line of a frame of the neighbor eth0.
 pub const HEARD: &str =
-    "rx eth0 0180c200000e00112233445588cc02070400112233445504050565746830060200780000";
+    "rx eth0 0180c200000e00112233445588cc02070400112233445504050565746830060200780000\n";
 
 /// A neighbor with a TTL of 1 that is shown and ages out, lines that are refused, and a last line
 /// without LF.
@@ -55,30 +54,71 @@ lldp.eth0.octets=0
 lldp.eth0.too-many=no
 ";
 
-/// What an agent is opened with where no option is given.
-pub fn sending<'a>(ports: &'a [&'a str]) -> Options<'a> {
-    let mut options = only_receiving(ports);
-    options.receive_only = false;
+/// What an agent on one port is opened with where no option is given.
+pub fn sending() -> Options<'static> {
+    Options {
+        ports: &["eth0"],
+        mac: [2, 0, 0, 0, 0, 1],
+        hostname: "localhost",
+        management: None,
+        role: Role::Station,
+        max_neighbors: 32,
+        credit_max: 5,
+        fast_init: 4,
+        reinit: 2,
+        receive_only: false,
+    }
+}
+
+/// The same where it only receives, of so many neighbors at most.
+pub fn only_receiving(max_neighbors: u8) -> Options<'static> {
+    let mut options = sending();
+    options.max_neighbors = max_neighbors;
+    options.receive_only = true;
     options
 }
 
-pub fn append_lines(text: &mut Vec<u8>, lines: &[&str]) -> Result<(), AllocError> {
-    for line in lines {
-        text.extend_from_slice(line.as_bytes())?;
-        text.extend_from_slice(b"\n")?;
-    }
-    Ok(())
+pub fn open(rt: &(impl Abort + AllocGlobal), options: &Options<'_>) -> Result<Agent, Fail> {
+    assert!(rt; options.in_range());
+    Ok(Agent::open(rt.alloc(), options)?)
 }
 
-pub fn open(rt: &impl Abort, alloc: Global, options: &Options<'_>) -> Result<Agent, Fail> {
-    if !options.in_range() {
-        panic!(rt; "no such options");
-    }
-    Ok(Agent::open(alloc, options)?)
+/// What `show statistics` gives where so many frames were sent and heard, and nothing else counted.
+pub fn statistics(
+    rt: &(impl Abort + AllocGlobal),
+    sent: u32,
+    received: u32,
+) -> Result<String, Fail> {
+    Ok(format!(in rt.alloc();
+        "lldp.eth0.sent={sent}
+lldp.eth0.shutdowns=0
+lldp.eth0.received={received}
+lldp.eth0.discarded=0
+lldp.eth0.errors=0
+lldp.eth0.tlvs-discarded=0
+lldp.eth0.unrecognized=0
+lldp.eth0.ageouts=0
+lldp.eth0.drops=0
+"
+    )?)
 }
 
-pub fn run(agent: &mut Agent, drip: &mut Drip<'_>, fuse: &mut Fuse) -> Result<(), RunFault> {
-    run_trace(agent, &mut FromReader::new(drip), &mut ToWriter::new(fuse))
+/// Runs over these devices, and compares the answer and what was written. A loop tells its place.
+pub fn expect_run(
+    rt: &(impl Abort + AllocGlobal),
+    agent: &mut Agent,
+    drip: &mut Drip<'_>,
+    mut fuse: Fuse,
+    wanted: (Result<(), RunFault>, &[u8]),
+    place: usize,
+) {
+    let ran = run_trace(
+        agent,
+        &mut FromReader::new(drip),
+        &mut ToWriter::new(&mut fuse),
+    );
+    assert_eq!(rt; ran, wanted.0, "at {place}");
+    assert_eq!(rt; fuse.taken(), wanted.1, "at {place}");
 }
 
 /// Octet by octet, and in two pieces, cut at every place. A first piece of all is the whole.
@@ -86,28 +126,27 @@ pub fn run(agent: &mut Agent, drip: &mut Drip<'_>, fuse: &mut Fuse) -> Result<()
 fn any_pieces(rt: HostRuntime) -> Result<(), Fail> {
     for first in 1..=INPUT.len() {
         let later = if first == 1 { 1 } else { usize::MAX };
-        let mut agent = open(&rt, rt.alloc(), &only_receiving(&["eth0"]))?;
-        let mut fuse = Fuse::endless();
-        let ran = run(
-            &mut agent,
-            &mut Drip::new(INPUT, first, later, None),
-            &mut fuse,
-        );
-        assert_eq!(rt; ran, Ok(()));
-        assert_eq!(rt; fuse.taken(), OUTPUT, "cut at {first}");
+        let mut agent = open(&rt, &only_receiving(32))?;
+        let mut drip = Drip::new(INPUT, first, later, None);
+        let wanted = (Ok(()), OUTPUT);
+        expect_run(&rt, &mut agent, &mut drip, Fuse::endless(), wanted, first);
     }
     Ok(())
 }
 
 /// The text of an input: what a caller knows of it from public contracts alone.
-fn text_of_input(alloc: Global, agent: &mut Agent, input: &[u8]) -> Result<Vec<u8>, RunFault>
+fn text_of_input(
+    rt: &(impl Abort + AllocGlobal),
+    agent: &mut Agent,
+    input: &[u8],
+) -> Result<Vec<u8>, RunFault>
     ensures text { IfOk result (λ out. (past : Past) → Stands past agent.old →
         out.items ≡ text past input.now) }
     ensures stands { OnOk result ((past : Past) → Stands past agent.old →
         Stands (after_input past input.now) agent.new) }
 {
     let mut octets = input;
-    let mut out = Vec::new(alloc);
+    let mut out = Vec::new(rt.alloc());
     let mut reader = FromReader::new(&mut octets);
     let mut writer = ToWriter::new(&mut out);
     run_trace(agent, &mut reader, &mut writer)?;
@@ -116,8 +155,8 @@ fn text_of_input(alloc: Global, agent: &mut Agent, input: &[u8]) -> Result<Vec<u
 
 #[test]
 fn runs_octets(rt: HostRuntime) -> Result<(), Fail> {
-    let mut agent = open(&rt, rt.alloc(), &only_receiving(&["eth0"]))?;
-    let out = text_of_input(rt.alloc(), &mut agent, INPUT)?;
+    let mut agent = open(&rt, &only_receiving(32))?;
+    let out = text_of_input(&rt, &mut agent, INPUT)?;
     assert_eq!(rt; out.as_slice(), OUTPUT);
     Ok(())
 }
@@ -127,11 +166,10 @@ fn runs_octets(rt: HostRuntime) -> Result<(), Fail> {
 fn adapters_ask(rt: HostRuntime) -> Result<(), Fail> {
     let mut drip = Drip::new(b"abc", 2, 2, Some(2));
     let mut room = [0; 4];
-    assert_eq!(rt; FromReader::new(&mut drip).read(&mut room).ok(), Some(2));
-    assert_eq!(rt; &room[..2], b"ab".as_slice());
-    assert_eq!(rt; FromReader::new(&mut drip).read(&mut room).ok(), None);
-    assert_eq!(rt; FromReader::new(&mut drip).read(&mut room).ok(), Some(1));
-    assert_eq!(rt; FromReader::new(&mut drip).read(&mut room).ok(), Some(0));
+    for read in [Some(2), None, Some(1), Some(0)] {
+        assert_eq!(rt; FromReader::new(&mut drip).read(&mut room).ok(), read);
+    }
+    assert_eq!(rt; &room[..2], b"cb".as_slice());
     assert_eq!(rt; drip.calls(), 4);
     Ok(())
 }

@@ -1,23 +1,21 @@
 //! Traces over connections to a listener of this host.
-use super::open;
 use super::program::NONE;
-use super::runs::HEARD;
+use super::runs::{HEARD, only_receiving, open, statistics};
 use crate::device::{FromReader, ToWriter};
 use crate::serve::{ServeFault, serve};
 use crate::trace::{RunFault, run_trace};
 use lldp_engine::Agent;
-use std::alloc::Global;
 use std::io;
-use std::io::{ErrorKind, Read, Write};
+use std::io::{Error, ErrorKind, Read, Write};
 use std::net::{Net, Shutdown, TcpListener, TcpStream};
 use std::process::Abort;
 use std::test::Fail;
 use std::time::Duration;
 
-const SHOW: &[u8] = b"show neighbors\n";
+const SHOW: &str = "show neighbors\n";
 
 /// What it gives where the neighbor of `HEARD` is held.
-pub const SHOWN: &[u8] = b"lldp.eth0.neighbors=1
+const SHOWN: &str = "lldp.eth0.neighbors=1
 lldp.eth0.octets=20
 lldp.eth0.too-many=no
 lldp.eth0.1.chassis.mac=00:11:22:33:44:55
@@ -26,16 +24,34 @@ lldp.eth0.1.ttl=120
 lldp.eth0.1.expires=120
 ";
 
-/// A listener at a free port.
+/// A client: what it sends, and what it is answered. One without an answer does not read, and is
+/// gone.
+pub type Client<'a> = (&'a [&'a str], Option<&'a str>);
+
+/// It tells of a neighbor.
+pub const LEARN: Client<'static> = (&[HEARD], Some(""));
+
+/// It asks for the neighbors, of which there is one.
+pub const ASK: Client<'static> = (&[SHOW], Some(SHOWN));
+
+/// It asks for the neighbors, of which there is none.
+pub const ASK_IN_VAIN: Client<'static> = (&[SHOW], Some(NONE));
+
+/// It asks for more than it ever reads.
+pub const LEAVE: Client<'static> = (&[SHOW; 200], None);
+
+/// A listener at a free port. Where nobody waits there, accepting fails.
 pub fn listen(
-    rt: &impl Net<Listener = TcpListener, Stream = TcpStream>,
+    rt: &(impl Abort + AllocGlobal + Net<Stream = TcpStream, Listener = TcpListener>),
 ) -> io::Result<TcpListener> {
-    TcpListener::bind(rt, "127.0.0.1:0")
+    let listener = TcpListener::bind(rt, "127.0.0.1:0")?;
+    listener.set_nonblocking(true)?;
+    Ok(listener)
 }
 
-/// A client that waits for at most ten seconds.
+/// A connection to a listener, which waits for at most ten seconds.
 fn connect(
-    rt: &impl Net<Listener = TcpListener, Stream = TcpStream>,
+    rt: &(impl Abort + AllocGlobal + Net<Stream = TcpStream, Listener = TcpListener>),
     listener: &TcpListener,
 ) -> io::Result<TcpStream> {
     let client = TcpStream::connect(rt, listener.local_addr()?)?;
@@ -43,260 +59,190 @@ fn connect(
     Ok(client)
 }
 
-/// A client that has sent this, and sends no more.
-pub fn send(
-    rt: &impl Net<Listener = TcpListener, Stream = TcpStream>,
+/// Connects the clients, and sends what they send. Gives those that wait for an answer.
+pub fn send_all<'a>(
+    rt: &(impl Abort + AllocGlobal + Net<Stream = TcpStream, Listener = TcpListener>),
     listener: &TcpListener,
-    lines: &[u8],
-) -> io::Result<TcpStream> {
-    let mut client = connect(rt, listener)?;
-    client.write_all(lines)?;
-    client.shutdown(Shutdown::Write)?;
-    Ok(client)
+    clients: &[Client<'a>],
+) -> Result<Vec<(TcpStream, &'a str)>, Fail> {
+    let mut waiting = Vec::new(rt.alloc());
+    for &(texts, answer) in clients {
+        let mut stream = connect(rt, listener)?;
+        for text in texts {
+            stream.write_all(text.as_bytes())?;
+        }
+        if let Some(answer) = answer {
+            stream.shutdown(Shutdown::Write)?;
+            waiting.push((stream, answer))?;
+        }
+    }
+    Ok(waiting)
 }
 
-/// A client that asks for more than it ever reads, and is gone.
-pub fn send_and_leave(
-    rt: &impl Net<Listener = TcpListener, Stream = TcpStream>,
-    listener: &TcpListener,
-) -> io::Result<()> {
-    let mut client = connect(rt, listener)?;
-    for _line in 0..200 {
-        client.write_all(SHOW)?;
+/// Compares all that they are sent.
+pub fn read_all(
+    rt: &(impl Abort + AllocGlobal),
+    waiting: Vec<(TcpStream, &str)>,
+) -> Result<(), Fail> {
+    for (stream, answer) in waiting {
+        let got = io::read_to_string(rt.alloc(), stream)?;
+        assert_eq!(rt; got.as_str(), answer);
     }
     Ok(())
 }
 
-/// A client that has learned a neighbor, and one that asks for the neighbors.
-pub fn learn(
-    rt: &impl Net<Listener = TcpListener, Stream = TcpStream>,
-    listener: &TcpListener,
-) -> io::Result<TcpStream> {
-    let mut client = connect(rt, listener)?;
-    client.write_all(HEARD.as_bytes())?;
-    client.write_all(b"\n")?;
-    client.shutdown(Shutdown::Write)?;
-    Ok(client)
+/// An agent that only receives, and where it is served.
+#[derive(Drop)]
+struct Server {
+    agent: Agent,
+    listener: TcpListener,
 }
 
-pub fn ask(
-    rt: &impl Net<Listener = TcpListener, Stream = TcpStream>,
-    listener: &TcpListener,
-) -> io::Result<TcpStream> {
-    send(rt, listener, SHOW)
-}
+impl Server {
+    fn open(
+        rt: &(impl Abort + AllocGlobal + Net<Stream = TcpStream, Listener = TcpListener>),
+    ) -> Result<Server, Fail> {
+        Ok(Server {
+            agent: open(rt, &only_receiving(32))?,
+            listener: listen(rt)?,
+        })
+    }
 
-/// Compares all that a client was sent.
-pub fn expect_answer(
-    rt: &impl Abort,
-    alloc: Global,
-    client: TcpStream,
-    answer: &[u8],
-) -> Result<(), Fail> {
-    let got = io::read_to_string(alloc, client)?;
-    assert_eq!(rt; got.as_bytes(), answer);
-    Ok(())
+    /// Clients connect and send, it serves so many connections and answers so, each time in turn,
+    /// and they read.
+    fn serves(
+        &mut self,
+        rt: &(impl Abort + AllocGlobal + Net<Stream = TcpStream, Listener = TcpListener>),
+        clients: &[Client<'_>],
+        calls: &[(u16, Result<u16, ServeFault>)],
+    ) -> Result<(), Fail> {
+        let waiting = send_all(rt, &self.listener, clients)?;
+        for &(connections, answer) in calls {
+            let served = serve(&mut self.agent, &self.listener, connections);
+            assert_eq!(rt; served, answer);
+        }
+        read_all(rt, waiting)
+    }
 }
 
 #[test]
 fn two_connections(rt: HostRuntime) -> Result<(), Fail> {
-    let listener = listen(&rt)?;
-    let mut agent = open(rt.alloc())?;
-    let first = learn(&rt, &listener)?;
-    let second = ask(&rt, &listener)?;
-    assert_eq!(rt; serve(&mut agent, &listener, 2), Ok(0));
-    expect_answer(&rt, rt.alloc(), first, b"")?;
-    expect_answer(&rt, rt.alloc(), second, SHOWN)
+    Server::open(&rt)?.serves(&rt, &[LEARN, ASK], &[(2, Ok(0))])
 }
 
 /// Nobody is served who was not asked for.
 #[test]
 fn no_connections(rt: HostRuntime) -> Result<(), Fail> {
-    let listener = listen(&rt)?;
-    let mut agent = open(rt.alloc())?;
-    assert_eq!(rt; serve(&mut agent, &listener, 0), Ok(0));
-    let first = learn(&rt, &listener)?;
-    let second = ask(&rt, &listener)?;
-    assert_eq!(rt; serve(&mut agent, &listener, 0), Ok(0));
-    assert_eq!(rt; serve(&mut agent, &listener, 1), Ok(0));
-    expect_answer(&rt, rt.alloc(), first, b"")?;
-    assert_eq!(rt; serve(&mut agent, &listener, 1), Ok(0));
-    expect_answer(&rt, rt.alloc(), second, SHOWN)
+    let mut server = Server::open(&rt)?;
+    server.serves(&rt, &[], &[(0, Ok(0))])?;
+    server.serves(&rt, &[LEARN, ASK], &[(0, Ok(0)), (1, Ok(0)), (1, Ok(0))])
 }
 
 /// The next client is served whatever became of the one before it.
 #[test]
 fn client_that_does_not_read(rt: HostRuntime) -> Result<(), Fail> {
-    let listener = listen(&rt)?;
-    let mut agent = open(rt.alloc())?;
-    let learned = learn(&rt, &listener)?;
-    send_and_leave(&rt, &listener)?;
-    let nothing = send(&rt, &listener, b"")?;
-    let half_a_line = send(&rt, &listener, b"show neigh")?;
-    let last = ask(&rt, &listener)?;
-    assert_eq!(rt; serve(&mut agent, &listener, 5), Ok(1));
-    expect_answer(&rt, rt.alloc(), learned, b"")?;
-    expect_answer(&rt, rt.alloc(), nothing, b"")?;
-    expect_answer(&rt, rt.alloc(), half_a_line, b"error: unknown command\n")?;
-    expect_answer(&rt, rt.alloc(), last, SHOWN)
+    let nothing: Client<'_> = (&[], Some(""));
+    let half_a_line: Client<'_> = (&["show neigh"], Some("error: unknown command\n"));
+    let clients = [LEARN, LEAVE, nothing, half_a_line, ASK];
+    Server::open(&rt)?.serves(&rt, &clients, &[(5, Ok(1))])
 }
 
 /// Where nobody can be accepted, what came before counts.
 #[test]
 fn nobody_to_accept(rt: HostRuntime) -> Result<(), Fail> {
-    let listener = listen(&rt)?;
-    listener.set_nonblocking(true)?;
-    let mut agent = open(rt.alloc())?;
-    let first = learn(&rt, &listener)?;
-    let served = serve(&mut agent, &listener, 2);
-    assert_eq!(rt; served, Err(ServeFault::Accept));
-    expect_answer(&rt, rt.alloc(), first, b"")?;
-    let second = ask(&rt, &listener)?;
-    assert_eq!(rt; serve(&mut agent, &listener, 1), Ok(0));
-    expect_answer(&rt, rt.alloc(), second, SHOWN)
-}
-
-#[test]
-fn text_of_the_fault(rt: HostRuntime) -> Result<(), Fail> {
-    let text = format!(in rt.alloc(); "{}", ServeFault::Accept)?;
-    assert_eq!(rt; text.as_str(), "lldpa: socket failed");
-    Ok(())
+    let mut server = Server::open(&rt)?;
+    server.serves(&rt, &[LEARN], &[(2, Err(ServeFault::Accept))])?;
+    server.serves(&rt, &[ASK], &[(1, Ok(0))])
 }
 
 /// One agent goes through them all.
 #[test]
 fn many_connections(rt: HostRuntime) -> Result<(), Fail> {
-    let listener = listen(&rt)?;
-    let mut agent = open(rt.alloc())?;
+    let mut server = Server::open(&rt)?;
     for _client in 0..1000 {
-        let client = learn(&rt, &listener)?;
-        assert_eq!(rt; serve(&mut agent, &listener, 1), Ok(0));
-        expect_answer(&rt, rt.alloc(), client, b"")?;
+        server.serves(&rt, &[LEARN], &[(1, Ok(0))])?;
     }
-    let client = send(&rt, &listener, b"show statistics\n")?;
-    assert_eq!(rt; serve(&mut agent, &listener, 1), Ok(0));
-    let got = io::read_to_string(rt.alloc(), client)?;
-    let received = got
-        .as_str()
-        .lines()
-        .any(|line| line == "lldp.eth0.received=1000");
-    assert!(rt; received);
-    Ok(())
+    let counted = statistics(&rt, 0, 1000)?;
+    let last: Client<'_> = (&["show statistics\n"], Some(counted.as_str()));
+    server.serves(&rt, &[last], &[(1, Ok(0))])
 }
 
-/// What comes over a connection whose client reads each answer before it sends its next lines. It
-/// fails where an answer is another.
+/// What comes over a connection whose client reads each answer before it sends its next lines, and
+/// then is gone. It fails where an answer is another.
 #[derive(Drop)]
 struct Conversation<'a> {
-    client: TcpStream,
+    client: Option<TcpStream>,
     stream: &'a TcpStream,
     /// Lines, and the answer to them.
-    steps: &'a [(&'a [u8], &'a [u8])],
+    steps: &'a [(&'a str, &'a str)],
     sent: usize,
-}
-
-impl Conversation<'_> {
-    /// Waits for the answer to the lines that were sent last.
-    fn read_answer(&mut self) -> io::Result<()> {
-        let Some(step) = self.steps.get(self.sent.wrapping_sub(1)) else {
-            return Ok(());
-        };
-        for octet in step.1 {
-            let mut next = [0];
-            self.client.read_exact(&mut next)?;
-            if next[0] != *octet {
-                return Err(io::Error::from(ErrorKind::InvalidData));
-            }
-        }
-        Ok(())
-    }
 }
 
 impl Read for Conversation<'_> {
     fn read(&mut self, room: &mut [u8]) -> io::Result<usize> {
-        self.read_answer()?;
-        match self.steps.get(self.sent) {
-            Some(step) => self.client.write_all(step.0)?,
-            None => self.client.shutdown(Shutdown::Write)?,
+        let Some(mut client) = self.client.take() else {
+            return self.stream.read(room);
+        };
+        if let Some(step) = self.steps.get(self.sent.wrapping_sub(1)) {
+            for octet in step.1.as_bytes() {
+                let mut next = [0];
+                client.read_exact(&mut next)?;
+                if next[0] != *octet {
+                    return Err(Error::from(ErrorKind::InvalidData));
+                }
+            }
         }
-        self.sent = self.sent.saturating_add(1);
+        if let Some(step) = self.steps.get(self.sent) {
+            client.write_all(step.0.as_bytes())?;
+            self.sent = self.sent.saturating_add(1);
+            self.client = Some(client);
+        }
         self.stream.read(room)
     }
 }
 
-/// Each answer comes before the next line is sent, and without the connection being closed.
-#[test]
-fn answers_come_at_once(rt: HostRuntime) -> Result<(), Fail> {
-    let listener = listen(&rt)?;
-    let mut agent = open(rt.alloc())?;
-    let client = connect(&rt, &listener)?;
-    let (stream, _) = listener.accept()?;
-    let steps: &[(&[u8], &[u8])] = &[
-        (SHOW, NONE),
-        (b"tick 0\ntick", b"error: out of range\n"),
-        (b" x\n", b"error: not a number\n"),
-        (HEARD.as_bytes(), b""),
-        (b"\nshow neighbors\n", SHOWN),
-    ];
+/// Runs over a conversation, and compares the answer. What came before counts.
+fn converse(
+    rt: &(impl Abort + AllocGlobal + Net<Stream = TcpStream, Listener = TcpListener>),
+    steps: &[(&str, &str)],
+    answer: Result<(), RunFault>,
+) -> Result<(), Fail> {
+    let mut server = Server::open(rt)?;
+    let client = connect(rt, &server.listener)?;
+    let (stream, _) = server.listener.accept()?;
     let mut conversation = Conversation {
-        client,
+        client: Some(client),
         stream: &stream,
         steps,
         sent: 0,
     };
     let ran = run_trace(
-        &mut agent,
+        &mut server.agent,
         &mut FromReader::new(&mut conversation),
         &mut ToWriter::new(&mut &stream),
     );
-    assert_eq!(rt; ran, Ok(()));
-    Ok(())
+    assert_eq!(rt; ran, answer);
+    server.serves(rt, &[ASK], &[(1, Ok(0))])
 }
 
-/// What comes over a connection whose client is gone at the second read, with an answer that it did
-/// not read.
-#[derive(Drop)]
-struct Reset<'a> {
-    client: Option<TcpStream>,
-    stream: &'a TcpStream,
-    calls: u32,
+/// Each answer comes before the next line is sent, and without the connection being closed.
+#[test]
+fn answers_come_at_once(rt: HostRuntime) -> Result<(), Fail> {
+    let steps = [
+        (SHOW, NONE),
+        ("tick 0\ntick", "error: out of range\n"),
+        (" x\n", "error: not a number\n"),
+        ("rx eth0", ""),
+        (" 00\n", ""),
+        (HEARD, ""),
+        (SHOW, SHOWN),
+    ];
+    converse(&rt, &steps, Ok(()))
 }
 
-impl Read for Reset<'_> {
-    fn read(&mut self, room: &mut [u8]) -> io::Result<usize> {
-        if self.calls > 0 {
-            self.client = None;
-        }
-        self.calls = self.calls.saturating_add(1);
-        self.stream.read(room)
-    }
-}
-
-fn run_reset(agent: &mut Agent, client: TcpStream, stream: &TcpStream) -> Result<(), RunFault> {
-    let mut reset = Reset {
-        client: Some(client),
-        stream,
-        calls: 0,
-    };
-    run_trace(
-        agent,
-        &mut FromReader::new(&mut reset),
-        &mut ToWriter::new(&mut &*stream),
-    )
-}
-
-/// The agent stands for the lines that came before.
+/// A client that is gone with an answer that it did not read.
 #[test]
 fn client_that_resets(rt: HostRuntime) -> Result<(), Fail> {
-    let listener = listen(&rt)?;
-    let mut agent = open(rt.alloc())?;
-    let mut client = connect(&rt, &listener)?;
-    client.write_all(HEARD.as_bytes())?;
-    client.write_all(b"\nshow neighbors\nrx eth0")?;
-    let (stream, _) = listener.accept()?;
-    let ran = run_reset(&mut agent, client, &stream);
-    assert_eq!(rt; ran, Err(RunFault::Read));
-    let last = ask(&rt, &listener)?;
-    assert_eq!(rt; serve(&mut agent, &listener, 1), Ok(0));
-    expect_answer(&rt, rt.alloc(), last, SHOWN)
+    let steps = [(HEARD, ""), ("show neighbors\nrx eth0", "")];
+    converse(&rt, &steps, Err(RunFault::Read))
 }
