@@ -2,27 +2,16 @@
 use Rattle.std.proofs.Common.{◌≡◌, ℕ, zero, suc, ◌+◌, ◌-◌, T, ◌*◌, ◌/◌, ◌%◌, ◌^◌, ◌<◌, Bool, ◌&&◌, true, false, nat_lt, if◌then◌else◌, List, [], ◌∷◌, ◌++◌, map, length, get_or, replicate, cond, leb, eqb, bit_and, bit_or, Option, Some, None, Fits, w8, eqb→eq, eqb-true, refl, sym, ap, subst, ◌∙◌, inl, inr, arith}
 use Rattle.std.proofs.lemmas.Bool.{agree_below, agree_below_at, and_parts, cases_lt, leb-false, leb-true}
 use Rattle.std.proofs.lemmas.List.{get_or-map, get_or_past, get_or_append_left, get_or-append_right, drop_more, length-map}
-use Rattle.std.proofs.lemmas.Simd.{map-map, zip2_of_maps, splat_is_map, zip2_splat, get_or-zip2, length-zip2, mask_l-mod, get_or_wider, below_from_Fits, Each1-get_or}
+use Rattle.std.proofs.lemmas.Simd.{map-map, zip2_of_maps, zip2_splat, get_or-zip2, length-zip2, mask_l-mod, get_or_wider, below_from_Fits, Each1-get_or}
 use Rattle.std.proofs.lemmas.Nat.{le_or_l, le_or_r, or_lt}
 use Rattle.std.specs.Prelude.{◌↔◌}
 use Rattle.std.specs.Simd.Lanes.{zip2, sel_l, mask_l, top, chunk, number_l, digits_l, pick_l, Each1}
 use Rattle.hex.specs.Hex.{hex_digit_value, lower_digits}
 use Rattle.lldpa.specs.Digits.{IsValue, AreSmall}
 
--- an operator on two vectors
-pub joined : (h : ℕ → ℕ → ℕ) (f g : ℕ → ℕ) (v : List ℕ) {a b : List ℕ} → a ≡ map f v → b ≡ map g v → zip2 h a b ≡ map (λ x. h (f x) (g x)) v
-joined h f g v p q = zip2_of_maps h f g v p q
-
-pub splat : (v : List ℕ) (n y : ℕ) → length v ≡ n → replicate n y ≡ map (λ _. y) v
-splat v n y long = splat_is_map v n y long
-
 -- an operator on a vector and a splat, at one lane
 pub splat_lane : (f : ℕ → ℕ → ℕ) (v : List ℕ) (n y k : ℕ) → length v ≡ n → k < n → get_or (zip2 f v (replicate n y)) k 0 ≡ f (get_or v k 0) y
 splat_lane f v n y k long h = ap (λ l. get_or l k 0) (zip2_splat f v n y long) ∙ get_or-map (λ x. f x y) v k 0 0 (omega (arith, long))
-
-pub itself : (v : List ℕ) → v ≡ map (λ x. x) v
-itself [] = refl
-itself (x ∷ xs) = ap (λ r. x ∷ r) (itself xs)
 
 choice : (p : ℕ → Bool) (g h : ℕ → ℕ) (v : List ℕ) → sel_l (map p v) (map g v) (map h v) ≡ map (λ x. cond (p x) (g x) (h x)) v
 choice p g h [] = refl

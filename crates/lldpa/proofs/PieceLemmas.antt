@@ -1,20 +1,21 @@
 -- One more piece of a trace.
-use Rattle.std.proofs.Common.{◌≡◌, ℕ, ◌+◌, List, [], ◌++◌, take, drop, sym, ap, ◌∙◌, arith, Option}
+use Rattle.std.proofs.Common.{◌≡◌, ℕ, ◌+◌, List, [], ◌++◌, take, drop, sym, ap, subst, ◌∙◌, arith, Option}
 use Rattle.std.specs.Io.KnownBytes.{Appends, Consumes}
 use Rattle.std.proofs.lemmas.List.{append-nil, take-take}
 use Rattle.std.proofs.Math.Seq.{take-add}
 use Rattle.lldp_engine.specs.Past.{Past}
 use Rattle.lldp_engine.specs.AgentState.{AgentState}
 use Rattle.lldpa.specs.Lines.{ended_lines, unfinished, lines_of, if_any}
-use Rattle.lldpa.specs.Items.{after_all, text_of_all, items_of_lines}
+use Rattle.lldpa.specs.Items.{Item, after_all, text_of_all, items_of_lines}
 use Rattle.std.specs.Prelude.{Result}
+use Rattle.lldpa.specs.declared.device.DeviceFault.{DeviceFault}
 use Rattle.lldpa.specs.declared.trace.RunFault.{RunFault}
-use Rattle.lldpa.specs.Runs.{Done, Failed, HasRun}
+use Rattle.lldpa.specs.Runs.{Ended, HasRun}
 use Rattle.lldpa.proofs.Written.{consumes_then}
 use Rattle.lldpa.proofs.ItemLemmas.{items_of_lines-append}
 use Rattle.lldpa.proofs.LineLemmas.{ended_lines-append, unfinished_no_lf, no_lf-take}
 use Rattle.lldpa.proofs.LongLemmas.{same_items, same_last}
-use Rattle.lldpa.proofs.RunLemmas.{done_same, done_then, failed_same, failed_later}
+use Rattle.lldpa.proofs.RunLemmas.{ended_then}
 
 -- what is held, and the piece behind it
 pub held_and_piece : (old new : List ℕ) (held n : ℕ) (p : List ℕ) → take held new ≡ take held old → take held old ≡ take 4097 p → take (held + n) new ≡ take 4097 p ++ take n (drop held new)
@@ -32,37 +33,32 @@ consumes_end a b c xs ys n h zero k =
     let joined : xs ++ take n ys ≡ xs = ap (λ t. xs ++ t) none ∙ append-nil xs in
     rw joined at (consumes_then a b c xs (take n ys) h k)
 
-pub done_lines : (past : Past) (ls ms : List (List ℕ)) (a b c : Option (List ℕ)) (agent : AgentState) → Appends a b (text_of_all past (items_of_lines past ls)) → Done (after_all past (items_of_lines past ls)) (items_of_lines (after_all past (items_of_lines past ls)) ms) b c agent → Done past (items_of_lines past (ls ++ ms)) a c agent
-done_lines past ls ms a b c agent h k = done_same past _ _ a c agent (sym (items_of_lines-append past ls ms)) (done_then past _ _ a b c agent h k)
+-- what came of items behind others that were done, with any answer
+module _ {T : Type 0} (r : Result T DeviceFault) (past : Past) (a b c : Option (List ℕ)) (agent : AgentState) where
+  lines_end : (ls ms : List (List ℕ)) → Appends a b (text_of_all past (items_of_lines past ls))
+      → Ended r (after_all past (items_of_lines past ls)) (items_of_lines (after_all past (items_of_lines past ls)) ms) b c agent
+      → Ended r past (items_of_lines past (ls ++ ms)) a c agent
+  lines_end ls ms h k =
+      subst (λ (items : List Item). Ended r past items a c agent) (sym (items_of_lines-append past ls ms)) (ended_then past _ _ r a b c agent h k)
 
-pub failed_lines : (past : Past) (ls ms : List (List ℕ)) (a b c : Option (List ℕ)) (agent : AgentState) → Appends a b (text_of_all past (items_of_lines past ls)) → Failed (after_all past (items_of_lines past ls)) (items_of_lines (after_all past (items_of_lines past ls)) ms) b c agent → Failed past (items_of_lines past (ls ++ ms)) a c agent
-failed_lines past ls ms a b c agent h k = failed_same past _ _ a c agent (sym (items_of_lines-append past ls ms)) (failed_later past _ _ a b c agent h k)
+  -- the lines of a piece
+  pub piece_ends : (xs ys octets : List ℕ) → octets ≡ take 4097 (unfinished xs) ++ ys → Appends a b (text_of_all past (items_of_lines past (ended_lines xs)))
+      → Ended r (after_all past (items_of_lines past (ended_lines xs))) (items_of_lines (after_all past (items_of_lines past (ended_lines xs))) (ended_lines octets)) b c agent
+      → Ended r past (items_of_lines past (ended_lines (xs ++ ys))) a c agent
+  piece_ends xs ys octets is h k =
+      let now = after_all past (items_of_lines past (ended_lines xs)) in
+      let same = ap (λ t. items_of_lines now (ended_lines t)) is ∙ same_items now xs ys in
+      subst (λ (ls : List (List ℕ)). Ended r past (items_of_lines past ls) a c agent) (sym (ended_lines-append xs ys))
+      (lines_end (ended_lines xs) (ended_lines (unfinished xs ++ ys)) h (subst (λ (items : List Item). Ended r now items b c agent) same k))
 
--- the lines of a piece are done, or failed
-pub done_piece : (past : Past) (xs ys octets : List ℕ) (a b c : Option (List ℕ)) (agent : AgentState) → octets ≡ take 4097 (unfinished xs) ++ ys → Appends a b (text_of_all past (items_of_lines past (ended_lines xs))) → Done (after_all past (items_of_lines past (ended_lines xs))) (items_of_lines (after_all past (items_of_lines past (ended_lines xs))) (ended_lines octets)) b c agent → Done past (items_of_lines past (ended_lines (xs ++ ys))) a c agent
-done_piece past xs ys octets a b c agent is h k =
-    let now = after_all past (items_of_lines past (ended_lines xs)) in
-    rw (ended_lines-append xs ys) (done_lines past (ended_lines xs) (ended_lines (unfinished xs ++ ys)) a b c agent h
-    (done_same now _ _ b c agent (ap (λ t. items_of_lines now (ended_lines t)) is ∙ same_items now xs ys) k))
-
-pub failed_piece : (past : Past) (xs ys octets : List ℕ) (a b c : Option (List ℕ)) (agent : AgentState) → octets ≡ take 4097 (unfinished xs) ++ ys → Appends a b (text_of_all past (items_of_lines past (ended_lines xs))) → Failed (after_all past (items_of_lines past (ended_lines xs))) (items_of_lines (after_all past (items_of_lines past (ended_lines xs))) (ended_lines octets)) b c agent → Failed past (items_of_lines past (ended_lines (xs ++ ys))) a c agent
-failed_piece past xs ys octets a b c agent is h k =
-    let now = after_all past (items_of_lines past (ended_lines xs)) in
-    rw (ended_lines-append xs ys) (failed_lines past (ended_lines xs) (ended_lines (unfinished xs ++ ys)) a b c agent h
-    (failed_same now _ _ b c agent (ap (λ t. items_of_lines now (ended_lines t)) is ∙ same_items now xs ys) k))
-
--- so is the last line
-pub done_last : (past : Past) (xs rest : List ℕ) (a b c : Option (List ℕ)) (agent : AgentState) → rest ≡ take 4097 (unfinished xs) → Appends a b (text_of_all past (items_of_lines past (ended_lines xs))) → Done (after_all past (items_of_lines past (ended_lines xs))) (items_of_lines (after_all past (items_of_lines past (ended_lines xs))) (if_any rest)) b c agent → Done past (items_of_lines past (lines_of xs)) a c agent
-done_last past xs rest a b c agent is h k =
-    let now = after_all past (items_of_lines past (ended_lines xs)) in
-    done_lines past (ended_lines xs) (if_any (unfinished xs)) a b c agent h
-    (done_same now _ _ b c agent (ap (λ t. items_of_lines now (if_any t)) is ∙ same_last now (unfinished xs)) k)
-
-pub failed_last : (past : Past) (xs rest : List ℕ) (a b c : Option (List ℕ)) (agent : AgentState) → rest ≡ take 4097 (unfinished xs) → Appends a b (text_of_all past (items_of_lines past (ended_lines xs))) → Failed (after_all past (items_of_lines past (ended_lines xs))) (items_of_lines (after_all past (items_of_lines past (ended_lines xs))) (if_any rest)) b c agent → Failed past (items_of_lines past (lines_of xs)) a c agent
-failed_last past xs rest a b c agent is h k =
-    let now = after_all past (items_of_lines past (ended_lines xs)) in
-    failed_lines past (ended_lines xs) (if_any (unfinished xs)) a b c agent h
-    (failed_same now _ _ b c agent (ap (λ t. items_of_lines now (if_any t)) is ∙ same_last now (unfinished xs)) k)
+  -- the last line
+  pub last_ends : (xs rest : List ℕ) → rest ≡ take 4097 (unfinished xs) → Appends a b (text_of_all past (items_of_lines past (ended_lines xs)))
+      → Ended r (after_all past (items_of_lines past (ended_lines xs))) (items_of_lines (after_all past (items_of_lines past (ended_lines xs))) (if_any rest)) b c agent
+      → Ended r past (items_of_lines past (lines_of xs)) a c agent
+  last_ends xs rest is h k =
+      let now = after_all past (items_of_lines past (ended_lines xs)) in
+      let same = ap (λ t. items_of_lines now (if_any t)) is ∙ same_last now (unfinished xs) in
+      lines_end (ended_lines xs) (if_any (unfinished xs)) h (subst (λ (items : List Item). Ended r now items b c agent) same k)
 
 -- the same by other names for what the sink has and for the agent
 pub same_run : {T : Type 0} {to_come left old : Option (List ℕ)} {before : AgentState} {result : Result T RunFault} (new kept : Option (List ℕ)) (agent after : AgentState) → kept ≡ new → after ≡ agent

@@ -85,9 +85,6 @@ failed_later past xs ys a b c agent h k = record {
 pub done_same : (past : Past) (xs ys : List Item) (a b : Option (List ℕ)) (agent : AgentState) → xs ≡ ys → Done past xs a b agent → Done past ys a b agent
 done_same past xs ys a b agent e h = rw (← e) h
 
-pub failed_same : (past : Past) (xs ys : List Item) (a b : Option (List ℕ)) (agent : AgentState) → xs ≡ ys → Failed past xs a b agent → Failed past ys a b agent
-failed_same past xs ys a b agent e h = rw (← e) h
-
 -- what a line was read as is what it asks for after the past
 pub items_read : (past : Past) (agent : AgentState) (line : List ℕ) (read : Result Work LineFault) → Stands past agent → read ≡ work_given agent line → items_of_work read ≡ items_of past line
 items_read past agent line read h is = ap items_of_work (is ∙ ap (λ seen. work_given seen line) (h.is))
@@ -127,7 +124,7 @@ runs_same xs ys r before agent o p is h = record {
   same = h.same;
 }
 
-ended_then : {T : Type 0} (past : Past) (xs ys : List Item) (r : Result T DeviceFault) (a b c : Option (List ℕ)) (agent : AgentState) → Appends a b (text_of_all past xs) → Ended r (after_all past xs) ys b c agent → Ended r past (xs ++ ys) a c agent
+pub ended_then : {T : Type 0} (past : Past) (xs ys : List Item) (r : Result T DeviceFault) (a b c : Option (List ℕ)) (agent : AgentState) → Appends a b (text_of_all past xs) → Ended r (after_all past xs) ys b c agent → Ended r past (xs ++ ys) a c agent
 ended_then past xs ys (Ok done) a b c agent h k = done_then past xs ys a b c agent h k
 ended_then past xs ys (Err fault) a b c agent h k = failed_later past xs ys a b c agent h k
 

@@ -1,6 +1,6 @@
 //! The buffer that a trace is read into. Its first octets are held: what has come of the line that
 //! isn't ended.
-ghost use Rattle.std.specs.Prelude.{◌≡◌, ◌<◌, ◌≤◌, ◌+◌, ◌-◌, length, take, drop, IfOk, MatchResult, min};
+ghost use Rattle.std.specs.Prelude.{◌≡◌, ◌<◌, ◌≤◌, ◌+◌, ◌-◌, length, take, drop, IfOk, min};
 ghost use Rattle.lldpa.specs.Devices.{one_more, failures_after, ReadsMore};
 
 use crate::device::{DeviceFault, Source};

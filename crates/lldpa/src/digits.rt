@@ -34,7 +34,7 @@
 //! the one before it. The octets under both are read from the same digits, or written from the same
 //! octets, a second time, with the same result. So nothing is left over that would have to be done
 //! octet by octet.
-ghost use Rattle.std.specs.Prelude.{◌≡◌, ℕ, ◌↔◌, ◌<◌, ◌≤◌, ◌+◌, ◌*◌, ◌/◌, ◌%◌, length, true, slice_index, IsOk, IsTrue};
+ghost use Rattle.std.specs.Prelude.{◌≡◌, ℕ, ◌↔◌, ◌<◌, ◌≤◌, ◌+◌, ◌*◌, length, true, slice_index, IsOk, IsTrue};
 ghost use Rattle.std.specs.List.{AllPass};
 ghost use Rattle.hex.specs.Hex.{decode_pairs, encode_lower, is_hex_digit, lower_digits};
 ghost use Rattle.lldpa.specs.Digits.{IsValue, AreSmall, ArePairs, AreDigits};

@@ -8,7 +8,7 @@ ghost use Rattle.lldp_engine.specs.Past.{Past};
 ghost use Rattle.lldp_engine.specs.Standing.{Stands};
 ghost use Rattle.lldpa.specs.Lines.{ended_lines, unfinished, if_any};
 ghost use Rattle.lldpa.specs.Work.{work_of, AllowsWork};
-ghost use Rattle.lldpa.specs.Items.{happens, after_all, items_of_work, items_of, items_of_lines};
+ghost use Rattle.lldpa.specs.Items.{happens, items_of_work, items_of, items_of_lines};
 ghost use Rattle.lldpa.specs.Runs.{RunsItems, HasRun, KeepsOn, read_failures_after, write_failures_after};
 ghost use Rattle.lldpa.specs.Told.{Between};
 

@@ -1,8 +1,9 @@
-use Rattle.std.proofs.Common.{◌≡◌, [], ◌++◌, take, drop, rules, arith, refl, ap, ◌∙◌, inl, inr, length-append, length-take, length-drop}
+use Rattle.std.proofs.Common.{◌≡◌, ℕ, Ok, Err, [], ◌++◌, take, drop, rules, arith, refl, ap, ◌∙◌, inl, inr, length-append, length-take, length-drop}
+use Rattle.lldpa.specs.declared.device.DeviceFault.TheVariants.{Failed}
 use Rattle.lldpa.specs.Lines.{unfinished}
 use Rattle.lldpa.proofs.Written.{consumes_then, consumes_kept, consumes_nothing}
 use Rattle.lldpa.proofs.LineLemmas.{held_more}
-use Rattle.lldpa.proofs.PieceLemmas.{same_run, held_and_piece, held_no_lf, consumes_end, done_piece, failed_piece, done_last, failed_last}
+use Rattle.lldpa.proofs.PieceLemmas.{same_run, held_and_piece, held_no_lf, consumes_end, piece_ends, last_ends}
 use Rattle.lldpa.proofs.RunLemmas.{done_none}
 use Rattle.lldpa.proofs.KeepsOnLemmas.{done_keeps_on, stopped_keeps_on}
 use Rattle.lldpa.proofs.trace.run_trace.Goals as goal
@@ -53,7 +54,7 @@ returns-in-Ok-rest-clause-run g c =
       consumed = consumes_end _ _ _ so_far.input (drop c.loop-reads.held c.read_more.new.buffer) c.in-Ok.n so_far.consumed zero octets.0;
       read = octets.1 zero;
       ends = λ past stands. let done = so_far.done past stands in
-          done_last past so_far.input _ _ _ _ _ front done.written (c.in-Ok-rest.ensures.items_run.ended _ done.stands);
+          last_ends {T = Unit {0}} (Ok tt) past _ _ _ _ so_far.input _ front done.written (c.in-Ok-rest.ensures.items_run.ended _ done.stands);
     }
 
 pub returns-in-Err-clause-run : goal.returns-in-Err-clause-run
@@ -66,7 +67,7 @@ returns-in-Err-clause-run g c =
       consumed = consumes_end _ _ _ so_far.input (drop c.loop-reads.held c.read_more.new.buffer) c.in-Ok.n so_far.consumed zero octets.0;
       read = tt;
       ends = λ past stands. let done = so_far.done past stands in
-          inr (octets.1 zero, failed_last past so_far.input _ _ _ _ _ (c.read_more.ensures.kept ∙ so_far.front) done.written (c.in-Err.ensures.items_run.ended _ done.stands));
+          inr (octets.1 zero, last_ends {T = Unit {0}} (Err Failed) past _ _ _ _ so_far.input _ (c.read_more.ensures.kept ∙ so_far.front) done.written (c.in-Err.ensures.items_run.ended _ done.stands));
     }
 
 pub returns-in_default-lines-clause-run : goal.returns-in_default-lines-clause-run
@@ -78,7 +79,7 @@ returns-in_default-lines-clause-run g c =
       consumed = consumes_then _ _ _ so_far.input piece so_far.consumed c.in-Ok.ensures.octets.0;
       read = tt;
       ends = λ past stands. let done = so_far.done past stands in
-          inl (failed_piece past so_far.input piece _ _ _ _ _ (held_and_piece c.loop-reads.buffer c.read_more.new.buffer c.loop-reads.held c.in-Ok.n (unfinished so_far.input) c.read_more.ensures.kept so_far.front) done.written (c.in_default-lines.ensures.run.items_run.ended _ done.stands));
+          inl (piece_ends {T = ℕ} (Err Failed) past _ _ _ _ so_far.input piece _ (held_and_piece c.loop-reads.buffer c.read_more.new.buffer c.loop-reads.held c.in-Ok.n (unfinished so_far.input) c.read_more.ensures.kept so_far.front) done.written (c.in_default-lines.ensures.run.items_run.ended _ done.stands));
     }
 
 pub returns-clause-run : goal.returns-clause-run
@@ -107,7 +108,7 @@ loop-reads-preserved g c =
         many = omega (arith, so_far.many, length-append so_far.input piece, length-take n (drop held new), length-drop held new);
         front = c.hold-held.ensures.held ∙ ap (take 4097) (c.in-Ok-lines.ensures.rest.1 ∙ ap unfinished octets) ∙ held_more 4097 so_far.input piece;
         done = λ past stands. let done = so_far.done past stands in
-            done_piece past so_far.input piece _ _ _ _ _ octets done.written (c.in-Ok-lines.ensures.run.items_run.ended _ done.stands);
+            piece_ends {T = ℕ} (Ok 0) past _ _ _ _ so_far.input piece _ octets done.written (c.in-Ok-lines.ensures.run.items_run.ended _ done.stands);
       };
       reads = search rules;
       writes = search rules;
