@@ -11,7 +11,7 @@ use Rattle.hex.specs.Hex.{hex_digit_value, is_hex_digit, decode_pairs, encode_wi
 use Rattle.hex.specs.declared.error.FromHexError.{FromHexError}
 use Rattle.hex.proofs.HexLemmas.{decode_pairs-ok}
 use Rattle.hex.proofs.Pairs.{prepend, decode_start, decode_step, decode_done, encode_step, encode_done}
-use Rattle.lldpa.specs.Digits.{IsValue, AreSmall, ArePairs, AreDigits}
+use Rattle.lldpa.specs.Code.Digits.{IsValue, AreSmall, ArePairs, AreDigits}
 
 module _ (s out : List ℕ) (long : length s ≡ 2 * length out) (all : (i : ℕ) → i < length out → ArePairs s out i) where
   up_to : (i : ℕ) → i ≤ length out → decode_pairs 0 s ≡ prepend (take i out) (decode_pairs (2 * i) (drop (2 * i) s))

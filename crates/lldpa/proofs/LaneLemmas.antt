@@ -7,7 +7,7 @@ use Rattle.std.proofs.lemmas.Nat.{le_or_l, le_or_r, or_lt}
 use Rattle.std.specs.Prelude.{◌↔◌}
 use Rattle.std.specs.Simd.Lanes.{zip2, sel_l, mask_l, top, chunk, number_l, digits_l, pick_l, Each1}
 use Rattle.hex.specs.Hex.{hex_digit_value, lower_digits}
-use Rattle.lldpa.specs.Digits.{IsValue, AreSmall}
+use Rattle.lldpa.specs.Code.Digits.{IsValue, AreSmall}
 
 -- an operator on a vector and a splat, at one lane
 pub splat_lane : (f : ℕ → ℕ → ℕ) (v : List ℕ) (n y k : ℕ) → length v ≡ n → k < n → get_or (zip2 f v (replicate n y)) k 0 ≡ f (get_or v k 0) y

@@ -8,7 +8,8 @@ use Rattle.lldp_engine.specs.Takes.{Takes}
 use Rattle.lldpa.specs.declared.device.DeviceFault.{DeviceFault}
 use Rattle.lldpa.specs.Devices.{failures_after}
 use Rattle.lldpa.specs.Lines.{ended}
-use Rattle.lldpa.specs.Output.{IsCutOff, IsWritten, WrittenBy, GoesOut, Output, SameSink, Went, Goes, GoesBehind, Puts, Flushes, begun, Writes}
+use Rattle.lldpa.specs.Runs.{IsCutOff}
+use Rattle.lldpa.specs.Code.Output.{IsWritten, WrittenBy, GoesOut, Output, SameSink, Went, Goes, GoesBehind, Puts, Flushes, begun, Writes}
 use Rattle.lldpa.proofs.Written.{appends_then, appends_nothing, appends_same}
 
 abbrev Answer : Type 0

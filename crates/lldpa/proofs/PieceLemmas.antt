@@ -10,7 +10,8 @@ use Rattle.lldpa.specs.Items.{Item, after_all, text_of_all, items_of_lines}
 use Rattle.std.specs.Prelude.{Result}
 use Rattle.lldpa.specs.declared.device.DeviceFault.{DeviceFault}
 use Rattle.lldpa.specs.declared.trace.RunFault.{RunFault}
-use Rattle.lldpa.specs.Runs.{Ended, HasRun}
+use Rattle.lldpa.specs.Code.Told.{Ended}
+use Rattle.lldpa.specs.Runs.{HasRun}
 use Rattle.lldpa.proofs.Written.{consumes_then}
 use Rattle.lldpa.proofs.ItemLemmas.{items_of_lines-append}
 use Rattle.lldpa.proofs.LineLemmas.{ended_lines-append, unfinished_no_lf, no_lf-take}

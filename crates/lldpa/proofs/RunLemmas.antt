@@ -16,8 +16,9 @@ use Rattle.lldpa.specs.Forms.{work_given}
 use Rattle.lldpa.specs.Work.{Work}
 use Rattle.lldpa.specs.Items.{Item, happens, shows, refused, after, after_all, text_of, text_of_all, items_of_work, items_of, items_of_lines}
 use Rattle.lldpa.specs.declared.device.DeviceFault.{DeviceFault}
-use Rattle.lldpa.specs.Output.{IsWritten, IsCutOff, WrittenBy, Output, Writes}
-use Rattle.lldpa.specs.Runs.{Done, Failed, Ended, RunsItems}
+use Rattle.lldpa.specs.Code.Output.{IsWritten, WrittenBy, Output, Writes}
+use Rattle.lldpa.specs.Runs.{IsCutOff, Done, Failed}
+use Rattle.lldpa.specs.Code.Told.{Ended, RunsItems}
 use Rattle.lldp_engine.specs.Event.{tick}
 use Rattle.lldpa.specs.Forms.{fault_text}
 use Rattle.lldpa.proofs.OutputLemmas.{same_then}

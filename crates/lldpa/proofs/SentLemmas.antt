@@ -16,8 +16,8 @@ use Rattle.lldp_engine.proofs.ReaderLemmas.{names_read}
 use Rattle.lldpa.specs.Lines.{ended}
 use Rattle.lldpa.specs.Items.{Item, happens}
 use Rattle.lldpa.specs.Sent.{sent_line, mark_line, sent_text}
-use Rattle.lldpa.specs.Output.{Output, Puts, Writes}
-use Rattle.lldpa.specs.Runs.{RunsItems}
+use Rattle.lldpa.specs.Code.Output.{Output, Puts, Writes}
+use Rattle.lldpa.specs.Code.Told.{RunsItems}
 use Rattle.lldpa.specs.declared.device.DeviceFault.{DeviceFault}
 use Rattle.lldpa.proofs.OutputLemmas.{in_parts, puts_then, puts_same}
 use Rattle.lldpa.proofs.RunLemmas.{one_item}

@@ -1,14 +1,12 @@
 pub mod Devices
-pub mod Digits
 pub mod Adapters
 pub mod Lines
 pub mod Sent
 pub mod Forms
 pub mod Work
 pub mod Items
-pub mod Output
-pub mod Told
 pub mod Runs
+pub mod Code
 pub mod Serving
 pub mod Program
 pub mod Addresses

@@ -1,5 +1,5 @@
 -- What a run over a trace leaves.
-use Rattle.std.specs.Prelude.{◌≡◌, ◌≤◌, ◌⊎◌, ℕ, List, [], ◌∷◌, ◌++◌, length, Option, Result, Ok, Err}
+use Rattle.std.specs.Prelude.{◌≡◌, ◌≢◌, ◌≤◌, ◌⊎◌, ℕ, List, [], ◌∷◌, ◌++◌, length, Option, Result, Ok, Err}
 use Rattle.std.specs.Io.KnownBytes.{Appends, Consumes, IsAtEnd}
 use Rattle.lldp_engine.specs.Event.{Event}
 use Rattle.lldp_engine.specs.AgentState.{AgentState}
@@ -9,10 +9,14 @@ use Rattle.lldp_engine.specs.Headline.{Promised}
 use Rattle.lldpa.specs.Devices.{one_more}
 use Rattle.lldpa.specs.Lines.{lines_of, ended_lines}
 use Rattle.lldpa.specs.Items.{Item, after_all, text_of, text_of_all, items_of_lines}
-use Rattle.lldpa.specs.Output.{IsCutOff, Output, SameSink}
-use Rattle.lldpa.specs.declared.device.DeviceFault.{DeviceFault}
 use Rattle.lldpa.specs.declared.trace.RunFault.{RunFault}
 use Rattle.lldpa.specs.declared.trace.RunFault.TheVariants.{Read, Write, InputTooLong}
+
+-- part stands at the front of whole, and is not all of it
+pub record IsCutOff (whole part : List ℕ) : Type 0 where
+  pub rest : List ℕ
+  pub joined : whole ≡ part ++ rest
+  pub missing : rest ≢ []
 
 -- All items were done: their text was written, and the agent stands for the past after them and keeps the promise for it: tables hold
 -- the last stored frames, and ports have sent exactly what was due.
@@ -33,16 +37,6 @@ pub record Failed (past : Past) (items : List Item) (old new : Option (List ℕ)
   pub written : Appends old new (text_of_all past before ++ part)
   pub stands : Stands (after_all past (before ++ item ∷ [])) agent
   pub promised : Promised (after_all past (before ++ item ∷ [])) agent
-
--- by the answer: all items were done, or the output of one of them failed
-abbrev pub Ended : {T : Type 0} → Result T DeviceFault → Past → List Item → Option (List ℕ) → Option (List ℕ) → AgentState → Type 0
-Ended (Ok done) past items old new agent = Done past items old new agent
-Ended (Err fault) past items old new agent = Failed past items old new agent
-
--- A part of a run: for every past that the agent stood for, the items that are asked for after it.
-pub record RunsItems {T : Type 0} (items : Past → List Item) (answer : Result T DeviceFault) (before after : AgentState) (old new : Output) : Type 0 where
-  pub ended : (past : Past) → Stands past before → Ended answer past (items past) old.taken new.taken after
-  pub same : SameSink answer old new
 
 -- The run stopped at an item whose output failed: one of a line whose LF was read, or, where nothing is left to come, one of the
 -- last line.

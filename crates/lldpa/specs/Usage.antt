@@ -99,11 +99,12 @@ abbrev pub AsksMac : Option Text → List ℕ → Type 0
 AsksMac None mac = ⊥
 AsksMac (Some text) mac = IsMac text mac
 
--- there is a text, and it writes no address
+-- there is a text, and it writes no MAC
 abbrev pub WritesNoMac : Option Text → Type 0
 WritesNoMac None = ⊥
 WritesNoMac (Some text) = (mac : List ℕ) → ¬ IsMac text mac
 
+-- there is a text, and it writes no IPv4 address
 abbrev pub WritesNoIpv4 : Option Text → Type 0
 WritesNoIpv4 None = ⊥
 WritesNoIpv4 (Some text) = (octets : List ℕ) → ¬ IsDotted text octets

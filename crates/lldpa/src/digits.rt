@@ -37,7 +37,7 @@
 ghost use Rattle.std.specs.Prelude.{◌≡◌, ℕ, ◌↔◌, ◌<◌, ◌≤◌, ◌+◌, ◌*◌, length, true, slice_index, IsOk, IsTrue};
 ghost use Rattle.std.specs.List.{AllPass};
 ghost use Rattle.hex.specs.Hex.{decode_pairs, encode_lower, is_hex_digit, lower_digits};
-ghost use Rattle.lldpa.specs.Digits.{IsValue, AreSmall, ArePairs, AreDigits};
+ghost use Rattle.lldpa.specs.Code.Digits.{IsValue, AreSmall, ArePairs, AreDigits};
 
 use std::simd::prelude::*;
 

@@ -7,9 +7,9 @@ ghost use Rattle.lldp_engine.specs.Lines.{lines_of as show_lines};
 ghost use Rattle.lldpa.specs.declared.waiting.TheConstants.{ROOM};
 ghost use Rattle.lldpa.specs.Devices.{failures_after};
 ghost use Rattle.lldpa.specs.Lines.{ended};
-ghost use Rattle.lldpa.specs.Output.{WrittenBy, Puts, Flushes, Writes, begun};
+ghost use Rattle.lldpa.specs.Code.Output.{WrittenBy, Puts, Flushes, Writes, begun};
 ghost use Rattle.lldpa.specs.Sent.{sent_line, mark_line};
-ghost use Rattle.lldpa.specs.Told.{told, Between};
+ghost use Rattle.lldpa.specs.Code.Told.{told, Between};
 
 use crate::device::{DeviceFault, Sink};
 use crate::waiting::Waiting;

@@ -9,8 +9,8 @@ ghost use Rattle.lldp_engine.specs.Standing.{Stands};
 ghost use Rattle.lldpa.specs.Lines.{ended_lines, unfinished, if_any};
 ghost use Rattle.lldpa.specs.Work.{work_of, AllowsWork};
 ghost use Rattle.lldpa.specs.Items.{happens, items_of_work, items_of, items_of_lines};
-ghost use Rattle.lldpa.specs.Runs.{RunsItems, HasRun, KeepsOn, read_failures_after, write_failures_after};
-ghost use Rattle.lldpa.specs.Told.{Between};
+ghost use Rattle.lldpa.specs.Code.Told.{RunsItems, Between};
+ghost use Rattle.lldpa.specs.Runs.{HasRun, KeepsOn, read_failures_after, write_failures_after};
 
 use crate::buffer::{hold, read_more};
 use crate::device::{DeviceFault, Sink, Source};
@@ -103,7 +103,7 @@ struct Run<'a, 'w, W> {
 }
 
 impl<W: Sink> Run<'_, '_, W> {
-    ghost use Rattle.lldpa.specs.Told.{Performs};
+    ghost use Rattle.lldpa.specs.Code.Told.{Performs};
 
     /// What one line asks for.
     fn line(&mut self, line: &[u8]) -> Result<(), DeviceFault>

@@ -1,7 +1,7 @@
 use Rattle.std.proofs.Common.{◌≡◌, ◌<◌, ◌≤◌, ◌-◌, ℕ, length}
 use Rattle.std.specs.List.{AllPass}
 use Rattle.hex.specs.Hex.{is_hex_digit}
-use Rattle.lldpa.specs.Digits.{AreSmall, ArePairs}
+use Rattle.lldpa.specs.Code.Digits.{AreSmall, ArePairs}
 use Rattle.lldpa.proofs.digits.decode_digits.Given as goal
 
 abbrev pub invariant-blocks-2 : goal.invariant-blocks-2

@@ -1,5 +1,5 @@
 use Rattle.std.proofs.Common.{◌≡◌, ◌<◌, ◌≤◌, ◌-◌, ℕ, length}
-use Rattle.lldpa.specs.Digits.{AreDigits}
+use Rattle.lldpa.specs.Code.Digits.{AreDigits}
 use Rattle.lldpa.proofs.digits.encode_digits.Given as goal
 
 abbrev pub invariant-blocks-2 : goal.invariant-blocks-2

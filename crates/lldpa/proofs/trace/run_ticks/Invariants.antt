@@ -2,8 +2,7 @@ use Rattle.std.proofs.Common.{replicate}
 use Rattle.std.specs.Prelude.{Ok}
 use Rattle.lldp_engine.specs.Event.{tick}
 use Rattle.lldpa.specs.Items.{happens}
-use Rattle.lldpa.specs.Runs.{RunsItems}
-use Rattle.lldpa.specs.Told.{Between}
+use Rattle.lldpa.specs.Code.Told.{RunsItems, Between}
 use Rattle.lldpa.proofs.trace.run_ticks.Given as goal
 
 -- the ticks so far are done

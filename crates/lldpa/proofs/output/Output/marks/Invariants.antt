@@ -1,9 +1,9 @@
 use Rattle.std.proofs.Common.{take}
 use Rattle.std.specs.List.{flat_map}
 use Rattle.lldp_engine.specs.AgentState.{names_of}
-use Rattle.lldpa.specs.Output.{Puts}
+use Rattle.lldpa.specs.Code.Output.{Puts}
 use Rattle.lldpa.specs.Sent.{mark_line}
-use Rattle.lldpa.specs.Told.{Between}
+use Rattle.lldpa.specs.Code.Told.{Between}
 use Rattle.lldpa.proofs.output.Output.marks.Given as goal
 
 -- the lines of the ports before this one went on their way

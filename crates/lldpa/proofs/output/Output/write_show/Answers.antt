@@ -1,4 +1,4 @@
-use Rattle.lldpa.specs.Told.{told}
+use Rattle.lldpa.specs.Code.Told.{told}
 use Rattle.lldpa.proofs.OutputLemmas.{text_written, lines_put}
 use Rattle.lldpa.proofs.output.Output.write_show.Goals as goal
 

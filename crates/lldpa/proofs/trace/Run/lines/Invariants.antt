@@ -2,7 +2,7 @@ use Rattle.std.proofs.Common.{◌≡◌, ◌≤◌, ◌-◌, [], length, take, d
 use Rattle.std.specs.Prelude.{Ok}
 use Rattle.lldpa.specs.Lines.{ended_lines, unfinished}
 use Rattle.lldpa.specs.Items.{items_of_lines}
-use Rattle.lldpa.specs.Told.{Performs}
+use Rattle.lldpa.specs.Code.Told.{Performs}
 use Rattle.lldpa.proofs.trace.Run.lines.Given as goal
 
 -- the lines up to start are done, and from start on to from there is no LF

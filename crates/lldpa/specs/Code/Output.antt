@@ -1,15 +1,10 @@
 -- Text on its way to a device.
-use Rattle.std.specs.Prelude.{◌≡◌, ◌≢◌, ℕ, List, [], ◌++◌, Option, Result, Ok, Err, OnOk}
+use Rattle.std.specs.Prelude.{◌≡◌, ℕ, List, [], ◌++◌, Option, Result, Ok, Err, OnOk}
 use Rattle.std.specs.Borrow.{GName}
 use Rattle.std.specs.Io.KnownBytes.{Appends}
 use Rattle.lldpa.specs.declared.device.DeviceFault.{DeviceFault}
 use Rattle.lldpa.specs.Devices.{failures_after}
-
--- part stands at the front of whole, and is not all of it
-pub record IsCutOff (whole part : List ℕ) : Type 0 where
-  pub rest : List ℕ
-  pub joined : whole ≡ part ++ rest
-  pub missing : rest ≢ []
+use Rattle.lldpa.specs.Runs.{IsCutOff}
 
 -- some text with this property was written
 abbrev pub IsWritten : (List ℕ → Type 0) → Option (List ℕ) → Option (List ℕ) → Type 0
@@ -52,6 +47,7 @@ pub record Goes (text : List ℕ) (old new : Output) : Type 0 where
   pub went : Went new.answer text old new
   pub same : SameSink new.answer old new
 
+-- by the answer so far: a text goes, or, behind a write that failed, nothing happens
 abbrev pub GoesBehind : Result (Unit {0}) DeviceFault → List ℕ → Output → Output → Type 0
 GoesBehind (Ok done) text old new = Goes text old new
 GoesBehind (Err fault) text old new = new ≡ old
