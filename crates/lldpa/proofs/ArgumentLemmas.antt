@@ -1,10 +1,11 @@
 -- What a parse that succeeds gives of the program's options.
-use Rattle.std.proofs.Common.{zero, suc, Result, Ok, Err, ◌≡◌, ◌∙◌, ◌<◌, ◌||◌, ℕ, Bool, true, false, List, [], ◌∷◌, ◌++◌, length, Option, Some, None, refl, sym, ap, subst, inl, inr, arith, codes, slice_index_or, Bor}
-use Rattle.std.specs.Prelude.{IfOk, find, option_map, slice_get, pos}
+use Rattle.std.proofs.Common.{zero, suc, ◌≡◌, ◌∙◌, ◌<◌, ◌||◌, ℕ, Bool, true, false, List, [], ◌∷◌, ◌++◌, length, Option, Some, None, refl, sym, ap, subst, inl, inr, arith, codes, slice_index_or, Bor}
+use Rattle.std.specs.Prelude.{find, option_map, slice_get, pos}
 use Rattle.std.specs.List.{All, Any}
 use Rattle.std.specs.Str.{bytes_eq}
 use Rattle.std.proofs.lemmas.Bool.{cases_lt}
 use Rattle.std.proofs.lemmas.List.Elements.{All-nil, All-push}
+use Rattle.std.proofs.lemmas.List.Quantifiers.{Any-push}
 use Rattle.std.proofs.lemmas.Slice.Eq.{bytes_eq-Decides}
 use Rattle.clap.specs.Facts.{Entry, EntryPasses, HasIn, HasReading, IsCountArg, AllowsNone, PassesArg, parser_of, parser_of_value}
 use Rattle.clap.specs.Values.{Accepts, reading_of}
@@ -60,13 +61,7 @@ built_fits c m p fit = λ k d lt. elim (cases_lt k (length (args_of c))) [
   | inr over ↦ auto_fits _ (p.from.extra k d over lt)
 ]
 
--- some element of a list, where one more stands behind
-any_push : (P : Arg → Type 0) (xs : List Arg) (x : Arg) → P x → Any P (xs ++ x ∷ [])
-any_push P [] x p = (0, x, omega arith, refl, p)
-any_push P (y ∷ xs) x p =
-    let rest = any_push P xs x p in
-    (suc rest.0, rest.1, omega (arith, rest.2), rest.3, rest.4)
-
+-- some element of a list, where more stand behind
 any_more : (P : Arg → Type 0) (xs ys : List Arg) → Any P xs → Any P (xs ++ ys)
 any_more P [] ys any = absurd (omega (arith, any.2))
 any_more P (x ∷ xs) ys any = at any.0 any.1 any.2 any.3 any.4 (λ rest. any_more P xs ys rest)
@@ -101,7 +96,7 @@ one_more c d name a added is r =
 
 pub has_last : (c d : Command) (name : List ℕ) (a : Arg) → AddsArg c a d → IsArgument name a → HasArgument name d
 has_last c d name a added is =
-    subst (Any (λ x. x.id.now ≡ name)) (sym added.args) (any_push (λ x. x.id.now ≡ name) (args_of c) added.arg (ap (λ i. i.now) added.rules.id ∙ is.named))
+    subst (Any (λ x. x.id.now ≡ name)) (sym added.args) (Any-push (λ x. x.id.now ≡ name) (args_of c) added.arg (ap (λ i. i.now) added.rules.id ∙ is.named))
 
 pub has_still : (c d : Command) (a : Arg) → AddsArg c a d → (name : List ℕ) → HasArgument name c → HasArgument name d
 has_still c d a added name any =
@@ -284,11 +279,6 @@ gives_options c m r p =
       role = gives_text c m p r (codes "role") refl r.role;
     }
 
--- the same of a parse that may fail
-pub if_parsed : (E : Type 0) (c : Command) (r : Result ArgMatches E) → ReadsOptions c → IfOk r (λ m. IsParsedFrom c m) → IfOk r GivesOptions
-if_parsed E c (Ok m) reads parsed = gives_options c m reads parsed
-if_parsed E c (Err e) reads parsed = tt
-
 -- one more argument, where the options are there
 pub still_reads : (c d : Command) (name : List ℕ) (a : Arg) → ReadsOptions c → AddsArg c a d → IsArgument name a → ReadsOptions d
 still_reads c d name a r added is =
@@ -307,7 +297,3 @@ still_reads c d name a r added is =
       hostname = still _ r.hostname;
       role = still _ r.role;
     }
-
-pub if_still_reads : (E : Type 0) (c : Command) (r : Result Command E) (name : List ℕ) (a : Arg) → ReadsOptions c → IfOk r (AddsArg c a) → IsArgument name a → IfOk r ReadsOptions
-if_still_reads E c (Ok d) name a reads added is = still_reads c d name a reads added is
-if_still_reads E c (Err e) name a reads added is = tt

@@ -3,7 +3,7 @@ use Rattle.std.proofs.lemmas.Result.{IfOk-weaker}
 use Rattle.clap.specs.Simple.{app_of, app_of_fields, new_app, with_rule}
 use Rattle.lldpa.specs.Usage.{versioned}
 use Rattle.lldpa.specs.Arguments.{HasArgument, ReadsOptions}
-use Rattle.lldpa.proofs.ArgumentLemmas.{new_ready, one_more, has_last, has_still, if_still_reads}
+use Rattle.lldpa.proofs.ArgumentLemmas.{new_ready, one_more, has_last, has_still, still_reads}
 use Rattle.lldpa.proofs.arguments.command.Goals as goal
 
 -- each option is there from its own step on
@@ -72,5 +72,5 @@ returns c =
     let s11 = a11.shape c.number-5.ensures.fits.local ∙ ap₂ with_rule s10 c.number-5.ensures.rule in
     record {
       app = IfOk-weaker c.arg-12.result _ _ (λ d a. (c.role.ensures.rule.0, c.role.ensures.rule.1, a.shape c.ports.ensures.fits.local ∙ ap₂ with_rule s11 c.ports.ensures.rule)) c.arg-12.ensures;
-      options = if_still_reads _ _ c.arg-12.result _ _ reads c.arg-12.ensures c.ports.ensures.fits;
+      options = IfOk-weaker c.arg-12.result _ _ (λ d a. still_reads _ d _ _ reads a c.ports.ensures.fits) c.arg-12.ensures;
     }

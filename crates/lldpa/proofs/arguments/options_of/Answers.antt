@@ -1,4 +1,4 @@
-use Rattle.std.proofs.Common.{◌∙◌, ap, sym, subst, arith, refl, codes, Some, rules}
+use Rattle.std.proofs.Common.{◌∙◌, ap, sym, subst, arith, refl, codes, Some}
 use Rattle.std.specs.Prelude.{option_map}
 use Rattle.std.proofs.lemmas.Result.{err_from_is_err_and}
 use Rattle.clap.specs.Walk.{byte_or_zero, rows_of}
@@ -9,31 +9,31 @@ use Rattle.lldpa.specs.declared.arguments.AddressFault.TheVariants.{Management}
 use Rattle.lldpa.proofs.UsageLemmas.{ports_named}
 use Rattle.lldpa.proofs.arguments.options_of.Goals as goal
 
-pub returns : goal.returns
-returns c =
+pub returns-clause-range : goal.returns-clause-range
+returns-clause-range c =
     let given = c.requires.given in
+    record {
+      neighbors = c.number_of.ensures.range 128 (omega arith) given.max_neighbors;
+      credit = c.number_of-2.ensures.range 10 (omega arith) given.credit_max;
+      fast = c.number_of-3.ensures.range 8 (omega arith) given.fast_init;
+      wait = c.number_of-4.ensures.range 10 (omega arith) given.reinit;
+    }
+
+pub returns-clause-asks : goal.returns-clause-asks
+returns-clause-asks c =
     let found = found_of c.args.matches.now in
     record {
-      refused = search rules;
-      range = record {
-        neighbors = c.number_of.ensures.range 128 (omega arith) given.max_neighbors;
-        credit = c.number_of-2.ensures.range 10 (omega arith) given.credit_max;
-        fast = c.number_of-3.ensures.range 8 (omega arith) given.fast_init;
-        wait = c.number_of-4.ensures.range 10 (omega arith) given.reinit;
-      };
-      asks = record {
-        mac = subst (λ x. AsksMac x c.in-Some.mac) (sym c.given.ensures.value ∙ first_value-rows found (codes "mac")) c.in-Some.ensures;
-        names = ports_named c.get_strs.result _ _ _ _ refl c.unwrap_or.ensures c.get_strs.ensures (raw_values-rows found (codes "PORT"));
-        hostname = sym (first_value-rows found (codes "hostname")) ∙ c.given-2.ensures.value;
-        management = subst (λ x. AsksManagement x c.in_ok-management_of.field-0) (first_value-rows found (codes "management")) c.in_ok-management_of.ensures.asked;
-        role = ap (option_map role_named) (sym (first_value-rows found (codes "role")) ∙ c.given-3.ensures.value) ∙ ap Some (sym c.role_of.ensures);
-        max_neighbors = ap (option_map byte_or_zero) (sym (one_text-rows found (codes "max-neighbors"))) ∙ c.number_of.ensures.value;
-        credit_max = ap (option_map byte_or_zero) (sym (one_text-rows found (codes "tx-credit-max"))) ∙ c.number_of-2.ensures.value;
-        fast_init = ap (option_map byte_or_zero) (sym (one_text-rows found (codes "tx-fast-init"))) ∙ c.number_of-3.ensures.value;
-        reinit = ap (option_map byte_or_zero) (sym (one_text-rows found (codes "reinit-delay"))) ∙ c.number_of-4.ensures.value;
-        receives = λ e. c.get_flag.ensures.value (one_text-rows found (codes "receive-only") ∙ e);
-        sends = λ e. c.get_flag.ensures.other (one_text-rows found (codes "receive-only") ∙ e);
-      };
+      mac = subst (λ x. AsksMac x c.in-Some.mac) (sym c.given.ensures.value ∙ first_value-rows found (codes "mac")) c.in-Some.ensures;
+      names = ports_named c.get_strs.result _ _ _ _ refl c.unwrap_or.ensures c.get_strs.ensures (raw_values-rows found (codes "PORT"));
+      hostname = sym (first_value-rows found (codes "hostname")) ∙ c.given-2.ensures.value;
+      management = subst (λ x. AsksManagement x c.in_ok-management_of.field-0) (first_value-rows found (codes "management")) c.in_ok-management_of.ensures.asked;
+      role = ap (option_map role_named) (sym (first_value-rows found (codes "role")) ∙ c.given-3.ensures.value) ∙ ap Some (sym c.role_of.ensures);
+      max_neighbors = ap (option_map byte_or_zero) (sym (one_text-rows found (codes "max-neighbors"))) ∙ c.number_of.ensures.value;
+      credit_max = ap (option_map byte_or_zero) (sym (one_text-rows found (codes "tx-credit-max"))) ∙ c.number_of-2.ensures.value;
+      fast_init = ap (option_map byte_or_zero) (sym (one_text-rows found (codes "tx-fast-init"))) ∙ c.number_of-3.ensures.value;
+      reinit = ap (option_map byte_or_zero) (sym (one_text-rows found (codes "reinit-delay"))) ∙ c.number_of-4.ensures.value;
+      receives = λ e. c.get_flag.ensures.value (one_text-rows found (codes "receive-only") ∙ e);
+      sends = λ e. c.get_flag.ensures.other (one_text-rows found (codes "receive-only") ∙ e);
     }
 
 pub returns-in_default-clause-refused : goal.returns-in_default-clause-refused

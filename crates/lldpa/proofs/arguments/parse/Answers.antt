@@ -1,4 +1,5 @@
-use Rattle.lldpa.proofs.ArgumentLemmas.{if_parsed}
+use Rattle.std.proofs.lemmas.Result.{IfOk-weaker}
+use Rattle.lldpa.proofs.ArgumentLemmas.{gives_options}
 use Rattle.lldpa.proofs.UsageLemmas.{parse_rows, parse_kinds}
 use Rattle.lldpa.proofs.arguments.parse.Goals as goal
 
@@ -7,7 +8,7 @@ returns g c =
     let app = c.in_ok-command.ensures.app in
     let parse = c.try_get_matches_from in
     record {
-      options = if_parsed _ _ parse.result c.in_ok-command.ensures.options parse.ensures.parsed;
+      options = IfOk-weaker parse.result _ _ (λ m p. gives_options _ m c.in_ok-command.ensures.options p) parse.ensures.parsed;
       words = parse_rows _ app.0 _ parse.result app.1 app.2 parse.ensures.matches parse.ensures.kinds;
       kinds = parse_kinds _ app.0 _ parse.result app.1 app.2 parse.ensures.kinds;
     }

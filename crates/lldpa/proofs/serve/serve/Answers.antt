@@ -29,13 +29,7 @@ returns-in_default-clause-served c =
     let inv = c.loop-served.invariant in
     record { results = inv.runs.0; served = inv.runs.1; told = omega (arith, inv.runs.2) }
 
-pub returns-in_default-clause-headline : goal.returns-in_default-clause-headline
-returns-in_default-clause-headline c past stands = c.loop-served.invariant.keeps past stands
-
 pub returns-clause-served : goal.returns-clause-served
 returns-clause-served c =
     let inv = c.loop-served.invariant in
     record { results = inv.runs.0; served = inv.runs.1; told = (omega (arith, inv.runs.2), inv.runs.3) }
-
-pub returns-clause-headline : goal.returns-clause-headline
-returns-clause-headline c past stands = c.loop-served.invariant.keeps past stands
