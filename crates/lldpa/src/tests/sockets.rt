@@ -192,10 +192,13 @@ impl Read for Conversation<'_> {
                 }
             }
         }
-        if let Some(step) = self.steps.get(self.sent) {
-            client.write_all(step.0.as_bytes())?;
-            self.sent = self.sent.saturating_add(1);
-            self.client = Some(client);
+        match self.steps.get(self.sent) {
+            Some(step) => {
+                client.write_all(step.0.as_bytes())?;
+                self.sent = self.sent.saturating_add(1);
+                self.client = Some(client);
+            }
+            None => drop(client),
         }
         self.stream.read(room)
     }
