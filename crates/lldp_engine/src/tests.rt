@@ -1,16 +1,17 @@
-//! Worked examples, through agents that are opened and hear frames.
+//! Worked examples that no transcript of `examples/` has, through agents that are opened.
 mod commands;
-mod configured;
 mod events;
 mod memory;
 mod opening;
-mod sending;
 mod shows;
 mod values;
 mod whole_shows;
 mod words;
 
-use super::{Agent, Event, LineSink, OpenFault, Options, Role, Show};
+use super::{
+    Agent, Command, CommandFault, Counters, Event, Line, LineSink, Marks, OpenFault, Options, Role,
+    Setting, Show, Status,
+};
 use arrayvec::ArrayVec;
 use std::alloc::{Allocator, Global};
 use std::process::Abort;
@@ -32,15 +33,59 @@ fn options<'a>(ports: &'a [&'a str], max_neighbors: u8) -> Options<'a> {
     }
 }
 
+/// The same for two neighbors on each port, but that its ports send.
+fn sending<'a>(ports: &'a [&'a str]) -> Options<'a> {
+    Options {
+        receive_only: false,
+        ..options(ports, 2)
+    }
+}
+
+/// An agent with these options, whose numbers are in their ranges.
+fn open_with<A: Allocator + Clone>(
+    rt: &impl Abort,
+    alloc: A,
+    options: &Options<'_>,
+) -> Result<Agent<A>, OpenFault> {
+    assert!(rt; options.in_range());
+    Agent::open(alloc, options)
+}
+
+/// An agent whose ports only receive.
 fn open<A: Allocator + Clone>(
     rt: &impl Abort,
     alloc: A,
     ports: &[&str],
     max_neighbors: u8,
 ) -> Result<Agent<A>, OpenFault> {
-    let options = options(ports, max_neighbors);
-    assert!(rt; options.in_range());
-    Agent::open(alloc, &options)
+    open_with(rt, alloc, &options(ports, max_neighbors))
+}
+
+/// An event comes, which the agent allows.
+fn step<A: Allocator>(rt: &impl Abort, agent: &mut Agent<A>, event: Event<'_>) -> Marks {
+    assert!(rt; agent.allows(&event));
+    agent.step(event)
+}
+
+/// A setting is made, which the agent allows.
+fn set<A: Allocator>(rt: &impl Abort, agent: &mut Agent<A>, setting: Setting<'_>) {
+    step(rt, agent, Event::Set(setting));
+}
+
+/// So many seconds pass.
+fn ticks<A: Allocator>(rt: &impl Abort, agent: &mut Agent<A>, seconds: u8) {
+    for _ in 0..seconds {
+        step(rt, agent, Event::Tick);
+    }
+}
+
+/// An LLDP frame of a neighbor whose name ends in this octet, with this TTL.
+fn frame_of(name: u8, ttl: u8) -> [u8; 39] {
+    let mut octets =
+        *b"\x01\x80\xc2\x00\x00\x0e\x00\x11\x22\x33\x44\x55\x88\xcc\x02\x07\x04\x00\x11\x22\x33\x44\x55\x04\x05\x05eth0\x06\x02\x00\x09\x0a\x03sw2";
+    octets[29] = name;
+    octets[33] = ttl;
+    octets
 }
 
 /// A frame with this LLDPDU comes on a port.
@@ -51,17 +96,14 @@ fn hear<A: Allocator>(
     pdu: &[u8],
 ) -> Result<(), Fail> {
     let mut octets: ArrayVec<u8, 1514> = ArrayVec::new();
-    octets
-        .try_extend_from_slice(b"\x01\x80\xc2\x00\x00\x0e\x00\x11\x22\x33\x44\x55\x88\xcc")
-        .ok()
-        .ok_or("room")?;
-    octets.try_extend_from_slice(pdu).ok().ok_or("room")?;
-    let event = Event::Frame {
-        port,
-        octets: octets.as_slice(),
-    };
-    assert!(rt; agent.allows(&event));
-    agent.step(event);
+    for part in [
+        b"\x01\x80\xc2\x00\x00\x0e\x00\x11\x22\x33\x44\x55\x88\xcc",
+        pdu,
+    ] {
+        octets.try_extend_from_slice(part).ok().ok_or("room")?;
+    }
+    let octets = octets.as_slice();
+    step(rt, agent, Event::Frame { port, octets });
     Ok(())
 }
 
@@ -70,17 +112,35 @@ fn hear_hex<A: Allocator>(
     rt: &impl Abort,
     alloc: Global,
     agent: &mut Agent<A>,
+    port: u8,
     digits: &str,
 ) -> Result<(), Fail> {
     let pdu = hex::decode(alloc, digits)?;
-    hear(rt, agent, 0, pdu.as_slice())
+    hear(rt, agent, port, pdu.as_slice())
 }
 
-fn ticks<A: Allocator>(rt: &impl Abort, agent: &mut Agent<A>, n: u16) {
-    for _ in 0..n {
-        assert!(rt; agent.allows(&Event::Tick));
-        agent.step(Event::Tick);
-    }
+/// The status of a port.
+fn status<A: Allocator>(rt: &impl Abort, agent: &Agent<A>, port: u8) -> Status {
+    assert!(rt; port < agent.ports());
+    agent.status(port)
+}
+
+/// Whether the link of a port is up.
+fn is_up<A: Allocator>(rt: &impl Abort, agent: &Agent<A>, port: u8) -> bool {
+    assert!(rt; port < agent.ports());
+    agent.is_up(port)
+}
+
+/// How many neighbors a port has.
+fn held<A: Allocator>(rt: &impl Abort, agent: &Agent<A>, port: u8) -> u8 {
+    assert!(rt; port < agent.ports());
+    agent.table(port).len()
+}
+
+/// The counters of a port.
+fn counters<A: Allocator>(rt: &impl Abort, agent: &Agent<A>, port: u8) -> Counters {
+    assert!(rt; port < agent.ports());
+    *agent.counters(port)
 }
 
 /// What counts the lines of a show.
@@ -103,6 +163,16 @@ impl LineSink for Count {
     }
 }
 
+/// What a line is read as.
+fn read<'l, A: Allocator>(agent: &Agent<A>, line: &'l [u8]) -> Result<Command<'l>, CommandFault> {
+    agent.read_command(line)
+}
+
+/// A line of a show, where it has so many.
+fn shown<A: Allocator>(agent: &Agent<A>, show: Show, i: u32) -> Option<Line> {
+    agent.show_line(&show, i)
+}
+
 /// How many lines a show has.
 fn count_lines<A: Allocator>(agent: &Agent<A>, show: Show) -> u32 {
     let mut count = Count { lines: 0 };
@@ -110,16 +180,22 @@ fn count_lines<A: Allocator>(agent: &Agent<A>, show: Show) -> u32 {
     count.lines
 }
 
-/// The lines of a show are these, by their number and by their places.
+/// A line of a show is this one.
+fn expect_line<A: Allocator>(rt: &impl Abort, agent: &Agent<A>, show: Show, i: u32, text: &str) {
+    let Some(line) = shown(agent, show, i) else {
+        panic!(rt; "missing {text}");
+    };
+    assert_eq!(rt; line.as_slice(), text.as_bytes(), "{text}");
+}
+
+/// The lines of a show are these.
 fn expect_lines<A: Allocator>(rt: &impl Abort, agent: &Agent<A>, show: Show, expected: &[&str]) {
-    for (i, text) in expected.iter().enumerate() {
+    let mut i: u32 = 0;
+    for text in expected {
+        expect_line(rt, agent, show, i, text);
         assert!(rt; i < 1000);
-        let Some(line) = agent.show_line(&show, i as u32) else {
-            panic!(rt; "missing {text}");
-        };
-        assert_eq!(rt; line.as_slice(), text.as_bytes(), "{text}");
+        i += 1;
     }
-    assert!(rt; expected.len() < 1000);
-    assert!(rt; agent.show_line(&show, expected.len() as u32).is_none());
-    assert_eq!(rt; count_lines(agent, show), expected.len() as u32);
+    assert_eq!(rt; count_lines(agent, show), i);
+    assert!(rt; shown(agent, show, i).is_none());
 }

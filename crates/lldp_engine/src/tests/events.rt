@@ -1,80 +1,24 @@
-//! What a port hears and counts.
-use super::{expect_lines, hear, hear_hex, open, ticks};
-use crate::{Agent, Counters, Event, Show};
-use std::alloc::{Allocator, Global};
+//! What ports hear, send and count, and what an agent allows.
+use super::{
+    counters, expect_lines, frame_of, hear, hear_hex, held, is_up, open, open_with, sending,
+    status, step, ticks,
+};
+use crate::{Agent, Counters, Event, Mark, Options, Setting, Show, Status};
 use std::process::Abort;
 use std::test::Fail;
 
-const A: &str = "02070400112233445504050565746830060200780000";
-
-const A1: &str = "02070400112233445504050565746830060200010000";
-
-const Z: &str = "02070400112233445504050565746830060200000000";
-
-const Z2: &str = "02070400112233445504050565746830060200000207040011223344550000";
-
-const B: &str = "02070400112233445504050565746831060200780000";
-
-const C: &str = "02070400112233445504050565746832060200090000";
-
-const D: &str = "02070400112233445504050565746833060200050000";
-
-/// The counters of the first port, but `sent` and `shutdowns`.
-fn counted<A: Allocator>(rt: &impl Abort, agent: &Agent<A>) -> [u32; 7] {
-    assert!(rt; 0 < agent.ports());
-    let counters: &Counters = agent.counters(0);
-    assert_eq!(rt; counters.sent, 0);
-    assert_eq!(rt; counters.shutdowns, 0);
-    [
-        counters.received,
-        counters.discarded,
-        counters.errors,
-        counters.tlvs_discarded,
-        counters.unrecognized,
-        counters.ageouts,
-        counters.drops,
-    ]
+/// At each of these events the ports send this.
+fn expect_sent(rt: &impl Abort, agent: &mut Agent, events: &[(Event<'_>, &[(u8, Mark)])]) {
+    for (event, expected) in events {
+        assert_eq!(rt; step(rt, agent, *event).as_slice(), *expected);
+    }
 }
 
-/// The frames and ticks of an example, and the counters that they leave.
-fn expect_counted(
-    rt: &impl Abort,
-    alloc: Global,
-    max_neighbors: u8,
-    frames: &[&str],
-    expected: [u32; 7],
-) -> Result<(), Fail> {
-    let mut agent = open(rt, alloc, &["eth0"], max_neighbors)?;
-    for frame in frames {
-        if *frame == "tick" {
-            ticks(rt, &mut agent, 1);
-        } else {
-            hear_hex(rt, alloc, &mut agent, frame)?;
-        }
-    }
-    assert_eq!(rt; counted(rt, &agent), expected);
-    Ok(())
-}
+const SENT: &[(u8, Mark)] = &[(0, Mark::Ordinary)];
 
-#[test]
-fn receive_counters(rt: HostRuntime) -> Result<(), Fail> {
-    let overrunning = "02070400112233445504050565746830060200780a14616263";
-    let repeated = "02070400112233445504050565746830060200780207040011223344550000";
-    let capabilities =
-        "02070400112233445504050565746830060200780e0500040004000e04000400140e04001400040000";
-    for (max_neighbors, frames, expected) in [
-        (32, ["tick"].as_slice(), [0; 7]),
-        (32, &[A1, "tick"], [1, 0, 0, 0, 0, 1, 0]),
-        (32, &[Z, A, Z2], [3, 0, 0, 0, 0, 0, 0]),
-        (2, &[A, B, C, D, A], [5, 0, 0, 0, 0, 0, 2]),
-        (1, &[A1, "tick", B], [2, 0, 0, 0, 0, 1, 0]),
-        (32, &[overrunning], [1, 0, 1, 1, 0, 0, 0]),
-        (32, &[repeated], [1, 1, 1, 0, 0, 0, 0]),
-        (32, &[capabilities], [1, 0, 1, 2, 0, 0, 0]),
-    ] {
-        expect_counted(&rt, rt.alloc(), max_neighbors, frames, expected)?;
-    }
-    Ok(())
+/// A port has counted this.
+fn expect_counted(rt: &impl Abort, agent: &Agent, port: u8, expected: &Counters) {
+    assert_eq!(rt; counters(rt, agent, port), *expected);
 }
 
 /// What is no LLDP frame is not counted, nor heard.
@@ -87,50 +31,171 @@ fn no_lldp_frames(rt: HostRuntime) -> Result<(), Fail> {
         b"\x01\x80\xc2\x00\x00\x0e\x00\x11\x22\x33\x44\x55\x88\xcd",
         b"\x01\x80\xc2\x00\x00\x0f\x00\x11\x22\x33\x44\x55\x88\xcc",
     ] {
-        let event = Event::Frame { port: 0, octets };
-        assert!(rt; agent.allows(&event));
-        agent.step(event);
+        step(&rt, &mut agent, Event::Frame { port: 0, octets });
     }
-    assert_eq!(rt; counted(&rt, &agent), [0; 7]);
+    expect_counted(&rt, &agent, 0, &Counters::ZERO);
     hear(&rt, &mut agent, 0, &[])?;
-    assert_eq!(rt; counted(&rt, &agent), [1, 1, 1, 0, 0, 0, 0]);
+    let refused = Counters {
+        received: 1,
+        discarded: 1,
+        errors: 1,
+        ..Counters::ZERO
+    };
+    expect_counted(&rt, &agent, 0, &refused);
     Ok(())
 }
 
 /// Each port has a table and counters of its own; a second passes for all.
 #[test]
-fn ports_apart(rt: HostRuntime) -> Result<(), Fail> {
+fn ports_hear_apart(rt: HostRuntime) -> Result<(), Fail> {
     let mut agent = open(&rt, rt.alloc(), &["p1", "p2", "p3"], 1)?;
-    let c = hex::decode(rt.alloc(), C)?;
-    hear(&rt, &mut agent, 1, c.as_slice())?;
+    let neighbor = "02070400112233445504050565746832060200090000";
+    hear_hex(&rt, rt.alloc(), &mut agent, 1, neighbor)?;
     ticks(&rt, &mut agent, 2);
-    expect_lines(
-        &rt,
-        &agent,
-        Show::Neighbors,
-        &[
-            "lldp.p1.neighbors=0",
-            "lldp.p1.octets=0",
-            "lldp.p1.too-many=no",
-            "lldp.p2.neighbors=1",
-            "lldp.p2.octets=20",
-            "lldp.p2.too-many=no",
-            "lldp.p2.1.chassis.mac=00:11:22:33:44:55",
-            "lldp.p2.1.port.ifname=eth2",
-            "lldp.p2.1.ttl=9",
-            "lldp.p2.1.expires=7",
-            "lldp.p3.neighbors=0",
-            "lldp.p3.octets=0",
-            "lldp.p3.too-many=no",
-        ],
-    );
+    let lines = [
+        "lldp.p1.neighbors=0",
+        "lldp.p1.octets=0",
+        "lldp.p1.too-many=no",
+        "lldp.p2.neighbors=1",
+        "lldp.p2.octets=20",
+        "lldp.p2.too-many=no",
+        "lldp.p2.1.chassis.mac=00:11:22:33:44:55",
+        "lldp.p2.1.port.ifname=eth2",
+        "lldp.p2.1.ttl=9",
+        "lldp.p2.1.expires=7",
+        "lldp.p3.neighbors=0",
+        "lldp.p3.octets=0",
+        "lldp.p3.too-many=no",
+    ];
+    expect_lines(&rt, &agent, Show::Neighbors, &lines);
     ticks(&rt, &mut agent, 7);
-    assert!(rt; 2 < agent.ports());
-    assert_eq!(rt; agent.table(1).len(), 0);
-    assert_eq!(rt; agent.counters(1).ageouts, 1);
-    for port in [0, 2] {
-        assert_eq!(rt; agent.counters(port).received, 0);
-        assert_eq!(rt; agent.counters(port).ageouts, 0);
+    assert_eq!(rt; held(&rt, &agent, 1), 0);
+    let gone = Counters {
+        received: 1,
+        ageouts: 1,
+        ..Counters::ZERO
+    };
+    expect_counted(&rt, &agent, 0, &Counters::ZERO);
+    expect_counted(&rt, &agent, 1, &gone);
+    expect_counted(&rt, &agent, 2, &Counters::ZERO);
+    Ok(())
+}
+
+/// Each port has a credit of its own, here of one frame a second.
+#[test]
+fn ports_send_apart(rt: HostRuntime) -> Result<(), Fail> {
+    let options = Options {
+        credit_max: 1,
+        ..sending(&["p1", "p2"])
+    };
+    let mut agent = open_with(&rt, rt.alloc(), &options)?;
+    let octets = &frame_of(b'0', 9);
+    let both: &[(u8, Mark)] = &[(0, Mark::Ordinary), (1, Mark::Ordinary)];
+    let events = [
+        (Event::Tick, both),
+        (Event::Frame { port: 0, octets }, &[]),
+        (Event::Tick, SENT),
+        (Event::Set(Setting::Interval(1)), &[(1, Mark::Ordinary)]),
+        (Event::Tick, both),
+    ];
+    expect_sent(&rt, &mut agent, &events);
+    assert_eq!(rt; held(&rt, &agent, 0), 1);
+    assert_eq!(rt; held(&rt, &agent, 1), 0);
+    Ok(())
+}
+
+/// A new neighbor sends at once, and its refresh nothing. A port that is down hears nothing, keeps
+/// its neighbors and sends nothing.
+#[test]
+fn refreshed_and_down(rt: HostRuntime) -> Result<(), Fail> {
+    let mut agent = open_with(&rt, rt.alloc(), &sending(&["eth0"]))?;
+    let octets = &frame_of(b'0', 9);
+    let frame = Event::Frame { port: 0, octets };
+    let down = Event::Link { port: 0, up: false };
+    let events = [
+        (Event::Tick, SENT),
+        (frame, SENT),
+        (frame, &[]),
+        (down, &[]),
+        (down, &[]),
+        (frame, &[]),
+        (Event::Set(Setting::Update), &[]),
+        (Event::Tick, &[]),
+    ];
+    expect_sent(&rt, &mut agent, &events);
+    assert!(rt; !is_up(&rt, &agent, 0));
+    assert_eq!(rt; held(&rt, &agent, 0), 1);
+    assert_eq!(rt; counters(&rt, &agent, 0).received, 2);
+    let up = Event::Link { port: 0, up: true };
+    expect_sent(&rt, &mut agent, &[(up, &[]), (Event::Tick, SENT)]);
+    assert!(rt; is_up(&rt, &agent, 0));
+    Ok(())
+}
+
+/// A status that takes receiving away empties the table; one that leaves it doesn't.
+#[test]
+fn statuses(rt: HostRuntime) -> Result<(), Fail> {
+    let mut agent = open_with(&rt, rt.alloc(), &sending(&["eth0"]))?;
+    let octets = &frame_of(b'0', 9);
+    for (given, neighbors) in [
+        (Status::RxOnly, 1),
+        (Status::RxAndTx, 1),
+        (Status::TxOnly, 0),
+        (Status::Disabled, 0),
+    ] {
+        let setting = Event::Set(Setting::Status {
+            port: 0,
+            status: given,
+        });
+        let events = [
+            (Event::Frame { port: 0, octets }, [].as_slice()),
+            (setting, &[]),
+        ];
+        expect_sent(&rt, &mut agent, &events);
+        assert_eq!(rt; status(&rt, &agent, 0), given);
+        assert_eq!(rt; held(&rt, &agent, 0), neighbors);
     }
+    Ok(())
+}
+
+fn allows(agent: &Agent, event: &Event<'_>) -> bool {
+    agent.allows(event)
+}
+
+/// What is allowed, at the ends of each range.
+#[test]
+fn allowed(rt: HostRuntime) -> Result<(), Fail> {
+    let mut agent = open_with(&rt, rt.alloc(), &sending(&["eth0"]))?;
+    let status = Status::RxOnly;
+    let text = [b'a'; 256];
+    for (setting, expected) in [
+        (Setting::Hostname(&text[..255]), true),
+        (Setting::Hostname(&text), false),
+        (Setting::Description(b"\x1f"), false),
+        (Setting::Description(b""), true),
+        (Setting::Interval(0), false),
+        (Setting::Interval(3600), true),
+        (Setting::Interval(3601), false),
+        (Setting::Hold(0), false),
+        (Setting::Hold(100), true),
+        (Setting::Hold(101), false),
+        (Setting::Limit(0), false),
+        (Setting::Limit(2), true),
+        (Setting::Limit(3), false),
+        (Setting::Status { port: 0, status }, true),
+        (Setting::Status { port: 1, status }, false),
+    ] {
+        assert_eq!(rt; allows(&agent, &Event::Set(setting)), expected);
+    }
+    let octets = &frame_of(b'0', 9);
+    for (port, exists) in [(0, true), (1, false)] {
+        assert_eq!(rt; allows(&agent, &Event::Link { port, up: true }), exists);
+        assert_eq!(rt; allows(&agent, &Event::Frame { port, octets }), exists);
+    }
+    for name in [b'0', b'1'] {
+        let octets = &frame_of(name, 9);
+        step(&rt, &mut agent, Event::Frame { port: 0, octets });
+    }
+    assert!(rt; !allows(&agent, &Event::Set(Setting::Limit(1))));
     Ok(())
 }

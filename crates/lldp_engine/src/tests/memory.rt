@@ -1,7 +1,10 @@
 //! Memory is taken at opening alone, and what is refused there is told.
 use super::whole_shows::NAMES;
-use super::{open, options};
-use crate::{Agent, Event, Mark, Marks, OpenFault, Options, Setting, Show, Status};
+use super::{
+    count_lines, counters, frame_of, held, is_up, open, open_with, read, sending, shown, status,
+    step,
+};
+use crate::{Agent, Event, Frame, Mark, OpenFault, Setting, Show, Status};
 use linked_list_allocator::LocalHeap;
 use lldp_table::Table;
 use std::alloc::{Allocator, Global};
@@ -38,10 +41,8 @@ fn expect_refused(
 ) -> Result<(), Fail> {
     let scarce = LocalHeap::new(alloc, size)?;
     assert_eq!(rt; scarce.used(), 0);
-    assert_eq!(rt;
-        open(rt, &scarce, ports, limit).err(),
-        Some(OpenFault::Memory)
-    );
+    let refused = open(rt, &scarce, ports, limit).err();
+    assert_eq!(rt; refused, Some(OpenFault::Memory));
     assert_eq!(rt; scarce.used(), 0);
     Ok(())
 }
@@ -84,158 +85,118 @@ fn other_faults_first(rt: HostRuntime) -> Result<(), Fail> {
     Ok(())
 }
 
-/// An LLDP frame of a neighbor whose name ends in this octet.
-fn frame_of(name: u8, ttl: u8) -> [u8; 39] {
-    let mut octets =
-        *b"\x01\x80\xc2\x00\x00\x0e\x00\x11\x22\x33\x44\x55\x88\xcc\x02\x07\x04\x00\x11\x22\x33\x44\x55\x04\x05\x05eth0\x06\x02\x00\x09\x0a\x03sw2";
-    octets[29] = name;
-    octets[33] = ttl;
-    octets
+/// The place of the name of a port.
+fn place<A: Allocator>(rt: &impl Abort, agent: &Agent<A>, port: u8) -> Option<u8> {
+    assert!(rt; port < agent.ports());
+    agent.find_port(agent.port_name(port))
 }
 
-/// What two agents have on a port is the same.
-fn expect_same_port<A: Allocator, B: Allocator>(
-    rt: &impl Abort,
-    one: &Agent<A>,
-    other: &Agent<B>,
-    port: u8,
-) {
-    assert!(rt; port < one.ports() && port < other.ports());
-    assert_eq!(rt; one.port_name(port), other.port_name(port));
-    assert_eq!(rt; one.find_port(other.port_name(port)), Some(port));
-    assert_eq!(rt; one.status(port), other.status(port));
-    assert_eq!(rt; one.is_up(port), other.is_up(port));
-    assert_eq!(rt; one.counters(port), other.counters(port));
-    for mark in [Mark::Ordinary, Mark::Shutdown] {
-        assert_eq!(rt;
-            one.frame(port, mark).as_slice(),
-            other.frame(port, mark).as_slice()
-        );
-    }
-    let (held, again) = (one.table(port), other.table(port));
-    assert_eq!(rt; held.lefts().as_slice(), again.lefts().as_slice());
-    assert_eq!(rt; (held.len(), held.limit()), (again.len(), again.limit()));
-    assert_eq!(rt; held.capacity(), again.capacity());
-    assert_eq!(rt; held.octets(), again.octets());
-    assert_eq!(rt; held.too_many(), again.too_many());
-    for i in 0..held.len() {
-        assert!(rt; i < again.len());
-        let (entry, entry_again) = (held.entry(i), again.entry(i));
-        assert_eq!(rt; entry.msap(), entry_again.msap());
-        assert_eq!(rt; entry.ttl(), entry_again.ttl());
-        assert_eq!(rt; entry.left(), entry_again.left());
-        assert_eq!(rt; entry.octets(), entry_again.octets());
-        assert_eq!(rt; entry.kept().next(), entry_again.kept().next());
-    }
+fn frame<A: Allocator>(rt: &impl Abort, agent: &Agent<A>, port: u8, mark: Mark) -> Frame {
+    assert!(rt; port < agent.ports() && mark != Mark::Quiet);
+    agent.frame(port, mark)
 }
 
-/// What two agents show is the same.
+/// A show of two agents has the same lines.
 fn expect_same_lines<A: Allocator, B: Allocator>(
     rt: &impl Abort,
     one: &Agent<A>,
     other: &Agent<B>,
     show: Show,
 ) {
-    let lines = super::count_lines(one, show);
-    assert!(rt; 0 < lines && lines < 100);
-    assert_eq!(rt; super::count_lines(other, show), lines);
+    let lines = count_lines(one, show);
+    assert!(rt; 0 < lines);
+    assert_eq!(rt; count_lines(other, show), lines);
     for i in 0..lines {
-        let (Some(line), Some(again)) = (one.show_line(&show, i), other.show_line(&show, i)) else {
+        let (Some(line), Some(again)) = (shown(one, show, i), shown(other, show, i)) else {
             panic!(rt; "no line {i}");
         };
         assert_eq!(rt; line.as_slice(), again.as_slice());
     }
 }
 
+/// What is read of a port of two agents is the same.
+fn expect_same_port<A: Allocator, B: Allocator>(
+    rt: &impl Abort,
+    one: &Agent<A>,
+    other: &Agent<B>,
+    port: u8,
+) {
+    assert_eq!(rt; place(rt, one, port), place(rt, other, port));
+    assert_eq!(rt; status(rt, one, port), status(rt, other, port));
+    assert_eq!(rt; is_up(rt, one, port), is_up(rt, other, port));
+    assert_eq!(rt; held(rt, one, port), held(rt, other, port));
+    assert_eq!(rt; counters(rt, one, port), counters(rt, other, port));
+    for mark in [Mark::Ordinary, Mark::Shutdown] {
+        let again = frame(rt, other, port, mark);
+        assert_eq!(rt; frame(rt, one, port, mark).as_slice(), again.as_slice());
+    }
+}
+
+/// What is read of two agents is the same.
 fn expect_same<A: Allocator, B: Allocator>(rt: &impl Abort, one: &Agent<A>, other: &Agent<B>) {
-    assert_eq!(rt; one.ports(), other.ports());
-    for port in 0..one.ports() {
+    for port in [0, 1] {
         expect_same_port(rt, one, other, port);
     }
-    for (line, show) in [
-        (b"show neighbors".as_slice(), Show::Neighbors),
-        (b"show statistics", Show::Statistics),
-        (b"show chassis", Show::Chassis),
-        (b"show configuration", Show::Configuration),
+    for show in [
+        Show::Neighbors,
+        Show::Statistics,
+        Show::Chassis,
+        Show::Configuration,
     ] {
-        assert_eq!(rt; one.read_command(line), other.read_command(line));
         expect_same_lines(rt, one, other, show);
     }
     for line in [
-        b"configure ports eth1 lldp status disabled".as_slice(),
+        b"show neighbors".as_slice(),
+        b"configure ports eth1 lldp status disabled",
         b"configure system hostname \"a b\"",
         b"configure lldp max-neighbors 1",
     ] {
-        assert_eq!(rt; one.read_command(line), other.read_command(line));
+        assert_eq!(rt; read(one, line), read(other, line));
     }
 }
 
-/// What happens to an agent.
-#[derive(Clone, Copy)]
-enum Happening {
-    /// A frame comes of the neighbor whose name ends in this octet, with this TTL.
-    Heard(u8, u8),
-    Other(Event<'static>),
+/// An event, and all that is read after it, is the same for two agents.
+fn expect_same_step<A: Allocator, B: Allocator>(
+    rt: &impl Abort,
+    one: &mut Agent<A>,
+    other: &mut Agent<B>,
+    event: Event<'_>,
+) {
+    let again = step(rt, other, event);
+    assert_eq!(rt; step(rt, one, event).as_slice(), again.as_slice());
+    expect_same(rt, one, other);
 }
 
-fn step<A: Allocator>(rt: &impl Abort, agent: &mut Agent<A>, event: Event<'_>) -> Marks {
-    assert!(rt; agent.allows(&event));
-    agent.step(event)
-}
-
-fn take<A: Allocator>(rt: &impl Abort, agent: &mut Agent<A>, happening: &Happening) -> Marks {
-    match happening {
-        Happening::Heard(name, ttl) => {
-            let octets = frame_of(*name, *ttl);
-            let event = Event::Frame {
-                port: 0,
-                octets: &octets,
-            };
-            step(rt, agent, event)
-        }
-        Happening::Other(event) => step(rt, agent, *event),
-    }
+fn is_full(heap: &LocalHeap) -> bool {
+    Vec::<u8, _>::with_capacity(heap, 1).is_err()
 }
 
 /// Each event, and all that is read of the agent after it, is as with memory where a heap is full
 /// after the opening; and where there is more, none of it is taken.
-fn expect_none_taken(rt: &impl Abort, alloc: Global, past: &[Happening]) -> Result<(), Fail> {
-    let options = Options {
-        receive_only: false,
-        ..options(&["eth0", "eth1"], 2)
-    };
-    assert!(rt; options.in_range());
-    let size = agent_size(rt, alloc, options.ports, 2)?;
+fn expect_none_taken(rt: &impl Abort, alloc: Global, past: &[Event<'_>]) -> Result<(), Fail> {
+    let ports = ["eth0", "eth1"];
+    let size = agent_size(rt, alloc, &ports, 2)?;
     let full = LocalHeap::new(alloc, size)?;
     let ample = LocalHeap::new(alloc, AMPLE)?;
-    let mut agent = Agent::open(&full, &options).ok().ok_or("opening")?;
-    let mut other = Agent::open(&ample, &options).ok().ok_or("opening")?;
-    assert!(rt; Vec::<u8, _>::with_capacity(&full, 1).is_err());
-    for happening in past {
-        let marks = take(rt, &mut agent, happening);
-        let again = take(rt, &mut other, happening);
-        assert_eq!(rt; marks.as_slice(), again.as_slice());
-        expect_same(rt, &agent, &other);
+    let mut agent = open_with(rt, &full, &sending(&ports))?;
+    let mut other = open_with(rt, &ample, &sending(&ports))?;
+    assert!(rt; is_full(&full));
+    for event in past {
+        expect_same_step(rt, &mut agent, &mut other, *event);
         assert_eq!(rt; full.used(), size);
         assert_eq!(rt; ample.used(), size);
     }
     Ok(())
 }
 
-const TICK: Happening = Happening::Other(Event::Tick);
+const UPDATE: Event<'static> = Event::Set(Setting::Update);
 
-const UPDATE: Happening = Happening::Other(Event::Set(Setting::Update));
-
-fn set(setting: Setting<'static>) -> Happening {
-    Happening::Other(Event::Set(setting))
+fn link<'a>(up: bool) -> Event<'a> {
+    Event::Link { port: 0, up }
 }
 
-fn link(up: bool) -> Happening {
-    Happening::Other(Event::Link { port: 0, up })
-}
-
-fn status(status: Status) -> Happening {
-    set(Setting::Status { port: 0, status })
+fn new_status<'a>(status: Status) -> Event<'a> {
+    Event::Set(Setting::Status { port: 0, status })
 }
 
 /// Changes beyond the credit, a stop and a start, every setting, and a link that goes down and
@@ -243,67 +204,73 @@ fn status(status: Status) -> Happening {
 #[test]
 fn none_after_opening(rt: HostRuntime) -> Result<(), Fail> {
     let past = [
-        TICK,
+        Event::Tick,
         UPDATE,
         UPDATE,
         UPDATE,
         UPDATE,
         UPDATE,
         UPDATE,
-        TICK,
-        TICK,
-        status(Status::Disabled),
-        status(Status::RxAndTx),
-        TICK,
-        TICK,
+        Event::Tick,
+        Event::Tick,
+        new_status(Status::Disabled),
+        new_status(Status::RxAndTx),
+        Event::Tick,
+        Event::Tick,
         UPDATE,
-        status(Status::TxOnly),
-        status(Status::RxOnly),
-        status(Status::RxAndTx),
-        set(Setting::Hostname(b"sw9")),
-        set(Setting::Description(b"a b")),
-        set(Setting::Interval(3600)),
-        set(Setting::Hold(100)),
-        set(Setting::Limit(1)),
-        set(Setting::Limit(2)),
+        new_status(Status::TxOnly),
+        new_status(Status::RxOnly),
+        new_status(Status::RxAndTx),
+        Event::Set(Setting::Hostname(b"sw9")),
+        Event::Set(Setting::Description(b"a b")),
+        Event::Set(Setting::Interval(3600)),
+        Event::Set(Setting::Hold(100)),
+        Event::Set(Setting::Limit(1)),
+        Event::Set(Setting::Limit(2)),
         link(false),
-        TICK,
+        Event::Tick,
         link(true),
     ];
     expect_none_taken(&rt, rt.alloc(), &past)
 }
 
+fn heard(octets: &[u8]) -> Event<'_> {
+    Event::Frame { port: 0, octets }
+}
+
 /// Frames that are stored, refreshed, dropped and withdrawn, and neighbors that age out.
 #[test]
 fn none_by_frames(rt: HostRuntime) -> Result<(), Fail> {
-    let (a, b, c) = (
-        Happening::Heard(b'a', 9),
-        Happening::Heard(b'b', 2),
-        Happening::Heard(b'c', 9),
-    );
-    let (short, shutdown) = (Happening::Heard(b'a', 1), Happening::Heard(b'b', 0));
+    let frames = [
+        frame_of(b'a', 9),
+        frame_of(b'a', 1),
+        frame_of(b'b', 2),
+        frame_of(b'b', 0),
+        frame_of(b'c', 9),
+    ];
+    let [a, short, b, shutdown, c] = &frames;
     let past = [
-        a,
-        a,
-        b,
-        c,
-        TICK,
-        a,
-        TICK,
-        TICK,
-        b,
-        shutdown,
-        b,
-        short,
-        TICK,
-        c,
-        status(Status::TxOnly),
-        a,
-        status(Status::RxOnly),
-        a,
+        heard(a),
+        heard(a),
+        heard(b),
+        heard(c),
+        Event::Tick,
+        heard(a),
+        Event::Tick,
+        Event::Tick,
+        heard(b),
+        heard(shutdown),
+        heard(b),
+        heard(short),
+        Event::Tick,
+        heard(c),
+        new_status(Status::TxOnly),
+        heard(a),
+        new_status(Status::RxOnly),
+        heard(a),
         link(false),
-        b,
-        TICK,
+        heard(b),
+        Event::Tick,
     ];
     expect_none_taken(&rt, rt.alloc(), &past)
 }

@@ -1,5 +1,5 @@
 //! Every show at 64 ports, with tables of up to 128 neighbors, line by line against `show_line`.
-use super::{hear, open};
+use super::{hear, open, shown};
 use crate::{Agent, LineSink, Show};
 use std::process::Abort;
 use std::test::Fail;
@@ -51,7 +51,7 @@ impl LineSink for Compared<'_> {
 
     fn line(&mut self, line: &[u8]) {
         if self.lines.checked_rem(self.step) == Some(0) {
-            let again = self.agent.show_line(&self.show, self.lines);
+            let again = shown(self.agent, self.show, self.lines);
             if !again.is_some_and(|again| again.as_slice() == line) {
                 self.different = self.different.saturating_add(1);
             }
@@ -76,7 +76,7 @@ fn expect_same(rt: &impl Abort, agent: &Agent, show: Show, step: u32, lines: u32
     agent.show_lines(&show, &mut compared);
     assert_eq!(rt; compared.different, 0);
     assert_eq!(rt; compared.lines, lines);
-    assert!(rt; agent.show_line(&show, lines).is_none());
+    assert!(rt; shown(agent, show, lines).is_none());
 }
 
 /// All shows. Of the neighbors, 642 lines a port, each 11th line is compared, since `show_line`
@@ -85,31 +85,28 @@ fn expect_same(rt: &impl Abort, agent: &Agent, show: Show, step: u32, lines: u32
 fn every_table_full(rt: HostRuntime) -> Result<(), Fail> {
     let mut agent = open(&rt, rt.alloc(), &NAMES, 128)?;
     hear_all(&rt, &mut agent, 128)?;
-    expect_same(
-        &rt,
-        &agent,
-        Show::Neighbors,
-        11,
-        64 * (3 + 128 * 4 + 43 + 2 * 42),
-    );
-    expect_same(&rt, &agent, Show::Statistics, 1, 64 * 9);
-    expect_same(&rt, &agent, Show::Chassis, 1, 4);
-    expect_same(&rt, &agent, Show::Configuration, 1, 8 + 64);
+    let neighbor_lines = 64 * (3 + 128 * 4 + 43 + 2 * 42);
+    for (show, step, lines) in [
+        (Show::Neighbors, 11, neighbor_lines),
+        (Show::Statistics, 1, 64 * 9),
+        (Show::Chassis, 1, 4),
+        (Show::Configuration, 1, 8 + 64),
+    ] {
+        expect_same(&rt, &agent, show, step, lines);
+    }
     Ok(())
 }
 
+/// Every line, of two neighbors on each port and of one full table.
 #[test]
-fn two_neighbors_a_port(rt: HostRuntime) -> Result<(), Fail> {
-    let mut agent = open(&rt, rt.alloc(), &NAMES, 2)?;
-    hear_all(&rt, &mut agent, 2)?;
-    expect_same(&rt, &agent, Show::Neighbors, 1, 64 * (3 + 2 * 4 + 1));
-    Ok(())
-}
-
-#[test]
-fn one_full_table(rt: HostRuntime) -> Result<(), Fail> {
-    let mut agent = open(&rt, rt.alloc(), &NAMES[..1], 128)?;
-    hear_all(&rt, &mut agent, 128)?;
-    expect_same(&rt, &agent, Show::Neighbors, 1, 3 + 128 * 4 + 43 + 2 * 42);
+fn every_line(rt: HostRuntime) -> Result<(), Fail> {
+    for (ports, neighbors, lines) in [
+        (64, 2, 64 * (3 + 2 * 4 + 1)),
+        (1, 128, 3 + 128 * 4 + 43 + 2 * 42),
+    ] {
+        let mut agent = open(&rt, rt.alloc(), &NAMES[..ports], neighbors)?;
+        hear_all(&rt, &mut agent, neighbors)?;
+        expect_same(&rt, &agent, Show::Neighbors, 1, lines);
+    }
     Ok(())
 }

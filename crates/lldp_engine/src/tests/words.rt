@@ -1,29 +1,34 @@
 //! The words of lines, and the numbers among them.
 use crate::command::number::number;
 use crate::{CommandFault, split};
+use std::process::Abort;
 use std::test::Fail;
 
-#[test]
-fn words(rt: HostRuntime) -> Result<(), Fail> {
-    let mut words = split(b" \tconfigure  \"a b\"\t\"\" x\xff")?;
-    assert_eq!(rt; words.next(), Some(b"configure".as_slice()));
-    assert_eq!(rt; words.next(), Some(b"a b".as_slice()));
-    assert_eq!(rt; words.next(), Some(b"".as_slice()));
-    assert_eq!(rt; words.next(), Some(b"x\xff".as_slice()));
+/// A line has these words.
+fn expect_words(rt: &impl Abort, line: &[u8], expected: &[&[u8]]) -> Result<(), CommandFault> {
+    let mut words = split(line)?;
+    for word in expected {
+        assert_eq!(rt; words.next(), Some(*word));
+    }
     assert_eq!(rt; words.next(), None);
     assert_eq!(rt; words.next(), None);
-    assert_eq!(rt; split(b"")?.next(), None);
-    assert_eq!(rt; split(b" \t ")?.next(), None);
-    assert_eq!(rt; split(b"\"tick\"")?.next(), Some(b"tick".as_slice()));
     Ok(())
 }
 
-fn splits(line: &[u8]) -> bool {
-    split(line).is_ok()
+#[test]
+fn words(rt: HostRuntime) -> Result<(), Fail> {
+    let three = [b"a".as_slice(), b"b", b"\tc "];
+    let four = [b"configure".as_slice(), b"a b", b"", b"x\xff"];
+    expect_words(&rt, b"", &[])?;
+    expect_words(&rt, b" \t ", &[])?;
+    expect_words(&rt, b"\"tick\"", &[b"tick".as_slice()])?;
+    expect_words(&rt, b"\"a\" \"b\"\t\"\tc \"", &three)?;
+    expect_words(&rt, b" \tconfigure  \"a b\"\t\"\" x\xff", &four)?;
+    Ok(())
 }
 
 #[test]
-fn quotes(rt: HostRuntime) {
+fn bad_quotes(rt: HostRuntime) {
     for line in [
         b"update\"".as_slice(),
         b"\"",
@@ -34,36 +39,31 @@ fn quotes(rt: HostRuntime) {
         b"\"a\\\"\"",
         b"a b \"c",
     ] {
-        assert!(rt; !splits(line));
+        assert!(rt; split(line).is_err());
     }
-    assert!(rt; splits(b"\"a\" \"b\"\t\"\tc \""));
 }
 
 #[test]
 fn numbers(rt: HostRuntime) {
-    assert_eq!(rt; number(b"65535", 1, 65535), Ok(65535));
-    assert_eq!(rt; number(b"0000000000000000000000100", 1, 100), Ok(100));
-    assert_eq!(rt; number(b"0", 0, 0), Ok(0));
-    for word in [
-        b"0".as_slice(),
-        b"000",
-        b"101",
-        b"65536",
-        b"65637",
-        b"99999999999999999999",
+    for (word, least, greatest, expected) in [
+        (b"65535".as_slice(), 1, 65535, Ok(65535)),
+        (b"0000000000000000000000100", 1, 100, Ok(100)),
+        (b"0", 0, 0, Ok(0)),
+        (b"0", 1, 100, Err(CommandFault::Range)),
+        (b"000", 1, 100, Err(CommandFault::Range)),
+        (b"101", 1, 100, Err(CommandFault::Range)),
+        (b"65536", 1, 100, Err(CommandFault::Range)),
+        (b"65637", 1, 100, Err(CommandFault::Range)),
+        (b"99999999999999999999", 1, 100, Err(CommandFault::Range)),
+        (b"", 1, 100, Err(CommandFault::Number)),
+        (b"+5", 1, 100, Err(CommandFault::Number)),
+        (b"-5", 1, 100, Err(CommandFault::Number)),
+        (b"5 ", 1, 100, Err(CommandFault::Number)),
+        (b"0x5", 1, 100, Err(CommandFault::Number)),
+        (b"5.", 1, 100, Err(CommandFault::Number)),
+        (b"/", 1, 100, Err(CommandFault::Number)),
+        (b":", 1, 100, Err(CommandFault::Number)),
     ] {
-        assert_eq!(rt; number(word, 1, 100), Err(CommandFault::Range));
-    }
-    for word in [
-        b"".as_slice(),
-        b"+5",
-        b"-5",
-        b"5 ",
-        b"0x5",
-        b"5.",
-        b"/",
-        b":",
-    ] {
-        assert_eq!(rt; number(word, 1, 100), Err(CommandFault::Number));
+        assert_eq!(rt; number(word, least, greatest), expected);
     }
 }
