@@ -119,6 +119,17 @@ fn hear_hex<A: Allocator>(
     hear(rt, agent, port, pdu.as_slice())
 }
 
+/// The name of a port.
+fn port_name<'a, A: Allocator>(rt: &impl Abort, agent: &'a Agent<A>, port: u8) -> &'a [u8] {
+    assert!(rt; port < agent.ports());
+    agent.port_name(port)
+}
+
+/// The place of the port of that name.
+fn find_port<A: Allocator>(agent: &Agent<A>, name: &[u8]) -> Option<u8> {
+    agent.find_port(name)
+}
+
 /// The status of a port.
 fn status<A: Allocator>(rt: &impl Abort, agent: &Agent<A>, port: u8) -> Status {
     assert!(rt; port < agent.ports());

@@ -195,7 +195,11 @@ fn long_texts(rt: HostRuntime) -> Result<(), Fail> {
         b"configure system description ",
     ] {
         let line = with_letters(start, 255)?;
-        assert!(rt; read(&agent, line.as_slice()).is_ok());
+        let Ok(Command::Set(Hostname(text) | Description(text))) = read(&agent, line.as_slice())
+        else {
+            panic!(rt; "refused");
+        };
+        assert_eq!(rt; text.len(), 255);
         let line = with_letters(start, 256)?;
         expect_fault(&rt, &agent, CommandFault::Text, &[line.as_slice()]);
     }

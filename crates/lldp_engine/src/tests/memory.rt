@@ -1,8 +1,8 @@
 //! Memory is taken at opening alone, and what is refused there is told.
 use super::whole_shows::NAMES;
 use super::{
-    count_lines, counters, frame_of, held, is_up, open, open_with, read, sending, shown, status,
-    step,
+    count_lines, counters, find_port, frame_of, held, is_up, open, open_with, port_name, read,
+    sending, shown, status, step,
 };
 use crate::{Agent, Event, Frame, Mark, OpenFault, Setting, Show, Status};
 use linked_list_allocator::LocalHeap;
@@ -85,12 +85,6 @@ fn other_faults_first(rt: HostRuntime) -> Result<(), Fail> {
     Ok(())
 }
 
-/// The place of the name of a port.
-fn place<A: Allocator>(rt: &impl Abort, agent: &Agent<A>, port: u8) -> Option<u8> {
-    assert!(rt; port < agent.ports());
-    agent.find_port(agent.port_name(port))
-}
-
 fn frame<A: Allocator>(rt: &impl Abort, agent: &Agent<A>, port: u8, mark: Mark) -> Frame {
     assert!(rt; port < agent.ports() && mark != Mark::Quiet);
     agent.frame(port, mark)
@@ -114,6 +108,19 @@ fn expect_same_lines<A: Allocator, B: Allocator>(
     }
 }
 
+/// The frames of a port of two agents are the same.
+fn expect_same_frames<A: Allocator, B: Allocator>(
+    rt: &impl Abort,
+    one: &Agent<A>,
+    other: &Agent<B>,
+    port: u8,
+) {
+    for mark in [Mark::Ordinary, Mark::Shutdown] {
+        let again = frame(rt, other, port, mark);
+        assert_eq!(rt; frame(rt, one, port, mark).as_slice(), again.as_slice());
+    }
+}
+
 /// What is read of a port of two agents is the same.
 fn expect_same_port<A: Allocator, B: Allocator>(
     rt: &impl Abort,
@@ -121,21 +128,19 @@ fn expect_same_port<A: Allocator, B: Allocator>(
     other: &Agent<B>,
     port: u8,
 ) {
-    assert_eq!(rt; place(rt, one, port), place(rt, other, port));
+    assert_eq!(rt; port_name(rt, one, port), port_name(rt, other, port));
+    assert_eq!(rt; find_port(one, port_name(rt, other, port)), Some(port));
     assert_eq!(rt; status(rt, one, port), status(rt, other, port));
     assert_eq!(rt; is_up(rt, one, port), is_up(rt, other, port));
     assert_eq!(rt; held(rt, one, port), held(rt, other, port));
     assert_eq!(rt; counters(rt, one, port), counters(rt, other, port));
-    for mark in [Mark::Ordinary, Mark::Shutdown] {
-        let again = frame(rt, other, port, mark);
-        assert_eq!(rt; frame(rt, one, port, mark).as_slice(), again.as_slice());
-    }
 }
 
 /// What is read of two agents is the same.
 fn expect_same<A: Allocator, B: Allocator>(rt: &impl Abort, one: &Agent<A>, other: &Agent<B>) {
     for port in [0, 1] {
         expect_same_port(rt, one, other, port);
+        expect_same_frames(rt, one, other, port);
     }
     for show in [
         Show::Neighbors,

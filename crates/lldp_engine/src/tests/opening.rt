@@ -1,5 +1,7 @@
 //! Opening, and what is read of an agent.
-use super::{counters, held, is_up, open, open_with, options, sending, status};
+use super::{
+    counters, find_port, held, is_up, open, open_with, options, port_name, sending, status,
+};
 use crate::{Counters, OpenFault, Options, Status};
 use std::test::Fail;
 
@@ -67,22 +69,19 @@ fn ranges(rt: HostRuntime) {
 #[test]
 fn readers(rt: HostRuntime) -> Result<(), Fail> {
     let agent = open(&rt, rt.alloc(), &["eth0", "br0/1"], 3)?;
-    assert_eq!(rt; agent.ports(), 2);
-    assert_eq!(rt; agent.port_name(0), b"eth0".as_slice());
-    assert_eq!(rt; agent.port_name(1), b"br0/1".as_slice());
-    for (name, place) in [
-        (b"eth0".as_slice(), Some(0)),
-        (b"br0/1", Some(1)),
-        (b"eth", None),
-        (b"", None),
-    ] {
-        assert_eq!(rt; agent.find_port(name), place);
+    for (port, name) in [(0, b"eth0".as_slice()), (1, b"br0/1")] {
+        assert_eq!(rt; port_name(&rt, &agent, port), name);
+        assert_eq!(rt; find_port(&agent, name), Some(port));
     }
-    assert_eq!(rt; agent.table(1).limit(), 3);
+    for name in [b"eth".as_slice(), b"", b"eth00"] {
+        assert_eq!(rt; find_port(&agent, name), None);
+    }
     assert_eq!(rt; held(&rt, &agent, 1), 0);
     assert_eq!(rt; counters(&rt, &agent, 1), Counters::ZERO);
     assert_eq!(rt; status(&rt, &agent, 1), Status::RxOnly);
     assert!(rt; is_up(&rt, &agent, 1));
+    assert_eq!(rt; agent.ports(), 2);
+    assert_eq!(rt; agent.table(1).limit(), 3);
     let agent = open_with(&rt, rt.alloc(), &sending(&["eth0"]))?;
     assert_eq!(rt; status(&rt, &agent, 0), Status::RxAndTx);
     Ok(())
