@@ -172,5 +172,5 @@ module _ (capacity : ℕ) (slots : List Stored) (left left' : ℕ → ℕ) (orde
 
   pub laid_ticked : IsLaidOut capacity slots left order used limit too_many → IsPermutation order order' → used' ≤ used → IsLaidOut capacity slots left' order' used' limit timer
   laid_ticked h p f =
-      laid_out capacity slots left' order' used' limit timer (after_tick (contents_of capacity slots left order used limit too_many)) (IsOrder-moved (length slots) order order' p h.indices)
+      laid_out (IsOrder-moved (length slots) order order' p h.indices)
       h.written (omega (arith, f, h.fits)) (omega (arith, f, h.held)) after_ticked (sound_ticked (contents_of capacity slots left order used limit too_many) h.sound)

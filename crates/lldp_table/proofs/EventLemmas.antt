@@ -20,10 +20,7 @@ use Rattle.lldp_table.specs.declared.learned.Learned.TheVariants.{New, Refreshed
 
 live_after-more : (n : ℕ) (event : TableEvent) → live_after (suc n) event ≡ option_and_then aged (live_after n event)
 live_after-more n (learned name ttl octets answer) = grind (arith, nat_tests)
-live_after-more n (forgot name) = refl
-live_after-more n purged = refl
-live_after-more n ticked = refl
-live_after-more n (limit_set limit) = refl
+live_after-more n _ = refl
 
 after-more : (n : ℕ) (last : Option TableEvent) → option_and_then (live_after (suc n)) last ≡ option_and_then aged (option_and_then (live_after n) last)
 after-more n None = refl
@@ -48,13 +45,9 @@ find_passes test [] event h = cc
 find_passes test (e ∷ past) event h = elim (cases_Bool (test e)) [ inl t ↦ grind arith | inr f ↦ find_passes test past event (grind arith) ]
 
 named_after : (name : MsapId) (n : ℕ) (event : TableEvent) (x : Neighbor) → decides_on name event ≡ true → live_after n event ≡ Some x → x.msap ≡ name
-named_after name n (learned other ttl octets New) x d h = sym (ap (λ (y : Neighbor). y.msap) (cond_some (nat_lt n ttl) _ x h).1) ∙ same_msap-true other name d
-named_after name n (learned other ttl octets Refreshed) x d h = sym (ap (λ (y : Neighbor). y.msap) (cond_some (nat_lt n ttl) _ x h).1) ∙ same_msap-true other name d
 named_after name n (learned other ttl octets Dropped) x d h = cc
-named_after name n (forgot other) x d h = cc
-named_after name n purged x d h = cc
-named_after name n ticked x d h = cc
-named_after name n (limit_set limit) x d h = cc
+named_after name n (learned other ttl octets answer) x d h = sym (ap (λ (y : Neighbor). y.msap) (cond_some (nat_lt n ttl) _ x h).1) ∙ same_msap-true other name d
+named_after name n _ x d h = cc
 
 -- what is live of a name has that name
 pub live-named : (name : MsapId) (past : List TableEvent) (x : Neighbor) → live name past ≡ Some x → x.msap ≡ name
@@ -282,13 +275,9 @@ has-live past h name = has_named name (λ other. live other past) (λ other. liv
 
 most_left-more : (n : ℕ) (events : List TableEvent) → most_left (suc n) events ≡ most_left n events - 1
 most_left-more n [] = omega arith
-most_left-more n (learned name ttl octets New ∷ past) = most_left-more n past
-most_left-more n (learned name ttl octets Refreshed ∷ past) = most_left-more n past
 most_left-more n (learned name ttl octets Dropped ∷ past) = omega (arith, most_left-more n past)
-most_left-more n (forgot name ∷ past) = most_left-more n past
-most_left-more n (purged ∷ past) = most_left-more n past
 most_left-more n (ticked ∷ past) = most_left-more (suc n) past
-most_left-more n (limit_set limit ∷ past) = most_left-more n past
+most_left-more n (event ∷ past) = most_left-more n past
 
 pub too_many-ticked : (past : List TableEvent) → too_many_left (ticked ∷ past) ≡ too_many_left past - 1
 unfolding too_many_left
@@ -298,21 +287,23 @@ pub too_many-dropped : (name : MsapId) (ttl : ℕ) (octets : List ℕ) (past : L
 unfolding too_many_left
 too_many-dropped name ttl octets past = omega arith
 
--- other events leave it
-pub too_many-stored : (name : MsapId) (ttl : ℕ) (octets : List ℕ) (answer : Learned) (past : List TableEvent) → is_stored answer ≡ true → too_many_left (learned name ttl octets answer ∷ past) ≡ too_many_left past
-unfolding too_many_left
-too_many-stored name ttl octets New past h = refl
-too_many-stored name ttl octets Refreshed past h = refl
-too_many-stored name ttl octets Dropped past h = cc
+-- ## What is answered
 
-pub too_many-forgot : (name : MsapId) (past : List TableEvent) → too_many_left (forgot name ∷ past) ≡ too_many_left past
-unfolding too_many_left
-too_many-forgot name past = refl
+-- the answer by the two tests
+abbrev pub answer_by : Bool → Bool → Learned
+answer_by held room = cond held Refreshed (cond room New Dropped)
 
-pub too_many-purged : (past : List TableEvent) → too_many_left (purged ∷ past) ≡ 0
-unfolding too_many_left
-too_many-purged past = refl
+pub by_refreshed : (held room : Bool) → answer_by held room ≡ Refreshed → held ≡ true
+by_refreshed true room h = refl
+by_refreshed false true h = cc
+by_refreshed false false h = cc
 
-pub too_many-limit_set : (limit : ℕ) (past : List TableEvent) → too_many_left (limit_set limit ∷ past) ≡ too_many_left past
-unfolding too_many_left
-too_many-limit_set limit past = refl
+pub by_new : (held room : Bool) → answer_by held room ≡ New → (held ≡ false) × (room ≡ true)
+by_new true room h = cc
+by_new false true h = (refl, refl)
+by_new false false h = cc
+
+pub by_dropped : (held room : Bool) → answer_by held room ≡ Dropped → (held ≡ false) × (room ≡ false)
+by_dropped true room h = cc
+by_dropped false true h = cc
+by_dropped false false h = (refl, refl)

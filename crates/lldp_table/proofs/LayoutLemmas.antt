@@ -30,7 +30,7 @@ fresh_in slot name ttl octets o t e =
     let made : MsapId → List ℕ → ℕ → Neighbor = λ m os n. record { msap = m; octets = os; ttl = n; left = ttl } in
     ap (λ os. made (msap_of os) os slot.ttl) o ∙ ap (λ m. made m octets slot.ttl) e.msap_is ∙ ap (made name octets) t
 
-module _ (slots : List Stored) (used : List ℕ) (left : ℕ → ℕ) (s : ℕ) (slot : Stored) (left' : ℕ → ℕ) (x : Neighbor) (w : IsStored used left s slot left' x) where
+module _ (slots : List Stored) {used : List ℕ} {left : ℕ → ℕ} {s : ℕ} {slot : Stored} {left' : ℕ → ℕ} {x : Neighbor} (w : IsStored used left s slot left' x) where
   stored-others : AllByRecursion (λ i. nat_eq s i ≡ false → neighbor_at (set slots s slot) left' i ≡ neighbor_at slots left i) used
   stored-others =
       all-weaker (λ i. nat_eq s i ≡ false → left' i ≡ left i) (λ i. nat_eq s i ≡ false → neighbor_at (set slots s slot) left' i ≡ neighbor_at slots left i)
@@ -48,10 +48,10 @@ any-msap slots left name (i ∷ is) = ap (λ b. same_msap name (msap_at slots i)
 -- ## Tables
 
 -- a table whose parts show a sound table is laid out
-pub laid_out : (capacity : ℕ) (slots : List Stored) (left : ℕ → ℕ) (order : List ℕ) (used limit too_many : ℕ) (table : Contents) → IsOrder (length slots) order → length slots ≤ capacity → used ≤ length slots → used ≤ limit → contents_of capacity slots left order used limit too_many ≡ table → IsSound table → IsLaidOut capacity slots left order used limit too_many
-laid_out capacity slots left order used limit too_many table o w f h e s = record { indices = o; written = w; fits = f; held = h; sound = subst IsSound (sym e) s }
+pub laid_out : {capacity : ℕ} {slots : List Stored} {left : ℕ → ℕ} {order : List ℕ} {used limit too_many : ℕ} {table : Contents} → IsOrder (length slots) order → length slots ≤ capacity → used ≤ length slots → used ≤ limit → contents_of capacity slots left order used limit too_many ≡ table → IsSound table → IsLaidOut capacity slots left order used limit too_many
+laid_out o w f h e s = record { indices = o; written = w; fits = f; held = h; sound = subst IsSound (sym e) s }
 
-module _ (capacity : ℕ) (slots : List Stored) (left : ℕ → ℕ) (order : List ℕ) (used limit too_many : ℕ) (h : IsLaidOut capacity slots left order used limit too_many) where
+module _ {capacity : ℕ} {slots : List Stored} {left : ℕ → ℕ} {order : List ℕ} {used limit too_many : ℕ} (h : IsLaidOut capacity slots left order used limit too_many) where
   abbrev held : List Neighbor
   held = neighbors_at slots left (take used order)
 
@@ -141,9 +141,9 @@ module _ (capacity : ℕ) (slots : List Stored) (left : ℕ → ℕ) (order : Li
 
       stored : neighbors_at (set slots s slot) left' (take used order) ≡ set held at (fresh name ttl octets)
       stored =
-          map-at_place (neighbor_at slots left) (neighbor_at (set slots s slot) left') s (take used order) (stored-others slots (take used order) left s slot left' (fresh name ttl octets) w)
+          map-at_place (neighbor_at slots left) (neighbor_at (set slots s slot) left') s (take used order) (stored-others slots w)
           at (omega (arith, length-take-le used order fits)) (get_or-take used order at 0 l) (distinct-take used order h.indices.distinct)
-          ∙ ap (set held at) (stored-same slots (take used order) left s slot left' (fresh name ttl octets) w (index_within at l))
+          ∙ ap (set held at) (stored-same slots w (index_within at l))
 
       refreshed_all : map (refreshed name ttl octets) held ≡ set held at (fresh name ttl octets)
       refreshed_all = refreshes_place name ttl octets held at (neighbor_of blank 0) (omega (arith, count)) (at_named name at l e) h.sound.distinct
@@ -154,7 +154,7 @@ module _ (capacity : ℕ) (slots : List Stored) (left : ℕ → ℕ) (order : Li
       pub laid_refreshed : IsExtent name ttl octets → IsLaidOut capacity (set slots s slot) left' order used limit too_many
       laid_refreshed t =
           let same = length-set slots s slot in
-          laid_out capacity (set slots s slot) left' order used limit too_many (after_learn shown name ttl octets) (subst (λ n. IsOrder n order) (sym same) h.indices)
+          laid_out (subst (λ n. IsOrder n order) (sym same) h.indices)
           (omega (arith, same, h.written)) (omega (arith, same, h.fits)) h.held after_refreshed (sound_learned shown name ttl octets t h.sound)
 
     -- ### `learn` of a new name, to a slot that is free
@@ -170,13 +170,13 @@ module _ (capacity : ℕ) (slots : List Stored) (left : ℕ → ℕ) (order : Li
         others : neighbors_at (set slots next slot) left' (take used order) ≡ held
         others = map-agree (neighbor_at slots left) (neighbor_at (set slots next slot) left') (take used order)
             (all-both (λ i. nat_eq next i ≡ false) (λ i. nat_eq next i ≡ false → neighbor_at (set slots next slot) left' i ≡ neighbor_at slots left i) (λ i. neighbor_at (set slots next slot) left' i ≡ neighbor_at slots left i)
-            (λ i d q. q d) (take used order) (not_before order used short h.indices.distinct) (stored-others slots (take used order) left next slot left' (fresh name ttl octets) w))
+            (λ i d q. q d) (take used order) (not_before order used short h.indices.distinct) (stored-others slots w))
 
         pushed : neighbors_at (set slots next slot) left' (take (used + 1) order) ≡ held ++ fresh name ttl octets ∷ []
         pushed =
             ap (neighbors_at (set slots next slot) left') (take_more order used 0 short) ∙ map-append (neighbor_at (set slots next slot) left') (take used order) (next ∷ [])
             ∙ ap (λ xs. xs ++ neighbor_at (set slots next slot) left' next ∷ []) others
-            ∙ ap (λ x. held ++ x ∷ []) (stored-same slots (take used order) left next slot left' (fresh name ttl octets) w (next_within free))
+            ∙ ap (λ x. held ++ x ∷ []) (stored-same slots w (next_within free))
 
         pub after_new : contents_of capacity (set slots next slot) left' order (used + 1) limit too_many ≡ after_learn shown name ttl octets
         after_new = ap with_held pushed ∙ ap (λ a. learned_as a shown name ttl octets) (sym (answer_new name none l))
@@ -184,7 +184,7 @@ module _ (capacity : ℕ) (slots : List Stored) (left : ℕ → ℕ) (order : Li
         pub laid_new : IsExtent name ttl octets → IsLaidOut capacity (set slots next slot) left' order (used + 1) limit too_many
         laid_new t =
             let same = length-set slots next slot in
-            laid_out capacity (set slots next slot) left' order (used + 1) limit too_many (after_learn shown name ttl octets) (subst (λ n. IsOrder n order) (sym same) h.indices)
+            laid_out (subst (λ n. IsOrder n order) (sym same) h.indices)
             (omega (arith, same, h.written)) (omega (arith, same, free)) (omega arith) after_new (sound_learned shown name ttl octets t h.sound)
 
   -- ### `learn` of a name that finds no room
@@ -220,8 +220,7 @@ module _ (capacity : ℕ) (slots : List Stored) (left : ℕ → ℕ) (order : Li
 
     pub laid_forgotten : x ≡ get_or order at x → IsLaidOut capacity slots left' (remove order at ++ x ∷ []) (used - 1) limit too_many
     laid_forgotten i =
-        laid_out capacity slots left' (remove order at ++ x ∷ []) (used - 1) limit too_many (after_forget shown name)
-        (IsOrder-forgotten (length slots) order at x (omega (arith, fits)) i h.indices) h.written (omega (arith, h.fits)) (omega (arith, h.held)) after_forgotten (sound_forgotten shown name h.sound)
+        laid_out (IsOrder-forgotten (length slots) order at x (omega (arith, fits)) i h.indices) h.written (omega (arith, h.fits)) (omega (arith, h.held)) after_forgotten (sound_forgotten shown name h.sound)
 
   -- nothing of this name
   pub forgotten_none : (name : MsapId) → list_any (is_named name) held ≡ false → after_forget shown name ≡ shown
@@ -230,7 +229,7 @@ module _ (capacity : ℕ) (slots : List Stored) (left : ℕ → ℕ) (order : Li
   -- ### `purge`
 
   pub laid_purged : (left' : ℕ → ℕ) → IsLaidOut capacity slots left' order 0 limit 0
-  laid_purged left' = laid_out capacity slots left' order 0 limit 0 (after_purge shown) h.indices h.written (omega arith) (omega arith) refl (sound_purged shown h.sound)
+  laid_purged left' = laid_out h.indices h.written (omega arith) (omega arith) refl (sound_purged shown h.sound)
 
   -- ### One more slot
 
@@ -253,7 +252,7 @@ module _ (capacity : ℕ) (slots : List Stored) (left : ℕ → ℕ) (order : Li
       (all-take (λ i. i < length slots) used order h.indices.within))) in
       let indices : IsOrder (length slots + 1) (order ++ used ∷ []) = subst (λ n. IsOrder (length slots + 1) (order ++ n ∷ [])) all (IsOrder-push (length slots) order h.indices) in
       record {
-        laid = laid_out capacity (slots ++ blank ∷ []) left (order ++ used ∷ []) used limit too_many shown (subst (λ n. IsOrder n (order ++ used ∷ [])) (sym more) indices)
+        laid = laid_out (subst (λ n. IsOrder n (order ++ used ∷ [])) (sym more) indices)
             (omega (arith, more, all, l, h.sound.room)) (omega (arith, more, all)) h.held same h.sound;
         same = same;
         free = omega (arith, more, all);
@@ -276,4 +275,4 @@ module _ (capacity : ℕ) (slots : List Stored) (left : ℕ → ℕ) (order : Li
 -- ## `open`
 
 pub laid_open : (left : ℕ → ℕ) (limit : ℕ) → 0 < limit → limit ≤ 128 → IsLaidOut limit [] left [] 0 limit 0
-laid_open left limit l m = laid_out limit [] left [] 0 limit 0 (newly_opened limit) IsOrder-none (omega arith) (omega arith) (omega arith) refl (sound_open limit l m)
+laid_open left limit l m = laid_out IsOrder-none (omega arith) (omega arith) (omega arith) refl (sound_open limit l m)

@@ -23,14 +23,14 @@ timed_none = record { queued = record { same = λ i. refl; count = refl; distinc
 pub then_enters : (s left : ℕ) (queue between queue' : List Due) → between ≡ leave s queue → queue' ≡ enter s left between → queue' ≡ enter s left (leave s queue)
 then_enters s left queue between queue' l e = e ∙ ap (enter s left) l
 
-module _ (capacity : ℕ) (slots : List Stored) (queue : List Due) (order : List ℕ) (used limit too_many : ℕ) (h : IsTable capacity slots queue order used limit too_many) where
+module _ {capacity : ℕ} {slots : List Stored} {queue : List Due} {order : List ℕ} {used limit too_many : ℕ} (h : IsTable capacity slots queue order used limit too_many) where
   -- what `place_of` finds under an equal name
   pub found_as : (told name : MsapId) (at : ℕ) → told ≡ name → (at < length (take used order)) × (same_msap told (msap_at slots (get_or (take used order) at 0)) ≡ true) → (at < used) × (same_msap name (msap_at slots (get_or order at 0)) ≡ true)
   found_as told name at same p =
-      let f = found capacity slots (ticks_left queue) order used limit too_many h.laid told at p in (f.0, ap (λ (m : MsapId). same_msap m (msap_at slots (get_or order at 0))) (sym same) ∙ f.1)
+      let f = found h.laid told at p in (f.0, ap (λ (m : MsapId). same_msap m (msap_at slots (get_or order at 0))) (sym same) ∙ f.1)
 
   pub few_queued : length queue ≡ used
-  few_queued = h.timed.queued.count ∙ length-take-le used order (fits capacity slots (ticks_left queue) order used limit too_many h.laid)
+  few_queued = h.timed.queued.count ∙ length-take-le used order (fits h.laid)
 
   -- ## A slot in use
 
@@ -45,7 +45,7 @@ module _ (capacity : ℕ) (slots : List Stored) (queue : List Due) (order : List
     others = remove in_use at
 
     there : at < length in_use
-    there = omega (arith, l, length-take-le used order (fits capacity slots (ticks_left queue) order used limit too_many h.laid))
+    there = omega (arith, l, length-take-le used order (fits h.laid))
 
     apart : IsDistinct nat_eq in_use
     apart = distinct-take used order h.laid.indices.distinct
@@ -84,29 +84,29 @@ module _ (capacity : ℕ) (slots : List Stored) (queue : List Due) (order : List
       -- `read` is the order as it was read, and `left` the TTL
       module _ (read : List ℕ) (left : ℕ) (queue' : List Due) (r : read ≡ order) (k : left ≡ ttl) (q : queue' ≡ enter (get_or read at 0) left (leave (get_or read at 0) queue)) where
         pub refreshed_after : contents_of capacity (set slots (get_or read at 0) slot) (ticks_left queue') order used limit too_many ≡ after_learn (contents_of capacity slots (ticks_left queue) order used limit too_many) name ttl octets
-        refreshed_after = rw (q, r, k) (after_refreshed capacity slots (ticks_left queue) order used limit too_many h.laid name ttl octets slot _ at l e stored_again)
+        refreshed_after = rw (q, r, k) (after_refreshed h.laid name ttl octets slot _ at l e stored_again)
 
         pub refreshed_table : IsTable capacity (set slots (get_or read at 0) slot) queue' order used limit too_many
-        refreshed_table = rw (q, r, k) (record { laid = laid_refreshed capacity slots (ticks_left queue) order used limit too_many h.laid name ttl octets slot _ at l e stored_again t; timed = timed_again })
+        refreshed_table = rw (q, r, k) (record { laid = laid_refreshed h.laid name ttl octets slot _ at l e stored_again t; timed = timed_again })
 
     -- ## A name that is forgotten
 
     module _ (name : MsapId) (x : ℕ) (e : same_msap name (msap_at slots s) ≡ true) (i : x ≡ get_or order at x) where
       is_s : x ≡ s
-      is_s = i ∙ get_or_default order at x 0 (omega (arith, l, fits capacity slots (ticks_left queue) order used limit too_many h.laid))
+      is_s = i ∙ get_or_default order at x 0 (omega (arith, l, fits h.laid))
 
       module _ (queue' : List Due) (q : queue' ≡ leave x queue) where
         q_s : queue' ≡ leave s queue
         q_s = q ∙ ap (λ j. leave j queue) is_s
 
         pub forgotten_after : contents_of capacity slots (ticks_left queue') (remove order at ++ x ∷ []) (used - 1) limit too_many ≡ after_forget (contents_of capacity slots (ticks_left queue) order used limit too_many) name
-        forgotten_after = rw q_s (after_forgotten capacity slots (ticks_left queue) order used limit too_many h.laid name at x _ l e (leave_others queue in_use h.timed.queued s apart others parted))
+        forgotten_after = rw q_s (after_forgotten h.laid name at x _ l e (leave_others queue in_use h.timed.queued s apart others parted))
 
         pub forgotten_table : IsTable capacity slots queue' (remove order at ++ x ∷ []) (used - 1) limit too_many
         forgotten_table = rw q_s (record {
-          laid = laid_forgotten capacity slots (ticks_left queue) order used limit too_many h.laid name at x _ l e (leave_others queue in_use h.timed.queued s apart others parted) i;
+          laid = laid_forgotten h.laid name at x _ l e (leave_others queue in_use h.timed.queued s apart others parted) i;
           timed = record {
-            queued = subst (IsQueued (leave s queue)) (sym (moved_out capacity slots (ticks_left queue) order used limit too_many h.laid name at x (ticks_left (leave s queue)) l e (leave_others queue in_use h.timed.queued s apart others parted))) left_queued;
+            queued = subst (IsQueued (leave s queue)) (sym (moved_out h.laid name at x (ticks_left (leave s queue)) l e (leave_others queue in_use h.timed.queued s apart others parted))) left_queued;
             running = running-leave s queue h.timed.running;
           };
         })
@@ -116,10 +116,10 @@ module _ (capacity : ℕ) (slots : List Stored) (queue : List Due) (order : List
   -- a slot that is free: `slots'` and `order'` are the slots and the order with one in them
   module _ (l : used < limit) (slots' : List Stored) (order' : List ℕ) (ws : slots' ≡ with_next used blank slots) (wo : order' ≡ with_next used used order) where
     abbrev Free : Type 0
-    Free = HasFree capacity slots (ticks_left queue) order used limit too_many h.laid slots' order'
+    Free = HasFree h.laid slots' order'
 
     free : Free
-    free = rw (ws, wo) (has_free capacity slots (ticks_left queue) order used limit too_many h.laid l)
+    free = rw (ws, wo) (has_free h.laid l)
 
     abbrev next : ℕ
     next = get_or order' used 0
@@ -162,17 +162,17 @@ module _ (capacity : ℕ) (slots : List Stored) (queue : List Due) (order : List
         pub new_after : contents_of capacity (set slots' (get_or read used 0) slot) (ticks_left queue') order' (used + 1) limit too_many ≡ after_learn (contents_of capacity slots (ticks_left queue) order used limit too_many) name ttl octets
         new_after =
             let f = free in
-            rw (q, r, k) (after_new capacity slots' (ticks_left queue) order' used limit too_many f.laid name ttl octets slot _ none_there l f.free stored_new ∙ ap (λ (table : Contents). after_learn table name ttl octets) f.same)
+            rw (q, r, k) (after_new f.laid name ttl octets slot _ none_there l f.free stored_new ∙ ap (λ (table : Contents). after_learn table name ttl octets) f.same)
 
         pub new_table : IsTable capacity (set slots' (get_or read used 0) slot) queue' order' (used + 1) limit too_many
         new_table =
             let f = free in
-            rw (q, r, k) (record { laid = laid_new capacity slots' (ticks_left queue) order' used limit too_many f.laid name ttl octets slot _ none_there l f.free stored_new t; timed = timed_new })
+            rw (q, r, k) (record { laid = laid_new f.laid name ttl octets slot _ none_there l f.free stored_new t; timed = timed_new })
 
   -- ## A purge
 
   pub purged_table : (queue' : List Due) → queue' ≡ [] → IsTable capacity slots queue' order 0 limit 0
-  purged_table queue' q = rw q (record { laid = laid_purged capacity slots (ticks_left queue) order used limit too_many h.laid (ticks_left []); timed = timed_none })
+  purged_table queue' q = rw q (record { laid = laid_purged h.laid (ticks_left []); timed = timed_none })
 
 -- ## A table that was just opened
 

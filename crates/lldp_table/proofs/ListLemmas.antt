@@ -8,8 +8,8 @@ use Rattle.lldp_table.specs.Events.{Call, TableEvent, Neighbor, live, neighbors,
 use Rattle.lldp_table.specs.Contents.{Contents, IsSound}
 use Rattle.lldp_table.specs.Standing.{Stands, AreTold, table_of}
 use Rattle.lldp_table.specs.Positions.{IsLive, HasRoom}
-use Rattle.lldp_table.proofs.EventLemmas.{live-named}
-use Rattle.lldp_table.proofs.StandingLemmas.{stands_open, carries}
+use Rattle.lldp_table.proofs.EventLemmas.{live-named, answer_by, by_refreshed, by_new, by_dropped}
+use Rattle.lldp_table.proofs.StandingLemmas.{stands_open, leaves}
 use Rattle.lldp_table.proofs.SoundLemmas.{sound_open, sound_after}
 use Rattle.lldp_table.proofs.LiveLemmas.{last_from_live, live_from_last}
 
@@ -22,9 +22,7 @@ stands_left opened calls l m t = record { least = l; most = m; told = t; is = re
 -- and is sound
 pub sound_left : (opened : ℕ) (calls : List Call) → 0 < opened → opened ≤ 128 → AreTold opened calls → IsSound (table_of opened calls)
 sound_left opened [] l m t = subst IsSound (stands_open opened l m).is (sound_open opened l m)
-sound_left opened (call ∷ calls) l m t =
-    subst IsSound (carries (table_of opened calls) opened calls call (stands_left opened calls l m t.1) t.0).is
-    (sound_after (table_of opened calls) call (sound_left opened calls l m t.1) t.0)
+sound_left opened (call ∷ calls) l m t = subst IsSound (leaves opened calls call t.0) (sound_after (table_of opened calls) call (sound_left opened calls l m t.1) t.0)
 
 pub sound_from_stands : (table : Contents) (opened : ℕ) (calls : List Call) → Stands opened calls table → IsSound table
 sound_from_stands table opened calls h = subst IsSound (sym h.is) (sound_left opened calls h.least h.most h.told)
@@ -48,25 +46,6 @@ module _ (name : MsapId) (past : List TableEvent) where
 
   not_live : ¬ (IsLive past name) → is_some (live name past) ≡ false
   not_live h = false_from_ne_true (is_some (live name past)) (λ e. h (live_is_last e))
-
--- the answer by the two tests
-abbrev answer_by : Bool → Bool → Learned
-answer_by held room = cond held Refreshed (cond room New Dropped)
-
-by_refreshed : (held room : Bool) → answer_by held room ≡ Refreshed → held ≡ true
-by_refreshed true room h = refl
-by_refreshed false true h = cc
-by_refreshed false false h = cc
-
-by_new : (held room : Bool) → answer_by held room ≡ New → (held ≡ false) × (room ≡ true)
-by_new true room h = cc
-by_new false true h = (refl, refl)
-by_new false false h = cc
-
-by_dropped : (held room : Bool) → answer_by held room ≡ Dropped → (held ≡ false) × (room ≡ false)
-by_dropped true room h = cc
-by_dropped false true h = cc
-by_dropped false false h = (refl, refl)
 
 module _ (opened : ℕ) (calls : List Call) (name : MsapId) where
   abbrev past : List TableEvent

@@ -78,10 +78,7 @@ module _ (events : List TableEvent) (x : Neighbor) where
         left = omega arith;
         lives = omega arith;
       }
-  last_is (forgot name) found here = cc
-  last_is purged found here = cc
-  last_is ticked found here = cc
-  last_is (limit_set limit) found here = cc
+  last_is _ found here = cc
 
   pub last_from_live : live x.msap events ≡ Some x → IsLastStored events x
   unfolding live

@@ -1,7 +1,7 @@
 -- The order of the neighbors, and what the too-many timer says.
 use Rattle.std.proofs.Common.{◌≡◌, ℕ, zero, suc, ◌+◌, ◌-◌, ◌<◌, ◌≤◌, Bool, true, false, not, cond, List, [], ◌∷◌, ◌++◌, Option, Some, None, refl, inl, inr, ap, ◌∙◌, sym, subst, arith, max}
 use Rattle.std.specs.List.{filter, filter_map, cons_option, list_any, AllByRecursion, AllPairs}
-use Rattle.std.proofs.lemmas.Bool.{cases_Bool, or_left, or_right, or_from, cases_lt}
+use Rattle.std.proofs.lemmas.Bool.{cases_Bool, or_left, or_right, or_from, cases_lt, not-true}
 use Rattle.std.proofs.lemmas.List.Elements.{All-from_recursion, All-get_or}
 use Rattle.lldp_pdu.specs.Msap.{MsapId}
 use Rattle.lldp_table.specs.Msap.{same_msap}
@@ -10,6 +10,7 @@ use Rattle.lldp_table.specs.Events.{TableEvent, learned, forgot, purged, ticked,
 use Rattle.lldp_table.specs.Positions.{makes_new, IsNewBefore, WasDropped}
 use Rattle.lldp_table.specs.declared.learned.Learned.TheVariants.{New, Refreshed, Dropped}
 use Rattle.lldp_table.proofs.EventLemmas.{live-named}
+use Rattle.lldp_table.proofs.PlaceLemmas.{all-weaker, all-both, all-push}
 
 -- ## The order
 
@@ -23,7 +24,7 @@ record Before (events : List TableEvent) (one other : MsapId) : Type 0 where
   one_not_later : list_any (makes_new one) later ≡ false
 
 -- each pair of a list, the one before the other
-abbrev Pairs : (MsapId → MsapId → Type 0) → List MsapId → Type 0
+abbrev Pairs : {X : Type 0} → (X → X → Type 0) → List X → Type 0
 Pairs R [] = Unit {0}
 Pairs R (x ∷ xs) = AllByRecursion (R x) xs × Pairs R xs
 
@@ -37,13 +38,9 @@ Before-more event past one other f h = record {
   one_not_later = or_from (makes_new one event) (list_any (makes_new one) h.later) f h.one_not_later;
 }
 
-weaker : (P Q : MsapId → Type 0) → ((n : MsapId) → P n → Q n) → (ns : List MsapId) → AllByRecursion P ns → AllByRecursion Q ns
-weaker P Q h [] a = tt
-weaker P Q h (n ∷ ns) a = (h n a.0, weaker P Q h ns a.1)
-
 pairs_weaker : (R S : MsapId → MsapId → Type 0) → ((a b : MsapId) → R a b → S a b) → (ns : List MsapId) → Pairs R ns → Pairs S ns
 pairs_weaker R S h [] p = tt
-pairs_weaker R S h (n ∷ ns) p = (weaker (R n) (S n) (h n) ns p.0, pairs_weaker R S h ns p.1)
+pairs_weaker R S h (n ∷ ns) p = (all-weaker (R n) (S n) (h n) ns p.0, pairs_weaker R S h ns p.1)
 
 all_filter : (P : MsapId → Type 0) (t : MsapId → Bool) (ns : List MsapId) → AllByRecursion P ns → AllByRecursion P (filter t ns)
 all_filter P t [] a = tt
@@ -62,41 +59,24 @@ pairs_filter : (R : MsapId → MsapId → Type 0) (t : MsapId → Bool) (ns : Li
 pairs_filter R t [] p = tt
 pairs_filter R t (n ∷ ns) p = elim (t n) as (λ b. Pairs R (cond b (n ∷ filter t ns) (filter t ns))) [ true ↦ (all_filter (R n) t ns p.0, pairs_filter R t ns p.1) | false ↦ pairs_filter R t ns p.1 ]
 
-both : (P Q S : MsapId → Type 0) → ((n : MsapId) → P n → Q n → S n) → (ns : List MsapId) → AllByRecursion P ns → AllByRecursion Q ns → AllByRecursion S ns
-both P Q S h [] p q = tt
-both P Q S h (n ∷ ns) p q = (h n p.0 q.0, both P Q S h ns p.1 q.1)
-
-all_push : (P : MsapId → Type 0) (ns : List MsapId) (m : MsapId) → AllByRecursion P ns → P m → AllByRecursion P (ns ++ m ∷ [])
-all_push P [] m a p = (p, tt)
-all_push P (n ∷ ns) m a p = (a.0, all_push P ns m a.1 p)
-
 pairs_push : (R : MsapId → MsapId → Type 0) (ns : List MsapId) (m : MsapId) → Pairs R ns → AllByRecursion (λ n. R n m) ns → Pairs R (ns ++ m ∷ [])
 pairs_push R [] m p a = (tt, tt)
-pairs_push R (n ∷ ns) m p a = (all_push (R n) ns m p.0 a.0, pairs_push R ns m p.1 a.1)
+pairs_push R (n ∷ ns) m p a = (all-push (R n) ns m p.0 a.0, pairs_push R ns m p.1 a.1)
 
 -- pairs of names that pass a test, under a fact of the first
 pairs_of : (R S : MsapId → MsapId → Type 0) (T : MsapId → Type 0) → ((a b : MsapId) → T a → R a b → S a b) → (ns : List MsapId) → AllByRecursion T ns → Pairs R ns → Pairs S ns
 pairs_of R S T h [] a p = tt
-pairs_of R S T h (n ∷ ns) a p = (weaker (R n) (S n) (λ m r. h n m a.0 r) ns p.0, pairs_of R S T h ns a.1 p.1)
+pairs_of R S T h (n ∷ ns) a p = (all-weaker (R n) (S n) (λ m r. h n m a.0 r) ns p.0, pairs_of R S T h ns a.1 p.1)
 
 -- each name that arrived was new
 all_new : (events : List TableEvent) → AllByRecursion (λ n. list_any (makes_new n) events ≡ true) (arrivals events)
 all_new [] = tt
 all_new (learned name ttl octets New ∷ past) =
-    all_push (λ n. list_any (makes_new n) (learned name ttl octets New ∷ past) ≡ true) (filter (λ n. not (same_msap name n)) (arrivals past)) name
+    all-push (λ n. list_any (makes_new n) (learned name ttl octets New ∷ past) ≡ true) (filter (λ n. not (same_msap name n)) (arrivals past)) name
     (all_filter (λ n. list_any (makes_new n) (learned name ttl octets New ∷ past) ≡ true) (λ n. not (same_msap name n)) (arrivals past)
-    (weaker (λ n. list_any (makes_new n) past ≡ true) (λ n. list_any (makes_new n) (learned name ttl octets New ∷ past) ≡ true) (λ n e. or_right (same_msap name n) (list_any (makes_new n) past) e) (arrivals past) (all_new past)))
+    (all-weaker (λ n. list_any (makes_new n) past ≡ true) (λ n. list_any (makes_new n) (learned name ttl octets New ∷ past) ≡ true) (λ n e. or_right (same_msap name n) (list_any (makes_new n) past) e) (arrivals past) (all_new past)))
     (or_left (same_msap name name) (list_any (makes_new name) past) (same_msap-refl name))
-all_new (learned name ttl octets Refreshed ∷ past) = all_new past
-all_new (learned name ttl octets Dropped ∷ past) = all_new past
-all_new (forgot name ∷ past) = all_new past
-all_new (purged ∷ past) = all_new past
-all_new (ticked ∷ past) = all_new past
-all_new (limit_set limit ∷ past) = all_new past
-
-unlike : (b : Bool) → not b ≡ true → b ≡ false
-unlike true h = cc
-unlike false h = refl
+all_new (event ∷ past) = all_new past
 
 -- names that arrived, in the order in which each was last new
 in_order : (events : List TableEvent) → Pairs (Before events) (arrivals events)
@@ -106,28 +86,18 @@ in_order (learned name ttl octets New ∷ past) =
     let others : List MsapId = filter (λ n. not (same_msap name n)) (arrivals past) in
     let unlike_it : AllByRecursion (λ n. not (same_msap name n) ≡ true) others = filter_all (λ n. not (same_msap name n)) (arrivals past) in
     pairs_push (Before (event ∷ past)) others name
-    (pairs_of (Before past) (Before (event ∷ past)) (λ n. not (same_msap name n) ≡ true) (λ a b u h. Before-more event past a b (unlike (same_msap name a) u) h) others unlike_it
+    (pairs_of (Before past) (Before (event ∷ past)) (λ n. not (same_msap name n) ≡ true) (λ a b u h. Before-more event past a b (not-true (same_msap name a) u) h) others unlike_it
     (pairs_filter (Before past) (λ n. not (same_msap name n)) (arrivals past) (in_order past)))
-    (both (λ n. not (same_msap name n) ≡ true) (λ n. list_any (makes_new n) past ≡ true) (λ n. Before (event ∷ past) n name)
+    (all-both (λ n. not (same_msap name n) ≡ true) (λ n. list_any (makes_new n) past ≡ true) (λ n. Before (event ∷ past) n name)
     (λ n u e. record {
       later = event ∷ [];
       earlier = past;
       split = refl;
       one_earlier = e;
       other_later = or_left (same_msap name name) false (same_msap-refl name);
-      one_not_later = or_from (same_msap name n) false (unlike (same_msap name n) u) refl;
+      one_not_later = or_from (same_msap name n) false (not-true (same_msap name n) u) refl;
     }) others unlike_it (all_filter (λ n. list_any (makes_new n) past ≡ true) (λ n. not (same_msap name n)) (arrivals past) (all_new past)))
-in_order (learned name ttl octets Refreshed ∷ past) = pairs_weaker (Before past) (Before (learned name ttl octets Refreshed ∷ past)) (λ a b h. Before-more (learned name ttl octets Refreshed) past a b refl h) (arrivals past) (in_order past)
-in_order (learned name ttl octets Dropped ∷ past) = pairs_weaker (Before past) (Before (learned name ttl octets Dropped ∷ past)) (λ a b h. Before-more (learned name ttl octets Dropped) past a b refl h) (arrivals past) (in_order past)
-in_order (forgot name ∷ past) = pairs_weaker (Before past) (Before (forgot name ∷ past)) (λ a b h. Before-more (forgot name) past a b refl h) (arrivals past) (in_order past)
-in_order (purged ∷ past) = pairs_weaker (Before past) (Before (purged ∷ past)) (λ a b h. Before-more purged past a b refl h) (arrivals past) (in_order past)
-in_order (ticked ∷ past) = pairs_weaker (Before past) (Before (ticked ∷ past)) (λ a b h. Before-more ticked past a b refl h) (arrivals past) (in_order past)
-in_order (limit_set limit ∷ past) = pairs_weaker (Before past) (Before (limit_set limit ∷ past)) (λ a b h. Before-more (limit_set limit) past a b refl h) (arrivals past) (in_order past)
-
--- of the neighbors, each before those behind it
-abbrev NeighborPairs : (Neighbor → Neighbor → Type 0) → List Neighbor → Type 0
-NeighborPairs R [] = Unit {0}
-NeighborPairs R (x ∷ xs) = AllByRecursion (R x) xs × NeighborPairs R xs
+in_order (event ∷ past) = pairs_weaker (Before past) (Before (event ∷ past)) (λ a b h. Before-more event past a b refl h) (arrivals past) (in_order past)
 
 module _ (events : List TableEvent) where
   before_all : (x : Neighbor) (names : List MsapId) → AllByRecursion (Before events x.msap) names → AllByRecursion (IsNewBefore events x) (filter_map (λ name. live name events) names)
@@ -148,15 +118,15 @@ module _ (events : List TableEvent) where
         r,
       )
 
-  ordered : (names : List MsapId) → Pairs (Before events) names → NeighborPairs (IsNewBefore events) (filter_map (λ name. live name events) names)
+  ordered : (names : List MsapId) → Pairs (Before events) names → Pairs (IsNewBefore events) (filter_map (λ name. live name events) names)
   ordered [] p = tt
   ordered (name ∷ names) p = ordered_one (live name events) (live-named name events) (ordered names p.1)
     where
-      ordered_one : (o : Option Neighbor) → ((y : Neighbor) → o ≡ Some y → y.msap ≡ name) → NeighborPairs (IsNewBefore events) (filter_map (λ n. live n events) names) → NeighborPairs (IsNewBefore events) (cons_option o (filter_map (λ n. live n events) names))
+      ordered_one : (o : Option Neighbor) → ((y : Neighbor) → o ≡ Some y → y.msap ≡ name) → Pairs (IsNewBefore events) (filter_map (λ n. live n events) names) → Pairs (IsNewBefore events) (cons_option o (filter_map (λ n. live n events) names))
       ordered_one None h r = r
       ordered_one (Some y) h r = (before_all y names (subst (λ n. AllByRecursion (Before events n) names) (sym (h y refl)) p.0), r)
 
-pairs_at : (R : Neighbor → Neighbor → Type 0) (xs : List Neighbor) → NeighborPairs R xs → AllPairs R xs
+pairs_at : (R : Neighbor → Neighbor → Type 0) (xs : List Neighbor) → Pairs R xs → AllPairs R xs
 pairs_at R [] p i j d l m = absurd (omega arith)
 pairs_at R (x ∷ xs) p zero zero d l m = absurd (omega arith)
 pairs_at R (x ∷ xs) p zero (suc j) d l m = All-get_or (R x) xs j d (omega arith) (All-from_recursion (R x) xs p.0)
@@ -170,19 +140,8 @@ neighbors_in_order events = pairs_at (IsNewBefore events) (neighbors events) (or
 
 -- ## Too many neighbors
 
--- as `WasDropped`, n ticks after the events
-record Drop (n : ℕ) (events : List TableEvent) (left : ℕ) : Type 0 where
-  later : List TableEvent
-  msap : MsapId
-  ttl : ℕ
-  octets : List ℕ
-  earlier : List TableEvent
-  split : events ≡ later ++ learned msap ttl octets Dropped ∷ earlier
-  unpurged : AllByRecursion (λ event. is_purge event ≡ false) later
-  counts : ticks later + n + left ≡ ttl
-
-drop_more : (n left : ℕ) (event : TableEvent) (past : List TableEvent) → is_purge event ≡ false → ((later : List TableEvent) → ticks (event ∷ later) ≡ ticks later) → Drop n past left → Drop n (event ∷ past) left
-drop_more n left event past u t h = record {
+drop_more : (event : TableEvent) (past : List TableEvent) (left : ℕ) → is_purge event ≡ false → ((later : List TableEvent) → ticks (event ∷ later) ≡ ticks later) → WasDropped past left → WasDropped (event ∷ past) left
+drop_more event past left u t h = record {
   later = event ∷ h.later;
   msap = h.msap;
   ttl = h.ttl;
@@ -190,10 +149,10 @@ drop_more n left event past u t h = record {
   earlier = h.earlier;
   split = ap (λ es. event ∷ es) h.split;
   unpurged = (u, h.unpurged);
-  counts = ap (λ k. k + n + left) (t h.later) ∙ h.counts;
+  counts = ap (λ k. k + left) (t h.later) ∙ h.counts;
 }
 
-drop_tick : (n left : ℕ) (past : List TableEvent) → Drop (suc n) past left → Drop n (ticked ∷ past) left
+drop_tick : (n left : ℕ) (past : List TableEvent) → WasDropped past (suc n + left) → WasDropped (ticked ∷ past) (n + left)
 drop_tick n left past h = record {
   later = ticked ∷ h.later;
   msap = h.msap;
@@ -206,48 +165,31 @@ drop_tick n left past h = record {
 }
 
 -- the greatest is one of them
-greatest_is : (n : ℕ) (events : List TableEvent) → 0 < most_left n (since is_purge events) → Drop n events (most_left n (since is_purge events))
+greatest_is : (n : ℕ) (events : List TableEvent) → 0 < most_left n (since is_purge events) → WasDropped events (n + most_left n (since is_purge events))
 greatest_is n [] l = absurd (omega arith)
-greatest_is n (learned name ttl octets New ∷ past) l = drop_more n _ (learned name ttl octets New) past refl (λ later. refl) (greatest_is n past l)
-greatest_is n (learned name ttl octets Refreshed ∷ past) l = drop_more n _ (learned name ttl octets Refreshed) past refl (λ later. refl) (greatest_is n past l)
 greatest_is n (learned name ttl octets Dropped ∷ past) l =
     let rest : ℕ = most_left n (since is_purge past) in
     elim (cases_lt rest (ttl - n)) [
-      | inl w ↦ record {
-        later = [];
-        msap = name;
-        ttl = ttl;
-        octets = octets;
-        earlier = past;
-        split = refl;
-        unpurged = tt;
-        counts = omega arith;
-      }
+      | inl w ↦ record { later = []; msap = name; ttl = ttl; octets = octets; earlier = past; split = refl; unpurged = tt; counts = omega arith }
       | inr w ↦
           let same : max (ttl - n) rest ≡ rest = omega arith in
-          subst (Drop n (learned name ttl octets Dropped ∷ past)) (sym same) (drop_more n rest (learned name ttl octets Dropped) past refl (λ later. refl) (greatest_is n past (omega arith)))
+          rw same (drop_more (learned name ttl octets Dropped) past _ refl (λ later. refl) (greatest_is n past (omega arith)))
     ]
-greatest_is n (forgot name ∷ past) l = drop_more n _ (forgot name) past refl (λ later. refl) (greatest_is n past l)
 greatest_is n (purged ∷ past) l = absurd (omega arith)
 greatest_is n (ticked ∷ past) l = drop_tick n _ past (greatest_is (suc n) past l)
-greatest_is n (limit_set limit ∷ past) l = drop_more n _ (limit_set limit) past refl (λ later. refl) (greatest_is n past l)
+greatest_is n (event ∷ past) l = drop_more event past _ refl (λ later. refl) (greatest_is n past l)
 
 -- and none is greater
 none_greater : (n left : ℕ) (later earlier : List TableEvent) (name : MsapId) (ttl : ℕ) (octets : List ℕ) → AllByRecursion (λ event. is_purge event ≡ false) later → ticks later + n + left ≡ ttl → left ≤ most_left n (since is_purge (later ++ learned name ttl octets Dropped ∷ earlier))
 none_greater n left [] earlier name ttl octets u c = omega arith
-none_greater n left (learned other t o New ∷ later) earlier name ttl octets u c = none_greater n left later earlier name ttl octets u.1 c
-none_greater n left (learned other t o Refreshed ∷ later) earlier name ttl octets u c = none_greater n left later earlier name ttl octets u.1 c
 none_greater n left (learned other t o Dropped ∷ later) earlier name ttl octets u c = omega (arith, none_greater n left later earlier name ttl octets u.1 c)
-none_greater n left (forgot other ∷ later) earlier name ttl octets u c = none_greater n left later earlier name ttl octets u.1 c
 none_greater n left (purged ∷ later) earlier name ttl octets u c = cc
 none_greater n left (ticked ∷ later) earlier name ttl octets u c = none_greater (suc n) left later earlier name ttl octets u.1 (omega arith)
-none_greater n left (limit_set limit ∷ later) earlier name ttl octets u c = none_greater n left later earlier name ttl octets u.1 c
+none_greater n left (event ∷ later) earlier name ttl octets u c = none_greater n left later earlier name ttl octets u.1 c
 
 pub greatest_dropped : (events : List TableEvent) → 0 < too_many_left events → WasDropped events (too_many_left events)
 unfolding too_many_left
-greatest_dropped events l =
-    let h = greatest_is 0 events l in
-    record { later = h.later; msap = h.msap; ttl = h.ttl; octets = h.octets; earlier = h.earlier; split = h.split; unpurged = h.unpurged; counts = omega (arith, h.counts) }
+greatest_dropped events l = let same : 0 + most_left 0 (since is_purge events) ≡ most_left 0 (since is_purge events) = omega arith in rw same at (greatest_is 0 events l)
 
 pub none_dropped_above : (events : List TableEvent) (left : ℕ) → WasDropped events left → left ≤ too_many_left events
 unfolding too_many_left

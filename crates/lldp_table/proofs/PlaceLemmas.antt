@@ -14,22 +14,27 @@ use Rattle.lldp_table.specs.Events.{Neighbor}
 use Rattle.lldp_table.specs.Contents.{is_named, fresh, refreshed, names_of}
 use Rattle.lldp_table.specs.Layout.{IsOrder}
 use Rattle.lldp_table.proofs.MsapLemmas.{same_msap-true, same_msap-sym}
+use Rattle.std.proofs.lemmas.Grind.{common_steps}
 
 -- ## Facts of each element
 
 pub at_place : {X : Type 0} (P : X → Type 0) (xs : List X) (k : ℕ) (d : X) → k < length xs → AllByRecursion P xs → P (get_or xs k d)
 at_place P xs k d h a = All-get_or P xs k d h (All-from_recursion P xs a)
 
-pub all-weaker : (P Q : ℕ → Type 0) → ((i : ℕ) → P i → Q i) → (is : List ℕ) → AllByRecursion P is → AllByRecursion Q is
+pub all-weaker : {X : Type 0} (P Q : X → Type 0) → ((x : X) → P x → Q x) → (is : List X) → AllByRecursion P is → AllByRecursion Q is
 all-weaker P Q h [] a = tt
 all-weaker P Q h (i ∷ is) a = (h i a.0, all-weaker P Q h is a.1)
 
-pub all-both : (P Q R : ℕ → Type 0) → ((i : ℕ) → P i → Q i → R i) → (is : List ℕ) → AllByRecursion P is → AllByRecursion Q is → AllByRecursion R is
+pub all-both : {X : Type 0} (P Q R : X → Type 0) → ((x : X) → P x → Q x → R x) → (is : List X) → AllByRecursion P is → AllByRecursion Q is → AllByRecursion R is
 all-both P Q R h [] p q = tt
 all-both P Q R h (i ∷ is) p q = (h i p.0 q.0, all-both P Q R h is p.1 q.1)
 
 pub all-take : (P : ℕ → Type 0) (n : ℕ) (is : List ℕ) → AllByRecursion P is → AllByRecursion P (take n is)
 all-take P n is a = recursion_from_All P (take n is) (All-take P n is (All-from_recursion P is a))
+
+pub all-push : {X : Type 0} (P : X → Type 0) (is : List X) (i : X) → AllByRecursion P is → P i → AllByRecursion P (is ++ i ∷ [])
+all-push P [] i a p = (p, tt)
+all-push P (j ∷ is) i a p = (a.0, all-push P is i a.1 p)
 
 -- nothing that passes the test
 pub unheld : {X : Type 0} (test : X → Bool) (xs : List X) → list_any test xs ≡ false → AllByRecursion (λ x. test x ≡ false) xs
@@ -152,16 +157,8 @@ below_apart : (n : ℕ) (is : List ℕ) → AllByRecursion (λ i. i < n) is → 
 below_apart n [] a = refl
 below_apart n (i ∷ is) a = or_from (nat_eq n i) (list_any (nat_eq n) is) (ne_eqb n i (λ e. omega arith)) (below_apart n is a.1)
 
-pub all-push : (P : ℕ → Type 0) (is : List ℕ) (i : ℕ) → AllByRecursion P is → P i → AllByRecursion P (is ++ i ∷ [])
-all-push P [] i a p = (p, tt)
-all-push P (j ∷ is) i a p = (a.0, all-push P is i a.1 p)
-
 pub IsOrder-push : (n : ℕ) (order : List ℕ) → IsOrder n order → IsOrder (n + 1) (order ++ n ∷ [])
-IsOrder-push n order h = record {
-  all = omega (arith, length-append order (n ∷ []), h.all);
-  within = all-push (λ i. i < n + 1) order n (all-weaker (λ i. i < n) (λ i. i < n + 1) (λ i b. omega arith) order h.within) (omega arith);
-  distinct = IsDistinct-push nat_eq_equiv order n h.distinct (below_apart n order h.within);
-}
+IsOrder-push n order h = grind (arith, common_steps, length-append, all-push, all-weaker, IsDistinct-push, nat_eq_equiv, below_apart)
 
 pub IsOrder-none : IsOrder 0 []
 unfolding IsDistinct

@@ -2,7 +2,7 @@
 use Rattle.std.proofs.Common.{◌≡◌, ℕ, suc, ◌<◌, ◌≤◌, Bool, true, false, not, cond, nat_lt, List, [], ◌∷◌, ◌++◌, length, Option, Some, None, refl, ap, ◌∙◌, sym, subst, arith, map, length-append}
 use Rattle.std.specs.List.{list_any, filter_map, cons_option, AllByRecursion, IsDistinct}
 use Rattle.std.proofs.lemmas.Bool.{ltb-true, or_parts, or_from, cond_both}
-use Rattle.std.proofs.lemmas.List.{length-map}
+use Rattle.std.proofs.lemmas.List.{length-map, map-append}
 use Rattle.std.proofs.lemmas.Option.{cond_some}
 use Rattle.std.proofs.lemmas.Map.Keys.{IsDistinct-cons, IsDistinct-head, IsDistinct-tail, IsDistinct-push}
 use Rattle.lldp_pdu.specs.Msap.{MsapId}
@@ -11,7 +11,8 @@ use Rattle.lldp_table.proofs.MsapLemmas.{same_msap-laws, same_msap-true}
 use Rattle.lldp_table.specs.Events.{Neighbor, Call, learn, forget, purge, tick, set_limit}
 use Rattle.lldp_table.specs.Contents.{Contents, aged, is_named, fresh, refreshed, learn_answer, learned_as, after_learn, after_forget, after_purge, after_tick, after_set_limit, newly_opened, table_after, IsExtent, IsHeld, IsSound, names_of}
 use Rattle.lldp_table.specs.Standing.{IsNewLimit, IsTold}
-use Rattle.lldp_table.proofs.EventLemmas.{keep, filter_map-keep}
+use Rattle.lldp_table.proofs.EventLemmas.{keep, filter_map-keep, by_new}
+use Rattle.lldp_table.proofs.PlaceLemmas.{all-push}
 use Rattle.lldp_table.specs.declared.learned.Learned.{Learned}
 use Rattle.lldp_table.specs.declared.learned.Learned.TheVariants.{New, Refreshed, Dropped}
 
@@ -109,14 +110,6 @@ names_none : (name : MsapId) (xs : List Neighbor) → list_any (is_named name) x
 names_none name [] h = h
 names_none name (x ∷ xs) h = let p = or_parts (same_msap name x.msap) (list_any (is_named name) xs) h in or_from (same_msap name x.msap) (list_any (same_msap name) (names_of xs)) p.0 (names_none name xs p.1)
 
-names-push : (xs : List Neighbor) (x : Neighbor) → names_of (xs ++ x ∷ []) ≡ names_of xs ++ x.msap ∷ []
-names-push [] x = refl
-names-push (y ∷ xs) x = ap (λ ns. y.msap ∷ ns) (names-push xs x)
-
-held-push : (xs : List Neighbor) (x : Neighbor) → AllByRecursion IsHeld xs → IsHeld x → AllByRecursion IsHeld (xs ++ x ∷ [])
-held-push [] x h k = (k, tt)
-held-push (y ∷ xs) x h k = (h.0, held-push xs x h.1 k)
-
 -- a refreshed neighbor keeps its name
 refreshed_name : (name : MsapId) (ttl : ℕ) (octets : List ℕ) (x : Neighbor) → (refreshed name ttl octets x).msap ≡ x.msap
 refreshed_name name ttl octets x = cond_both (is_named name x) (fresh name ttl octets) x (λ y. y.msap ≡ x.msap) (λ e. same_msap-true name x.msap e) (λ e. refl)
@@ -129,22 +122,17 @@ held-refreshed : (name : MsapId) (ttl : ℕ) (octets : List ℕ) (xs : List Neig
 held-refreshed name ttl octets [] k h = tt
 held-refreshed name ttl octets (x ∷ xs) k h = (cond_both (is_named name x) (fresh name ttl octets) x IsHeld (λ e. k) (λ e. h.0), held-refreshed name ttl octets xs k h.1)
 
-is_room : (b c : Bool) → cond b Refreshed (cond c New Dropped) ≡ New → (b ≡ false) × (c ≡ true)
-is_room true c h = cc
-is_room false true h = (refl, refl)
-is_room false false h = cc
-
 sound_learned_as : (a : Learned) (table : Contents) (name : MsapId) (ttl : ℕ) (octets : List ℕ) → learn_answer table name ≡ a → IsExtent name ttl octets → IsSound table → IsSound (learned_as a table name ttl octets)
 sound_learned_as New table name ttl octets e t h =
-    let room = is_room (list_any (is_named name) table.neighbors) _ e in
+    let room = by_new (list_any (is_named name) table.neighbors) _ e in
     let less : length table.neighbors < table.limit = ltb-true (length table.neighbors) table.limit room.1 in
     record {
       few = omega (arith, length-append table.neighbors (fresh name ttl octets ∷ []));
       most = h.most;
       room = h.room;
       least = h.least;
-      held = held-push table.neighbors (fresh name ttl octets) h.held (record { told = t; lives = t.lives; left = omega arith });
-      distinct = subst (IsDistinct same_msap) (sym (names-push table.neighbors (fresh name ttl octets)))
+      held = all-push IsHeld table.neighbors (fresh name ttl octets) h.held (record { told = t; lives = t.lives; left = omega arith });
+      distinct = subst (IsDistinct same_msap) (sym (map-append (λ (x : Neighbor). x.msap) table.neighbors (fresh name ttl octets ∷ [])))
           (IsDistinct-push same_msap-laws (names_of table.neighbors) name h.distinct (names_none name table.neighbors room.0));
     }
 sound_learned_as Refreshed table name ttl octets e t h = record {

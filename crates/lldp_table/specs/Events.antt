@@ -33,23 +33,16 @@ pub record Neighbor : Type 0 where
 
 abbrev pub is_tick : TableEvent → Bool
 is_tick ticked = true
-is_tick (learned msap ttl octets answer) = false
-is_tick (forgot msap) = false
-is_tick purged = false
-is_tick (limit_set limit) = false
+is_tick _ = false
 
 abbrev pub is_purge : TableEvent → Bool
 is_purge purged = true
-is_purge (learned msap ttl octets answer) = false
-is_purge (forgot msap) = false
-is_purge ticked = false
-is_purge (limit_set limit) = false
+is_purge _ = false
 
 -- new and refreshed frames are stored, dropped ones aren't
 abbrev pub is_stored : Learned → Bool
-is_stored New = true
-is_stored Refreshed = true
 is_stored Dropped = false
+is_stored _ = true
 
 -- how many ticks came
 abbrev pub ticks : List TableEvent → ℕ
@@ -66,18 +59,14 @@ abbrev pub decides_on : MsapId → TableEvent → Bool
 decides_on name (learned other ttl octets answer) = is_stored answer && same_msap other name
 decides_on name (forgot other) = same_msap other name
 decides_on name purged = true
-decides_on name ticked = false
-decides_on name (limit_set limit) = false
+decides_on name _ = false
 
 -- ## Who is live
 
 -- what is live of a name whose last deciding event is this one, n ticks ago
 abbrev pub live_after : ℕ → TableEvent → Option Neighbor
 live_after n (learned msap ttl octets answer) = if nat_lt n ttl then Some (record { msap = msap; octets = octets; ttl = ttl; left = ttl - n }) else None
-live_after n (forgot msap) = None
-live_after n purged = None
-live_after n ticked = None
-live_after n (limit_set limit) = None
+live_after n _ = None
 
 -- The neighbor of this name, if it is live: of the events that stored it, forgot it or purged the table the last one
 -- stored it, and fewer ticks than its TTL came since.
@@ -87,12 +76,7 @@ live name events = option_and_then (live_after (ticks (since (decides_on name) e
 -- an event's name comes last where it is new
 abbrev pub arrive : TableEvent → List MsapId → List MsapId
 arrive (learned name ttl octets New) names = filter (λ other. not (same_msap name other)) names ++ name ∷ []
-arrive (learned name ttl octets Refreshed) names = names
-arrive (learned name ttl octets Dropped) names = names
-arrive (forgot name) names = names
-arrive purged names = names
-arrive ticked names = names
-arrive (limit_set limit) names = names
+arrive _ names = names
 
 -- the names that were ever new, each once, in the order of the events at which each was last new
 abbrev pub arrivals : List TableEvent → List MsapId
@@ -109,10 +93,7 @@ neighbors events = filter_map (λ name. live name events) (arrivals events)
 abbrev pub limit_after : ℕ → List TableEvent → ℕ
 limit_after opened [] = opened
 limit_after opened (limit_set limit ∷ past) = limit
-limit_after opened (learned msap ttl octets answer ∷ past) = limit_after opened past
-limit_after opened (forgot msap ∷ past) = limit_after opened past
-limit_after opened (purged ∷ past) = limit_after opened past
-limit_after opened (ticked ∷ past) = limit_after opened past
+limit_after opened (event ∷ past) = limit_after opened past
 
 -- What a `learn` of this name answers. A live name is refreshed, whether or not there is room. Another name is new
 -- where fewer neighbors than the limit in force are live, else its frame is dropped.
@@ -141,13 +122,9 @@ aged_out past = count_by (λ (neighbor : Neighbor). is_none (live neighbor.msap 
 -- the most ticks that a dropped one of these frames has left, n ticks after the last event
 abbrev pub most_left : ℕ → List TableEvent → ℕ
 most_left n [] = 0
-most_left n (learned msap ttl octets New ∷ past) = most_left n past
-most_left n (learned msap ttl octets Refreshed ∷ past) = most_left n past
 most_left n (learned msap ttl octets Dropped ∷ past) = max (ttl - n) (most_left n past)
-most_left n (forgot msap ∷ past) = most_left n past
-most_left n (purged ∷ past) = most_left n past
 most_left n (ticked ∷ past) = most_left (suc n) past
-most_left n (limit_set limit ∷ past) = most_left n past
+most_left n (event ∷ past) = most_left n past
 
 -- The most ticks that a frame dropped since the last purge has left. There are too many neighbors while it isn't 0.
 unfoldable pub too_many_left : List TableEvent → ℕ

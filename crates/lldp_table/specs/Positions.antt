@@ -31,12 +31,7 @@ HasRoom opened events = length (neighbors events) < limit_after opened events
 -- the event made this name new
 abbrev pub makes_new : MsapId → TableEvent → Bool
 makes_new name (learned other ttl octets New) = same_msap other name
-makes_new name (learned other ttl octets Refreshed) = false
-makes_new name (learned other ttl octets Dropped) = false
-makes_new name (forgot other) = false
-makes_new name purged = false
-makes_new name ticked = false
-makes_new name (limit_set limit) = false
+makes_new name _ = false
 
 -- One neighbor's name was last new before another's: at some moment the one had been new and the other came to be new
 -- later, and the one was not new again since.

@@ -1,7 +1,4 @@
-use Rattle.std.proofs.Common.{◌<◌, ◌≤◌, sym, subst}
 use Rattle.lldp_table.specs.Events.{events_of}
-use Rattle.lldp_table.specs.Positions.{WasDropped}
-use Rattle.lldp_table.proofs.StandingLemmas.{stands_too_many}
 use Rattle.lldp_table.proofs.OrderLemmas.{greatest_dropped, none_dropped_above}
 use Rattle.lldp_table.proofs.laws.keeps_the_greatest_dropped.Goals as goal
 
@@ -12,8 +9,7 @@ pub returns-clause-most : goal.returns-clause-most
 returns-clause-most c = none_dropped_above
 
 pub returns-clause-one_held : goal.returns-clause-one_held
-returns-clause-one_held c = λ table l opened calls h.
-    subst (WasDropped (events_of opened calls)) (sym (stands_too_many table opened calls h)) (greatest_dropped (events_of opened calls) (subst (λ n. 0 < n) (stands_too_many table opened calls h) l))
+returns-clause-one_held c = λ table l opened calls h. rw h.is (greatest_dropped (events_of opened calls) (rw h.is at l))
 
 pub returns-clause-most_held : goal.returns-clause-most_held
-returns-clause-most_held c = λ table left opened calls h w. subst (λ n. left ≤ n) (sym (stands_too_many table opened calls h)) (none_dropped_above (events_of opened calls) left w)
+returns-clause-most_held c = λ table left opened calls h w. rw h.is (none_dropped_above (events_of opened calls) left w)

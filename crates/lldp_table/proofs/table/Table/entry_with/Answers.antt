@@ -9,23 +9,23 @@ use Rattle.lldp_table.proofs.table.Table.entry_with.Goals as goal
 pub invariant_of-result : goal.invariant_of-result
 invariant_of-result g c =
     let t = c.self.inside in
-    let all = count t.slots.cap t.slots.items (ticks_left t.queue) t.order.items t.used t.limit t.too_many c.self.invariant.laid in
+    let all = count c.self.invariant.laid in
     let shown = ap (λ (table : Contents). length table.neighbors) c.self.view_is in
     let l : c.args.i < t.used = omega arith in
     let told = ap (λ (table : Contents). get_or (map (λ (x : Neighbor). x.left) table.neighbors) c.args.i 0) c.self.view_is ∙ c.requires.left in
-    subst IsHeld (sym (entry_with_at t.slots.cap t.slots.items (ticks_left t.queue) t.order.items t.used t.limit t.too_many c.self.invariant.laid c.args.i c.deref.result.now c.index.result.now c.args.left c.deref.ensures.0 c.index.ensures l told))
-    (held_at t.slots.cap t.slots.items (ticks_left t.queue) t.order.items t.used t.limit t.too_many c.self.invariant.laid c.args.i l)
+    subst IsHeld (sym (entry_with_at c.self.invariant.laid c.args.i c.deref.result.now c.index.result.now c.args.left c.deref.ensures.0 c.index.ensures l told))
+    (held_at c.self.invariant.laid c.args.i l)
 
 pub returns-clause-value : goal.returns-clause-value
 returns-clause-value g c =
     let t = c.self.inside in
-    let all = count t.slots.cap t.slots.items (ticks_left t.queue) t.order.items t.used t.limit t.too_many c.self.invariant.laid in
+    let all = count c.self.invariant.laid in
     let shown = ap (λ (table : Contents). length table.neighbors) c.self.view_is in
     let l : c.args.i < t.used = omega arith in
     let told = ap (λ (table : Contents). get_or (map (λ (x : Neighbor). x.left) table.neighbors) c.args.i 0) c.self.view_is ∙ c.requires.left in
     ap (λ (table : Contents). slice_get table.neighbors c.args.i) (sym c.self.view_is)
-    ∙ get_at t.slots.cap t.slots.items (ticks_left t.queue) t.order.items t.used t.limit t.too_many c.self.invariant.laid c.args.i l
-    ∙ ap Some (sym (entry_with_at t.slots.cap t.slots.items (ticks_left t.queue) t.order.items t.used t.limit t.too_many c.self.invariant.laid c.args.i c.deref.result.now c.index.result.now c.args.left c.deref.ensures.0 c.index.ensures l told))
+    ∙ get_at c.self.invariant.laid c.args.i l
+    ∙ ap Some (sym (entry_with_at c.self.invariant.laid c.args.i c.deref.result.now c.index.result.now c.args.left c.deref.ensures.0 c.index.ensures l told))
 
 pub returns-clause-held : goal.returns-clause-held
 returns-clause-held g c = invariant_of-result g c

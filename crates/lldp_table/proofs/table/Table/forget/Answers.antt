@@ -11,52 +11,43 @@ use Rattle.lldp_table.proofs.table.Table.forget.Goals as goal
 
 pub invariant_of-self : goal.invariant_of-self
 invariant_of-self g c =
-    let t = c.self.inside in
-    let left = ticks_left t.queue in
     let name = msap_seen c.args.msap.now in
     let p = rw (c.deref.ensures.value, c.deref-2.ensures.0) at c.in-Some.ensures in
-    let f = found t.slots.cap t.slots.items left t.order.items t.used t.limit t.too_many c.self.invariant.laid name c.in-Some.at p in
+    let f = found c.self.invariant.laid name c.in-Some.at p in
     let moved = c.push.ensures.items ∙ ap (λ is. is ++ c.remove-slot.result ∷ []) c.remove-slot.ensures.items in
     rw moved
-    (forgotten_table t.slots.cap t.slots.items t.queue t.order.items t.used t.limit t.too_many c.self.invariant c.in-Some.at f.0 name c.remove-slot.result f.1 c.remove-slot.ensures.value c.leave.new.self c.leave.ensures)
+    (forgotten_table c.self.invariant c.in-Some.at f.0 name c.remove-slot.result f.1 c.remove-slot.ensures.value c.leave.new.self c.leave.ensures)
 
 pub returns-in-None-clause-answer : goal.returns-in-None-clause-answer
 returns-in-None-clause-answer g c =
-    let t = c.self.inside in
-    let left = ticks_left t.queue in
     let name = msap_seen c.args.msap.now in
     let p = rw (c.deref.ensures.value, c.deref-2.ensures.0) at c.in-None.ensures in
-    sym (not_found t.slots.cap t.slots.items left t.order.items t.used t.limit t.too_many c.self.invariant.laid name p) ∙ ap (λ (table : Contents). holds_name table name) c.self.view_is
+    sym (not_found c.self.invariant.laid name p) ∙ ap (λ (table : Contents). holds_name table name) c.self.view_is
 
 pub returns-in-None-clause-after : goal.returns-in-None-clause-after
 returns-in-None-clause-after g c =
-    let t = c.self.inside in
-    let left = ticks_left t.queue in
     let name = msap_seen c.args.msap.now in
     let p = rw (c.deref.ensures.value, c.deref-2.ensures.0) at c.in-None.ensures in
-    let none = not_found t.slots.cap t.slots.items left t.order.items t.used t.limit t.too_many c.self.invariant.laid name p in
+    let none = not_found c.self.invariant.laid name p in
     subst (λ (table : Contents). table ≡ after_forget table name) c.self.view_is
-    (sym (forgotten_none t.slots.cap t.slots.items left t.order.items t.used t.limit t.too_many c.self.invariant.laid name none))
+    (sym (forgotten_none c.self.invariant.laid name none))
 
 pub returns-in-Some-clause-answer : goal.returns-in-Some-clause-answer
 returns-in-Some-clause-answer g c =
-    let t = c.self.inside in
-    let left = ticks_left t.queue in
     let name = msap_seen c.args.msap.now in
     let p = rw (c.deref.ensures.value, c.deref-2.ensures.0) at c.in-Some.ensures in
-    let f = found t.slots.cap t.slots.items left t.order.items t.used t.limit t.too_many c.self.invariant.laid name c.in-Some.at p in
-    sym (holds_named t.slots.cap t.slots.items left t.order.items t.used t.limit t.too_many c.self.invariant.laid name c.in-Some.at f.0 f.1) ∙ ap (λ (table : Contents). holds_name table name) c.self.view_is
+    let f = found c.self.invariant.laid name c.in-Some.at p in
+    sym (holds_named c.self.invariant.laid name c.in-Some.at f.0 f.1) ∙ ap (λ (table : Contents). holds_name table name) c.self.view_is
 
 pub returns-in-Some-clause-after : goal.returns-in-Some-clause-after
 returns-in-Some-clause-after g c =
     let t = c.self.inside in
-    let left = ticks_left t.queue in
     let name = msap_seen c.args.msap.now in
     let p = rw (c.deref.ensures.value, c.deref-2.ensures.0) at c.in-Some.ensures in
-    let f = found t.slots.cap t.slots.items left t.order.items t.used t.limit t.too_many c.self.invariant.laid name c.in-Some.at p in
+    let f = found c.self.invariant.laid name c.in-Some.at p in
     let moved = c.push.ensures.items ∙ ap (λ is. is ++ c.remove-slot.result ∷ []) c.remove-slot.ensures.items in
     ap (λ is. contents_of t.slots.cap t.slots.items (ticks_left c.leave.new.self) is (t.used - 1) t.limit t.too_many) moved
-    ∙ forgotten_after t.slots.cap t.slots.items t.queue t.order.items t.used t.limit t.too_many c.self.invariant c.in-Some.at f.0 name c.remove-slot.result f.1 c.remove-slot.ensures.value c.leave.new.self c.leave.ensures
+    ∙ forgotten_after c.self.invariant c.in-Some.at f.0 name c.remove-slot.result f.1 c.remove-slot.ensures.value c.leave.new.self c.leave.ensures
     ∙ ap (λ (table : Contents). after_forget table name) c.self.view_is
 
 pub returns-in-None-clause-answers : goal.returns-in-None-clause-answers

@@ -15,52 +15,42 @@ returns-in-Some-clause-told g c = let info = c.args.info.now in info_is_extent i
 
 pub enter-requires-clause-room : goal.enter-requires-clause-room
 enter-requires-clause-room g c =
-    let t = c.self.inside in
-    let left = ticks_left t.queue in
     let info = c.args.info.now in
     let p = rw (c.deref.ensures.value, c.deref-2.ensures.0) at c.in-Some.ensures in
-    let f = found_as t.slots.cap t.slots.items t.queue t.order.items t.used t.limit t.too_many c.self.invariant _ info.msap c.in-Some.at c.msap-name.ensures.value p in
-    rw (c.leave.ensures, c.deref-in-Some.ensures.0) (room_again t.slots.cap t.slots.items t.queue t.order.items t.used t.limit t.too_many c.self.invariant c.in-Some.at f.0)
+    let f = found_as c.self.invariant _ info.msap c.in-Some.at c.msap-name.ensures.value p in
+    rw (c.leave.ensures, c.deref-in-Some.ensures.0) (room_again c.self.invariant c.in-Some.at f.0)
 
 pub enter-requires-clause-new : goal.enter-requires-clause-new
 enter-requires-clause-new g c =
-    let t = c.self.inside in
-    let left = ticks_left t.queue in
     let info = c.args.info.now in
     let p = rw (c.deref.ensures.value, c.deref-2.ensures.0) at c.in-Some.ensures in
-    let f = found_as t.slots.cap t.slots.items t.queue t.order.items t.used t.limit t.too_many c.self.invariant _ info.msap c.in-Some.at c.msap-name.ensures.value p in
-    rw (c.leave.ensures, c.deref-in-Some.ensures.0) (is_out t.slots.cap t.slots.items t.queue t.order.items t.used t.limit t.too_many c.self.invariant c.in-Some.at f.0)
+    let f = found_as c.self.invariant _ info.msap c.in-Some.at c.msap-name.ensures.value p in
+    rw (c.leave.ensures, c.deref-in-Some.ensures.0) (is_out c.self.invariant c.in-Some.at f.0)
 
 pub invariant_of-self : goal.invariant_of-self
 invariant_of-self g c =
-    let t = c.self.inside in
-    let left = ticks_left t.queue in
     let info = c.args.info.now in
     let p = rw (c.deref.ensures.value, c.deref-2.ensures.0) at c.in-Some.ensures in
-    let f = found_as t.slots.cap t.slots.items t.queue t.order.items t.used t.limit t.too_many c.self.invariant _ info.msap c.in-Some.at c.msap-name.ensures.value p in
+    let f = found_as c.self.invariant _ info.msap c.in-Some.at c.msap-name.ensures.value p in
     let told = info_is_extent info c.octets-octets.ensures.again (rw (← c.ttl-ttl.ensures.value) c.ttl-ttl.ensures.lives) c.requires in
-    refreshed_table t.slots.cap t.slots.items t.queue t.order.items t.used t.limit t.too_many c.self.invariant c.in-Some.at f.0 info.msap info.ttl info.octets c.store.new.self (c.store.ensures.octets ∙ c.octets-octets.ensures.value) (omega (arith, c.store.ensures.ttl, c.ttl-ttl.ensures.value)) told f.1
+    refreshed_table c.self.invariant c.in-Some.at f.0 info.msap info.ttl info.octets c.store.new.self (c.store.ensures.octets ∙ c.octets-octets.ensures.value) (omega (arith, c.store.ensures.ttl, c.ttl-ttl.ensures.value)) told f.1
     _ _ c.enter.new.self c.deref-in-Some.ensures.0 (omega (arith, c.ttl-ttl.ensures.value)) (then_enters _ _ _ _ _ c.leave.ensures c.enter.ensures)
 
 pub returns-in-Some-clause-after : goal.returns-in-Some-clause-after
 returns-in-Some-clause-after g c =
-    let t = c.self.inside in
-    let left = ticks_left t.queue in
     let info = c.args.info.now in
     let p = rw (c.deref.ensures.value, c.deref-2.ensures.0) at c.in-Some.ensures in
-    let f = found_as t.slots.cap t.slots.items t.queue t.order.items t.used t.limit t.too_many c.self.invariant _ info.msap c.in-Some.at c.msap-name.ensures.value p in
-    refreshed_after t.slots.cap t.slots.items t.queue t.order.items t.used t.limit t.too_many c.self.invariant c.in-Some.at f.0 info.msap info.ttl info.octets c.store.new.self (c.store.ensures.octets ∙ c.octets-octets.ensures.value) (omega (arith, c.store.ensures.ttl, c.ttl-ttl.ensures.value)) (returns-in-Some-clause-told g c) f.1
+    let f = found_as c.self.invariant _ info.msap c.in-Some.at c.msap-name.ensures.value p in
+    refreshed_after c.self.invariant c.in-Some.at f.0 info.msap info.ttl info.octets c.store.new.self (c.store.ensures.octets ∙ c.octets-octets.ensures.value) (omega (arith, c.store.ensures.ttl, c.ttl-ttl.ensures.value)) (returns-in-Some-clause-told g c) f.1
     _ _ c.enter.new.self c.deref-in-Some.ensures.0 (omega (arith, c.ttl-ttl.ensures.value)) (then_enters _ _ _ _ _ c.leave.ensures c.enter.ensures)
     ∙ ap (λ (table : Contents). after_learn table info.msap info.ttl info.octets) c.self.view_is
 
 pub returns-in-Some-clause-answer : goal.returns-in-Some-clause-answer
 returns-in-Some-clause-answer g c =
-    let t = c.self.inside in
-    let left = ticks_left t.queue in
     let info = c.args.info.now in
     let p = rw (c.deref.ensures.value, c.deref-2.ensures.0) at c.in-Some.ensures in
-    let f = found_as t.slots.cap t.slots.items t.queue t.order.items t.used t.limit t.too_many c.self.invariant _ info.msap c.in-Some.at c.msap-name.ensures.value p in
-    sym (answer_refreshed t.slots.cap t.slots.items left t.order.items t.used t.limit t.too_many c.self.invariant.laid info.msap c.in-Some.at f.0 f.1) ∙ ap (λ (table : Contents). learn_answer table info.msap) c.self.view_is
+    let f = found_as c.self.invariant _ info.msap c.in-Some.at c.msap-name.ensures.value p in
+    sym (answer_refreshed c.self.invariant.laid info.msap c.in-Some.at f.0 f.1) ∙ ap (λ (table : Contents). learn_answer table info.msap) c.self.view_is
 
 pub returns-in-Some-clause-answers : goal.returns-in-Some-clause-answers
 returns-in-Some-clause-answers g c = λ opened calls h. returns-in-Some-clause-answer g c ∙ learn_answers c.args.self.now opened calls c.args.info.now.msap h
@@ -77,43 +67,34 @@ returns-then-self-clause-told g c = let info = c.args.info.now in info_is_extent
 
 pub enter-requires-then-self-clause-new : goal.enter-requires-then-self-clause-new
 enter-requires-then-self-clause-new g c =
-    let t = c.self.inside in
-    let left = ticks_left t.queue in
-    let info = c.args.info.now in
-    next_queued t.slots.cap t.slots.items t.queue t.order.items t.used t.limit t.too_many c.self.invariant c.if-self.true _ _ c.write_next.ensures.slots c.write_next.ensures.order _ c.deref-then-self.ensures.0
+    next_queued c.self.invariant c.if-self.true _ _ c.write_next.ensures.slots c.write_next.ensures.order _ c.deref-then-self.ensures.0
 
 pub invariant_of-self-then-self : goal.invariant_of-self-then-self
 invariant_of-self-then-self g c =
-    let t = c.self.inside in
-    let left = ticks_left t.queue in
     let info = c.args.info.now in
     let p = rw (c.deref.ensures.value, c.deref-2.ensures.0, c.msap-name.ensures.value) at c.in_default.ensures in
-    let none = not_found t.slots.cap t.slots.items left t.order.items t.used t.limit t.too_many c.self.invariant.laid info.msap p in
+    let none = not_found c.self.invariant.laid info.msap p in
     let told = info_is_extent info c.octets-octets.ensures.again (rw (← c.ttl-ttl.ensures.value) c.ttl-ttl.ensures.lives) c.requires in
     rw c.write_next.ensures.room
-    (new_table t.slots.cap t.slots.items t.queue t.order.items t.used t.limit t.too_many c.self.invariant c.if-self.true _ _ c.write_next.ensures.slots c.write_next.ensures.order info.msap info.ttl info.octets c.store-then-self.new.self (c.store-then-self.ensures.octets ∙ c.octets-octets.ensures.value) (omega (arith, c.store-then-self.ensures.ttl, c.ttl-ttl.ensures.value)) told none
+    (new_table c.self.invariant c.if-self.true _ _ c.write_next.ensures.slots c.write_next.ensures.order info.msap info.ttl info.octets c.store-then-self.new.self (c.store-then-self.ensures.octets ∙ c.octets-octets.ensures.value) (omega (arith, c.store-then-self.ensures.ttl, c.ttl-ttl.ensures.value)) told none
     _ _ c.enter-then-self.new.self c.deref-then-self.ensures.0 (omega (arith, c.ttl-ttl.ensures.value)) c.enter-then-self.ensures)
 
 pub returns-then-self-clause-after : goal.returns-then-self-clause-after
 returns-then-self-clause-after g c =
-    let t = c.self.inside in
-    let left = ticks_left t.queue in
     let info = c.args.info.now in
     let p = rw (c.deref.ensures.value, c.deref-2.ensures.0, c.msap-name.ensures.value) at c.in_default.ensures in
-    let none = not_found t.slots.cap t.slots.items left t.order.items t.used t.limit t.too_many c.self.invariant.laid info.msap p in
+    let none = not_found c.self.invariant.laid info.msap p in
     rw c.write_next.ensures.room
-    (new_after t.slots.cap t.slots.items t.queue t.order.items t.used t.limit t.too_many c.self.invariant c.if-self.true _ _ c.write_next.ensures.slots c.write_next.ensures.order info.msap info.ttl info.octets c.store-then-self.new.self (c.store-then-self.ensures.octets ∙ c.octets-octets.ensures.value) (omega (arith, c.store-then-self.ensures.ttl, c.ttl-ttl.ensures.value)) (returns-then-self-clause-told g c) none
+    (new_after c.self.invariant c.if-self.true _ _ c.write_next.ensures.slots c.write_next.ensures.order info.msap info.ttl info.octets c.store-then-self.new.self (c.store-then-self.ensures.octets ∙ c.octets-octets.ensures.value) (omega (arith, c.store-then-self.ensures.ttl, c.ttl-ttl.ensures.value)) (returns-then-self-clause-told g c) none
     _ _ c.enter-then-self.new.self c.deref-then-self.ensures.0 (omega (arith, c.ttl-ttl.ensures.value)) c.enter-then-self.ensures
     ∙ ap (λ (table : Contents). after_learn table info.msap info.ttl info.octets) c.self.view_is)
 
 pub returns-then-self-clause-answer : goal.returns-then-self-clause-answer
 returns-then-self-clause-answer g c =
-    let t = c.self.inside in
-    let left = ticks_left t.queue in
     let info = c.args.info.now in
     let p = rw (c.deref.ensures.value, c.deref-2.ensures.0, c.msap-name.ensures.value) at c.in_default.ensures in
-    let none = not_found t.slots.cap t.slots.items left t.order.items t.used t.limit t.too_many c.self.invariant.laid info.msap p in
-    sym (answer_new t.slots.cap t.slots.items left t.order.items t.used t.limit t.too_many c.self.invariant.laid info.msap none c.if-self.true) ∙ ap (λ (table : Contents). learn_answer table info.msap) c.self.view_is
+    let none = not_found c.self.invariant.laid info.msap p in
+    sym (answer_new c.self.invariant.laid info.msap none c.if-self.true) ∙ ap (λ (table : Contents). learn_answer table info.msap) c.self.view_is
 
 pub returns-then-self-clause-answers : goal.returns-then-self-clause-answers
 returns-then-self-clause-answers g c = λ opened calls h. returns-then-self-clause-answer g c ∙ learn_answers c.args.self.now opened calls c.args.info.now.msap h
@@ -130,23 +111,19 @@ returns-clause-told g c = let info = c.args.info.now in info_is_extent info c.oc
 
 pub returns-clause-after : goal.returns-clause-after
 returns-clause-after g c =
-    let t = c.self.inside in
-    let left = ticks_left t.queue in
     let info = c.args.info.now in
     let p = rw (c.deref.ensures.value, c.deref-2.ensures.0, c.msap-name.ensures.value) at c.in_default.ensures in
-    let none = not_found t.slots.cap t.slots.items left t.order.items t.used t.limit t.too_many c.self.invariant.laid info.msap p in
-    after_dropped t.slots.cap t.slots.items left t.order.items t.used t.limit t.too_many c.self.invariant.laid info.msap none c.if-self.false info.ttl info.octets _
+    let none = not_found c.self.invariant.laid info.msap p in
+    after_dropped c.self.invariant.laid info.msap none c.if-self.false info.ttl info.octets _
     (omega (arith, c.ttl-ttl.ensures.value))
     ∙ ap (λ (table : Contents). after_learn table info.msap info.ttl info.octets) c.self.view_is
 
 pub returns-clause-answer : goal.returns-clause-answer
 returns-clause-answer g c =
-    let t = c.self.inside in
-    let left = ticks_left t.queue in
     let info = c.args.info.now in
     let p = rw (c.deref.ensures.value, c.deref-2.ensures.0, c.msap-name.ensures.value) at c.in_default.ensures in
-    let none = not_found t.slots.cap t.slots.items left t.order.items t.used t.limit t.too_many c.self.invariant.laid info.msap p in
-    sym (answer_dropped t.slots.cap t.slots.items left t.order.items t.used t.limit t.too_many c.self.invariant.laid info.msap none c.if-self.false) ∙ ap (λ (table : Contents). learn_answer table info.msap) c.self.view_is
+    let none = not_found c.self.invariant.laid info.msap p in
+    sym (answer_dropped c.self.invariant.laid info.msap none c.if-self.false) ∙ ap (λ (table : Contents). learn_answer table info.msap) c.self.view_is
 
 pub returns-clause-answers : goal.returns-clause-answers
 returns-clause-answers g c = λ opened calls h. returns-clause-answer g c ∙ learn_answers c.args.self.now opened calls c.args.info.now.msap h

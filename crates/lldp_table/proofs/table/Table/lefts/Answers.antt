@@ -11,7 +11,6 @@ lefts_of-requires-clause-queued g c = let t = c.self.inside in rw c.deref.ensure
 
 pub returns : goal.returns
 returns g c =
-    let t = c.self.inside in
     rw c.deref.ensures.0 at c.lefts_of.ensures
-    ∙ sym (lefts_held t.slots.cap t.slots.items (ticks_left t.queue) t.order.items t.used t.limit t.too_many c.self.invariant.laid)
+    ∙ sym (lefts_held c.self.invariant.laid)
     ∙ ap (λ (table : Contents). map (λ (x : Neighbor). x.left) table.neighbors) c.self.view_is

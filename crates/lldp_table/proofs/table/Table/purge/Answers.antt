@@ -7,8 +7,7 @@ use Rattle.lldp_table.proofs.table.Table.purge.Goals as goal
 
 pub invariant_of-self : goal.invariant_of-self
 invariant_of-self g c =
-    let t = c.self.inside in
-    purged_table t.slots.cap t.slots.items t.queue t.order.items t.used t.limit t.too_many c.self.invariant c.clear.new.self c.clear.ensures
+    purged_table c.self.invariant c.clear.new.self c.clear.ensures
 
 pub returns-clause-stands : goal.returns-clause-stands
 returns-clause-stands g c = λ opened calls h. stands_after c.args.self.now _ opened calls purge (ap after_purge c.self.view_is) tt h

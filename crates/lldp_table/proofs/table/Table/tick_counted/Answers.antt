@@ -28,7 +28,7 @@ returns-clause-answer g c =
     let t = c.self.inside in
     let aged = c.age_out-kept.ensures in
     let table = invariant_of-self g c in
-    let new = count t.slots.cap t.slots.items (ticks_left c.age_out-kept.new.queue) c.age_out-kept.new.order.items c.age_out-kept.result t.limit c.saturating_sub-self-inside.result table.laid in
-    let old = count t.slots.cap t.slots.items (ticks_left t.queue) t.order.items t.used t.limit t.too_many c.self.invariant.laid in
+    let new = count table.laid in
+    let old = count c.self.invariant.laid in
     let shown = ap (λ (table : Contents). length table.neighbors) c.self.view_is in
     omega (arith, new, old, shown, aged.fewer)
