@@ -13,11 +13,11 @@ use Rattle.lldp_table.specs.Queue.{Due, due, dues, slots_of, holds, ticks_left, 
 use Rattle.lldp_table.proofs.PlaceLemmas.{at_place, all-push, all-both, not_before, not_behind, nat_eq_sym, map-remove, unheld, distinct-moved}
 use Rattle.lldp_table.proofs.QueueLemmas.{at_first, behind, total-cons, total-enter, total-leave, total-less_first}
 use Rattle.lldp_table.proofs.QueueOrderLemmas.{slots-enter, slots-leave}
+use Rattle.std.proofs.lemmas.Grind.{common_steps}
 
 -- no slot at a place
 pub beyond : (f : List Due → List Due) → f [] ≡ [] → (k : ℕ) (queue : List Due) → length queue ≤ k → queue ≡ take k queue ++ f (drop k queue)
-beyond f e k queue h =
-    sym (append-nil queue) ∙ ap (λ q. q ++ []) (sym (take_all k queue h)) ∙ ap (λ q. take k queue ++ q) (sym e) ∙ ap (λ q. take k queue ++ f q) (sym (drop_of_length-le queue h))
+beyond f e k queue h = grind (arith, common_steps, append-nil, take_all, drop_of_length-le)
 
 module _ (times : List ℕ) where
   pub slots_of-dues : (slots : List ℕ) → slots_of (dues times slots) ≡ slots
@@ -84,13 +84,7 @@ module _ (times : List ℕ) where
     module _ (slot left rest : ℕ) (p : enter slot left queue ≡ take k queue ++ enter slot rest (drop k queue)) where
       -- before a slot that expires later
       pub enters_here : k < length slots → rest < gap → enter slot left queue ≡ take k queue ++ put slot rest (drop k queue)
-      enters_here l m =
-          let f : nat_le gap rest ≡ false = lt-leb gap rest m in
-          let e : Due = due s gap in
-          let others : List Due = drop (suc k) queue in
-          p ∙ ap (λ q. take k queue ++ enter slot rest q) (drop-dues slots k l)
-          ∙ ap (λ b. take k queue ++ cond b (e ∷ enter slot (rest - gap) others) (put slot rest (e ∷ others))) f
-          ∙ ap (λ q. take k queue ++ put slot rest q) (sym (drop-dues slots k l))
+      enters_here l m = grind (arith, common_steps, lt-leb, drop-dues)
 
       -- behind one that expires no later
       pub enters_behind : k < length slots → gap ≤ rest → enter slot left queue ≡ take (k + 1) queue ++ enter slot (rest - gap) (drop (k + 1) queue)
@@ -136,9 +130,7 @@ entered times times' slots k slot rest l n w u e =
 pub leaves_at : (times slots : List ℕ) (k slot : ℕ) → k < length slots → get_or slots k 0 ≡ slot → IsDistinct nat_eq slots
     → leave slot (dues times slots) ≡ take k (dues times slots) ++ add_first (get_or times slot 0) (drop (suc k) (dues times slots))
 leaves_at times [] k slot l e d = absurd (omega arith)
-leaves_at times (i ∷ is) zero slot l e d =
-    cond-true (nat_eq i slot) (add_first (get_or times i 0) (dues times is)) (due i (get_or times i 0) ∷ leave slot (dues times is)) (eq-eqb i slot e)
-    ∙ ap (λ j. add_first (get_or times j 0) (dues times is)) e
+leaves_at times (i ∷ is) zero slot l e d = grind (arith, common_steps, cond-true, eq-eqb)
 leaves_at times (i ∷ is) (suc k) slot l e d =
     let differs : nat_eq i slot ≡ false = ap (nat_eq i) (sym e) ∙ at_place (λ j. nat_eq i j ≡ false) is k 0 (omega arith) (IsDistinct-head nat_eq i is d) in
     cond-false (nat_eq i slot) (add_first (get_or times i 0) (dues times is)) (due i (get_or times i 0) ∷ leave slot (dues times is)) differs
@@ -153,14 +145,7 @@ without (suc k) (e ∷ queue) others l = ap (λ q. e ∷ q) (without k queue oth
 pub left_at : (times times' slots : List ℕ) (k slot gap : ℕ) → k < length slots → get_or slots k 0 ≡ slot → IsDistinct nat_eq slots → gap ≡ get_or times slot 0
     → dues times' slots ≡ take (k + 1) (dues times slots) ++ add_first gap (drop (k + 1) (dues times slots))
     → dues times' (remove slots k) ≡ leave slot (dues times slots)
-left_at times times' slots k slot gap l e d g a =
-    let queue : List Due = dues times slots in
-    let one : k + 1 ≡ suc k = omega arith in
-    let there : k < length queue = omega (arith, length-dues times slots, l) in
-    map-remove (λ i. due i (get_or times' i 0)) slots k
-    ∙ ap (λ (q : List Due). remove q k) (a ∙ ap (λ n. take n queue ++ add_first gap (drop n queue)) one ∙ ap (λ n. take (suc k) queue ++ add_first n (drop (suc k) queue)) g)
-    ∙ without k queue (add_first (get_or times slot 0) (drop (suc k) queue)) there
-    ∙ sym (leaves_at times slots k slot l e d)
+left_at times times' slots k slot gap l e d g a = grind (arith, common_steps, length-dues, map-remove, without, leaves_at)
 
 -- two differences, one behind the other
 two_of_total : (queue : List Due) (k : ℕ) (d : Due) → suc k < length queue → (get_or queue k d).gap + (get_or queue (suc k) d).gap ≤ total queue
@@ -210,12 +195,7 @@ module _ (times slots : List ℕ) (h : IsQueue times slots) (times' slots' : Lis
       }
 
   pub queue_lessened : (n : ℕ) → dues times' slots' ≡ less_first n (dues times slots) → slots' ≡ slots → IsQueue times' slots'
-  queue_lessened n e same = record {
-    all = all;
-    within = rw same h.within;
-    distinct = rw same h.distinct;
-    fits = let t = total-less_first n (dues times slots) in let f = h.fits in rw e (omega (arith, t, f));
-  }
+  queue_lessened n e same = grind (arith, common_steps, total-less_first)
 
 pub queue_none : (times : List ℕ) → length times ≡ 128 → IsQueue times []
 unfolding IsDistinct
@@ -226,12 +206,7 @@ within_times times slots h k l = let w : get_or slots k 0 < 128 = at_place (λ i
 
 pub queue_popped : (times slots : List ℕ) → IsQueue times slots → IsQueue times (remove slots 0)
 queue_popped times [] h = h
-queue_popped times (i ∷ is) h = record {
-  all = h.all;
-  within = h.within.1;
-  distinct = IsDistinct-tail nat_eq i is h.distinct;
-  fits = let t = total-cons (due i (get_or times i 0)) (dues times is) in let f = h.fits in omega (arith, t, f);
-}
+queue_popped times (i ∷ is) h = grind (arith, common_steps, IsDistinct-tail, total-cons)
 
 -- ## The ticks left of each slot, one after the other
 
@@ -249,10 +224,7 @@ module _ (times slots : List ℕ) (h : IsQueue times slots) (k left : ℕ) (l : 
   from_here = let e : suc k ≡ k + 1 = omega arith in drop-cons slots k 0 l ∙ ap (λ n. here ∷ drop n slots) e
 
   pub sum_step : left + total (dues times (drop k slots)) ≡ total (dues times slots) → left + now + total (dues times behind_it) ≡ total (dues times slots)
-  sum_step e =
-      let t = total-cons (due here now) (dues times behind_it) in
-      let f : left + total (due here now ∷ dues times behind_it) ≡ total (dues times slots) = ap (λ is. left + total (dues times is)) (sym from_here) ∙ e in
-      omega (arith, t, f)
+  sum_step e = grind (arith, common_steps, total-cons, from_here)
 
   pub done_step : (lefts : List ℕ) → length lefts ≡ 128 → AllByRecursion (λ i. get_or lefts i 0 ≡ ticks_left (dues times slots) i) (take k slots)
       → left + now ≡ ticks_left (dues times slots) here → AllByRecursion (λ i. get_or (set lefts here (left + now)) i 0 ≡ ticks_left (dues times slots) i) (take (k + 1) slots)
@@ -292,6 +264,4 @@ all_of P slot (i ∷ is) a h =
 
 pub lefts_of : (times slots lefts : List ℕ) (shown : List Due) → dues times slots ≡ shown → AllByRecursion (λ i. get_or lefts i 0 ≡ ticks_left (dues times slots) i) slots
     → (slot : ℕ) → holds slot shown ≡ true → get_or lefts slot 0 ≡ ticks_left shown slot
-lefts_of times slots lefts shown e a slot h =
-    all_of (λ i. get_or lefts i 0 ≡ ticks_left (dues times slots) i) slot slots a (sym (holds-dues times slot slots) ∙ ap (holds slot) e ∙ h)
-    ∙ ap (λ (q : List Due). ticks_left q slot) e
+lefts_of times slots lefts shown e a slot h = grind (arith, common_steps, all_of, holds-dues)
