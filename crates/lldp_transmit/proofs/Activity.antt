@@ -2,7 +2,7 @@
 use Rattle.std.specs.Prelude.{◌≡◌, ℕ, ◌+◌, ◌≤◌, ◌↔◌, Bool, true, false, cond, not, ◌&&◌, ◌||◌, nat_le, IsTrue, List, [], ◌∷◌, ◌++◌}
 use Rattle.std.specs.List.{list_any}
 use Rattle.std.proofs.Common.{refl, ap, ap₂, sym, ◌∙◌, arith}
-use Rattle.std.proofs.lemmas.Bool.{and_parts, and_from, leb-true, le-leb}
+use Rattle.std.proofs.lemmas.Bool.{and_parts, and_from, leb-true, le-leb, not-true, not_from_false, false_from_ne_true, false≢true}
 use Rattle.lldp_transmit.specs.declared.event.Cause.{Cause}
 use Rattle.lldp_transmit.specs.declared.event.Cause.TheVariants.{Tick, Down, Up}
 use Rattle.lldp_transmit.specs.Fronts.{count, since}
@@ -173,14 +173,6 @@ pub is_tick_only : (c : Cause) → is_tick c ≡ true → c ≡ Tick
 is_tick_only Tick e = refl
 is_tick_only _ e = cc e
 
-not_true : (b : Bool) → ¬ (b ≡ true) → not b ≡ true
-not_true true n = absurd (n refl)
-not_true false n = refl
-
-not_from : (b : Bool) → not b ≡ true → ¬ (b ≡ true)
-not_from true e p = cc e
-not_from false e p = cc p
-
 pub start_reads : (s : Settings) (h : History) (e : Event) → IsTrue (moment s (moments s h) e).start ↔ IsStart s (moments s h) (moment s (moments s h) e)
 unfolding moment
 start_reads s h e = (forth, back)
@@ -192,9 +184,9 @@ start_reads s h e = (forth, back)
         let b = and_parts _ _ a.1 in
         let c = and_parts _ _ b.1 in
         let d = and_parts _ _ c.1 in
-        (is_tick_only e.cause a.0, b.0, c.0, λ started. not_from (is_active past) d.0 ((active_reads s h).1 started), (rested_reads s past).0 d.1)
+        (is_tick_only e.cause a.0, b.0, c.0, λ started. false≢true (sym (not-true (is_active past) d.0) ∙ (active_reads s h).1 started), (rested_reads s past).0 d.1)
 
     back : IsStart s (moments s h) (moment s (moments s h) e) → IsTrue (moment s (moments s h) e).start
     back (t, l, u, n, r) =
         let past = moments s h in
-        and_from _ _ (ap is_tick t) (and_from _ _ l (and_from _ _ u (and_from _ _ (not_true (is_active past) (λ a. n ((active_reads s h).0 a))) ((rested_reads s past).1 r))))
+        and_from _ _ (ap is_tick t) (and_from _ _ l (and_from _ _ u (and_from _ _ (not_from_false (is_active past) (false_from_ne_true (is_active past) (λ a. n ((active_reads s h).0 a)))) ((rested_reads s past).1 r))))

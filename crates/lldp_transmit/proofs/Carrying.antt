@@ -3,7 +3,7 @@ use Rattle.std.specs.Prelude.{◌≡◌, ℕ, ◌+◌, ◌-◌, ◌≤◌, Bool,
 use Rattle.std.proofs.Common.{refl, arith}
 use Rattle.std.proofs.lemmas.Bool.Decides.{nat_tests}
 use Rattle.lldp_transmit.specs.declared.event.Cause.{Cause}
-use Rattle.lldp_transmit.specs.declared.event.Cause.TheVariants.{Tick, Change, Neighbor, Stop, Allow, Down, Up, Nothing}
+use Rattle.lldp_transmit.specs.declared.event.Cause.TheVariants.{Tick}
 use Rattle.lldp_transmit.specs.declared.event.Mark.{Mark}
 use Rattle.lldp_transmit.specs.declared.event.Mark.TheVariants.{Quiet, Ordinary, Shutdown}
 use Rattle.lldp_transmit.specs.Machine.{Machine, stepped}
@@ -61,59 +61,18 @@ module _ (cm fi re cr wa ti le n : ℕ) (few : cr ≤ cm) where
   abbrev IsRight : (wt ac al up : Bool) → Cause → Type 0
   IsRight wt ac al up c = Makes (machine cm fi re cr wa ti le wt ac al up) c n (stepped (machine cm fi re cr wa ti le wt ac al up) c n)
 
-  on_tick : (wt ac al up : Bool) → (ac ≡ true → al ≡ true) → IsRight wt ac al up Tick
-  on_tick wt true false up i = cc (i refl)
-  on_tick false true true up i = grind (arith, nat_tests)
-  on_tick true true true up i = grind (arith, nat_tests)
-  on_tick wt false true true i = grind (arith, nat_tests)
-  on_tick wt false true false i = grind (arith, nat_tests)
-  on_tick wt false false up i = grind (arith, nat_tests)
-
-  on_change : (wt ac al up : Bool) → (ac ≡ true → al ≡ true) → IsRight wt ac al up Change
-  on_change wt true false up i = cc (i refl)
-  on_change wt true true up i = grind (arith, nat_tests)
-  on_change wt false al up i = grind (arith, nat_tests)
-
-  on_neighbor : (wt ac al up : Bool) → (ac ≡ true → al ≡ true) → IsRight wt ac al up Neighbor
-  on_neighbor wt true false up i = cc (i refl)
-  on_neighbor wt true true up i = grind (arith, nat_tests)
-  on_neighbor wt false al up i = grind (arith, nat_tests)
-
-  on_stop : (wt ac al up : Bool) → (ac ≡ true → al ≡ true) → IsRight wt ac al up Stop
-  on_stop wt true false up i = cc (i refl)
-  on_stop wt true true up i = grind (arith, nat_tests)
-  on_stop wt false al up i = grind (arith, nat_tests)
-
-  on_down : (wt ac al up : Bool) → (ac ≡ true → al ≡ true) → IsRight wt ac al up Down
-  on_down wt true false up i = cc (i refl)
-  on_down wt true true up i = grind (arith, nat_tests)
-  on_down wt false al up i = grind (arith, nat_tests)
-
-  on_nothing : (wt ac al up : Bool) → (ac ≡ true → al ≡ true) → (ac ≡ true → wt ≡ true → cr ≡ 0) → IsRight wt ac al up Nothing
-  on_nothing wt true false up i j = cc (i refl)
-  on_nothing false true true up i j = grind (arith, nat_tests)
-  on_nothing true true true up i j = let none : cr ≡ 0 = j refl refl in grind (arith, nat_tests)
-  on_nothing wt false al up i j = grind (arith, nat_tests)
-
-  on_allow : (wt ac al up : Bool) → (ac ≡ true → al ≡ true) → (ac ≡ true → wt ≡ true → cr ≡ 0) → IsRight wt ac al up Allow
-  on_allow wt true false up i j = cc (i refl)
-  on_allow false true true up i j = grind (arith, nat_tests)
-  on_allow true true true up i j = let none : cr ≡ 0 = j refl refl in grind (arith, nat_tests)
-  on_allow wt false al up i j = grind (arith, nat_tests)
-
-  on_up : (wt ac al up : Bool) → (ac ≡ true → al ≡ true) → (ac ≡ true → wt ≡ true → cr ≡ 0) → IsRight wt ac al up Up
-  on_up wt true false up i j = cc (i refl)
-  on_up false true true up i j = grind (arith, nat_tests)
-  on_up true true true up i j = let none : cr ≡ 0 = j refl refl in grind (arith, nat_tests)
-  on_up wt false al up i j = grind (arith, nat_tests)
+  -- whatever a port is: not allowed, inactive or active, with a frame that waits or without
+  on : (c : Cause) (wt ac al up : Bool) → (ac ≡ true → al ≡ true) → (ac ≡ true → wt ≡ true → cr ≡ 0) → IsRight wt ac al up c
+  on c wt true false up i j = cc (i refl)
+  on Tick wt false false up i j = grind (arith, nat_tests)
+  on Tick wt false true false i j = grind (arith, nat_tests)
+  on Tick wt false true true i j = grind (arith, nat_tests)
+  on _ wt false al up i j = grind (arith, nat_tests)
+  on Tick false true true up i j = grind (arith, nat_tests)
+  on _ false true true up i j = grind (arith, nat_tests)
+  on Tick true true true up i j = let none : cr ≡ 0 = j refl refl in grind (arith, nat_tests)
+  on _ true true true up i j = let none : cr ≡ 0 = j refl refl in grind (arith, nat_tests)
 
 -- A step of the machine makes of its counters what the labels of the next moment say.
 pub step_makes : (t : Machine) (c : Cause) (n : ℕ) → t.credit ≤ t.credit_max → (t.active ≡ true → t.allowed ≡ true) → (t.active ≡ true → t.waiting ≡ true → t.credit ≡ 0) → Makes t c n (stepped t c n)
-step_makes t Tick n few i j = on_tick t.credit_max t.fast_init t.reinit t.credit t.wait t.timer t.left n few t.waiting t.active t.allowed t.up i
-step_makes t Change n few i j = on_change t.credit_max t.fast_init t.reinit t.credit t.wait t.timer t.left n few t.waiting t.active t.allowed t.up i
-step_makes t Neighbor n few i j = on_neighbor t.credit_max t.fast_init t.reinit t.credit t.wait t.timer t.left n few t.waiting t.active t.allowed t.up i
-step_makes t Stop n few i j = on_stop t.credit_max t.fast_init t.reinit t.credit t.wait t.timer t.left n few t.waiting t.active t.allowed t.up i
-step_makes t Down n few i j = on_down t.credit_max t.fast_init t.reinit t.credit t.wait t.timer t.left n few t.waiting t.active t.allowed t.up i
-step_makes t Nothing n few i j = on_nothing t.credit_max t.fast_init t.reinit t.credit t.wait t.timer t.left n few t.waiting t.active t.allowed t.up i j
-step_makes t Allow n few i j = on_allow t.credit_max t.fast_init t.reinit t.credit t.wait t.timer t.left n few t.waiting t.active t.allowed t.up i j
-step_makes t Up n few i j = on_up t.credit_max t.fast_init t.reinit t.credit t.wait t.timer t.left n few t.waiting t.active t.allowed t.up i j
+step_makes t c n few i j = on t.credit_max t.fast_init t.reinit t.credit t.wait t.timer t.left n few c t.waiting t.active t.allowed t.up i j

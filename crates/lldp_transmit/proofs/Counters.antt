@@ -24,11 +24,8 @@ until_start-cons s m past = go m.stop (list_any (λ x. x.stop) past)
     go false false = omega arith
 
 pub until_signal-cons : (s : Settings) (m : Moment) (past : List Moment) → until_signal s (m ∷ past) ≡ cond m.signal (distance s (m ∷ past)) (until_signal s past - one_if (is_tick m.cause))
-until_signal-cons s m past = go m.signal
-  where
-    go : (b : Bool) → distance s (cond b (m ∷ past) (up_to_last (λ x. x.signal) past)) - ticks (cond b [] (m ∷ since (λ x. x.signal) past)) ≡ cond b (distance s (m ∷ past)) (until_signal s past - one_if (is_tick m.cause))
-    go true = sub-zero _
-    go false = sub-add _ _ _
+until_signal-cons s m past =
+    elim m.signal as (λ b. distance s (cond b (m ∷ past) (up_to_last (λ x. x.signal) past)) - ticks (cond b [] (m ∷ since (λ x. x.signal) past)) ≡ cond b (distance s (m ∷ past)) (until_signal s past - one_if (is_tick m.cause))) [ true ↦ omega arith | false ↦ omega arith ]
 
 none_from_start : (b : Bool) (m : List Moment) → list_any (λ x. x.signal) (cond b [] m) ≡ (not b && list_any (λ x. x.signal) m)
 none_from_start true ms = refl
@@ -46,11 +43,7 @@ pub wanted-cons : (m : Moment) (past : List Moment) → is_waiting (record m { s
 wanted-cons m past = is_waiting-cons (record m { sent = false }) past
 
 pub is_active-cons : (m : Moment) (past : List Moment) → is_active (m ∷ past) ≡ (not (ends m) && (m.start || is_active past))
-is_active-cons m past = go (ends m)
-  where
-    go : (b : Bool) → list_any (λ x. x.start) (cond b [] (m ∷ since ends past)) ≡ (not b && (m.start || is_active past))
-    go true = refl
-    go false = refl
+is_active-cons m past = elim (ends m) as (λ b. list_any (λ x. x.start) (cond b [] (m ∷ since ends past)) ≡ (not b && (m.start || is_active past))) [ true ↦ refl | false ↦ refl ]
 
 pub signals_left-cons : (s : Settings) (m : Moment) (past : List Moment) → signals_left s (m ∷ past) ≡ cond m.start 0 (cond m.opening s.fast_init (signals_left s past) - one_if (spends m))
 signals_left-cons s m past = go m.start
@@ -68,11 +61,8 @@ rested_by : (r t : ℕ) → nat_le r (1 + t) ≡ nat_lt (r - t) 2
 rested_by r t = grind (arith, nat_tests)
 
 pub rested_is : (s : Settings) (past : List Moment) → rested s past ≡ nat_lt (until_start s past) 2
-rested_is s past = go (list_any (λ x. x.stop) past)
-  where
-    go : (q : Bool) → (not q || nat_le s.reinit (1 + ticks (since (λ x. x.stop) past))) ≡ nat_lt (cond q (s.reinit - ticks (since (λ x. x.stop) past)) 0) 2
-    go true = rested_by _ _
-    go false = refl
+rested_is s past =
+    elim (list_any (λ x. x.stop) past) as (λ q. (not q || nat_le s.reinit (1 + ticks (since (λ x. x.stop) past))) ≡ nat_lt (cond q (s.reinit - ticks (since (λ x. x.stop) past)) 0) 2) [ true ↦ rested_by _ _ | false ↦ refl ]
 
 pub timer_is : (d t : ℕ) → (1 + t == d) ≡ (d - t == 1)
 timer_is d t = grind (arith, nat_tests)

@@ -2,7 +2,7 @@
 use Rattle.std.specs.Prelude.{◌≡◌, ℕ, zero, suc, ◌+◌, ◌-◌, ◌≤◌, ◌↔◌, ◌⊎◌, Bool, true, false, cond, not, ◌||◌, ◌==◌, nat_lt, IsTrue, List, [], ◌∷◌, ◌++◌}
 use Rattle.std.specs.List.{list_any}
 use Rattle.std.proofs.Common.{refl, ap, sym, ◌∙◌, arith, inl, inr, append_assoc, subst}
-use Rattle.std.proofs.lemmas.Bool.{and_parts, and_from}
+use Rattle.std.proofs.lemmas.Bool.{and_parts, and_from, or_cases, or_left, or_right, not-true, eqb-true, eq-eqb}
 use Rattle.std.proofs.lemmas.Bool.Decides.{nat_tests}
 use Rattle.lldp_transmit.specs.declared.event.Cause.{Cause}
 use Rattle.lldp_transmit.specs.declared.event.Cause.TheVariants.{Change, Neighbor}
@@ -98,12 +98,6 @@ distance_reads s m before d = (forth, back)
 
 -- ---- end of the timer
 
-same_number : (a b : ℕ) → (a == b) ≡ true → a ≡ b
-same_number a b e = grind (arith, nat_tests)
-
-number_same : (a b : ℕ) → a ≡ b → (a == b) ≡ true
-number_same a b e = grind (arith, nat_tests)
-
 -- the test of the timer, on the moments since the last signal
 abbrev is_ended : Settings → List Moment → Bool
 is_ended s past = 1 + ticks (since (λ m. m.signal) past) == distance s (up_to_last (λ m. m.signal) past)
@@ -118,7 +112,7 @@ ended_at : (s : Settings) (past : List Moment) → is_ended s past ≡ true → 
 ended_at s past e = go (list_any (λ m. m.signal) past) refl
   where
     number : 1 + ticks (since (λ m. m.signal) past) ≡ distance s (up_to_last (λ m. m.signal) past)
-    number = same_number _ _ e
+    number = eqb-true _ _ e
 
     go : (b : Bool) → list_any (λ m. m.signal) past ≡ b → EndsAt s past
     go false q =
@@ -135,11 +129,7 @@ at_ended : (s : Settings) (past : List Moment) → EndsAt s past → is_ended s 
 at_ended s past (after, before, last, e, p, c, d) =
     let later : since (λ m. m.signal) past ≡ after = ap (since (λ m. m.signal)) e ∙ since_at (λ m. m.signal) after last before p c in
     let at_last : up_to_last (λ m. m.signal) past ≡ last ∷ before = ap (up_to_last (λ m. m.signal)) e ∙ up_to_at (λ m. m.signal) after last before p c in
-    number_same _ _ (ap (λ l. 1 + ticks l) later ∙ (distance_reads s last before (1 + ticks after)).1 d ∙ ap (distance s) (sym at_last))
-
-not_false : (b : Bool) → not b ≡ true → b ≡ false
-not_false true e = cc e
-not_false false e = refl
+    eq-eqb _ _ (ap (λ l. 1 + ticks l) later ∙ (distance_reads s last before (1 + ticks after)).1 d ∙ ap (distance s) (sym at_last))
 
 pub timer_reads : (s : Settings) (past : List Moment) (m : Moment) → IsTrue (timer_ends s past m) ↔ IsTimerEnd s past m
 timer_reads s past m = (forth, back)
@@ -149,7 +139,7 @@ timer_reads s past m = (forth, back)
         let a = and_parts _ _ p in
         let b = and_parts _ _ a.1 in
         let (after, before, last, e, g, c, d) = ended_at s past b.1 in
-        (is_tick_only m.cause a.0, not_false m.start b.0, after, before, last, e, g, c, d)
+        (is_tick_only m.cause a.0, not-true m.start b.0, after, before, last, e, g, c, d)
 
     back : IsTimerEnd s past m → IsTrue (timer_ends s past m)
     back (t, n, after, before, last, e, g, c, d) =
@@ -165,54 +155,25 @@ is_neighbor_only : (c : Cause) → is_neighbor c ≡ true → c ≡ Neighbor
 is_neighbor_only Neighbor e = refl
 is_neighbor_only _ e = cc e
 
-or_cases : (a b : Bool) → (a || b) ≡ true → (a ≡ true) ⊎ (b ≡ true)
-or_cases true b e = inl refl
-or_cases false b e = inr e
-
-or_first : (a b : Bool) → a ≡ true → (a || b) ≡ true
-or_first true b e = refl
-or_first false b e = cc e
-
-or_second : (a b : Bool) → b ≡ true → (a || b) ≡ true
-or_second true b e = refl
-or_second false b e = e
-
 -- what wants a frame on an active port
 abbrev Wants : Settings → List Moment → Moment → Type 0
 Wants s past m = IsTrue m.start ⊎ ((m.cause ≡ Change) ⊎ ((m.cause ≡ Neighbor) ⊎ IsTimerEnd s past m))
 
 wants : (s : Settings) (past : List Moment) (m : Moment) → IsTrue (m.start || (is_change m.cause || (is_neighbor m.cause || timer_ends s past m))) → Wants s past m
-wants s past m p = first (or_cases _ _ p)
-  where
-    third : (is_neighbor m.cause ≡ true) ⊎ (timer_ends s past m ≡ true) → Wants s past m
-    third (inl e) = inr (inr (inl (is_neighbor_only m.cause e)))
-    third (inr e) = inr (inr (inr ((timer_reads s past m).0 e)))
-
-    second : (is_change m.cause ≡ true) ⊎ ((is_neighbor m.cause || timer_ends s past m) ≡ true) → Wants s past m
-    second (inl e) = inr (inl (is_change_only m.cause e))
-    second (inr e) = third (or_cases _ _ e)
-
-    first : (m.start ≡ true) ⊎ ((is_change m.cause || (is_neighbor m.cause || timer_ends s past m)) ≡ true) → Wants s past m
-    first (inl e) = inl e
-    first (inr e) = second (or_cases _ _ e)
+wants s past m p =
+    elim (or_cases _ _ p) [
+      | inl e ↦ inl e
+      | inr e ↦ elim (or_cases _ _ e) [
+        | inl f ↦ inr (inl (is_change_only m.cause f))
+        | inr f ↦ elim (or_cases _ _ f) [ inl g ↦ inr (inr (inl (is_neighbor_only m.cause g))) | inr g ↦ inr (inr (inr ((timer_reads s past m).0 g))) ]
+      ]
+    ]
 
 wanted : (s : Settings) (past : List Moment) (m : Moment) → Wants s past m → IsTrue (m.start || (is_change m.cause || (is_neighbor m.cause || timer_ends s past m)))
-wanted s past m w = first w
-  where
-    last : Bool
-    last = timer_ends s past m
-
-    third : (m.cause ≡ Neighbor) ⊎ IsTimerEnd s past m → IsTrue (is_neighbor m.cause || last)
-    third (inl e) = or_first (is_neighbor m.cause) last (ap is_neighbor e)
-    third (inr e) = or_second (is_neighbor m.cause) last ((timer_reads s past m).1 e)
-
-    second : (m.cause ≡ Change) ⊎ ((m.cause ≡ Neighbor) ⊎ IsTimerEnd s past m) → IsTrue (is_change m.cause || (is_neighbor m.cause || last))
-    second (inl e) = or_first (is_change m.cause) (is_neighbor m.cause || last) (ap is_change e)
-    second (inr e) = or_second (is_change m.cause) (is_neighbor m.cause || last) (third e)
-
-    first : Wants s past m → IsTrue (m.start || (is_change m.cause || (is_neighbor m.cause || last)))
-    first (inl e) = or_first m.start (is_change m.cause || (is_neighbor m.cause || last)) e
-    first (inr e) = or_second m.start (is_change m.cause || (is_neighbor m.cause || last)) (second e)
+wanted s past m (inl e) = or_left _ _ e
+wanted s past m (inr (inl e)) = or_right m.start _ (or_left _ _ (ap is_change e))
+wanted s past m (inr (inr (inl e))) = or_right m.start _ (or_right (is_change m.cause) _ (or_left _ _ (ap is_neighbor e)))
+wanted s past m (inr (inr (inr e))) = or_right m.start _ (or_right (is_change m.cause) _ (or_right (is_neighbor m.cause) _ ((timer_reads s past m).1 e)))
 
 same_active : (past : List Moment) (m : Moment) (b c d : Bool) → is_active (record m { signal = b; opening = c; sent = d } ∷ past) ≡ is_active (m ∷ past)
 same_active past m b c d = is_active-cons (record m { signal = b; opening = c; sent = d }) past ∙ sym (is_active-cons m past)
@@ -241,8 +202,8 @@ opening_reads s h e = (forth, back)
     forth p =
         let a = and_parts _ _ p in
         let b = and_parts _ _ a.1 in
-        ((signal_reads s h e).0 a.0, is_neighbor_only e.cause b.0, (left_reads s (moments s h) 0).0 (sym (same_number (signals_left s (moments s h)) 0 b.1)))
+        ((signal_reads s h e).0 a.0, is_neighbor_only e.cause b.0, (left_reads s (moments s h) 0).0 (sym (eqb-true (signals_left s (moments s h)) 0 b.1)))
 
     back : IsOpening s (moments s h) (moment s (moments s h) e) → IsTrue (moment s (moments s h) e).opening
     back (g, n, l) =
-        and_from _ _ ((signal_reads s h e).1 g) (and_from _ _ (ap is_neighbor n) (number_same (signals_left s (moments s h)) 0 (sym ((left_reads s (moments s h) 0).1 l))))
+        and_from _ _ ((signal_reads s h e).1 g) (and_from _ _ (ap is_neighbor n) (eq-eqb (signals_left s (moments s h)) 0 (sym ((left_reads s (moments s h) 0).1 l))))

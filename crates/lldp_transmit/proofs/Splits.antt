@@ -1,7 +1,9 @@
 -- Lists at the last element that passes a test.
 use Rattle.std.specs.Prelude.{◌≡◌, ℕ, ◌+◌, Bool, true, false, cond, ◌||◌, List, [], ◌∷◌, ◌++◌}
 use Rattle.std.specs.List.{list_any}
-use Rattle.std.proofs.Common.{refl, ap, ap₂, ◌∙◌, arith}
+use Rattle.std.proofs.Common.{refl, ap, ap₂, ◌∙◌, arith, inl, inr}
+use Rattle.std.proofs.lemmas.Bool.{cases_Bool, or_parts, or_left, or_right}
+use Rattle.std.proofs.lemmas.List.Folds.{list_any-append}
 use Rattle.lldp_transmit.specs.Fronts.{count, since, from_last, up_to_last}
 use Rattle.lldp_transmit.proofs.Windows.{one_if}
 
@@ -13,32 +15,19 @@ module _ {X : Type 0} (p : X → Bool) where
   -- the last element that passes, with what comes after it and before it
   pub find_last : (xs : List X) → list_any p xs ≡ true → (after before : List X) × (x : X) × (xs ≡ after ++ x ∷ before) × (p x ≡ true) × (count p after ≡ 0)
   find_last [] e = cc e
-  find_last (x ∷ xs) e = go (p x) refl e (find_last xs)
-    where
-      go : (b : Bool) → p x ≡ b → (b || list_any p xs) ≡ true →
-          (list_any p xs ≡ true → (after before : List X) × (y : X) × (xs ≡ after ++ y ∷ before) × (p y ≡ true) × (count p after ≡ 0)) →
-          (after before : List X) × (y : X) × (x ∷ xs ≡ after ++ y ∷ before) × (p y ≡ true) × (count p after ≡ 0)
-      go true q e i = ([], xs, x, refl, q, refl)
-      go false q e i =
-          let w = i e in
-          (x ∷ w.0, w.1, w.2, ap (λ l. x ∷ l) w.3, w.4, ap₂ (λ b n. one_if b + n) q w.5)
+  find_last (x ∷ xs) e =
+      elim (cases_Bool (p x)) [
+        | inl q ↦ ([], xs, x, refl, q, refl)
+        | inr q ↦ let w = find_last xs (rw q at e) in (x ∷ w.0, w.1, w.2, ap (λ l. x ∷ l) w.3, w.4, rw q (omega (arith, w.5)))
+      ]
 
   -- where none passes
   pub none_counted : (xs : List X) → list_any p xs ≡ false → count p xs ≡ 0
   none_counted [] e = refl
-  none_counted (x ∷ xs) e = go (p x) refl e (none_counted xs)
-    where
-      go : (b : Bool) → p x ≡ b → (b || list_any p xs) ≡ false → (list_any p xs ≡ false → count p xs ≡ 0) → one_if (p x) + count p xs ≡ 0
-      go true q e i = cc e
-      go false q e i = ap₂ (λ b n. one_if b + n) q (i e)
+  none_counted (x ∷ xs) e = let parts = or_parts _ _ e in ap₂ (λ b n. one_if b + n) parts.0 (none_counted xs parts.1)
 
   pub any_at : (after : List X) (x : X) (before : List X) → p x ≡ true → list_any p (after ++ x ∷ before) ≡ true
-  any_at [] x before q = ap (λ b. b || list_any p before) q
-  any_at (y ∷ after) x before q = go (p y) (any_at after x before q)
-    where
-      go : (b : Bool) → list_any p (after ++ x ∷ before) ≡ true → (b || list_any p (after ++ x ∷ before)) ≡ true
-      go true e = refl
-      go false e = e
+  any_at after x before q = list_any-append p after (x ∷ before) ∙ or_right (list_any p after) _ (or_left _ _ q)
 
   -- a test that fails at the first of some elements, where none of them passes
   first_fails : (b : Bool) (n : ℕ) → one_if b + n ≡ 0 → b ≡ false
@@ -65,28 +54,20 @@ module _ {X : Type 0} (p : X → Bool) where
 
   pub up_to_none : (xs : List X) → list_any p xs ≡ false → up_to_last p xs ≡ []
   up_to_none [] e = refl
-  up_to_none (x ∷ xs) e = go (p x) e (up_to_none xs)
-    where
-      go : (b : Bool) → (b || list_any p xs) ≡ false → (list_any p xs ≡ false → up_to_last p xs ≡ []) → cond b (x ∷ xs) (up_to_last p xs) ≡ []
-      go true e i = cc e
-      go false e i = i e
+  up_to_none (x ∷ xs) e = let parts = or_parts _ _ e in ap (λ b. cond b (x ∷ xs) (up_to_last p xs)) parts.0 ∙ up_to_none xs parts.1
 
   -- the elements since the last that passes are a front of the list, and none of them passes
   pub since_front : (xs : List X) → (rest : List X) × (xs ≡ since p xs ++ rest)
   since_front [] = ([], refl)
-  since_front (x ∷ xs) = go (p x) (since_front xs)
-    where
-      go : (b : Bool) → ((rest : List X) × (xs ≡ since p xs ++ rest)) → (rest : List X) × (x ∷ xs ≡ cond b [] (x ∷ since p xs) ++ rest)
-      go true w = (x ∷ xs, refl)
-      go false w = (w.0, ap (λ l. x ∷ l) w.1)
+  since_front (x ∷ xs) =
+      elim (cases_Bool (p x)) [
+        | inl q ↦ (x ∷ xs, rw q refl)
+        | inr q ↦ let w = since_front xs in (w.0, rw q (ap (λ l. x ∷ l) w.1))
+      ]
 
   pub since_none : (xs : List X) → count p (since p xs) ≡ 0
   since_none [] = refl
-  since_none (x ∷ xs) = go (p x) refl (since_none xs)
-    where
-      go : (b : Bool) → p x ≡ b → count p (since p xs) ≡ 0 → count p (cond b [] (x ∷ since p xs)) ≡ 0
-      go true q e = refl
-      go false q e = ap₂ (λ b n. one_if b + n) q e
+  since_none (x ∷ xs) = elim (cases_Bool (p x)) [ inl q ↦ rw q refl | inr q ↦ rw (q, q) (omega (arith, since_none xs)) ]
 
   -- a front without any that passes is part of what comes since the last
   pub since_keeps : (front rest : List X) → count p front ≡ 0 → since p (front ++ rest) ≡ front ++ since p rest

@@ -1,16 +1,18 @@
 -- A run that ends now has few stops.
 use Rattle.std.specs.Prelude.{◌≡◌, ℕ, zero, suc, ◌+◌, ◌-◌, ◌*◌, ◌/◌, ◌≤◌, Bool, true, false, cond, not, ◌&&◌, ◌||◌, nat_lt, List, [], ◌∷◌, ◌++◌}
 use Rattle.std.specs.List.{list_any}
-use Rattle.std.proofs.Common.{refl, ap, ap₂, sym, ◌∙◌, arith}
+use Rattle.std.proofs.Common.{refl, ap, ap₂, sym, ◌∙◌, arith, append_assoc}
 use Rattle.std.proofs.lemmas.Bool.Decides.{nat_tests}
 use Rattle.std.proofs.lemmas.Nat.{le-div}
-use Rattle.std.proofs.lemmas.Bool.{or_parts, and_parts}
+use Rattle.std.proofs.lemmas.Bool.{or_left, and_parts}
+use Rattle.std.proofs.lemmas.List.Folds.{list_any-append}
 use Rattle.lldp_transmit.specs.Fronts.{count, since}
 use Rattle.lldp_transmit.specs.History.{Settings, Event, History, is_tick, is_down}
 use Rattle.lldp_transmit.specs.Moments.{Moment, moments, moment, ticks, is_active, is_allowed, is_up, rested, allowed_after, up_after}
 use Rattle.lldp_transmit.specs.Remaining.{until_start}
 use Rattle.lldp_transmit.specs.Windows.{StopsRarely}
 use Rattle.lldp_transmit.proofs.Windows.{earlier, one_if}
+use Rattle.lldp_transmit.proofs.Splits.{none_counted, find_last, since_at}
 use Rattle.lldp_transmit.proofs.Counters.{is_active-cons, until_start-cons, rested_is}
 
 abbrev stops : List Moment → ℕ
@@ -42,37 +44,21 @@ spaced_after r true false n w t k i j l o = let none : n ≡ 0 = j refl in rw no
 spaced_after r false true n w t k i j l o = let b : r * n + w ≤ t + r = i refl in omega arith
 spaced_after r false false n w t k i j l o = cc o
 
-none_stops : (run : List Moment) → list_any (λ m. m.stop) run ≡ false → stops run ≡ 0
-none_stops [] e = refl
-none_stops (m ∷ run) e = let parts = or_parts _ _ e in ap₂ (λ b n. one_if b + n) parts.0 (none_stops run parts.1) ∙ refl
-
 -- what comes since the last stop of a run comes since the last stop of the history that it ends
 any_front : (run before : List Moment) → list_any (λ m. m.stop) run ≡ true → list_any (λ m. m.stop) (run ++ before) ≡ true
-any_front [] before e = cc
-any_front (m ∷ run) before e = go m.stop e (any_front run before)
-  where
-    go : (b : Bool) → (b || list_any (λ x. x.stop) run) ≡ true → (list_any (λ x. x.stop) run ≡ true → list_any (λ x. x.stop) (run ++ before) ≡ true) → (b || list_any (λ x. x.stop) (run ++ before)) ≡ true
-    go true e f = refl
-    go false e f = f e
+any_front run before e = list_any-append (λ m. m.stop) run before ∙ or_left _ _ e
 
 since_front : (run before : List Moment) → list_any (λ m. m.stop) run ≡ true → since (λ m. m.stop) (run ++ before) ≡ since (λ m. m.stop) run
-since_front [] before e = cc
-since_front (m ∷ run) before e = go m.stop e (since_front run before)
-  where
-    go : (b : Bool) → (b || list_any (λ x. x.stop) run) ≡ true → (list_any (λ x. x.stop) run ≡ true → since (λ x. x.stop) (run ++ before) ≡ since (λ x. x.stop) run) → cond b [] (m ∷ since (λ x. x.stop) (run ++ before)) ≡ cond b [] (m ∷ since (λ x. x.stop) run)
-    go true e f = refl
-    go false e f = ap (λ xs. m ∷ xs) (f e)
+since_front run before e =
+    let w = find_last (λ m. m.stop) run e in
+    rw (w.3, append_assoc) (since_at (λ m. m.stop) w.0 w.2 (w.1 ++ before) w.4 w.5 ∙ sym (since_at (λ m. m.stop) w.0 w.2 w.1 w.4 w.5))
 
 enough_ticks : (q : Bool) (r t : ℕ) → q ≡ true → cond q (r - t) 0 ≡ 0 → r ≤ t
 enough_ticks true r t e z = omega arith
 enough_ticks false r t e z = cc e
 
 pub ticks_since : (m : Moment) (run : List Moment) → ticks (since (λ x. x.stop) (m ∷ run)) ≡ cond m.stop 0 (one_if (is_tick m.cause) + ticks (since (λ x. x.stop) run))
-ticks_since m run = go m.stop
-  where
-    go : (b : Bool) → ticks (cond b [] (m ∷ since (λ x. x.stop) run)) ≡ cond b 0 (one_if (is_tick m.cause) + ticks (since (λ x. x.stop) run))
-    go true = refl
-    go false = refl
+ticks_since m run = elim m.stop as (λ b. ticks (cond b [] (m ∷ since (λ x. x.stop) run)) ≡ cond b 0 (one_if (is_tick m.cause) + ticks (since (λ x. x.stop) run))) [ true ↦ refl | false ↦ refl ]
 
 module _ (s : Settings) where
   -- a stop of an active port comes late enough after the stop before it
@@ -91,7 +77,7 @@ module _ (s : Settings) where
       let rest : moments s h ≡ run ++ before = cc in
       let bound : s.reinit * (one_if m.stop + stops run) + cond m.stop 0 (one_if (is_tick m.cause) + ticks (since (λ x. x.stop) run)) ≤ one_if (is_tick m.cause) + ticks run + s.reinit =
       spaced_after s.reinit m.stop (list_any (λ x. x.stop) run) (stops run) (ticks (since (λ x. x.stop) run)) (ticks run) (one_if (is_tick m.cause))
-      (spaced h run before rest) (none_stops run) (λ p. late h e run before rest (ap (λ x. x.stop) head ∙ p)) q in
+      (spaced h run before rest) (none_counted (λ x. x.stop) run) (λ p. late h e run before rest (ap (λ x. x.stop) head ∙ p)) q in
       rw (ticks_since m run) bound
 
 few_from : (r n t : ℕ) → 1 ≤ r → r * n ≤ t + r → n ≤ 1 + t / r
@@ -107,4 +93,4 @@ stops_rarely s h most later run before i = go (list_any (λ m. m.stop) run) refl
         let w = earlier s h later (run ++ before) i in
         let bound = spaced s w.0 run before w.1 e in
         few_from s.reinit (stops run) (ticks run) most (omega arith)
-    go false e = let none : stops run ≡ 0 = none_stops run e in omega arith
+    go false e = let none : stops run ≡ 0 = none_counted (λ m. m.stop) run e in omega arith
