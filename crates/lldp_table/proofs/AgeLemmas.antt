@@ -8,9 +8,9 @@ use Rattle.std.proofs.lemmas.List.Sorted.{IsPermutation-refl, IsPermutation-tran
 use Rattle.std.proofs.lemmas.Map.Keys.{IsDistinct-head, IsDistinct-tail}
 use Rattle.lldp_table.specs.Events.{Neighbor}
 use Rattle.lldp_table.specs.Contents.{Contents, aged, after_tick}
-use Rattle.lldp_table.specs.Stored.{Stored}
-use Rattle.lldp_table.specs.Queue.{Due, due, holds, slots_of, ticks_left, less_first, is_spent, IsRunning, IsQueued, IsTimed}
-use Rattle.lldp_table.specs.Layout.{neighbor_of, neighbors_at, blank, contents_of, IsLaidOut}
+use Rattle.lldp_table.specs.Code.Stored.{Stored}
+use Rattle.lldp_table.specs.Code.Queue.{Due, due, holds, slots_of, ticks_left, less_first, is_spent, IsRunning, IsQueued, IsTimed}
+use Rattle.lldp_table.specs.Code.Layout.{neighbor_of, neighbors_at, blank, contents_of, IsLaidOut}
 use Rattle.lldp_table.proofs.PlaceLemmas.{nat_eq_sym, at_place, one-out, take-moved, distinct-take, distinct-moved, IsOrder-moved}
 use Rattle.lldp_table.proofs.QueueLemmas.{left-pass, left-positive, left-front_same, left-front_other}
 use Rattle.lldp_table.proofs.QueueOrderLemmas.{slots-less_first}

@@ -9,7 +9,7 @@ use Rattle.std.proofs.lemmas.List.{take_all, take_more, append_assoc, append-nil
 use Rattle.std.proofs.lemmas.List.Elements.{All-from_recursion, recursion_from_All}
 use Rattle.std.proofs.lemmas.List.Sorted.{All-permutation}
 use Rattle.std.proofs.lemmas.Map.Keys.{IsDistinct-head, IsDistinct-tail, IsDistinct-cons}
-use Rattle.lldp_table.specs.Queue.{Due, due, dues, slots_of, holds, ticks_left, put, enter, leave, less_first, add_first, total, IsQueue}
+use Rattle.lldp_table.specs.Code.Queue.{Due, due, dues, slots_of, holds, ticks_left, put, enter, leave, less_first, add_first, total, IsQueue}
 use Rattle.lldp_table.proofs.PlaceLemmas.{at_place, all-push, all-both, not_before, not_behind, nat_eq_sym, map-remove, unheld, distinct-moved}
 use Rattle.lldp_table.proofs.QueueLemmas.{at_first, behind, total-cons, total-enter, total-leave, total-less_first}
 use Rattle.lldp_table.proofs.QueueOrderLemmas.{slots-enter, slots-leave}

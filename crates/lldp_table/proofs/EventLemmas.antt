@@ -15,6 +15,7 @@ use Rattle.lldp_table.specs.Events.{TableEvent, learned, forgot, purged, ticked,
 use Rattle.lldp_table.specs.Contents.{aged, is_named, fresh, refreshed}
 use Rattle.lldp_table.specs.declared.learned.Learned.{Learned}
 use Rattle.lldp_table.specs.declared.learned.Learned.TheVariants.{New, Refreshed, Dropped}
+use Rattle.std.proofs.lemmas.Grind.{common_steps}
 
 -- ## One name
 
@@ -52,9 +53,7 @@ named_after name n _ x d h = cc
 -- what is live of a name has that name
 pub live-named : (name : MsapId) (past : List TableEvent) (x : Neighbor) → live name past ≡ Some x → x.msap ≡ name
 unfolding live
-live-named name past x h =
-    option_and_then_some _ (find (decides_on name) past) x h
-    (λ event found here. named_after name _ event x (find_passes (decides_on name) past event found) here)
+live-named name past x h = grind (arith, common_steps, option_and_then_some, named_after, find_passes)
 
 -- ## Lists of names
 
@@ -128,15 +127,11 @@ neighbors-forgot name past =
 
 pub neighbors-dropped : (name : MsapId) (ttl : ℕ) (octets : List ℕ) (past : List TableEvent) → neighbors (learned name ttl octets Dropped ∷ past) ≡ neighbors past
 unfolding neighbors
-neighbors-dropped name ttl octets past =
-    filter_map-agree (λ other. live other (learned name ttl octets Dropped ∷ past)) (λ other. live other past) (λ other. live-other other (learned name ttl octets Dropped) past refl) (arrivals past)
+neighbors-dropped name ttl octets past = grind (arith, common_steps, filter_map-agree, live-other)
 
 -- a stored frame is live at once
 live_at_once : (name : MsapId) (ttl : ℕ) (octets : List ℕ) (answer : Learned) → 0 < ttl → live_after 0 (learned name ttl octets answer) ≡ Some (fresh name ttl octets)
-live_at_once name ttl octets answer h =
-    let neighbor : ℕ → Neighbor = λ n. record { msap = name; octets = octets; ttl = ttl; left = n } in
-    let same : ttl - 0 ≡ ttl = omega arith in
-    cond-true (nat_lt 0 ttl) (Some (neighbor (ttl - 0))) None (lt-ltb 0 ttl h) ∙ ap (λ n. Some (neighbor n)) same
+live_at_once name ttl octets answer h = grind (arith, common_steps, cond-true, lt-ltb)
 
 pub neighbors-limit_set : (limit : ℕ) (past : List TableEvent) → neighbors (limit_set limit ∷ past) ≡ neighbors past
 unfolding neighbors
@@ -153,10 +148,7 @@ refreshes name other ttl octets None s h = cond-false (same_msap name other) (So
 refreshes name other ttl octets (Some x) s h = refreshes_one (same_msap name other) (is_named name x) x (fresh name ttl octets) (ap (same_msap name) (h x refl))
 
 live-stored : (name other : MsapId) (ttl : ℕ) (octets : List ℕ) (answer : Learned) (past : List TableEvent) → 0 < ttl → is_stored answer ≡ true → live other (learned name ttl octets answer ∷ past) ≡ cond (same_msap name other) (Some (fresh name ttl octets)) (live other past)
-live-stored name other ttl octets answer past t stored =
-    live-other other (learned name ttl octets answer) past refl
-    ∙ ap (λ o. cond (is_stored answer && same_msap name other) o (live other past)) (live_at_once name ttl octets answer t)
-    ∙ ap (λ b. cond (b && same_msap name other) (Some (fresh name ttl octets)) (live other past)) stored
+live-stored name other ttl octets answer past t stored = grind (arith, common_steps, live-other, live_at_once)
 
 pub neighbors-refreshed : (name : MsapId) (ttl : ℕ) (octets : List ℕ) (past : List TableEvent) → 0 < ttl → is_some (live name past) ≡ true → neighbors (learned name ttl octets Refreshed ∷ past) ≡ map (refreshed name ttl octets) (neighbors past)
 unfolding neighbors
@@ -211,11 +203,7 @@ some_of_two true x y h = inl (refl, h)
 some_of_two false x y h = inr (refl, h)
 
 pub Arrived-forgot : (name : MsapId) (past : List TableEvent) → Arrived past → Arrived (forgot name ∷ past)
-Arrived-forgot name past h other s =
-    elim (some_of_two (same_msap name other) None (live other past) (ap is_some (sym (live-other other (forgot name) past refl)) ∙ s)) [
-      | inl w ↦ absurd (false≢true w.1)
-      | inr w ↦ h other w.1
-    ]
+Arrived-forgot name past h other s = grind (arith, common_steps, some_of_two, live-other, false≢true)
 
 pub Arrived-limit_set : (limit : ℕ) (past : List TableEvent) → Arrived past → Arrived (limit_set limit ∷ past)
 Arrived-limit_set limit past h name s = h name (ap is_some (sym (live-other name (limit_set limit) past refl)) ∙ s)
@@ -231,13 +219,7 @@ Arrived-refreshed name ttl octets past held h other s =
     ]
 
 pub Arrived-new : (name : MsapId) (ttl : ℕ) (octets : List ℕ) (past : List TableEvent) → Arrived past → Arrived (learned name ttl octets New ∷ past)
-Arrived-new name ttl octets past h other s =
-    elim (some_of_two (same_msap name other) (live_after 0 (learned name ttl octets New)) (live other past) (ap is_some (sym (live-other other (learned name ttl octets New) past refl)) ∙ s)) [
-      | inl w ↦ list_any-append (same_msap other) (filter (λ x. not (same_msap name x)) (arrivals past)) (name ∷ [])
-          ∙ or_right (list_any (same_msap other) (filter (λ x. not (same_msap name x)) (arrivals past))) (same_msap other name || false) (or_left (same_msap other name) false (same_msap-sym other name ∙ w.0))
-      | inr w ↦ list_any-append (same_msap other) (filter (λ x. not (same_msap name x)) (arrivals past)) (name ∷ [])
-          ∙ or_left (list_any (same_msap other) (filter (λ x. not (same_msap name x)) (arrivals past))) (same_msap other name || false) (still_there other name w.0 (arrivals past) (h other w.1))
-    ]
+Arrived-new name ttl octets past h other s = grind (arith, common_steps, some_of_two, live-other, list_any-append, or_right, or_left, same_msap-sym, still_there)
 
 -- a table has a neighbor of a name where the name has arrived and is live
 there : (name : MsapId) (o : Option Neighbor) (xs : List Neighbor) (r : Bool) → ((x : Neighbor) → o ≡ Some x → is_named name x ≡ true) → list_any (is_named name) xs ≡ (r && is_some o) → list_any (is_named name) (cons_option o xs) ≡ is_some o

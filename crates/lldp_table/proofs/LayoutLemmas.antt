@@ -10,12 +10,13 @@ use Rattle.lldp_pdu.specs.Lldpdu.{msap_of}
 use Rattle.lldp_table.specs.Msap.{same_msap}
 use Rattle.lldp_table.specs.Events.{Neighbor}
 use Rattle.lldp_table.specs.Contents.{Contents, IsExtent, is_named, fresh, refreshed, learn_answer, learned_as, after_learn, after_forget, after_purge, newly_opened, IsSound, IsHeld}
-use Rattle.lldp_table.specs.Layout.{neighbor_of, neighbor_at, neighbors_at, msap_at, blank, with_next, IsOrder, contents_of, IsLaidOut}
-use Rattle.lldp_table.specs.Stored.{Stored}
+use Rattle.lldp_table.specs.Code.Layout.{neighbor_of, neighbor_at, neighbors_at, msap_at, blank, with_next, IsOrder, contents_of, IsLaidOut}
+use Rattle.lldp_table.specs.Code.Stored.{Stored}
 use Rattle.lldp_table.specs.declared.learned.Learned.{Learned}
 use Rattle.lldp_table.specs.declared.learned.Learned.TheVariants.{New, Refreshed, Dropped}
 use Rattle.lldp_table.proofs.SoundLemmas.{sound_open, sound_learned, sound_forgotten, sound_purged}
 use Rattle.lldp_table.proofs.PlaceLemmas.{at_place, all-weaker, all-both, all-take, all-out, others-out, map-agree, map-at_place, not_before, map-remove, take-moved, distinct-take, forgets_none, forgets_place, refreshes_place, IsOrder-forgotten, IsOrder-push, IsOrder-none}
+use Rattle.std.proofs.lemmas.Grind.{common_steps}
 
 -- ## Slots
 
@@ -26,16 +27,11 @@ pub record IsStored (used : List ℕ) (left : ℕ → ℕ) (s : ℕ) (slot : Sto
 
 -- a frame in a slot is that of the neighbor who has just come
 pub fresh_in : (slot : Stored) (name : MsapId) (ttl : ℕ) (octets : List ℕ) → slot.octets ≡ octets → slot.ttl ≡ ttl → IsExtent name ttl octets → neighbor_of slot ttl ≡ fresh name ttl octets
-fresh_in slot name ttl octets o t e =
-    let made : MsapId → List ℕ → ℕ → Neighbor = λ m os n. record { msap = m; octets = os; ttl = n; left = ttl } in
-    ap (λ os. made (msap_of os) os slot.ttl) o ∙ ap (λ m. made m octets slot.ttl) e.msap_is ∙ ap (made name octets) t
+fresh_in slot name ttl octets o t e = grind (arith, common_steps)
 
 module _ (slots : List Stored) {used : List ℕ} {left : ℕ → ℕ} {s : ℕ} {slot : Stored} {left' : ℕ → ℕ} {x : Neighbor} (w : IsStored used left s slot left' x) where
   stored-others : AllByRecursion (λ i. nat_eq s i ≡ false → neighbor_at (set slots s slot) left' i ≡ neighbor_at slots left i) used
-  stored-others =
-      all-weaker (λ i. nat_eq s i ≡ false → left' i ≡ left i) (λ i. nat_eq s i ≡ false → neighbor_at (set slots s slot) left' i ≡ neighbor_at slots left i)
-      (λ i q d. ap (λ (y : Stored). neighbor_of y (left' i)) (get_or-set_other slots s i slot blank (λ e. eqb-false s i d (sym e))) ∙ ap (neighbor_of (get_or slots i blank)) (q d))
-      used w.others
+  stored-others = grind (arith, common_steps, all-weaker, get_or-set_other, eqb-false)
 
   stored-same : s < length slots → neighbor_at (set slots s slot) left' s ≡ x
   stored-same l = ap (λ (y : Stored). neighbor_of y (left' s)) (get_or-set_same slots s slot blank l) ∙ w.here
@@ -113,9 +109,7 @@ module _ {capacity : ℕ} {slots : List Stored} {left : ℕ → ℕ} {order : Li
   -- ### What `place_of` finds among the slots in use
 
   pub found : (name : MsapId) (at : ℕ) → (at < length (take used order)) × (same_msap name (msap_at slots (get_or (take used order) at 0)) ≡ true) → (at < used) × (same_msap name (msap_at slots (get_or order at 0)) ≡ true)
-  found name at p =
-      let l : at < used = omega (arith, p.0, length-take-le used order fits) in
-      (l, ap (λ i. same_msap name (msap_at slots i)) (sym (get_or-take used order at 0 l)) ∙ p.1)
+  found name at p = grind (arith, common_steps, length-take-le, fits, get_or-take)
 
   pub not_found : (name : MsapId) → list_any (same_msap name) (map (msap_at slots) (take used order)) ≡ false → list_any (is_named name) held ≡ false
   not_found name e = sym (any-msap slots left name (take used order)) ∙ e
@@ -173,10 +167,7 @@ module _ {capacity : ℕ} {slots : List Stored} {left : ℕ → ℕ} {order : Li
             (λ i d q. q d) (take used order) (not_before order used short h.indices.distinct) (stored-others slots w))
 
         pushed : neighbors_at (set slots next slot) left' (take (used + 1) order) ≡ held ++ fresh name ttl octets ∷ []
-        pushed =
-            ap (neighbors_at (set slots next slot) left') (take_more order used 0 short) ∙ map-append (neighbor_at (set slots next slot) left') (take used order) (next ∷ [])
-            ∙ ap (λ xs. xs ++ neighbor_at (set slots next slot) left' next ∷ []) others
-            ∙ ap (λ x. held ++ x ∷ []) (stored-same slots w (next_within free))
+        pushed = grind (arith, common_steps, take_more, short, map-append, others, stored-same, next_within, free)
 
         pub after_new : contents_of capacity (set slots next slot) left' order (used + 1) limit too_many ≡ after_learn shown name ttl octets
         after_new = ap with_held pushed ∙ ap (λ a. learned_as a shown name ttl octets) (sym (answer_new name none l))
@@ -263,14 +254,7 @@ module _ {capacity : ℕ} {slots : List Stored} {left : ℕ → ℕ} {order : Li
   not_full e = let n = eqb-false (length slots) used e in record { laid = h; same = refl; free = omega (arith, n, h.fits); order_same = refl }
 
   pub has_free : used < limit → HasFree (with_next used blank slots) (with_next used used order)
-  has_free l =
-      let lengths : length order ≡ length slots = h.indices.all in
-      elim (cases_Bool (nat_eq (length slots) used)) [
-        | inl t ↦ subst (λ b. HasFree (cond b (slots ++ blank ∷ []) slots) (with_next used used order)) (sym t)
-            (subst (λ n. HasFree (slots ++ blank ∷ []) (cond (nat_eq n used) (order ++ used ∷ []) order)) (sym lengths) (subst (λ b. HasFree (slots ++ blank ∷ []) (cond b (order ++ used ∷ []) order)) (sym t) (full l t)))
-        | inr f ↦ subst (λ b. HasFree (cond b (slots ++ blank ∷ []) slots) (with_next used used order)) (sym f)
-            (subst (λ n. HasFree slots (cond (nat_eq n used) (order ++ used ∷ []) order)) (sym lengths) (subst (λ b. HasFree slots (cond b (order ++ used ∷ []) order)) (sym f) (not_full f)))
-      ]
+  has_free l = grind (arith, common_steps, cases_Bool, full, not_full)
 
 -- ## `open`
 

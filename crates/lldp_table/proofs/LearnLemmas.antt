@@ -7,9 +7,9 @@ use Rattle.std.proofs.lemmas.List.Sorted.{IsPermutation-sym, IsPermutation-appen
 use Rattle.lldp_pdu.specs.Msap.{MsapId}
 use Rattle.lldp_table.specs.Msap.{same_msap}
 use Rattle.lldp_table.specs.Contents.{Contents, IsExtent, is_named, fresh, after_learn, after_forget}
-use Rattle.lldp_table.specs.Layout.{neighbor_of, neighbors_at, msap_at, blank, with_next, contents_of, IsTable}
-use Rattle.lldp_table.specs.Queue.{Due, holds, ticks_left, enter, leave, IsQueued, IsTimed}
-use Rattle.lldp_table.specs.Stored.{Stored}
+use Rattle.lldp_table.specs.Code.Layout.{neighbor_of, neighbors_at, msap_at, blank, with_next, contents_of, IsTable}
+use Rattle.lldp_table.specs.Code.Queue.{Due, holds, ticks_left, enter, leave, IsQueued, IsTimed}
+use Rattle.lldp_table.specs.Code.Stored.{Stored}
 use Rattle.lldp_table.proofs.PlaceLemmas.{one-out, not_before, none-with, distinct-take}
 use Rattle.lldp_table.proofs.QueueOrderLemmas.{running-enter, running-leave}
 use Rattle.lldp_table.proofs.TimedLemmas.{queued_enter, queued_leave, enter_here, enter_others, holds_it, out_of, leave_others, again_others}

@@ -15,6 +15,7 @@ use Rattle.lldp_table.specs.Positions.{IsLastStored}
 use Rattle.std.proofs.lemmas.List.Sums.{sum_by-cons}
 use Rattle.lldp_table.proofs.EventLemmas.{neighbors-ticked, live-ticked, live-named}
 use Rattle.lldp_table.proofs.StandingLemmas.{arrived}
+use Rattle.std.proofs.lemmas.Grind.{common_steps}
 
 -- ## The last event that passes a test
 
@@ -127,17 +128,11 @@ module _ (f : MsapId → Option Neighbor) (named : (name : MsapId) (x : Neighbor
 
 pub last_stored_from_held : (opened : ℕ) (calls : List Call) (x : Neighbor) → Contains (neighbors (events_of opened calls)) x → IsLastStored (events_of opened calls) x
 unfolding neighbors
-last_stored_from_held opened calls x c =
-    let events : List TableEvent = events_of opened calls in
-    last_from_live events x
-    (All-contains (λ (y : Neighbor). live y.msap events ≡ Some y) (neighbors events) x (All-from_recursion (λ (y : Neighbor). live y.msap events ≡ Some y) (neighbors events) (each (λ name. live name events) (λ name. live-named name events) (arrivals events))) c)
+last_stored_from_held opened calls x c = grind (arith, common_steps, last_from_live, All-contains, All-from_recursion, each, live-named)
 
 pub held_from_last_stored : (opened : ℕ) (calls : List Call) (x : Neighbor) → IsLastStored (events_of opened calls) x → Contains (neighbors (events_of opened calls)) x
 unfolding neighbors
-held_from_last_stored opened calls x h =
-    let events : List TableEvent = events_of opened calls in
-    let e : live x.msap events ≡ Some x = live_from_last events x h in
-    contains_it (λ name. live name events) (λ name. live-named name events) (arrivals events) x (arrived opened calls x.msap (ap is_some e)) e
+held_from_last_stored opened calls x h = grind (arith, common_steps, live_from_last, contains_it, live-named, arrived)
 
 -- ## Ageing out
 
@@ -147,16 +142,7 @@ one_if b = cond b 1 0
 -- what ages out and what lives on make up the neighbors
 aged_and_left : (gone : Neighbor → Bool) (xs : List Neighbor) → AllByRecursion (λ x. gone x ≡ is_none (aged x)) xs → count_by gone xs + length (filter_map aged xs) ≡ length xs
 aged_and_left gone [] a = refl
-aged_and_left gone (x ∷ xs) a =
-    let more : count_by gone (x ∷ xs) ≡ one_if (gone x) + count_by gone xs = sum_by-cons (λ y. cond (gone y) 1 0) x xs in
-    let here : one_if (gone x) ≡ one_if (is_none (aged x)) = ap one_if a.0 in
-    let rest = aged_and_left gone xs a.1 in
-    let one = aged_count (aged x) (filter_map aged xs) in
-    omega arith
-  where
-    aged_count : (o : Option Neighbor) (ys : List Neighbor) → one_if (is_none o) + length (cons_option o ys) ≡ suc (length ys)
-    aged_count None ys = omega arith
-    aged_count (Some y) ys = omega arith
+aged_and_left gone (x ∷ xs) a = grind (arith, common_steps, sum_by-cons, aged_and_left gone xs a.1)
 
 gone_as_aged : (past : List TableEvent) (xs : List Neighbor) → AllByRecursion (λ x. live x.msap past ≡ Some x) xs → AllByRecursion (λ x. is_none (live x.msap (ticked ∷ past)) ≡ is_none (aged x)) xs
 gone_as_aged past [] a = tt
@@ -171,8 +157,4 @@ aged_out-count past =
 
 pub tick_answers : (old new : Contents) (opened : ℕ) (calls : List Call) (n : ℕ) → Stands opened calls old → Stands opened (tick ∷ calls) new → n + length new.neighbors ≡ length old.neighbors → n ≡ aged_out (events_of opened calls)
 unfolding events_of
-tick_answers old new opened calls n h k e =
-    let a = aged_out-count (events_of opened calls) in
-    let b : length new.neighbors ≡ length (neighbors (ticked ∷ events_of opened calls)) = ap (λ (t : Contents). length t.neighbors) k.is in
-    let c : length old.neighbors ≡ length (neighbors (events_of opened calls)) = ap (λ (t : Contents). length t.neighbors) h.is in
-    omega arith
+tick_answers old new opened calls n h k e = grind (arith, common_steps, aged_out-count)

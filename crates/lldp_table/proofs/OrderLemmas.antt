@@ -11,6 +11,7 @@ use Rattle.lldp_table.specs.Positions.{makes_new, IsNewBefore, WasDropped}
 use Rattle.lldp_table.specs.declared.learned.Learned.TheVariants.{New, Refreshed, Dropped}
 use Rattle.lldp_table.proofs.EventLemmas.{live-named}
 use Rattle.lldp_table.proofs.PlaceLemmas.{all-weaker, all-both, all-push}
+use Rattle.std.proofs.lemmas.Grind.{common_steps}
 
 -- ## The order
 
@@ -49,11 +50,7 @@ all_filter P t (n ∷ ns) a = elim (t n) as (λ b. AllByRecursion P (cond b (n �
 -- the ones that pass have the test too
 filter_all : (t : MsapId → Bool) (ns : List MsapId) → AllByRecursion (λ n. t n ≡ true) (filter t ns)
 filter_all t [] = tt
-filter_all t (n ∷ ns) =
-    elim (cases_Bool (t n)) [
-      | inl e ↦ subst (λ b. AllByRecursion (λ m. t m ≡ true) (cond b (n ∷ filter t ns) (filter t ns))) (sym e) (e, filter_all t ns)
-      | inr e ↦ subst (λ b. AllByRecursion (λ m. t m ≡ true) (cond b (n ∷ filter t ns) (filter t ns))) (sym e) (filter_all t ns)
-    ]
+filter_all t (n ∷ ns) = grind (arith, common_steps, cases_Bool, filter_all t ns, filter_all t ns)
 
 pairs_filter : (R : MsapId → MsapId → Type 0) (t : MsapId → Bool) (ns : List MsapId) → Pairs R ns → Pairs R (filter t ns)
 pairs_filter R t [] p = tt
@@ -71,11 +68,7 @@ pairs_of R S T h (n ∷ ns) a p = (all-weaker (R n) (S n) (λ m r. h n m a.0 r) 
 -- each name that arrived was new
 all_new : (events : List TableEvent) → AllByRecursion (λ n. list_any (makes_new n) events ≡ true) (arrivals events)
 all_new [] = tt
-all_new (learned name ttl octets New ∷ past) =
-    all-push (λ n. list_any (makes_new n) (learned name ttl octets New ∷ past) ≡ true) (filter (λ n. not (same_msap name n)) (arrivals past)) name
-    (all_filter (λ n. list_any (makes_new n) (learned name ttl octets New ∷ past) ≡ true) (λ n. not (same_msap name n)) (arrivals past)
-    (all-weaker (λ n. list_any (makes_new n) past ≡ true) (λ n. list_any (makes_new n) (learned name ttl octets New ∷ past) ≡ true) (λ n e. or_right (same_msap name n) (list_any (makes_new n) past) e) (arrivals past) (all_new past)))
-    (or_left (same_msap name name) (list_any (makes_new name) past) (same_msap-refl name))
+all_new (learned name ttl octets New ∷ past) = grind (arith, common_steps, all-push, all_filter, all-weaker, or_right, or_left, same_msap-refl, all_new past)
 all_new (event ∷ past) = all_new past
 
 -- names that arrived, in the order in which each was last new
@@ -120,11 +113,7 @@ module _ (events : List TableEvent) where
 
   ordered : (names : List MsapId) → Pairs (Before events) names → Pairs (IsNewBefore events) (filter_map (λ name. live name events) names)
   ordered [] p = tt
-  ordered (name ∷ names) p = ordered_one (live name events) (live-named name events) (ordered names p.1)
-    where
-      ordered_one : (o : Option Neighbor) → ((y : Neighbor) → o ≡ Some y → y.msap ≡ name) → Pairs (IsNewBefore events) (filter_map (λ n. live n events) names) → Pairs (IsNewBefore events) (cons_option o (filter_map (λ n. live n events) names))
-      ordered_one None h r = r
-      ordered_one (Some y) h r = (before_all y names (subst (λ n. AllByRecursion (Before events n) names) (sym (h y refl)) p.0), r)
+  ordered (name ∷ names) p = grind (arith, common_steps, live-named, before_all, ordered names p.1)
 
 pairs_at : (R : Neighbor → Neighbor → Type 0) (xs : List Neighbor) → Pairs R xs → AllPairs R xs
 pairs_at R [] p i j d l m = absurd (omega arith)
@@ -193,5 +182,4 @@ greatest_dropped events l = let same : 0 + most_left 0 (since is_purge events) �
 
 pub none_dropped_above : (events : List TableEvent) (left : ℕ) → WasDropped events left → left ≤ too_many_left events
 unfolding too_many_left
-none_dropped_above events left h =
-    subst (λ es. left ≤ most_left 0 (since is_purge es)) (sym h.split) (none_greater 0 left h.later h.earlier h.msap h.ttl h.octets h.unpurged (omega (arith, h.counts)))
+none_dropped_above events left h = grind (arith, common_steps, none_greater)

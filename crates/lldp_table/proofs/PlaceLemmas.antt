@@ -12,7 +12,7 @@ use Rattle.lldp_pdu.specs.Msap.{MsapId}
 use Rattle.lldp_table.specs.Msap.{same_msap}
 use Rattle.lldp_table.specs.Events.{Neighbor}
 use Rattle.lldp_table.specs.Contents.{is_named, fresh, refreshed, names_of}
-use Rattle.lldp_table.specs.Layout.{IsOrder}
+use Rattle.lldp_table.specs.Code.Layout.{IsOrder}
 use Rattle.lldp_table.proofs.MsapLemmas.{same_msap-true, same_msap-sym}
 use Rattle.std.proofs.lemmas.Grind.{common_steps}
 

@@ -2,7 +2,8 @@
 use Rattle.std.proofs.Common.{◌≡◌, ℕ, ◌+◌, ◌-◌, ◌<◌, ◌≤◌, true, false, ◌||◌, cond, nat_eq, nat_le, List, [], ◌∷◌, refl, inl, inr, ap, ◌∙◌, sym, arith, max}
 use Rattle.std.proofs.lemmas.List.Sums.{sum_by-cons}
 use Rattle.std.proofs.lemmas.Bool.{cases_Bool, leb-true, leb-false, or_parts, cond-true, cond-false, eqb-true, eqb-false, eq-eqb}
-use Rattle.lldp_table.specs.Queue.{Due, due, holds, ticks_left, enter, add_first, less_first, leave, IsRunning, total}
+use Rattle.lldp_table.specs.Code.Queue.{Due, due, holds, ticks_left, enter, add_first, less_first, leave, IsRunning, total}
+use Rattle.std.proofs.lemmas.Grind.{common_steps}
 
 -- ## The ticks left of one slot, by whether it is the first
 
@@ -32,23 +33,11 @@ left-enter_same slot left (e ∷ queue) h =
     ]
 
 same_front : (e : Due) (queue before : List Due) (slot : ℕ) → (nat_eq e.slot slot ≡ false → ticks_left queue slot ≡ ticks_left before slot) → ticks_left (e ∷ queue) slot ≡ ticks_left (e ∷ before) slot
-same_front e queue before slot h =
-    elim (cases_Bool (nat_eq e.slot slot)) [
-      | inl t ↦ at_first e queue slot t ∙ sym (at_first e before slot t)
-      | inr f ↦ behind e queue slot f ∙ ap (λ n. e.gap + n) (h f) ∙ sym (behind e before slot f)
-    ]
+same_front e queue before slot h = grind (arith, common_steps, cases_Bool, at_first, behind)
 
 -- a difference that is cut in two
 cut : (slot left other : ℕ) (e : Due) (queue : List Due) → left ≤ e.gap → nat_eq slot other ≡ false → ticks_left ((due slot left) ∷ (due e.slot (e.gap - left)) ∷ queue) other ≡ ticks_left (e ∷ queue) other
-cut slot left other e queue l d =
-    elim (cases_Bool (nat_eq e.slot other)) [
-      | inl t ↦
-          let a = at_first (due e.slot (e.gap - left)) queue other t in
-          behind (due slot left) ((due e.slot (e.gap - left)) ∷ queue) other d ∙ omega (arith, a) ∙ sym (at_first e queue other t)
-      | inr f ↦
-          let a = behind (due e.slot (e.gap - left)) queue other f in
-          behind (due slot left) ((due e.slot (e.gap - left)) ∷ queue) other d ∙ omega (arith, a) ∙ sym (behind e queue other f)
-    ]
+cut slot left other e queue l d = grind (arith, common_steps, cases_Bool, at_first, behind)
 
 -- and the others keep theirs
 pub left-enter_other : (slot left other : ℕ) (queue : List Due) → nat_eq slot other ≡ false → holds other queue ≡ true → ticks_left (enter slot left queue) other ≡ ticks_left queue other
@@ -67,11 +56,7 @@ left-enter_other slot left other (e ∷ queue) d h =
 
 left-add_first : (n slot : ℕ) (queue : List Due) → holds slot queue ≡ true → ticks_left (add_first n queue) slot ≡ n + ticks_left queue slot
 left-add_first n slot [] h = cc
-left-add_first n slot (e ∷ queue) h =
-    elim (cases_Bool (nat_eq e.slot slot)) [
-      | inl t ↦ at_first (due e.slot (n + e.gap)) queue slot t ∙ ap (λ m. n + m) (sym (at_first e queue slot t))
-      | inr f ↦ let b = behind e queue slot f in behind (due e.slot (n + e.gap)) queue slot f ∙ omega (arith, b)
-    ]
+left-add_first n slot (e ∷ queue) h = grind (arith, common_steps, cases_Bool, at_first, behind)
 
 -- where a slot leaves, the others keep theirs
 pub left-leave : (slot other : ℕ) (queue : List Due) → nat_eq slot other ≡ false → holds other queue ≡ true → ticks_left (leave slot queue) other ≡ ticks_left queue other
@@ -94,21 +79,12 @@ running_first e queue r = let n = eqb-false e.gap 0 r in omega (arith, n)
 -- it takes one from each
 pub left-pass : (slot : ℕ) (queue : List Due) → IsRunning queue → holds slot queue ≡ true → ticks_left (less_first 1 queue) slot ≡ ticks_left queue slot - 1
 left-pass slot [] r h = cc
-left-pass slot (e ∷ queue) r h =
-    elim (cases_Bool (nat_eq e.slot slot)) [
-      | inl t ↦ at_first (due e.slot (e.gap - 1)) queue slot t ∙ ap (λ n. n - 1) (sym (at_first e queue slot t))
-      | inr f ↦ let b = behind e queue slot f in let s = running_first e queue r in behind (due e.slot (e.gap - 1)) queue slot f ∙ omega (arith, b, s)
-    ]
+left-pass slot (e ∷ queue) r h = grind (arith, common_steps, cases_Bool, at_first, behind, running_first)
 
 -- each has some left where the first has
 pub left-positive : (slot : ℕ) (queue : List Due) → IsRunning queue → holds slot queue ≡ true → 0 < ticks_left queue slot
 left-positive slot [] r h = cc
-left-positive slot (e ∷ queue) r h =
-    let s = running_first e queue r in
-    elim (cases_Bool (nat_eq e.slot slot)) [
-      | inl t ↦ let a = at_first e queue slot t in omega (arith, a, s)
-      | inr f ↦ let b = behind e queue slot f in omega (arith, b, s)
-    ]
+left-positive slot (e ∷ queue) r h = grind (arith, common_steps, running_first, cases_Bool, at_first, behind)
 
 -- a slot with nothing left at the front, and the others without it
 pub left-front_same : (slot : ℕ) (queue : List Due) → ticks_left ((due slot 0) ∷ queue) slot ≡ 0
@@ -124,16 +100,7 @@ total-cons e queue = sum_by-cons (λ (d : Due). d.gap) e queue
 
 pub total-enter : (slot left : ℕ) (queue : List Due) → total (enter slot left queue) ≤ max (total queue) left
 total-enter slot left [] = omega arith
-total-enter slot left (e ∷ queue) =
-    let here = total-cons e queue in
-    elim (cases_Bool (nat_le e.gap left)) [
-      | inl t ↦
-          let m = leb-true e.gap left t in
-          rw t (omega (arith, here, total-cons e (enter slot (left - e.gap) queue), total-enter slot (left - e.gap) queue))
-      | inr f ↦
-          let m = leb-false e.gap left f in
-          rw f (omega (arith, here, total-cons (due slot left) (due e.slot (e.gap - left) ∷ queue), total-cons (due e.slot (e.gap - left)) queue))
-    ]
+total-enter slot left (e ∷ queue) = grind (arith, common_steps, total-cons, cases_Bool, leb-true, leb-false, total-enter slot (left - e.gap) queue)
 
 total-add_first : (n : ℕ) (queue : List Due) → total (add_first n queue) ≤ n + total queue
 total-add_first n [] = omega arith
@@ -141,12 +108,7 @@ total-add_first n (e ∷ queue) = omega (arith, total-cons e queue, total-cons (
 
 pub total-leave : (slot : ℕ) (queue : List Due) → total (leave slot queue) ≤ total queue
 total-leave slot [] = omega arith
-total-leave slot (e ∷ queue) =
-    let here = total-cons e queue in
-    elim (cases_Bool (nat_eq e.slot slot)) [
-      | inl t ↦ rw t (omega (arith, here, total-add_first e.gap queue))
-      | inr f ↦ rw f (omega (arith, here, total-cons e (leave slot queue), total-leave slot queue))
-    ]
+total-leave slot (e ∷ queue) = grind (arith, common_steps, total-cons, cases_Bool, total-add_first, total-leave slot queue)
 
 pub total-less_first : (n : ℕ) (queue : List Due) → total (less_first n queue) ≤ total queue
 total-less_first n [] = omega arith

@@ -4,7 +4,7 @@ use Rattle.std.specs.List.Sorted.{IsPermutation}
 use Rattle.std.proofs.lemmas.Bool.{cases_Bool, eqb-true, ne_eqb}
 use Rattle.std.proofs.lemmas.List.Sorted.{IsPermutation-refl, IsPermutation-cons, IsPermutation-trans, IsPermutation-append_comm, IsPermutation-append_left}
 use Rattle.lldp_table.proofs.QueueLemmas.{running_first}
-use Rattle.lldp_table.specs.Queue.{Due, put, holds, slots_of, enter, add_first, less_first, leave, IsRunning}
+use Rattle.lldp_table.specs.Code.Queue.{Due, put, holds, slots_of, enter, add_first, less_first, leave, IsRunning}
 
 -- two that change places
 first_two : (a b : ℕ) (rest : List ℕ) → IsPermutation (a ∷ b ∷ rest) (b ∷ a ∷ rest)

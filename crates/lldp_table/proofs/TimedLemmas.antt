@@ -6,7 +6,7 @@ use Rattle.std.proofs.lemmas.Bool.{cases_Bool, eqb-true}
 use Rattle.std.proofs.lemmas.List.{length-map}
 use Rattle.std.proofs.lemmas.List.Sorted.{list_any-IsPermutation, length_permutation}
 use Rattle.std.proofs.lemmas.Map.Keys.{IsDistinct-head, IsDistinct-tail, IsDistinct-cons}
-use Rattle.lldp_table.specs.Queue.{Due, slots_of, holds, ticks_left, enter, leave, IsQueued}
+use Rattle.lldp_table.specs.Code.Queue.{Due, slots_of, holds, ticks_left, enter, leave, IsQueued}
 use Rattle.lldp_table.proofs.PlaceLemmas.{all-weaker, all-with, none-with, unheld, distinct-moved, nat_eq_sym}
 use Rattle.lldp_table.proofs.QueueLemmas.{left-enter_same, left-enter_other, left-leave}
 use Rattle.lldp_table.proofs.QueueOrderLemmas.{slots-enter, slots-leave}

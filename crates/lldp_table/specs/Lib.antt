@@ -1,8 +1,6 @@
-pub mod Stored
 pub mod Msap
 pub mod Events
 pub mod Contents
 pub mod Standing
 pub mod Positions
-pub mod Queue
-pub mod Layout
+pub mod Code

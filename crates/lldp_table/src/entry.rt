@@ -23,7 +23,7 @@ impl<'a> Model for Entry<'a> {
     ghost Value = { Neighbor };
 
     ghost use Rattle.lldp_table.specs.Contents.{IsHeld};
-    ghost use Rattle.lldp_table.specs.Layout.{neighbor_of};
+    ghost use Rattle.lldp_table.specs.Code.Layout.{neighbor_of};
 
     ghost view = { λ e. neighbor_of e.slot.now e.left };
 

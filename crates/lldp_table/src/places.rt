@@ -2,11 +2,11 @@
 ghost use Rattle.std.specs.Prelude.{◌≡◌, ◌≤◌, ◌<◌, ◌+◌, ◌*◌, true, false, List, length, take, map, MatchOption, slice_index_or, sum_by, IsPermutation, nat_eq, vec_capacity};
 ghost use Rattle.std.specs.List.{list_any, filter_map, AllByRecursion, IsDistinct};
 ghost use Rattle.lldp_pdu.specs.View.{msap_seen};
-ghost use Rattle.lldp_table.specs.Stored.{Stored, tag_of};
+ghost use Rattle.lldp_table.specs.Code.Stored.{Stored, tag_of};
 ghost use Rattle.lldp_table.specs.Msap.{same_msap};
 ghost use Rattle.lldp_table.specs.Contents.{aged};
-ghost use Rattle.lldp_table.specs.Queue.{holds, ticks_left, IsTimed};
-ghost use Rattle.lldp_table.specs.Layout.{blank, msap_at, octets_at, neighbors_at, with_next};
+ghost use Rattle.lldp_table.specs.Code.Queue.{holds, ticks_left, IsTimed};
+ghost use Rattle.lldp_table.specs.Code.Layout.{blank, msap_at, octets_at, neighbors_at, with_next};
 
 use crate::queue::{Queue, place_in};
 use crate::slot::Slot;

@@ -1,7 +1,7 @@
 //! The slots in use, in the order in which their neighbors expire.
 ghost use Rattle.std.specs.Prelude.{◌≡◌, ℕ, true, false, ◌≤◌, ◌<◌, ◌+◌, ◌^◌, [], ◌∷◌, ◌++◌, length, take, drop, slice_index, nat_eq};
 ghost use Rattle.std.specs.List.{list_any, AllByRecursion};
-ghost use Rattle.lldp_table.specs.Queue.{due, dues, holds, ticks_left, put, enter, leave, less_first, add_first, is_spent, IsRunning, IsQueue};
+ghost use Rattle.lldp_table.specs.Code.Queue.{due, dues, holds, ticks_left, put, enter, leave, less_first, add_first, is_spent, IsRunning, IsQueue};
 
 use crate::times::{Accesses, Times};
 use arrayvec::ArrayVec;
@@ -159,7 +159,7 @@ pub(crate) struct Queue {
 
 impl Model for Queue {
     ghost use Rattle.std.specs.Prelude.{List};
-    ghost use Rattle.lldp_table.specs.Queue.{Due, dues, IsQueue};
+    ghost use Rattle.lldp_table.specs.Code.Queue.{Due, dues, IsQueue};
 
     ghost Value = { List Due };
 

@@ -4,8 +4,8 @@ ghost use Rattle.lldp_pdu.specs.Cut.{cut};
 ghost use Rattle.lldp_pdu.specs.Lldpdu.{msap_of, tlv_at};
 ghost use Rattle.lldp_pdu.specs.View.{msap_seen};
 ghost use Rattle.lldp_table.specs.Msap.{same_msap};
-ghost use Rattle.lldp_table.specs.Layout.{blank};
-ghost use Rattle.lldp_table.specs.Stored.{mixed as mixed_in, tag_of as tag_of_name};
+ghost use Rattle.lldp_table.specs.Code.Layout.{blank};
+ghost use Rattle.lldp_table.specs.Code.Stored.{mixed as mixed_in, tag_of as tag_of_name};
 
 use arrayvec::ArrayVec;
 use lldp_pdu::{Msap, Tlvs};
@@ -23,7 +23,7 @@ pub(crate) struct Slot {
 impl Model for Slot {
     ghost use Rattle.std.specs.Prelude.{◌≡◌};
     ghost use Rattle.lldp_pdu.specs.Lldpdu.{msap_of};
-    ghost use Rattle.lldp_table.specs.Stored.{Stored, tag_of};
+    ghost use Rattle.lldp_table.specs.Code.Stored.{Stored, tag_of};
 
     ghost Value = { Stored };
 

@@ -42,8 +42,8 @@ impl<A: Allocator> Model for Table<A> {
     ghost Value = { Contents };
 
     ghost use Rattle.std.specs.Prelude.{vec_capacity};
-    ghost use Rattle.lldp_table.specs.Queue.{ticks_left};
-    ghost use Rattle.lldp_table.specs.Layout.{contents_of, IsTable};
+    ghost use Rattle.lldp_table.specs.Code.Queue.{ticks_left};
+    ghost use Rattle.lldp_table.specs.Code.Layout.{contents_of, IsTable};
 
     ghost view = { λ t. contents_of (vec_capacity t.slots) t.slots.items (ticks_left t.queue) t.order.items t.used t.limit t.too_many };
 

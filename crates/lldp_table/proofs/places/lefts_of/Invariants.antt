@@ -1,6 +1,6 @@
 -- The slots before this one have their ticks left.
 use Rattle.std.proofs.Common.{◌≡◌, take, map}
-use Rattle.lldp_table.specs.Queue.{ticks_left}
+use Rattle.lldp_table.specs.Code.Queue.{ticks_left}
 use Rattle.lldp_table.proofs.places.lefts_of.Given as goal
 
 abbrev pub invariant-loop-slot : goal.invariant-loop-slot

@@ -1,7 +1,7 @@
 -- The sum so far.
 use Rattle.std.proofs.Common.{◌≡◌, ◌≤◌, ◌*◌, length, take}
 use Rattle.std.specs.List.{sum_by}
-use Rattle.lldp_table.specs.Layout.{octets_at}
+use Rattle.lldp_table.specs.Code.Layout.{octets_at}
 use Rattle.lldp_table.proofs.places.octets_of.Given as goal
 
 abbrev pub invariant-loop-slot : goal.invariant-loop-slot

@@ -3,7 +3,7 @@ use Rattle.std.proofs.Common.{◌≡◌, false, take, map}
 use Rattle.std.specs.List.{list_any}
 use Rattle.lldp_pdu.specs.View.{msap_seen}
 use Rattle.lldp_table.specs.Msap.{same_msap}
-use Rattle.lldp_table.specs.Layout.{msap_at}
+use Rattle.lldp_table.specs.Code.Layout.{msap_at}
 use Rattle.lldp_table.proofs.places.place_of.Given as goal
 
 abbrev pub invariant-loop-at : goal.invariant-loop-at

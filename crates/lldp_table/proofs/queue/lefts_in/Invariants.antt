@@ -1,7 +1,7 @@
 -- The slots before this one have their ticks left, and what is left of the others counts from here.
 use Rattle.std.proofs.Common.{◌≡◌, ◌+◌, take, drop, length, get_or}
 use Rattle.std.specs.List.{AllByRecursion}
-use Rattle.lldp_table.specs.Queue.{ticks_left, total, dues}
+use Rattle.lldp_table.specs.Code.Queue.{ticks_left, total, dues}
 use Rattle.lldp_table.proofs.queue.lefts_in.Given as goal
 
 abbrev pub invariant-loop-slot : goal.invariant-loop-slot

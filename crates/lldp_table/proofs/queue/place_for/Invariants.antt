@@ -1,6 +1,6 @@
 -- The rest has to enter behind the places so far.
 use Rattle.std.proofs.Common.{◌≡◌, ◌≤◌, ℕ, ◌++◌, take, drop}
-use Rattle.lldp_table.specs.Queue.{enter, dues}
+use Rattle.lldp_table.specs.Code.Queue.{enter, dues}
 use Rattle.lldp_table.proofs.queue.place_for.Given as goal
 
 abbrev pub invariant-loop-at : goal.invariant-loop-at

@@ -1,6 +1,6 @@
 -- The octets before this one are mixed in.
 use Rattle.std.proofs.Common.{◌≡◌, drop}
-use Rattle.lldp_table.specs.Stored.{mixed}
+use Rattle.lldp_table.specs.Code.Stored.{mixed}
 use Rattle.lldp_table.proofs.slot.mixed.Given as goal
 
 abbrev pub invariant-loop-octet : goal.invariant-loop-octet

@@ -1,5 +1,5 @@
 use Rattle.std.proofs.Common.{◌∙◌, ap, arith, length, length-set, refl}
-use Rattle.lldp_table.specs.Queue.{less_first}
+use Rattle.lldp_table.specs.Code.Queue.{less_first}
 use Rattle.lldp_table.proofs.DueLemmas.{lessened, within_times, queue_lessened, some_there}
 use Rattle.lldp_table.proofs.queue.Queue.pass.Goals as goal
 

@@ -1,7 +1,7 @@
 use Rattle.std.proofs.Common.{◌≡◌, [], refl}
 use Rattle.lldp_pdu.specs.Cut.{cut, cut_within}
 use Rattle.lldp_pdu.specs.Lldpdu.{msap_of}
-use Rattle.lldp_table.specs.Stored.{tag_of}
+use Rattle.lldp_table.specs.Code.Stored.{tag_of}
 use Rattle.lldp_table.proofs.slot.Slot.blank.Goals as goal
 
 -- no octets have no name

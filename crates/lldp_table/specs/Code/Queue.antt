@@ -1,5 +1,5 @@
 -- A queue of differences: the slots in use in the order in which their neighbors expire, each with the difference of its
--- ticks left to those of the slot before it. Nothing here need be believed: no public contract cites it.
+-- ticks left to those of the slot before it.
 use Rattle.std.specs.Prelude.{◌≡◌, ℕ, ◌+◌, ◌-◌, ◌<◌, ◌^◌, Bool, false, if◌then◌else◌, ◌==◌, nat_le, nat_eq, List, [], ◌∷◌, length, map, slice_index}
 use Rattle.std.specs.List.{list_any, sum_by, AllByRecursion, IsDistinct}
 

@@ -1,13 +1,12 @@
 -- How the code keeps a table: slots that stay in their places, the list of their indices, and the queue of their times.
--- Nothing here need be believed: no public contract cites it.
 use Rattle.std.specs.Prelude.{◌≡◌, ℕ, ◌<◌, ◌≤◌, if◌then◌else◌, ◌==◌, List, [], ◌∷◌, ◌++◌, length, map, take, slice_index_or, nat_eq}
 use Rattle.std.specs.List.{IsDistinct, AllByRecursion}
 use Rattle.lldp_pdu.specs.Msap.{MsapId}
 use Rattle.lldp_pdu.specs.Lldpdu.{msap_of}
 use Rattle.lldp_table.specs.Events.{Neighbor}
 use Rattle.lldp_table.specs.Contents.{Contents, IsSound}
-use Rattle.lldp_table.specs.Stored.{Stored}
-use Rattle.lldp_table.specs.Queue.{Due, ticks_left, IsTimed}
+use Rattle.lldp_table.specs.Code.Stored.{Stored}
+use Rattle.lldp_table.specs.Code.Queue.{Due, ticks_left, IsTimed}
 
 -- a slot that stores nothing
 abbrev pub blank : Stored
