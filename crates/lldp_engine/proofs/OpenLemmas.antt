@@ -8,7 +8,7 @@ use Rattle.lldp_table.specs.Events.{events_of}
 use Rattle.lldp_table.specs.Standing.{table_of}
 use Rattle.lldp_table.proofs.StandingLemmas.{stands_open}
 use Rattle.lldp_engine.specs.Options.{Options, InRange, is_port_name}
-use Rattle.lldp_transmit.specs.Machine.{opened as opened_machine}
+use Rattle.lldp_transmit.specs.Code.Machine.{opened as opened_machine}
 use Rattle.lldp_transmit.specs.Standing.{machine_of}
 use Rattle.lldp_transmit.proofs.Standing.{stands_at_first}
 use Rattle.lldp_engine.specs.Configuration.{configuration_at_opening}

@@ -12,7 +12,7 @@ use Rattle.lldp_table.proofs.LiveLemmas.{aged_out-count}
 use Rattle.lldp_transmit.specs.declared.event.Cause.{Cause}
 use Rattle.lldp_transmit.specs.declared.event.Mark.{Mark}
 use Rattle.lldp_transmit.specs.History.{Settings, History}
-use Rattle.lldp_transmit.specs.Machine.{Machine, stepped}
+use Rattle.lldp_transmit.specs.Code.Machine.{Machine, stepped}
 use Rattle.lldp_transmit.specs.Moments.{moments, is_up}
 use Rattle.lldp_transmit.specs.Standing.{AreSettings, machine_of}
 use Rattle.lldp_transmit.proofs.Standing.{carries as machine_carries, marks as machine_marks, stands_left as machine_left}

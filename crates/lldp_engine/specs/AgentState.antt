@@ -2,7 +2,7 @@
 use Rattle.std.specs.Prelude.{◌≡◌, ℕ, ◌<◌, ◌≤◌, Bool, true, nat_le, List, length, map, get_or, []}
 use Rattle.std.specs.List.{list_all}
 use Rattle.lldp_table.specs.Contents.{Contents}
-use Rattle.lldp_transmit.specs.Machine.{Machine}
+use Rattle.lldp_transmit.specs.Code.Machine.{Machine}
 use Rattle.lldp_engine.specs.declared.port.status.Status.{Status}
 use Rattle.lldp_engine.specs.declared.port.counters.Counters.{Counters}
 use Rattle.lldp_engine.specs.Options.{is_text}

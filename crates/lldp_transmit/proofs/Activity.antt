@@ -13,6 +13,7 @@ use Rattle.lldp_transmit.proofs.Windows.{one_if}
 use Rattle.lldp_transmit.proofs.Splits.{find_last, since_at}
 use Rattle.lldp_transmit.proofs.Stops.{ticks_since}
 use Rattle.lldp_transmit.proofs.Counters.{is_active-cons}
+use Rattle.std.proofs.lemmas.Grind.{common_steps}
 
 -- ---- an active port
 
@@ -60,8 +61,7 @@ apart_rest (x ∷ after) rest a = apart_rest after rest a.1
 
 starts_on : (after : List Moment) (m : Moment) (before : List Moment) → AreApart (m ∷ before) → IsTrue m.start → count ends after ≡ 0 → IsTrue (is_active (after ++ m ∷ before))
 starts_on [] m before a s c = is_active-cons m before ∙ ap₂ (λ d b. not d && (b || is_active before)) (a.0 s).0 s
-starts_on (x ∷ after) m before a s c =
-    is_active-cons x (after ++ m ∷ before) ∙ start_stays (ends x) x.start _ (count ends after) c (starts_on after m before a s (omega arith))
+starts_on (x ∷ after) m before a s c = grind (arith, common_steps, is_active-cons, start_stays, starts_on after m before a s (omega arith))
 
 -- ---- a link that stays up
 
@@ -82,11 +82,7 @@ none_earlier (x ∷ newer) rest c = none_earlier newer rest (omega arith)
 
 no_stop : (run : List Moment) → count ends run ≡ 0 → stops_in run ≡ 0
 no_stop [] c = refl
-no_stop (m ∷ run) c = go m.stop c (no_stop run (omega arith))
-  where
-    go : (x : Bool) → one_if (x || is_down m.cause) + count ends run ≡ 0 → stops_in run ≡ 0 → one_if x + stops_in run ≡ 0
-    go true e p = absurd (omega arith)
-    go false e p = omega arith
+no_stop (m ∷ run) c = grind (arith, common_steps, one_if, no_stop run (omega arith))
 
 neither : (c : Cause) (x u : Bool) (n k : ℕ) → one_if x + n ≡ 0 → up_after c u ≡ true → k ≡ 0 → one_if (x || is_down c) + k ≡ 0
 neither c true u n k e p q = absurd (omega arith)
@@ -128,31 +124,11 @@ stay true q k n t p l = (refl, omega arith)
 stay false q k n t p l = (p, omega arith)
 
 ticks_stay : (after : List Moment) (m : Moment) (before : List Moment) → IsTrue m.stop → (list_any (λ x. x.stop) (after ++ m ∷ before) ≡ true) × (ticks (since (λ x. x.stop) (after ++ m ∷ before)) ≤ ticks after)
-ticks_stay [] m before p = (
-  ap (λ b. b || list_any (λ x. x.stop) before) p,
-  omega (arith, ticks_since m before ∙ ap (λ b. cond b 0 (one_if (is_tick m.cause) + ticks (since (λ x. x.stop) before))) p),
-)
-ticks_stay (x ∷ after) m before p =
-    let w = ticks_stay after m before p in
-    let v = stay x.stop _ (one_if (is_tick x.cause)) _ _ w.0 w.1 in
-    (v.0, omega (arith, ticks_since x (after ++ m ∷ before), v.1))
+ticks_stay [] m before p = grind (arith, common_steps, ticks_since, one_if)
+ticks_stay (x ∷ after) m before p = grind (arith, common_steps, stay, one_if, ticks_since, ticks_stay after m before p)
 
 pub rested_reads : (s : Settings) (past : List Moment) → IsTrue (rested s past) ↔ HasRested s past
-rested_reads s past = (forth, back (list_any (λ x. x.stop) past) refl)
-  where
-    forth : IsTrue (rested s past) → HasRested s past
-    forth r after before m e p =
-        let w = ticks_stay after m before p in
-        let q : (not (list_any (λ x. x.stop) (after ++ m ∷ before)) || nat_le s.reinit (1 + ticks (since (λ x. x.stop) (after ++ m ∷ before)))) ≡ true = rw e at r in
-        let v : nat_le s.reinit (1 + ticks (since (λ x. x.stop) (after ++ m ∷ before))) ≡ true = rw w.0 at q in
-        omega (arith, leb-true _ _ v, w.1)
-
-    back : (b : Bool) → list_any (λ x. x.stop) past ≡ b → HasRested s past → IsTrue (not b || nat_le s.reinit (1 + ticks (since (λ x. x.stop) past)))
-    back false e r = refl
-    back true e r =
-        let w = find_last (λ x. x.stop) past e in
-        let since_is : since (λ x. x.stop) past ≡ w.0 = ap (since (λ x. x.stop)) w.3 ∙ since_at (λ x. x.stop) w.0 w.2 w.1 w.4 w.5 in
-        le-leb _ _ (omega (arith, r w.0 w.1 w.2 w.3 w.4, ap ticks since_is))
+rested_reads s past = grind (arith, common_steps, ticks_stay, leb-true, find_last, since_at, le-leb)
 
 -- ---- starts and stops
 
@@ -164,10 +140,7 @@ both_true false false = (λ h. cc, λ h. h.0)
 
 pub stop_reads : (s : Settings) (h : History) (e : Event) → IsTrue (moment s (moments s h) e).stop ↔ IsStop s (moments s h) (moment s (moments s h) e)
 unfolding moment
-stop_reads s h e =
-    let both = both_true (is_active (moments s h)) (is_allowed s (moment s (moments s h) e ∷ moments s h)) in
-    let active = active_reads s h in
-    (λ t. (active.0 (both.0 t).0, (both.0 t).1), λ t. both.1 (active.1 t.0, t.1))
+stop_reads s h e = grind (arith, common_steps, both_true, active_reads)
 
 pub is_tick_only : (c : Cause) → is_tick c ≡ true → c ≡ Tick
 is_tick_only Tick e = refl
@@ -175,18 +148,4 @@ is_tick_only _ e = cc e
 
 pub start_reads : (s : Settings) (h : History) (e : Event) → IsTrue (moment s (moments s h) e).start ↔ IsStart s (moments s h) (moment s (moments s h) e)
 unfolding moment
-start_reads s h e = (forth, back)
-  where
-    forth : IsTrue (moment s (moments s h) e).start → IsStart s (moments s h) (moment s (moments s h) e)
-    forth p =
-        let past = moments s h in
-        let a = and_parts _ _ p in
-        let b = and_parts _ _ a.1 in
-        let c = and_parts _ _ b.1 in
-        let d = and_parts _ _ c.1 in
-        (is_tick_only e.cause a.0, b.0, c.0, λ started. false≢true (sym (not-true (is_active past) d.0) ∙ (active_reads s h).1 started), (rested_reads s past).0 d.1)
-
-    back : IsStart s (moments s h) (moment s (moments s h) e) → IsTrue (moment s (moments s h) e).start
-    back (t, l, u, n, r) =
-        let past = moments s h in
-        and_from _ _ (ap is_tick t) (and_from _ _ l (and_from _ _ u (and_from _ _ (not_from_false (is_active past) (false_from_ne_true (is_active past) (λ a. n ((active_reads s h).0 a)))) ((rested_reads s past).1 r))))
+start_reads s h e = grind (arith, common_steps, and_parts, is_tick_only, false≢true, not-true, active_reads, rested_reads, and_from, not_from_false, false_from_ne_true)

@@ -6,7 +6,7 @@ use Rattle.lldp_transmit.specs.declared.event.Cause.{Cause}
 use Rattle.lldp_transmit.specs.declared.event.Cause.TheVariants.{Tick}
 use Rattle.lldp_transmit.specs.declared.event.Mark.{Mark}
 use Rattle.lldp_transmit.specs.declared.event.Mark.TheVariants.{Quiet, Ordinary, Shutdown}
-use Rattle.lldp_transmit.specs.Machine.{Machine, stepped}
+use Rattle.lldp_transmit.specs.Code.Machine.{Machine, stepped}
 use Rattle.lldp_transmit.specs.History.{is_tick, is_change, is_neighbor, is_down}
 use Rattle.lldp_transmit.specs.Moments.{allowed_after, up_after}
 use Rattle.lldp_transmit.proofs.Windows.{one_if}

@@ -1,7 +1,7 @@
 -- The labels of the next moment, by the counters of a machine that stands for the moments so far.
 use Rattle.std.specs.Prelude.{◌≡◌, false, ◌≤◌, ◌&&◌, List, ◌∷◌}
 use Rattle.lldp_transmit.specs.declared.event.Cause.{Cause}
-use Rattle.lldp_transmit.specs.Machine.{Machine}
+use Rattle.lldp_transmit.specs.Code.Machine.{Machine}
 use Rattle.lldp_transmit.specs.Fronts.{since, up_to_last}
 use Rattle.lldp_transmit.specs.History.{Settings}
 use Rattle.lldp_transmit.specs.Moments.{Moment, ticks, is_active, is_allowed, is_up, is_waiting, starts, stops, signals_left, distance, signals, opens, due, open_at}

@@ -11,6 +11,7 @@ use Rattle.lldp_transmit.specs.Positions.{HasWanted, IsDue, IsOpen, IsLeastRoom}
 use Rattle.lldp_transmit.proofs.Windows.{one_if, list_all-map, all_fit, fits_enough, bounded, bucket, IsPaid, run_holds, credit_is, bucket_le, paid_moments}
 use Rattle.lldp_transmit.proofs.Activity.{active_reads}
 use Rattle.lldp_transmit.proofs.Counters.{is_active-cons, is_waiting-cons}
+use Rattle.std.proofs.lemmas.Grind.{common_steps}
 
 -- ---- open windows
 
@@ -73,16 +74,11 @@ least_bucket s ms paid = record { most = bucket_le s ms; each = each; one = one_
         omega (arith, leb-true _ _ held)
 
 pub credit_reads : (s : Settings) (h : History) → 1 ≤ s.credit_max → IsLeastRoom s (moments s h) (credit_left s (moments s h))
-credit_reads s h most =
-    let paid = paid_moments s h most in
-    subst (IsLeastRoom s (moments s h)) (sym (credit_is s (moments s h) paid)) (least_bucket s (moments s h) paid)
+credit_reads s h most = grind (arith, common_steps, paid_moments, credit_is, least_bucket)
 
 -- the least room is one number
 pub least_once : (s : Settings) (ms : List Moment) (credit other : ℕ) → IsLeastRoom s ms credit → IsLeastRoom s ms other → credit ≡ other
-least_once s ms credit other c d =
-    let (run, before, e, n) = c.one in
-    let (front, behind, f, k) = d.one in
-    omega (arith, c.each front behind f, d.each run before e, n, k)
+least_once s ms credit other c d = grind (arith, common_steps)
 
 -- ---- a frame that waits
 
@@ -110,15 +106,10 @@ waits_more false false false w n f k e d p = p
 
 waits_on : (after : List Moment) (m : Moment) (before : List Moment) → IsTrue m.signal → count (λ x. x.start) after ≡ 0 → frames (m ∷ after) ≡ 0 → IsTrue (is_waiting (after ++ m ∷ before))
 waits_on [] m before g c f = is_waiting-cons m before ∙ waits_first m.sent m.signal _ f g
-waits_on (x ∷ after) m before g c f =
-    is_waiting-cons x (after ++ m ∷ before)
-    ∙ waits_more x.sent x.signal x.start _ (count (λ y. y.start) after) (frames after) (one_if m.sent) c f (waits_on after m before g (omega arith) (omega arith))
+waits_on (x ∷ after) m before g c f = grind (arith, common_steps, is_waiting-cons, waits_more, one_if, waits_on after m before g (omega arith) (omega arith))
 
 pub waiting_reads : (ms : List Moment) → IsTrue (is_waiting ms) ↔ HasWanted ms
-waiting_reads ms = (wanted ms, back)
-  where
-    back : HasWanted ms → IsTrue (is_waiting ms)
-    back (after, before, m, e, g, c, f) = rw e (waits_on after m before g c f)
+waiting_reads ms = grind (arith, common_steps, wanted, waits_on)
 
 -- ---- a frame that goes
 

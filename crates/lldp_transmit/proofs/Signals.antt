@@ -170,10 +170,7 @@ wants s past m p =
     ]
 
 wanted : (s : Settings) (past : List Moment) (m : Moment) → Wants s past m → IsTrue (m.start || (is_change m.cause || (is_neighbor m.cause || timer_ends s past m)))
-wanted s past m (inl e) = or_left _ _ e
-wanted s past m (inr (inl e)) = or_right m.start _ (or_left _ _ (ap is_change e))
-wanted s past m (inr (inr (inl e))) = or_right m.start _ (or_right (is_change m.cause) _ (or_left _ _ (ap is_neighbor e)))
-wanted s past m (inr (inr (inr e))) = or_right m.start _ (or_right (is_change m.cause) _ (or_right (is_neighbor m.cause) _ ((timer_reads s past m).1 e)))
+wanted s past m b = grind (arith, nat_tests, or_left, or_right, timer_reads)
 
 same_active : (past : List Moment) (m : Moment) (b c d : Bool) → is_active (record m { signal = b; opening = c; sent = d } ∷ past) ≡ is_active (m ∷ past)
 same_active past m b c d = is_active-cons (record m { signal = b; opening = c; sent = d }) past ∙ sym (is_active-cons m past)

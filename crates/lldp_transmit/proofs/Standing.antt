@@ -6,7 +6,7 @@ use Rattle.lldp_transmit.specs.declared.event.Cause.{Cause}
 use Rattle.lldp_transmit.specs.declared.event.Cause.TheVariants.{Nothing}
 use Rattle.lldp_transmit.specs.declared.event.Mark.{Mark}
 use Rattle.lldp_transmit.specs.declared.event.Mark.TheVariants.{Quiet, Ordinary, Shutdown}
-use Rattle.lldp_transmit.specs.Machine.{Machine, opened, stepped}
+use Rattle.lldp_transmit.specs.Code.Machine.{Machine, opened, stepped}
 use Rattle.lldp_transmit.specs.History.{Settings, Event, History, event, is_tick, is_down}
 use Rattle.lldp_transmit.specs.Moments.{Moment, moments, moment, mark_of, mark_at, unlabelled, is_active, is_allowed, is_waiting, open_at, allowed_after, is_up}
 use Rattle.std.specs.List.{list_any}
@@ -17,6 +17,7 @@ use Rattle.lldp_transmit.proofs.Windows.{one_if, begun, wanted, bucket, IsPaid, 
 use Rattle.lldp_transmit.proofs.Counters.{until_start-cons, until_signal-cons, signals_left-cons, is_waiting-cons, is_active-cons, wanted-cons}
 use Rattle.lldp_transmit.proofs.Carrying.{start_of, stop_of, signal_of, opening_of, sent_of, Makes, step_makes}
 use Rattle.lldp_transmit.proofs.Labels.{Counts, starts_is, stops_is, active_is, signals_is, opens_is, sent_is}
+use Rattle.std.proofs.lemmas.Grind.{common_steps}
 
 -- the labels of a moment are those that the counters say
 pub record Labelled (t : Machine) (c : Cause) (n : ℕ) (m : Moment) : Type 0 where
@@ -49,19 +50,7 @@ module _ (s : Settings) (past : List Moment) (t : Machine) (e : Event) (h : Coun
 
 -- counters that a step makes stand for one more moment with such labels
 counted_on : (s : Settings) (past : List Moment) (t : Machine) (c : Cause) (n : ℕ) (m : Moment) (u : Machine × Mark) → Counts s past t → Labelled t c n m → Makes t c n u → Counts s (m ∷ past) u.0
-counted_on s past t c n m u h l k = record {
-  credit_max = cc;
-  fast_init = cc;
-  reinit = cc;
-  credit = cc;
-  wait = cc (until_start-cons s m past);
-  timer = cc (until_signal-cons s m past, signals_left-cons s m past);
-  left = cc (signals_left-cons s m past);
-  waiting = cc (is_waiting-cons m past);
-  active = cc (active_is s past t c h m l.cause l.start l.stop);
-  allowed = cc;
-  up = cc;
-}
+counted_on s past t c n m u h l k = grind (arith, common_steps, until_start-cons, until_signal-cons, signals_left-cons, is_waiting-cons, active_is)
 
 marked_on : (s : Settings) (past : List Moment) (t : Machine) (c : Cause) (n : ℕ) (m : Moment) (u : Machine × Mark) → Labelled t c n m → Makes t c n u → u.1 ≡ mark_of m
 marked_on s past t c n m u l k = cc
@@ -70,17 +59,7 @@ marked_on s past t c n m u l k = cc
 allowed_if_active : (s : Settings) (h : History) → is_active (moments s h) ≡ true → is_allowed s (moments s h) ≡ true
 unfolding moment
 allowed_if_active s [] a = cc
-allowed_if_active s (e ∷ h) a = go (is_active past) (allowed_after e.cause (is_allowed s past)) (is_tick e.cause) _ (is_down e.cause) (sym (is_active-cons (moment s past e) past) ∙ a)
-  where
-    past : List Moment
-    past = moments s h
-
-    go : (x l k r d : Bool) → (not ((x && not l) || d) && ((k && (l && r)) || x)) ≡ true → l ≡ true
-    go x true k r d p = refl
-    go true false k r d p = p
-    go false false k r true p = p
-    go false false true r false p = p
-    go false false false r false p = p
+allowed_if_active s (e ∷ h) a = grind (arith, common_steps, is_active-cons)
 
 none_left : (x y o : Bool) (n : ℕ) → x ≡ true → (not ((x && y) && o) && y) ≡ true → o ≡ nat_le 1 n → n - one_if ((x && y) && o) ≡ 0
 none_left false y o n a w e = cc a
@@ -115,19 +94,7 @@ carries_counts s h t e most counts =
 -- the machine that events leave has such counters
 counts_left : (s : Settings) (h : History) → AreSettings s → Counts s (moments s h) (machine_of s h)
 unfolding machine_of
-counts_left s h r = record {
-  credit_max = refl;
-  fast_init = refl;
-  reinit = refl;
-  credit = credit_is s (moments s h) (paid_moments s h r.some_credit);
-  wait = refl;
-  timer = refl;
-  left = refl;
-  waiting = refl;
-  active = refl;
-  allowed = refl;
-  up = refl;
-}
+counts_left s h r = grind (arith, common_steps, credit_is, paid_moments)
 
 counts_of : (s : Settings) (h : History) (t : Machine) → Stands s h t → Counts s (moments s h) t
 counts_of s h t k = subst (λ (x : Machine). Counts s (moments s h) x) (sym k.is) (counts_left s h k.in_range)
@@ -139,10 +106,7 @@ machine_by t max fast reinit credit wait timer left waiting active allowed up a 
 
 stands_of : (s : Settings) (h : History) (t : Machine) → AreSettings s → Counts s (moments s h) t → Stands s h t
 unfolding machine_of
-stands_of s h t r k = record {
-  in_range = r;
-  is = machine_by t _ _ _ _ _ _ _ _ _ _ _ k.credit_max k.fast_init k.reinit (k.credit ∙ sym (credit_is s (moments s h) (paid_moments s h r.some_credit))) k.wait k.timer k.left k.waiting k.active k.allowed k.up;
-}
+stands_of s h t r k = grind (arith, common_steps, machine_by, credit_is, paid_moments)
 
 -- A step carries standing from every history to that history and the event.
 pub carries : (s : Settings) (h : History) (t : Machine) (e : Event) → Stands s h t → Stands s (e ∷ h) (stepped t e.cause e.interval).0
@@ -189,10 +153,7 @@ nothing_goes s h t interval k = sym (marks s h t (event Nothing interval) k)
 -- At a stop no ordinary frame goes.
 pub apart : (s : Settings) (past : List Moment) (e : Event) → (moment s past e).stop ≡ true → (moment s past e).sent ≡ false
 unfolding moment
-apart s past e p =
-    let m = wanted s past e in
-    let stopped : is_active (m ∷ past) ≡ false = is_active-cons m past ∙ ap (λ b. not (b || is_down e.cause) && (m.start || is_active past)) p in
-    ap (λ b. (b && list_any (λ x. x.signal) (from_last (λ x. x.start) (m ∷ since (λ x. x.sent) past))) && open_at s past m) stopped
+apart s past e p = grind (arith, common_steps, wanted, is_active-cons)
 
 ordinary_by : (x y : Bool) (r : Mark) → (x ≡ true → y ≡ false) → r ≡ cond x Shutdown (cond y Ordinary Quiet) → ((r ≡ Ordinary) ↔ IsTrue y) × ((r ≡ Shutdown) ↔ IsTrue x)
 ordinary_by true true r a e = cc (a refl)

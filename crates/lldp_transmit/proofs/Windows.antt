@@ -10,6 +10,7 @@ use Rattle.lldp_transmit.specs.History.{Settings, Event, History, is_tick}
 use Rattle.lldp_transmit.specs.Windows.{IsBounded}
 use Rattle.lldp_transmit.specs.Moments.{moment, Moment, ticks, frames, within, open_at, due, starts, stops, signals, opens, moments, unlabelled}
 use Rattle.lldp_transmit.specs.Remaining.{room, credit_left}
+use Rattle.std.proofs.lemmas.Grind.{common_steps}
 
 -- the moment of an event while its labels are being written: start and stop are, then signal and opening too
 abbrev pub begun : Settings → List Moment → Event → Moment
@@ -48,11 +49,7 @@ list_all-map p f (x ∷ xs) = ap (λ b. p (f x) && b) (list_all-map p f xs)
 -- runs have a first event, so tests that agree on such runs agree on all
 same_on_runs : {X : Type 0} (p q : List X → Bool) → ((x : X) (xs : List X) → p (x ∷ xs) ≡ q (x ∷ xs)) → (xs : List X) → list_all p (runs xs) ≡ list_all q (runs xs)
 same_on_runs p q h [] = refl
-same_on_runs p q h (x ∷ xs) =
-    ap₂ (λ a b. a && b) (h x [])
-    (list_all-map p (λ r. x ∷ r) (runs xs)
-    ∙ same_on_runs (λ r. p (x ∷ r)) (λ r. q (x ∷ r)) (λ y ys. h x (y ∷ ys)) xs
-    ∙ sym (list_all-map q (λ r. x ∷ r) (runs xs)))
+same_on_runs p q h (x ∷ xs) = grind (arith, common_steps, ap₂, list_all-map, same_on_runs (λ r. p (x ∷ r)) (λ r. q (x ∷ r)) (λ y ys. h x (y ∷ ys)) xs)
 
 abbrev pub bounded : ℕ → ℕ → ℕ → List Moment → Bool
 bounded max a b run = nat_le (frames run + a) (max + b + ticks (after_first run))
@@ -71,8 +68,7 @@ all_fit max a b (m ∷ past) =
 -- The runs fit exactly where the bucket has enough.
 pub fits_enough : (s : Settings) (a b : ℕ) (ms : List Moment) → IsPaid s ms → a ≤ bucket s ms + b → fits s.credit_max a b ms ≡ true
 fits_enough s a b [] paid h = refl
-fits_enough s a b (m ∷ past) paid h =
-    and_from _ _ (le-leb _ _ (omega arith)) (fits_enough s (one_if m.sent + a) (one_if (is_tick m.cause) + b) past paid.1 (omega arith))
+fits_enough s a b (m ∷ past) paid h = grind (arith, common_steps, and_from, le-leb, fits_enough s (one_if m.sent + a) (one_if (is_tick m.cause) + b) past paid.1 (omega arith))
 
 enough_fits : (s : Settings) (a b : ℕ) (ms : List Moment) → IsPaid s ms → a ≤ s.credit_max + b → fits s.credit_max a b ms ≡ true → a ≤ bucket s ms + b
 enough_fits s a b [] paid h f = h
@@ -111,10 +107,7 @@ and_true false = refl
 -- A number is at most the least of some exactly where it is at most each.
 least_is : {X : Type 0} (c d : ℕ) (f : X → ℕ) (xs : List X) → nat_le c (fold min d (map f xs)) ≡ (nat_le c d && list_all (λ x. nat_le c (f x)) xs)
 least_is c d f [] = and_true (nat_le c d)
-least_is c d f (x ∷ xs) =
-    least_is c (min d (f x)) f xs
-    ∙ ap (λ b. b && list_all (λ y. nat_le c (f y)) xs) (le_min c d (f x))
-    ∙ and_assoc (nat_le c d) (nat_le c (f x)) _
+least_is c d f (x ∷ xs) = grind (arith, common_steps, le_min, and_assoc, least_is c (min d (f x)) f xs)
 
 -- what a run leaves of its bound is at least c, where c isn't 0, exactly where the run fits with c more
 room_is : (s : Settings) (c : ℕ) (run : List Moment) → nat_le (suc c) (room s run) ≡ bounded s.credit_max (suc c) 0 run
@@ -128,20 +121,7 @@ bucket_le s [] = omega arith
 bucket_le s (m ∷ past) = omega arith
 
 has : (s : Settings) (a : ℕ) (ms : List Moment) → IsPaid s ms → (nat_le a s.credit_max && fits s.credit_max a 0 ms) ≡ nat_le a (bucket s ms)
-has s a ms paid = go _ refl
-  where
-    go : (b : Bool) → nat_le a (bucket s ms) ≡ b → (nat_le a s.credit_max && fits s.credit_max a 0 ms) ≡ nat_le a (bucket s ms)
-    go true e =
-        let some : a ≤ bucket s ms = leb-true _ _ e in
-        let most : bucket s ms ≤ s.credit_max = bucket_le s ms in
-        and_from _ _ (le-leb _ _ (omega arith)) (fits_enough s a 0 ms paid (omega arith)) ∙ sym e
-    go false e =
-        let none : bucket s ms < a = leb-false _ _ e in
-        false_from_ne_true _ (λ f.
-        let parts = and_parts _ _ f in
-        let few : a ≤ s.credit_max = leb-true _ _ parts.0 in
-        let some : a ≤ bucket s ms + 0 = enough_fits s a 0 ms paid (omega arith) parts.1 in
-        absurd (omega arith)) ∙ sym e
+has s a ms paid = grind (arith, common_steps, leb-true, bucket_le, and_from, le-leb, fits_enough, leb-false, false_from_ne_true, and_parts, enough_fits)
 
 -- The credit is what is left in the bucket.
 pub credit_is : (s : Settings) (ms : List Moment) → IsPaid s ms → credit_left s ms ≡ bucket s ms

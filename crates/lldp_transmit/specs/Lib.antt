@@ -1,6 +1,6 @@
+pub mod Code
 pub mod Fronts
 pub mod History
-pub mod Machine
 pub mod Moments
 pub mod Positions
 pub mod Remaining

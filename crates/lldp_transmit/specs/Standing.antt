@@ -1,7 +1,7 @@
 -- What a machine is after a history.
 use Rattle.std.specs.Prelude.{◌≡◌, ◌≤◌}
 use Rattle.lldp_transmit.specs.History.{Settings, History}
-use Rattle.lldp_transmit.specs.Machine.{Machine}
+use Rattle.lldp_transmit.specs.Code.Machine.{Machine}
 use Rattle.lldp_transmit.specs.Moments.{moments, is_active, is_allowed, is_up, is_waiting, signals_left}
 use Rattle.lldp_transmit.specs.Remaining.{credit_left, until_start, until_signal}
 

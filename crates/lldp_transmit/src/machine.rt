@@ -7,7 +7,7 @@ ghost use Rattle.lldp_transmit.specs.Positions.{IsDueAndOpen, StopsAt, IsLeastRo
 ghost use Rattle.lldp_transmit.specs.Remaining.{credit_left};
 ghost use Rattle.lldp_transmit.specs.Standing.{AreSettings, Stands, ForEachHistory};
 ghost use Rattle.lldp_transmit.specs.Windows.{IsBoundedWith, StopsRarelyWith, IsEarliestWith};
-ghost use Rattle.lldp_transmit.specs.Machine.{opened, served, signalled, ticked, stopped, stepped};
+ghost use Rattle.lldp_transmit.specs.Code.Machine.{opened, served, signalled, ticked, stopped, stepped};
 
 use crate::event::{Cause, Mark};
 use std::marker::Model;
@@ -35,7 +35,7 @@ pub struct Transmit {
 
 impl Model for Transmit {
     ghost use Rattle.std.specs.Prelude.{◌≤◌};
-    ghost use Rattle.lldp_transmit.specs.Machine.{Machine};
+    ghost use Rattle.lldp_transmit.specs.Code.Machine.{Machine};
 
     ghost Value = { Machine };
 

@@ -4,7 +4,7 @@ use Rattle.lldp_table.specs.Events.{Call}
 use Rattle.lldp_table.specs.Contents.{Contents, learn_answer, table_after, newly_opened}
 use Rattle.lldp_transmit.specs.declared.event.Cause.{Cause}
 use Rattle.lldp_transmit.specs.declared.event.Mark.{Mark}
-use Rattle.lldp_transmit.specs.Machine.{stepped, opened as opened_machine}
+use Rattle.lldp_transmit.specs.Code.Machine.{stepped, opened as opened_machine}
 use Rattle.lldp_engine.specs.Options.{Options}
 use Rattle.lldp_engine.specs.Status.{status_at_opening}
 use Rattle.lldp_engine.specs.Heard.{Heard}
