@@ -125,31 +125,6 @@ stands_at_first s r = record { in_range = r; is = refl }
 pub stands_left : (s : Settings) (h : History) → AreSettings s → Stands s h (machine_of s h)
 stands_left s h r = record { in_range = r; is = refl }
 
--- What a machine that stands for a history holds.
-module _ (s : Settings) (h : History) (t : Machine) (k : Stands s h t) where
-  pub credit_stands : t.credit ≡ credit_left s (moments s h)
-  unfolding machine_of
-  credit_stands = ap (λ (t : Machine). t.credit) k.is
-
-  pub active_stands : t.active ≡ is_active (moments s h)
-  unfolding machine_of
-  active_stands = ap (λ (t : Machine). t.active) k.is
-
-  pub allowed_stands : t.allowed ≡ is_allowed s (moments s h)
-  unfolding machine_of
-  allowed_stands = ap (λ (t : Machine). t.allowed) k.is
-
-  pub up_stands : t.up ≡ is_up (moments s h)
-  unfolding machine_of
-  up_stands = ap (λ (t : Machine). t.up) k.is
-
--- Where nothing concerns a port, its machine stands for that event too, and no frame goes.
-pub nothing_changes : (s : Settings) (h : History) (t : Machine) (interval : ℕ) → Stands s h t → Stands s (event Nothing interval ∷ h) t
-nothing_changes s h t interval k = carries s h t (event Nothing interval) k
-
-pub nothing_goes : (s : Settings) (h : History) (t : Machine) (interval : ℕ) → Stands s h t → mark_at s (event Nothing interval ∷ h) ≡ Quiet
-nothing_goes s h t interval k = sym (marks s h t (event Nothing interval) k)
-
 -- At a stop no ordinary frame goes.
 pub apart : (s : Settings) (past : List Moment) (e : Event) → (moment s past e).stop ≡ true → (moment s past e).sent ≡ false
 unfolding moment

@@ -2,12 +2,13 @@
 use Rattle.std.proofs.Common.{ap, ◌∙◌, sym, subst}
 use Rattle.lldp_transmit.specs.Moments.{moments}
 use Rattle.lldp_transmit.specs.Positions.{IsLeastRoom}
+use Rattle.lldp_transmit.specs.Standing.{machine_of}
 use Rattle.lldp_transmit.proofs.Sending.{credit_reads}
-use Rattle.lldp_transmit.proofs.Standing.{credit_stands}
 use Rattle.lldp_transmit.proofs.machine.Transmit.credit.Goals as goal
 
 pub returns-clause-left : goal.returns-clause-left
-returns-clause-left c = λ s past k. ap (λ t. t.credit) c.self.view_is ∙ credit_stands s past c.args.self.now k
+unfolding machine_of
+returns-clause-left c = λ s past k. ap (λ t. t.credit) (c.self.view_is ∙ k.is)
 
 pub returns-clause-least : goal.returns-clause-least
 returns-clause-least c = λ s past k.

@@ -1,36 +1,27 @@
 -- What a step makes stands for one more event, and its mark is that of the event; the rest is said of every history.
-use Rattle.std.proofs.Common.{◌∷◌, ◌∙◌, subst, sym}
+use Rattle.std.proofs.Common.{◌∙◌}
 use Rattle.lldp_transmit.specs.History.{event}
-use Rattle.lldp_transmit.specs.Standing.{Stands}
 use Rattle.lldp_transmit.proofs.Standing.{carries, marks}
 use Rattle.lldp_transmit.proofs.Answered.{bounded_with, stops_rarely_with, earliest_with, ordinary_with, shutdown_with}
 use Rattle.lldp_transmit.proofs.machine.Transmit.event.Goals as goal
 
 pub returns-clause-stands : goal.returns-clause-stands
-returns-clause-stands c = λ s past k.
-    subst (λ t. Stands s (event c.args.cause c.args.interval ∷ past) t) (sym c.step.ensures.next)
-    (carries s past c.args.self.now (event c.args.cause c.args.interval) k)
+returns-clause-stands c = λ s past k. rw c.step.ensures.next (carries s past c.args.self.now (event c.args.cause c.args.interval) k)
 
 pub returns-clause-mark : goal.returns-clause-mark
-returns-clause-mark c = λ s past k.
-    c.step.ensures.answer ∙ marks s past c.args.self.now (event c.args.cause c.args.interval) k
+returns-clause-mark c = λ s past k. c.step.ensures.answer ∙ marks s past c.args.self.now (event c.args.cause c.args.interval) k
 
 pub returns-clause-ordinary : goal.returns-clause-ordinary
-returns-clause-ordinary c = λ s past k.
-    ordinary_with s past (event c.args.cause c.args.interval) c.step.result (returns-clause-mark c s past k) k.in_range
+returns-clause-ordinary c = λ s past k. ordinary_with s past (event c.args.cause c.args.interval) c.step.result (returns-clause-mark c s past k) k.in_range
 
 pub returns-clause-shutdown : goal.returns-clause-shutdown
-returns-clause-shutdown c = λ s past k.
-    shutdown_with s past (event c.args.cause c.args.interval) c.step.result (returns-clause-mark c s past k)
+returns-clause-shutdown c = λ s past k. shutdown_with s past (event c.args.cause c.args.interval) c.step.result (returns-clause-mark c s past k)
 
 pub returns-clause-bounded : goal.returns-clause-bounded
-returns-clause-bounded c = λ s past k.
-    bounded_with s past (event c.args.cause c.args.interval) c.step.result (returns-clause-mark c s past k) k.in_range
+returns-clause-bounded c = λ s past k. bounded_with s past (event c.args.cause c.args.interval) c.step.result (returns-clause-mark c s past k) k.in_range
 
 pub returns-clause-few_stops : goal.returns-clause-few_stops
-returns-clause-few_stops c = λ s past k.
-    stops_rarely_with s past (event c.args.cause c.args.interval) c.step.result (returns-clause-mark c s past k) k.in_range
+returns-clause-few_stops c = λ s past k. stops_rarely_with s past (event c.args.cause c.args.interval) c.step.result (returns-clause-mark c s past k) k.in_range
 
 pub returns-clause-earliest : goal.returns-clause-earliest
-returns-clause-earliest c = λ s past k.
-    earliest_with s past (event c.args.cause c.args.interval) c.step.result (returns-clause-mark c s past k)
+returns-clause-earliest c = λ s past k. earliest_with s past (event c.args.cause c.args.interval) c.step.result (returns-clause-mark c s past k)
