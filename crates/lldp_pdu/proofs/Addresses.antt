@@ -9,6 +9,7 @@ use Rattle.std.proofs.lemmas.Nat.{from_be_bytes-to_be_bytes_4}
 use Rattle.lldp_pdu.specs.Tlv.{AreOctets}
 use Rattle.lldp_pdu.specs.ManagementAddress.{Address, IsAddress, IsSpelled, address_fields, address_of}
 use Rattle.lldp_pdu.proofs.Cuts.{AreOctets-right}
+use Rattle.std.proofs.lemmas.Grind.{common_steps}
 
 -- ---- an address at its places
 
@@ -43,8 +44,7 @@ address_at m f n a b c d o address oid e =
 -- ---- what is spelled is well formed
 
 spelled_fits : (a : Address) (n : ℕ) → IsAddress a → n ≡ length a.address + 1 + length a.oid + 7 → fits (length a.address + 1) (length a.oid) n ≡ true
-spelled_fits a n h e =
-    rw (le-leb 2 (length a.address + 1) (omega (arith, h.least)), le-leb (length a.address + 1) 32 (omega (arith, h.greatest)), le-leb (length a.oid) 128 h.oid, eq-eqb n (length a.address + 1 + length a.oid + 7) e) refl
+spelled_fits a n h e = grind (arith, common_steps, le-leb, eq-eqb)
 
 pub spelled_is_address : (body : List ℕ) (a : Address) → IsSpelled body a → address_of body ≡ Some a
 spelled_is_address body a h =
@@ -73,10 +73,7 @@ fits_parts m o len h =
     record { least = leb-true 2 m r.0; greatest = leb-true m 32 r.1; oid = leb-true o 128 q.1; exact = eqb-true len (m + o + 7) p.1 }
 
 four_back : (a b c d : ℕ) → a < 256 → b < 256 → c < 256 → d < 256 → (to_be_bytes w32 (from_be_bytes w32 (a ∷ b ∷ c ∷ d ∷ [])) ≡ a ∷ b ∷ c ∷ d ∷ []) × (from_be_bytes w32 (a ∷ b ∷ c ∷ d ∷ []) < 2 ^ 32)
-four_back a b c d h k l m = (list (omega (arith, h, k, l, m)) (omega (arith, h, k, l, m)) (omega (arith, h, k, l, m)) (omega (arith, h, k, l, m)), omega (arith, h, k, l, m))
-  where
-    list : {a b c d a' b' c' d' : ℕ} → a ≡ a' → b ≡ b' → c ≡ c' → d ≡ d' → ◌≡◌ {A = List ℕ} (a ∷ b ∷ c ∷ d ∷ []) (a' ∷ b' ∷ c' ∷ d' ∷ [])
-    list p q r s = cc
+four_back a b c d h k l m = grind (arith, common_steps)
 
 spelled_at : (m f n a b c d o : ℕ) (address oid : List ℕ) (found : Address) → m ≡ length address + 1 → AreOctets (tail_of n a b c d o oid) → address_of (m ∷ f ∷ address ++ tail_of n a b c d o oid) ≡ Some found
     → IsSpelled (m ∷ f ∷ address ++ tail_of n a b c d o oid) found

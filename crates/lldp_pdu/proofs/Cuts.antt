@@ -5,6 +5,7 @@ use Rattle.std.proofs.lemmas.Bool.{ltb-false, le-ltb}
 use Rattle.std.proofs.lemmas.List.{take_at, drop_at, take-append-drop, length-append, length-take, length-drop, append-nil}
 use Rattle.lldp_pdu.specs.Tlv.{TlvUnit, IsTlv, spelling, spellings, BeginsTlv, AreOctets}
 use Rattle.lldp_pdu.specs.Cut.{Cut, IsCut, first_tlv, cut_after, cut_within, cut}
+use Rattle.std.proofs.lemmas.Grind.{common_steps}
 
 -- ---- octets
 
@@ -32,14 +33,7 @@ header_back kind n h k = omega arith
 
 pub first_tlv-spelling : (u : TlvUnit) (others : List ℕ) → IsTlv u → first_tlv (spelling u ++ others) ≡ Some (u, others)
 unfolding announced
-first_tlv-spelling u others h =
-    let n = length u.body in
-    let len : (512 * u.kind + n) % 512 ≡ n = omega (arith, h.body) in
-    let kind : (512 * u.kind + n) / 512 ≡ u.kind = omega (arith, h.body) in
-    let long : ltb (length (u.body ++ others)) n ≡ false = le-ltb _ _ (omega (arith, length-append u.body others)) in
-    let one : first_tlv (spelling u ++ others) ≡ announced (512 * u.kind + n) (u.body ++ others) = ap (λ (header : ℕ). announced header (u.body ++ others)) (header_back u.kind n h.kind h.body) in
-    let two : announced (512 * u.kind + n) (u.body ++ others) ≡ Some (u, others) = rw (len, kind, long, take_at u.body others n refl, drop_at u.body others n refl) refl in
-    one ∙ two
+first_tlv-spelling u others h = grind (arith, common_steps, le-ltb, length-append, header_back, take_at, drop_at)
 
 -- what is read at the front is spelled there
 pub record Takes (octets : List ℕ) (u : TlvUnit) (others : List ℕ) : Type 0 where
@@ -95,27 +89,18 @@ none_begins octets fits h =
 -- what follows the first TLV is shorter
 announced_shorter : (header : ℕ) (octets : List ℕ) (u : TlvUnit) (others : List ℕ) → announced header octets ≡ Some (u, others) → length others ≤ length octets
 unfolding announced
-announced_shorter header octets u others h =
-    let g = cond_none (ltb (length octets) (header % 512)) (record { kind = header / 512; body = take (header % 512) octets }, drop (header % 512) octets) (u, others) h in
-    omega (arith, length-drop (header % 512) octets, ap (λ (p : TlvUnit × List ℕ). length p.1) g.1)
+announced_shorter header octets u others h = grind (arith, common_steps, cond_none, length-drop)
 
 announced_left : (header : ℕ) (octets : List ℕ) (u : TlvUnit) (others : List ℕ) → announced header octets ≡ Some (u, others) → others ≡ drop (length u.body) octets
 unfolding announced
-announced_left header octets u others h =
-    let g = cond_none (ltb (length octets) (header % 512)) (record { kind = header / 512; body = take (header % 512) octets }, drop (header % 512) octets) (u, others) h in
-    let long : header % 512 ≤ length octets = ltb-false _ _ g.0 in
-    let len : header % 512 ≡ length u.body = omega (arith, length-take (header % 512) octets, ap (λ (p : TlvUnit × List ℕ). length p.0.body) g.1) in
-    sym (ap (λ (p : TlvUnit × List ℕ). p.1) g.1) ∙ ap (λ (n : ℕ). drop n octets) len
+announced_left header octets u others h = grind (arith, common_steps, cond_none, ltb-false, length-take)
 
 -- what follows the first TLV stands behind it
 pub first_left : (octets : List ℕ) (u : TlvUnit) (others : List ℕ) → first_tlv octets ≡ Some (u, others) → others ≡ drop (2 + length u.body) octets
 unfolding announced
 first_left [] u others h = absurd cc
 first_left (high ∷ []) u others h = absurd cc
-first_left (high ∷ low ∷ octets) u others h = announced_left (256 * high + low) octets u others h ∙ two_more (length u.body) high low octets
-  where
-    two_more : (n high low : ℕ) (octets : List ℕ) → drop n octets ≡ drop (2 + n) (high ∷ low ∷ octets)
-    two_more n high low octets = let e : 2 + n ≡ suc (suc n) = omega arith in rw e refl
+first_left (high ∷ low ∷ octets) u others h = grind (arith, common_steps, announced_left)
 
 pub first_shorter : (octets : List ℕ) (u : TlvUnit) (others : List ℕ) → first_tlv octets ≡ Some (u, others) → length others + 2 ≤ length octets
 unfolding announced
@@ -148,9 +133,7 @@ cut_none (x ∷ octets) h = ap (λ (o : Option (TlvUnit × List ℕ)). cut_after
 pub cut_some : (octets : List ℕ) (u : TlvUnit) (others : List ℕ) → first_tlv octets ≡ Some (u, others) → cut octets ≡ record { tlvs = u ∷ (cut others).tlvs; rest = (cut others).rest }
 unfolding cut cut_within
 cut_some [] u others h = absurd cc
-cut_some (x ∷ octets) u others h =
-    ap (λ (o : Option (TlvUnit × List ℕ)). cut_after o (cut_within (length octets)) (x ∷ octets)) h
-    ∙ ap (λ (c : Cut). record { tlvs = u ∷ c.tlvs; rest = c.rest }) (enough (length octets) (length others) others (omega (arith, first_shorter (x ∷ octets) u others h)) (omega arith))
+cut_some (x ∷ octets) u others h = grind (arith, common_steps, enough, first_shorter)
 
 -- TLVs in front of octets are TLVs in front of their cut
 pub cut-spellings : (us : List TlvUnit) (octets : List ℕ) → AllByRecursion IsTlv us → cut (spellings us ++ octets) ≡ record { tlvs = us ++ (cut octets).tlvs; rest = (cut octets).rest }
@@ -182,11 +165,7 @@ pub cut_is_cut : (octets : List ℕ) → AreOctets octets → IsCut octets (cut 
 cut_is_cut octets fits = is_cut_within (length octets) octets (omega arith) fits
 
 pub only_cut : (octets : List ℕ) (c : Cut) → AreOctets octets → IsCut octets c → c ≡ cut octets
-only_cut octets c fits h =
-    let rest_octets : AreOctets c.rest = AreOctets-right (spellings c.tlvs) c.rest (subst AreOctets h.joined fits) in
-    let alone : cut c.rest ≡ record { tlvs = []; rest = c.rest } = cut_none c.rest (none_begins c.rest rest_octets h.ended) in
-    let whole : cut octets ≡ record { tlvs = c.tlvs ++ (cut c.rest).tlvs; rest = (cut c.rest).rest } = ap cut h.joined ∙ cut-spellings c.tlvs c.rest h.complete in
-    sym (whole ∙ ap (λ (d : Cut). record { tlvs = c.tlvs ++ d.tlvs; rest = d.rest }) alone ∙ ap (λ (us : List TlvUnit). record { tlvs = us; rest = c.rest }) (append-nil c.tlvs))
+only_cut octets c fits h = grind (arith, common_steps, AreOctets-right, cut_none, none_begins, cut-spellings, append-nil)
 
 -- ---- one call of `next`
 

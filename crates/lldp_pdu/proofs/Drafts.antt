@@ -26,6 +26,7 @@ use Rattle.lldp_pdu.proofs.Opening.{fault_from, sound_checks}
 use Rattle.lldp_pdu.proofs.Keeping.{flags_none, flags_more, flags_as}
 use Rattle.lldp_pdu.proofs.Telling.{cut_alone, ttl_tlvs, msap_tlvs}
 use Rattle.lldp_pdu.proofs.Whole.{kept_is, discarded_is, info_is}
+use Rattle.std.proofs.lemmas.Grind.{common_steps}
 
 -- ---- the TLVs of a draft
 
@@ -34,8 +35,7 @@ optional_tlvs [] h = tt
 optional_tlvs (u ∷ us) h = (record { kind = omega (arith, h.0.greatest); body = h.0.short }, optional_tlvs us h.1)
 
 draft_tlvs : (d : Draft) → IsDraft d → AllByRecursion IsTlv (all_tlvs d)
-draft_tlvs d h =
-    (record { kind = omega arith; body = omega (arith, h.chassis.greatest) }, (record { kind = omega arith; body = omega (arith, h.port.greatest) }, (record { kind = omega arith; body = omega arith }, optional_tlvs d.tlvs h.tlvs)))
+draft_tlvs d h = grind (arith, common_steps, optional_tlvs)
 
 seconds_back : (ttl : ℕ) → ttl < 2 ^ 16 → seconds (to_be_bytes w16 ttl) ≡ ttl
 seconds_back ttl h = omega (arith, h)
@@ -46,28 +46,10 @@ cut_draft d h = cut_alone (all_tlvs d) (draft_tlvs d h)
 -- the draft is what its octets spell
 draft_back : (d : Draft) (octets : List ℕ) → octets ≡ spellings (all_tlvs d) → IsDraft d → draft_of octets ≡ d
 unfolding draft_of
-draft_back d octets e h =
-    let c : cut octets ≡ record { tlvs = all_tlvs d; rest = [] } = ap cut e ∙ cut_draft d h in
-    let us : (cut octets).tlvs ≡ all_tlvs d = ap (λ (c : Cut). c.tlvs) c in
-    let t : ttl_of octets ≡ d.ttl = ttl_tlvs octets ∙ ap (λ (us : List TlvUnit). seconds (tlv_at us 2).body) us ∙ seconds_back d.ttl h.ttl in
-    let m : msap_of octets ≡ d.msap = msap_tlvs octets ∙ ap (λ (us : List TlvUnit). record { chassis = (tlv_at us 0).body; port = (tlv_at us 1).body }) us in
-    same m t (ap (drop 3) us)
-  where
-    same : {m m' : MsapId} {t t' : ℕ} {us us' : List TlvUnit} → m ≡ m' → t ≡ t' → us ≡ us' → ◌≡◌ {A = Draft} (record { msap = m; ttl = t; tlvs = us }) (record { msap = m'; ttl = t'; tlvs = us' })
-    same p q r = cc
+draft_back d octets e h = grind (arith, common_steps, cut_draft, ttl_tlvs, seconds_back, msap_tlvs)
 
 pub builds : (d : Draft) (octets : List ℕ) (met : List Bool) (lives : Bool) → octets ≡ spellings (all_tlvs d) → IsDraft d → length octets + 2 ≤ 1500 → Flags met (λ kind. was_put kind d.tlvs) → lives ≡ ltb 0 d.ttl → Builds octets met lives × (draft_of octets ≡ d)
-builds d octets met lives e h room flags l =
-    let b = draft_back d octets e h in (
-      record {
-        spelled = e ∙ ap (λ (d : Draft). spellings (all_tlvs d)) (sym b);
-        draft = rw b h;
-        room = room;
-        flags = rw b flags;
-        lives_is = l ∙ ap (λ (d : Draft). ltb 0 d.ttl) (sym b);
-      },
-      b,
-    )
+builds d octets met lives e h room flags l = grind (arith, common_steps, draft_back)
 
 -- ---- begun
 
@@ -91,10 +73,7 @@ put_spells : (d : Draft) (u : TlvUnit) → spellings (all_tlvs d) ++ spelling u 
 put_spells d u = flat_map_more spelling [] (all_tlvs d) u
 
 pub put_length : (d : Draft) (u : TlvUnit) → length (lldpdu_octets (with_tlv d u)) ≡ length (spellings (all_tlvs d)) + length u.body + 4
-put_length d u =
-    let a = length-append (spellings (all_tlvs (with_tlv d u))) (spelling end_of_lldpdu) in
-    let b = ap length (put_spells d u) in
-    omega (arith, a, b, length-append (spellings (all_tlvs d)) (spelling u))
+put_length d u = grind (arith, common_steps, length-append, put_spells)
 
 -- the checks, each with its outcome
 abbrev decided : Bool → Bool → Bool → Bool → Bool → Bool → Option BuildFault
@@ -103,10 +82,7 @@ decided a b c d e f = cond (not a || b || c) (Some Kind) (cond (d || not e) (Som
 pub put_fault_is : (d : Draft) (u : TlvUnit) (a b c e f g : Bool) → is_between 4 u.kind 127 ≡ a → eqb d.ttl 0 ≡ b → (is_single u.kind && was_put u.kind d.tlvs) ≡ c → ltb 511 (length u.body) ≡ e → is_well_formed u ≡ f → ltb 1500 (length (lldpdu_octets (with_tlv d u))) ≡ g
     → put_fault d u ≡ decided a b c e f g
 unfolding put_fault
-put_fault_is d u a b c e f g p q r s t v = six p q r s t v
-  where
-    six : {a b c e f g a' b' c' e' f' g' : Bool} → a ≡ a' → b ≡ b' → c ≡ c' → e ≡ e' → f ≡ f' → g ≡ g' → decided a b c e f g ≡ decided a' b' c' e' f' g'
-    six p q r s t v = cc
+put_fault_is d u a b c e f g p q r s t v = grind (arith, common_steps)
 
 decided_none : (a b c d e f : Bool) → decided a b c d e f ≡ None → (a ≡ true) × (b ≡ false) × (c ≡ false) × (d ≡ false) × (e ≡ true) × (f ≡ false)
 decided_none true false false false true false h = (refl, refl, refl, refl, refl, refl)
@@ -119,29 +95,10 @@ decided_none true false false false true true h = absurd cc
 
 -- what passes each check, and the other way round
 pub passes : (d : Draft) (u : TlvUnit) → put_fault d u ≡ None → CanPut d u
-passes d u h =
-    let n = length (lldpdu_octets (with_tlv d u)) in
-    let p = decided_none (is_between 4 u.kind 127) (eqb d.ttl 0) (is_single u.kind && was_put u.kind d.tlvs) (ltb 511 (length u.body)) (is_well_formed u) (ltb 1500 n) (sym (put_fault_is d u _ _ _ _ _ _ refl refl refl refl refl refl) ∙ h) in
-    let k = and_parts (leb 4 u.kind) (leb u.kind 127) p.0 in
-    record {
-      least = leb-true 4 u.kind k.0;
-      greatest = leb-true u.kind 127 k.1;
-      lives = above (eqb-false d.ttl 0 p.1);
-      new = p.2;
-      short = ltb-false 511 (length u.body) p.3;
-      well_formed = p.4;
-      room = omega (arith, put_length d u, ltb-false 1500 n p.5);
-    }
-  where
-    above : (d.ttl ≡ 0 → ⊥) → 0 < d.ttl
-    above h = omega arith
+passes d u h = grind (arith, common_steps, decided_none, put_fault_is, and_parts, leb-true, eqb-false, ltb-false, put_length)
 
 pub can_put : (d : Draft) (u : TlvUnit) → CanPut d u → put_fault d u ≡ None
-can_put d u h =
-    put_fault_is d u true false false false true false (between_all u.kind h.least h.greatest) (ne_eqb d.ttl 0 (λ z. omega (arith, z, h.lives))) h.new (le-ltb 511 (length u.body) h.short) h.well_formed (le-ltb 1500 _ (omega (arith, put_length d u, h.room)))
-  where
-    between_all : (kind : ℕ) → 4 ≤ kind → kind ≤ 127 → (leb 4 kind && leb kind 127) ≡ true
-    between_all kind low high = rw (le-leb 4 kind low, le-leb kind 127 high) refl
+can_put d u h = grind (arith, common_steps, put_fault_is, ne_eqb, le-ltb, put_length, le-leb)
 
 -- the length of the LLDPDU with one more TLV, by the builder's octets
 pub long : (d : Draft) (u : TlvUnit) (octets : List ℕ) (met : List Bool) (lives : Bool) → draft_of octets ≡ d → Builds octets met lives → length (lldpdu_octets (with_tlv d u)) ≡ length octets + length u.body + 4
@@ -170,14 +127,7 @@ flags_put : (met : List Bool) (us : List TlvUnit) (u : TlvUnit) → Flags met (�
 flags_put met us u f = flags_as (with_flag met u.kind) _ _ (λ kind. sym (was_put_more kind us u)) (flags_more met (λ kind. was_put kind us) u.kind f)
 
 draft_more : (d : Draft) (u : TlvUnit) → IsDraft d → CanPut d u → IsDraft (with_tlv d u)
-draft_more d u draft p =
-    record {
-      chassis = draft.chassis;
-      port = draft.port;
-      ttl = draft.ttl;
-      tlvs = optional_more d.tlvs u draft.tlvs (record { least = p.least; greatest = p.greatest; short = omega (arith, p.short); well_formed = p.well_formed });
-      kept = kept_more [] d.tlvs u draft.kept p.well_formed (ap (λ (b : Bool). is_single u.kind && b) (or-false (was_put u.kind d.tlvs)) ∙ p.new);
-    }
+draft_more d u draft p = grind (arith, common_steps, optional_more, kept_more, or-false)
 
 pub puts : (d : Draft) (u : TlvUnit) (old octets : List ℕ) (met : List Bool) (lives : Bool) → draft_of old ≡ d → Builds old met lives → put_fault d u ≡ None → octets ≡ old ++ spelling u
     → Builds octets (with_flag met u.kind) lives × (draft_of octets ≡ with_tlv d u)
@@ -262,9 +212,7 @@ abbrev Fits : Draft → Type 0
 Fits d = length (spellings (all_tlvs d)) + 2 ≤ 1500
 
 fits_more : (d : Draft) (u : TlvUnit) → CanPut d u → Fits (with_tlv d u)
-fits_more d u p =
-    let a = ap length (put_spells d u) in
-    omega (arith, p.room, a, length-append (spellings (all_tlvs d)) (spelling u))
+fits_more d u p = grind (arith, common_steps, put_spells, length-append)
 
 all_put : (msap : MsapId) (ttl : ℕ) (before us : List TlvUnit) → (let d : Draft = record { msap = msap; ttl = ttl; tlvs = before } in IsDraft d × Fits d × CanPutEach d us)
     → (let d : Draft = record { msap = msap; ttl = ttl; tlvs = before ++ us } in IsDraft d × Fits d)
@@ -274,11 +222,7 @@ all_put msap ttl before (u ∷ us) h =
     rw (sym (append_assoc before (u ∷ []) us)) (all_put msap ttl (before ++ u ∷ []) us (draft_more d u h.0 h.2.0, fits_more d u h.2.0, h.2.1))
 
 begun_fits : (d : Draft) → IsIdentifier d.msap.chassis → IsIdentifier d.msap.port → Fits (begun d.msap.chassis d.msap.port d.ttl)
-begun_fits d h k =
-    let a = spelling (record { kind = 1; body = d.msap.chassis }) in
-    let b = spelling (record { kind = 2; body = d.msap.port }) in
-    let c = spelling (record { kind = 3; body = to_be_bytes w16 d.ttl }) in
-    omega (arith, length-append a (b ++ (c ++ [])), length-append b (c ++ []), length-append c [], h.greatest, k.greatest)
+begun_fits d h k = grind (arith, common_steps, length-append)
 
 pub built : (d : Draft) → CanBuild d → IsDraft d × Fits d
 built d h =

@@ -12,6 +12,7 @@ use Rattle.lldp_pdu.specs.Code.Seen.{none_seen, is_kept_seen, seen_after, kept_s
 use Rattle.lldp_pdu.specs.Code.Survey.{count_lost, IsSurveyOf}
 use Rattle.lldp_pdu.proofs.Cuts.{cut_is_cut, AreOctets-from_index}
 use Rattle.lldp_pdu.proofs.Opening.{with_front}
+use Rattle.std.proofs.lemmas.Grind.{common_steps}
 
 abbrev pub extent_left : List ℕ → List TlvUnit
 extent_left octets = before_end (cut octets).tlvs
@@ -34,12 +35,7 @@ extent_front : (left next : List ℕ) (u : TlvUnit) → cut left ≡ with_front 
 extent_front left next u e k = ap (λ (c : Cut). before_end c.tlvs) e ∙ rw k refl
 
 unknown_front : (seen : List Bool) (u : TlvUnit) (us : List TlvUnit) (n : ℕ) → cond (is_kept_seen seen u) (cond (leb 9 u.kind) 1 0) 0 ≡ n → count_unrecognized (kept_seen seen (u ∷ us)) ≡ n + count_unrecognized (kept_seen (seen_after seen u) us)
-unknown_front seen u us n e = go (is_kept_seen seen u) (leb 9 u.kind) refl e
-  where
-    go : (b d : Bool) → leb 9 u.kind ≡ d → cond b (cond d 1 0) 0 ≡ n → count_unrecognized (cond b (u ∷ kept_seen (seen_after seen u) us) (kept_seen (seen_after seen u) us)) ≡ n + count_unrecognized (kept_seen (seen_after seen u) us)
-    go true true f e = rw f (omega arith)
-    go true false f e = rw f (omega arith)
-    go false d f e = omega arith
+unknown_front seen u us n e = grind (arith, common_steps)
 
 pub goes_on : (after left next : List ℕ) (seen later : List Bool) (len lost unknown more lose know : ℕ) (u : TlvUnit) → Surveys after left seen len lost unknown → cut left ≡ with_front u next
     → is_end u ≡ false → is_mandatory u ≡ false → later ≡ seen_after seen u → more ≡ len + (2 + length u.body) → lose ≡ lost + cond (is_kept_seen seen u) 0 1 → know ≡ unknown + cond (is_kept_seen seen u) (cond (leb 9 u.kind) 1 0) 0
@@ -82,21 +78,11 @@ extent_is_front octets fits =
 
 lost_few : (seen : List Bool) (us : List TlvUnit) → count_lost seen us ≤ length (spellings us)
 lost_few seen [] = omega arith
-lost_few seen (u ∷ us) = go (is_kept_seen seen u) (lost_few (seen_after seen u) us)
-  where
-    go : (b : Bool) → count_lost (seen_after seen u) us ≤ length (spellings us) → cond b 0 1 + count_lost (seen_after seen u) us ≤ length (spelling u ++ spellings us)
-    go true h = omega (arith, length-append (spelling u) (spellings us), h)
-    go false h = omega (arith, length-append (spelling u) (spellings us), h)
+lost_few seen (u ∷ us) = grind (arith, common_steps, length-append, lost_few (seen_after seen u) us)
 
 unknown_few : (seen : List Bool) (us : List TlvUnit) → count_unrecognized (kept_seen seen us) ≤ length (spellings us)
 unknown_few seen [] = omega arith
-unknown_few seen (u ∷ us) =
-    go (is_kept_seen seen u) (leb 9 u.kind) (unknown_front seen u us _ refl) (unknown_few (seen_after seen u) us)
-  where
-    go : (b d : Bool) → count_unrecognized (kept_seen seen (u ∷ us)) ≡ cond b (cond d 1 0) 0 + count_unrecognized (kept_seen (seen_after seen u) us) → count_unrecognized (kept_seen (seen_after seen u) us) ≤ length (spellings us) → count_unrecognized (kept_seen seen (u ∷ us)) ≤ length (spelling u ++ spellings us)
-    go true true e h = omega (arith, e, length-append (spelling u) (spellings us), h)
-    go true false e h = omega (arith, e, length-append (spelling u) (spellings us), h)
-    go false d e h = omega (arith, e, length-append (spelling u) (spellings us), h)
+unknown_few seen (u ∷ us) = grind (arith, common_steps, unknown_front, length-append, unknown_few (seen_after seen u) us)
 
 -- what the counters stay below
 pub record Bounds (after left : List ℕ) (n lose know : ℕ) : Type 0 where

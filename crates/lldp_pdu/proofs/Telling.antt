@@ -18,6 +18,7 @@ use Rattle.lldp_pdu.proofs.Surveying.{extent_is_front}
 use Rattle.lldp_pdu.proofs.Cuts.{AreOctets-left, cut_is_cut, cut-spellings}
 use Rattle.lldp_pdu.proofs.Opening.{fault_from}
 use Rattle.lldp_pdu.proofs.Keeping.{kept_and_others}
+use Rattle.std.proofs.lemmas.Grind.{common_steps}
 
 -- ---- an LLDPDU with no fault begins with the mandatory TLVs
 
@@ -27,12 +28,7 @@ no_check = record { fails = false; fault = Truncated }
 -- with no fault each check passes
 all_pass : (cs : List (Check PduFault)) → first_fault cs ≡ None → (i : ℕ) → (get_or cs i no_check).fails ≡ false
 all_pass [] h i = refl
-all_pass (c ∷ cs) h i = go c.fails refl i h (all_pass cs)
-  where
-    go : (b : Bool) → c.fails ≡ b → (i : ℕ) → cond b (Some c.fault) (first_fault cs) ≡ None → (first_fault cs ≡ None → (i : ℕ) → (get_or cs i no_check).fails ≡ false) → (get_or (c ∷ cs) i no_check).fails ≡ false
-    go true e i h below = absurd cc
-    go false e zero h below = e
-    go false e (suc i) h below = below h i
+all_pass (c ∷ cs) h i = grind (arith, common_steps, all_pass cs)
 
 pub record Opened (us : List TlvUnit) : Type 0 where
   pub chassis : TlvUnit
@@ -74,27 +70,15 @@ sound_opens (a ∷ b ∷ d ∷ us) ttl later h =
 
 before_end-again : (us : List TlvUnit) → before_end (before_end us) ≡ before_end us
 before_end-again [] = refl
-before_end-again (u ∷ us) = go (is_end u) refl (before_end-again us)
-  where
-    go : (b : Bool) → is_end u ≡ b → before_end (before_end us) ≡ before_end us → before_end (cond b [] (u ∷ before_end us)) ≡ cond b [] (u ∷ before_end us)
-    go true e h = refl
-    go false e h = rw (e, h) refl
+before_end-again (u ∷ us) = grind (arith, common_steps, before_end-again us)
 
 no_end : (us : List TlvUnit) → list_any is_end (before_end us) ≡ false
 no_end [] = refl
-no_end (u ∷ us) = go (is_end u) refl (no_end us)
-  where
-    go : (b : Bool) → is_end u ≡ b → list_any is_end (before_end us) ≡ false → list_any is_end (cond b [] (u ∷ before_end us)) ≡ false
-    go true e h = refl
-    go false e h = rw (e, h) refl
+no_end (u ∷ us) = grind (arith, common_steps, no_end us)
 
 pub tlvs_before_end : (us : List TlvUnit) → AllByRecursion IsTlv us → AllByRecursion IsTlv (before_end us)
 tlvs_before_end [] h = tt
-tlvs_before_end (u ∷ us) h = go (is_end u) (tlvs_before_end us h.1)
-  where
-    go : (b : Bool) → AllByRecursion IsTlv (before_end us) → AllByRecursion IsTlv (cond b [] (u ∷ before_end us))
-    go true k = tt
-    go false k = (h.0, k)
+tlvs_before_end (u ∷ us) h = grind (arith, common_steps, tlvs_before_end us h.1)
 
 -- TLVs alone are their own cut
 pub cut_alone : (us : List TlvUnit) → AllByRecursion IsTlv us → cut (spellings us) ≡ record { tlvs = us; rest = [] }
@@ -130,10 +114,7 @@ opened_extent octets o = ap before_end o.parts ∙ rw (o.chassis_kind, o.port_ki
 
 -- the checks read nothing else of the TLVs after the third
 same_checks : (a b d : TlvUnit) (us vs : List TlvUnit) (ttl : ℕ) (later : List TlvUnit) → first_fault (checks (a ∷ b ∷ d ∷ us) ttl later) ≡ first_fault (checks (a ∷ b ∷ d ∷ vs) ttl later)
-same_checks a b d us vs ttl later =
-    let n = suc (suc (suc (length us))) in
-    let m = suc (suc (suc (length vs))) in
-    rw (lt-leb n 0 (omega arith), lt-leb n 1 (omega arith), lt-leb n 2 (omega arith), lt-leb m 0 (omega arith), lt-leb m 1 (omega arith), lt-leb m 2 (omega arith)) refl
+same_checks a b d us vs ttl later = grind (arith, common_steps, lt-leb)
 
 -- the definitions, opened
 pub ttl_tlvs : (octets : List ℕ) → ttl_of octets ≡ seconds (tlv_at (cut octets).tlvs 2).body
@@ -150,8 +131,7 @@ fault_tlvs octets = refl
 
 fewer_discarded : (octets : List ℕ) → AreOctets octets → discarded_of (extent octets) ≤ discarded_of octets
 unfolding discarded_of
-fewer_discarded octets fits =
-    rw (later-again octets fits, complete-again octets fits) (omega arith)
+fewer_discarded octets fits = grind (arith, common_steps, later-again, complete-again)
 
 -- what a sound LLDPDU tells, and its extent again
 record Again (octets : List ℕ) : Type 0 where
@@ -207,19 +187,7 @@ all_later (u ∷ us) h m = go (is_end u) refl m (all_later us h.1)
 
 kept_tlvs : (earlier us : List TlvUnit) → AllByRecursion IsLater us → AllByRecursion IsKeptTlv (kept_after earlier us)
 kept_tlvs earlier [] h = tt
-kept_tlvs earlier (u ∷ us) h = go (is_kept earlier u) refl (kept_tlvs (u ∷ earlier) us h.1)
-  where
-    go : (b : Bool) → is_kept earlier u ≡ b → AllByRecursion IsKeptTlv (kept_after (u ∷ earlier) us) → AllByRecursion IsKeptTlv (cond b (u ∷ kept_after (u ∷ earlier) us) (kept_after (u ∷ earlier) us))
-    go false e below = below
-    go true e below = (
-      record {
-        least = later_kind u.kind h.0.not_end h.0.not_mandatory;
-        greatest = omega (arith, h.0.tlv.kind);
-        short = h.0.tlv.body;
-        well_formed = (and_parts (is_well_formed u) (not (is_single u.kind && has_well_formed u.kind earlier)) e).0;
-      },
-      below,
-    )
+kept_tlvs earlier (u ∷ us) h = grind (arith, common_steps, later_kind, and_parts, kept_tlvs (u ∷ earlier) us h.1)
 
 kept_tlvs_of : (octets : List ℕ) → kept_of octets ≡ kept_after [] (later_tlvs octets)
 unfolding kept_of
@@ -273,16 +241,10 @@ few_discarded octets o = go (ended_incomplete octets)
 
 few_unrecognized : (us : List TlvUnit) → count_unrecognized us ≤ length us
 few_unrecognized [] = omega arith
-few_unrecognized (u ∷ us) = go (leb 9 u.kind) refl (few_unrecognized us)
-  where
-    go : (b : Bool) → leb 9 u.kind ≡ b → count_unrecognized us ≤ length us → count_unrecognized (u ∷ us) ≤ suc (length us)
-    go true e h = rw e (omega (arith, h))
-    go false e h = rw e (omega (arith, h))
+few_unrecognized (u ∷ us) = grind (arith, common_steps, few_unrecognized us)
 
 sound_last : (us : List TlvUnit) (ttl : ℕ) (later : List TlvUnit) → first_fault (checks us ttl later) ≡ None → 0 < ttl → list_any is_mandatory later ≡ false
-sound_last us ttl later h l =
-    let p : (ltb 0 ttl && list_any is_mandatory later) ≡ false = all_pass (checks us ttl later) h 9 in
-    sym (ap (λ (b : Bool). b && list_any is_mandatory later) (lt-ltb 0 ttl l)) ∙ p
+sound_last us ttl later h l = grind (arith, common_steps, all_pass, lt-ltb)
 
 -- The octets of what a sound LLDPDU tells tell the same.
 pub tells_itself : (octets : List ℕ) → AreOctets octets → fault_of octets ≡ None → 0 < ttl_of octets → IsInfo (info_of octets) × TellsItself (info_of octets)
