@@ -17,6 +17,7 @@ use Rattle.lldp_table.proofs.QueueOrderLemmas.{slots-less_first}
 use Rattle.lldp_table.proofs.TimedLemmas.{queued_less, all_queued, holds-slots}
 use Rattle.lldp_table.proofs.LayoutLemmas.{laid_out}
 use Rattle.lldp_table.proofs.SoundLemmas.{sound_ticked}
+use Rattle.std.proofs.lemmas.Grind.{common_steps}
 
 -- ## One neighbor
 
@@ -27,17 +28,7 @@ abbrev pub lives : Neighbor → Bool
 lives x = nat_lt 0 x.left
 
 living_one : (x : Neighbor) (xs : List Neighbor) → cond (lives (older x)) (older x ∷ xs) xs ≡ cons_option (aged x) xs
-living_one x xs =
-    elim (cases_Bool (nat_lt 1 x.left)) [
-      | inl t ↦
-          let m : 1 < x.left = ltb-true 1 x.left t in
-          let l : 0 < x.left - 1 = omega arith in
-          cond-true (lives (older x)) (older x ∷ xs) xs (lt-ltb 0 (x.left - 1) l) ∙ ap (λ b. cons_option (cond b (Some (older x)) None) xs) (sym t)
-      | inr f ↦
-          let m : x.left ≤ 1 = ltb-false 1 x.left f in
-          let l : x.left - 1 ≤ 0 = omega arith in
-          cond-false (lives (older x)) (older x ∷ xs) xs (le-ltb 0 (x.left - 1) l) ∙ ap (λ b. cons_option (cond b (Some (older x)) None) xs) (sym f)
-    ]
+living_one x xs = grind (arith, common_steps, cases_Bool, ltb-true, cond-true, lt-ltb, ltb-false, cond-false, le-ltb)
 
 -- taking one from each and leaving out those with nothing left is ageing
 living-older : (xs : List Neighbor) → filter lives (map older xs) ≡ filter_map aged xs
@@ -57,14 +48,12 @@ module _ (slots : List Stored) where
   -- one less for the first is one less for each
   neighbors-pass : (queue : List Due) → IsRunning queue → (order : List ℕ) → AllByRecursion (λ i. holds i queue ≡ true) order → in_queue (less_first 1 queue) order ≡ map older (in_queue queue order)
   neighbors-pass queue r [] a = refl
-  neighbors-pass queue r (i ∷ order) a =
-      ap (λ n. with_left i n ∷ in_queue (less_first 1 queue) order) (left-pass i queue r a.0) ∙ ap (λ xs. with_left i (ticks_left queue i - 1) ∷ xs) (neighbors-pass queue r order a.1)
+  neighbors-pass queue r (i ∷ order) a = grind (arith, common_steps, left-pass, neighbors-pass queue r order a.1)
 
   -- where a slot has nothing left and is first, the others don't change without it
   others_same : (slot : ℕ) (queue : List Due) (order : List ℕ) → AllByRecursion (λ i. nat_eq slot i ≡ false) order → in_queue (due slot 0 ∷ queue) order ≡ in_queue queue order
   others_same slot queue [] a = refl
-  others_same slot queue (i ∷ order) a =
-      ap (λ n. with_left i n ∷ in_queue (due slot 0 ∷ queue) order) (left-front_other slot i queue a.0) ∙ ap (λ xs. with_left i (ticks_left queue i) ∷ xs) (others_same slot queue order a.1)
+  others_same slot queue (i ∷ order) a = grind (arith, common_steps, left-front_other, others_same slot queue order a.1)
 
   -- it is taken out of the queue and out of the order
   living-expired : (slot : ℕ) (queue : List Due) (order : List ℕ) (at : ℕ) → at < length order → get_or order at 0 ≡ slot → IsDistinct nat_eq order → filter lives (in_queue (due slot 0 ∷ queue) order) ≡ filter lives (in_queue queue (remove order at))
@@ -83,9 +72,7 @@ module _ (slots : List Stored) where
   -- once the first has some ticks left, all live
   all_live : (queue : List Due) → IsRunning queue → (order : List ℕ) → AllByRecursion (λ i. holds i queue ≡ true) order → filter lives (in_queue queue order) ≡ in_queue queue order
   all_live queue r [] a = refl
-  all_live queue r (i ∷ order) a =
-      cond-true (nat_lt 0 (ticks_left queue i)) (with_left i (ticks_left queue i) ∷ filter lives (in_queue queue order)) (filter lives (in_queue queue order)) (lt-ltb 0 (ticks_left queue i) (left-positive i queue r a.0))
-      ∙ ap (λ xs. with_left i (ticks_left queue i) ∷ xs) (all_live queue r order a.1)
+  all_live queue r (i ∷ order) a = grind (arith, common_steps, cond-true, lt-ltb, left-positive, all_live queue r order a.1)
 
 -- ## The loop
 
@@ -166,9 +153,7 @@ module _ (queue0 : List Due) (order0 : List ℕ) (used : ℕ) (timed : IsTimed q
 -- the table after a tick
 module _ (capacity : ℕ) (slots : List Stored) (left left' : ℕ → ℕ) (order order' : List ℕ) (used used' limit too_many timer : ℕ) (n : neighbors_at slots left' (take used' order') ≡ filter_map aged (neighbors_at slots left (take used order))) (t : timer ≡ too_many - 1) where
   pub after_ticked : contents_of capacity slots left' order' used' limit timer ≡ after_tick (contents_of capacity slots left order used limit too_many)
-  after_ticked =
-      let table : List Neighbor → ℕ → Contents = λ xs k. record { capacity = capacity; limit = limit; neighbors = xs; too_many_left = k } in
-      ap (λ xs. table xs timer) n ∙ ap (table (filter_map aged (neighbors_at slots left (take used order)))) t
+  after_ticked = grind (arith, common_steps)
 
   pub laid_ticked : IsLaidOut capacity slots left order used limit too_many → IsPermutation order order' → used' ≤ used → IsLaidOut capacity slots left' order' used' limit timer
   laid_ticked h p f =

@@ -19,14 +19,10 @@ timed_none : IsTimed [] []
 unfolding IsDistinct
 timed_none = record { queued = record { same = λ i. refl; count = refl; distinct = tt }; running = refl }
 
--- a slot that leaves and enters again
-pub then_enters : (s left : ℕ) (queue between queue' : List Due) → between ≡ leave s queue → queue' ≡ enter s left between → queue' ≡ enter s left (leave s queue)
-then_enters s left queue between queue' l e = e ∙ ap (enter s left) l
-
 module _ {capacity : ℕ} {slots : List Stored} {queue : List Due} {order : List ℕ} {used limit too_many : ℕ} (h : IsTable capacity slots queue order used limit too_many) where
   -- what `place_of` finds under an equal name
-  pub found_as : (told name : MsapId) (at : ℕ) → told ≡ name → (at < length (take used order)) × (same_msap told (msap_at slots (get_or (take used order) at 0)) ≡ true) → (at < used) × (same_msap name (msap_at slots (get_or order at 0)) ≡ true)
-  found_as told name at same p =
+  pub found_as : {told name : MsapId} (at : ℕ) → told ≡ name → (at < length (take used order)) × (same_msap told (msap_at slots (get_or (take used order) at 0)) ≡ true) → (at < used) × (same_msap name (msap_at slots (get_or order at 0)) ≡ true)
+  found_as {told} {name} at same p =
       let f = found h.laid told at p in (f.0, ap (λ (m : MsapId). same_msap m (msap_at slots (get_or order at 0))) (sym same) ∙ f.1)
 
   pub few_queued : length queue ≡ used
@@ -68,7 +64,7 @@ module _ {capacity : ℕ} {slots : List Stored} {queue : List Due} {order : List
 
     -- ## A refresh
 
-    module _ (name : MsapId) (ttl : ℕ) (octets : List ℕ) (slot : Stored) (o : slot.octets ≡ octets) (n : slot.ttl ≡ ttl) (t : IsExtent name ttl octets) (e : same_msap name (msap_at slots s) ≡ true) where
+    module _ {name : MsapId} {ttl : ℕ} {octets : List ℕ} {slot : Stored} (o : slot.octets ≡ octets) (n : slot.ttl ≡ ttl) (t : IsExtent name ttl octets) (e : same_msap name (msap_at slots s) ≡ true) where
       stored_again : IsStored in_use (ticks_left queue) s slot (ticks_left (enter s ttl (leave s queue))) (fresh name ttl octets)
       stored_again = record {
         here = ap (neighbor_of slot) (enter_here (leave s queue) others left_queued s ttl out) ∙ fresh_in slot name ttl octets o n t;
@@ -82,7 +78,7 @@ module _ {capacity : ℕ} {slots : List Stored} {queue : List Due} {order : List
       }
 
       -- `read` is the order as it was read, and `left` the TTL
-      module _ (read : List ℕ) (left : ℕ) (queue' : List Due) (r : read ≡ order) (k : left ≡ ttl) (q : queue' ≡ enter (get_or read at 0) left (leave (get_or read at 0) queue)) where
+      module _ {read : List ℕ} {left : ℕ} {queue' : List Due} (r : read ≡ order) (k : left ≡ ttl) (q : queue' ≡ enter (get_or read at 0) left (leave (get_or read at 0) queue)) where
         pub refreshed_after : contents_of capacity (set slots (get_or read at 0) slot) (ticks_left queue') order used limit too_many ≡ after_learn (contents_of capacity slots (ticks_left queue) order used limit too_many) name ttl octets
         refreshed_after = rw (q, r, k) (after_refreshed h.laid name ttl octets slot _ at l e stored_again)
 
@@ -91,11 +87,11 @@ module _ {capacity : ℕ} {slots : List Stored} {queue : List Due} {order : List
 
     -- ## A name that is forgotten
 
-    module _ (name : MsapId) (x : ℕ) (e : same_msap name (msap_at slots s) ≡ true) (i : x ≡ get_or order at x) where
+    module _ (name : MsapId) {x : ℕ} (e : same_msap name (msap_at slots s) ≡ true) (i : x ≡ get_or order at x) where
       is_s : x ≡ s
       is_s = i ∙ get_or_default order at x 0 (omega (arith, l, fits h.laid))
 
-      module _ (queue' : List Due) (q : queue' ≡ leave x queue) where
+      module _ {queue' : List Due} (q : queue' ≡ leave x queue) where
         q_s : queue' ≡ leave s queue
         q_s = q ∙ ap (λ j. leave j queue) is_s
 
@@ -114,7 +110,7 @@ module _ {capacity : ℕ} {slots : List Stored} {queue : List Due} {order : List
   -- ## A new name
 
   -- a slot that is free: `slots'` and `order'` are the slots and the order with one in them
-  module _ (l : used < limit) (slots' : List Stored) (order' : List ℕ) (ws : slots' ≡ with_next used blank slots) (wo : order' ≡ with_next used used order) where
+  module _ (l : used < limit) {slots' : List Stored} {order' : List ℕ} (ws : slots' ≡ with_next used blank slots) (wo : order' ≡ with_next used used order) where
     abbrev Free : Type 0
     Free = HasFree h.laid slots' order'
 
@@ -133,10 +129,10 @@ module _ {capacity : ℕ} {slots : List Stored} {queue : List Due} {order : List
         subst (λ is. list_any (nat_eq next) is ≡ false) f.order_same (none-with next (take used order') (not_before order' used in_line f.laid.indices.distinct))
 
     -- `read` is the order as it was read
-    pub next_queued : (read : List ℕ) → read ≡ order' → holds (get_or read used 0) queue ≡ false
-    next_queued read r = rw r (h.timed.queued.same next ∙ not_used)
+    pub next_queued : {read : List ℕ} → read ≡ order' → holds (get_or read used 0) queue ≡ false
+    next_queued r = rw r (h.timed.queued.same next ∙ not_used)
 
-    module _ (name : MsapId) (ttl : ℕ) (octets : List ℕ) (slot : Stored) (o : slot.octets ≡ octets) (n : slot.ttl ≡ ttl) (t : IsExtent name ttl octets) (none : list_any (is_named name) (neighbors_at slots (ticks_left queue) (take used order)) ≡ false) where
+    module _ {name : MsapId} {ttl : ℕ} {octets : List ℕ} {slot : Stored} (o : slot.octets ≡ octets) (n : slot.ttl ≡ ttl) (t : IsExtent name ttl octets) (none : list_any (is_named name) (neighbors_at slots (ticks_left queue) (take used order)) ≡ false) where
       stored_new : IsStored (take used order') (ticks_left queue) next slot (ticks_left (enter next ttl queue)) (fresh name ttl octets)
       stored_new =
           let f = free in
@@ -158,7 +154,7 @@ module _ {capacity : ℕ} {slots : List Stored} {queue : List Due} {order : List
       none_there : list_any (is_named name) (neighbors_at slots' (ticks_left queue) (take used order')) ≡ false
       none_there = let f = free in ap (λ (table : Contents). list_any (is_named name) table.neighbors) f.same ∙ none
 
-      module _ (read : List ℕ) (left : ℕ) (queue' : List Due) (r : read ≡ order') (k : left ≡ ttl) (q : queue' ≡ enter (get_or read used 0) left queue) where
+      module _ {read : List ℕ} {left : ℕ} {queue' : List Due} (r : read ≡ order') (k : left ≡ ttl) (q : queue' ≡ enter (get_or read used 0) left queue) where
         pub new_after : contents_of capacity (set slots' (get_or read used 0) slot) (ticks_left queue') order' (used + 1) limit too_many ≡ after_learn (contents_of capacity slots (ticks_left queue) order used limit too_many) name ttl octets
         new_after =
             let f = free in

@@ -1,8 +1,10 @@
 -- The order of the neighbors, and what the too-many timer says.
 use Rattle.std.proofs.Common.{◌≡◌, ℕ, zero, suc, ◌+◌, ◌-◌, ◌<◌, ◌≤◌, Bool, true, false, not, cond, List, [], ◌∷◌, ◌++◌, Option, Some, None, refl, inl, inr, ap, ◌∙◌, sym, subst, arith, max}
-use Rattle.std.specs.List.{filter, filter_map, cons_option, list_any, AllByRecursion, AllPairs}
+use Rattle.std.specs.List.{filter, filter_map, cons_option, list_any, All, AllByRecursion, AllPairs}
 use Rattle.std.proofs.lemmas.Bool.{cases_Bool, or_left, or_right, or_from, cases_lt, not-true}
-use Rattle.std.proofs.lemmas.List.Elements.{All-from_recursion, All-get_or}
+use Rattle.std.proofs.lemmas.List.Elements.{All-nil, All-cons, All-head, All-tail, All-push, All-filter, All-weaker, filter_passes}
+use Rattle.std.proofs.lemmas.List.Quantifiers.{all_pairs_push}
+use Rattle.std.proofs.lemmas.List.Kept.{AllPairs-cons, AllPairs-filter}
 use Rattle.lldp_pdu.specs.Msap.{MsapId}
 use Rattle.lldp_table.specs.Msap.{same_msap}
 use Rattle.lldp_table.proofs.MsapLemmas.{same_msap-refl}
@@ -10,7 +12,6 @@ use Rattle.lldp_table.specs.Events.{TableEvent, learned, forgot, purged, ticked,
 use Rattle.lldp_table.specs.Positions.{makes_new, IsNewBefore, WasDropped}
 use Rattle.lldp_table.specs.declared.learned.Learned.TheVariants.{New, Refreshed, Dropped}
 use Rattle.lldp_table.proofs.EventLemmas.{live-named}
-use Rattle.lldp_table.proofs.PlaceLemmas.{all-weaker, all-both, all-push}
 use Rattle.std.proofs.lemmas.Grind.{common_steps}
 
 -- ## The order
@@ -24,11 +25,6 @@ record Before (events : List TableEvent) (one other : MsapId) : Type 0 where
   other_later : list_any (makes_new other) later ≡ true
   one_not_later : list_any (makes_new one) later ≡ false
 
--- each pair of a list, the one before the other
-abbrev Pairs : {X : Type 0} → (X → X → Type 0) → List X → Type 0
-Pairs R [] = Unit {0}
-Pairs R (x ∷ xs) = AllByRecursion (R x) xs × Pairs R xs
-
 Before-more : (event : TableEvent) (past : List TableEvent) (one other : MsapId) → makes_new one event ≡ false → Before past one other → Before (event ∷ past) one other
 Before-more event past one other f h = record {
   later = event ∷ h.later;
@@ -39,93 +35,58 @@ Before-more event past one other f h = record {
   one_not_later = or_from (makes_new one event) (list_any (makes_new one) h.later) f h.one_not_later;
 }
 
-pairs_weaker : (R S : MsapId → MsapId → Type 0) → ((a b : MsapId) → R a b → S a b) → (ns : List MsapId) → Pairs R ns → Pairs S ns
-pairs_weaker R S h [] p = tt
-pairs_weaker R S h (n ∷ ns) p = (all-weaker (R n) (S n) (h n) ns p.0, pairs_weaker R S h ns p.1)
-
-all_filter : (P : MsapId → Type 0) (t : MsapId → Bool) (ns : List MsapId) → AllByRecursion P ns → AllByRecursion P (filter t ns)
-all_filter P t [] a = tt
-all_filter P t (n ∷ ns) a = elim (t n) as (λ b. AllByRecursion P (cond b (n ∷ filter t ns) (filter t ns))) [ true ↦ (a.0, all_filter P t ns a.1) | false ↦ all_filter P t ns a.1 ]
-
--- the ones that pass have the test too
-filter_all : (t : MsapId → Bool) (ns : List MsapId) → AllByRecursion (λ n. t n ≡ true) (filter t ns)
-filter_all t [] = tt
-filter_all t (n ∷ ns) = grind (arith, common_steps, cases_Bool, filter_all t ns, filter_all t ns)
-
-pairs_filter : (R : MsapId → MsapId → Type 0) (t : MsapId → Bool) (ns : List MsapId) → Pairs R ns → Pairs R (filter t ns)
-pairs_filter R t [] p = tt
-pairs_filter R t (n ∷ ns) p = elim (t n) as (λ b. Pairs R (cond b (n ∷ filter t ns) (filter t ns))) [ true ↦ (all_filter (R n) t ns p.0, pairs_filter R t ns p.1) | false ↦ pairs_filter R t ns p.1 ]
-
-pairs_push : (R : MsapId → MsapId → Type 0) (ns : List MsapId) (m : MsapId) → Pairs R ns → AllByRecursion (λ n. R n m) ns → Pairs R (ns ++ m ∷ [])
-pairs_push R [] m p a = (tt, tt)
-pairs_push R (n ∷ ns) m p a = (all-push (R n) ns m p.0 a.0, pairs_push R ns m p.1 a.1)
-
--- pairs of names that pass a test, under a fact of the first
-pairs_of : (R S : MsapId → MsapId → Type 0) (T : MsapId → Type 0) → ((a b : MsapId) → T a → R a b → S a b) → (ns : List MsapId) → AllByRecursion T ns → Pairs R ns → Pairs S ns
-pairs_of R S T h [] a p = tt
-pairs_of R S T h (n ∷ ns) a p = (all-weaker (R n) (S n) (λ m r. h n m a.0 r) ns p.0, pairs_of R S T h ns a.1 p.1)
-
 -- each name that arrived was new
-all_new : (events : List TableEvent) → AllByRecursion (λ n. list_any (makes_new n) events ≡ true) (arrivals events)
-all_new [] = tt
-all_new (learned name ttl octets New ∷ past) = grind (arith, common_steps, all-push, all_filter, all-weaker, or_right, or_left, same_msap-refl, all_new past)
+all_new : (events : List TableEvent) → All (λ n. list_any (makes_new n) events ≡ true) (arrivals events)
+all_new [] = All-nil (λ n. false ≡ true)
+all_new (learned name ttl octets New ∷ past) =
+    let P : MsapId → Type 0 = λ n. list_any (makes_new n) (learned name ttl octets New ∷ past) ≡ true in
+    All-push P (filter (λ n. not (same_msap name n)) (arrivals past)) name
+    (All-filter (λ n. not (same_msap name n)) P (arrivals past) (All-weaker (λ n. list_any (makes_new n) past ≡ true) P (λ n e. or_right (same_msap name n) (list_any (makes_new n) past) e) (arrivals past) (all_new past)))
+    (or_left (same_msap name name) (list_any (makes_new name) past) (same_msap-refl name))
 all_new (event ∷ past) = all_new past
 
 -- names that arrived, in the order in which each was last new
-in_order : (events : List TableEvent) → Pairs (Before events) (arrivals events)
-in_order [] = tt
+in_order : (events : List TableEvent) → AllPairs (Before events) (arrivals events)
+in_order [] = λ i j d l m. absurd (omega arith)
 in_order (learned name ttl octets New ∷ past) =
     let event : TableEvent = learned name ttl octets New in
-    let others : List MsapId = filter (λ n. not (same_msap name n)) (arrivals past) in
-    let unlike_it : AllByRecursion (λ n. not (same_msap name n) ≡ true) others = filter_all (λ n. not (same_msap name n)) (arrivals past) in
-    pairs_push (Before (event ∷ past)) others name
-    (pairs_of (Before past) (Before (event ∷ past)) (λ n. not (same_msap name n) ≡ true) (λ a b u h. Before-more event past a b (not-true (same_msap name a) u) h) others unlike_it
-    (pairs_filter (Before past) (λ n. not (same_msap name n)) (arrivals past) (in_order past)))
-    (all-both (λ n. not (same_msap name n) ≡ true) (λ n. list_any (makes_new n) past ≡ true) (λ n. Before (event ∷ past) n name)
-    (λ n u e. record {
+    let differs : MsapId → Bool = λ n. not (same_msap name n) in
+    let differ : All (λ n. differs n ≡ true) (filter differs (arrivals past)) = filter_passes differs (arrivals past) in
+    all_pairs_push (Before (event ∷ past)) (filter differs (arrivals past)) name
+    (λ i j d l m. Before-more event past _ _ (not-true _ (differ i d (omega arith))) (AllPairs-filter (Before past) differs (arrivals past) (in_order past) i j d l m))
+    (λ k d l. record {
       later = event ∷ [];
       earlier = past;
       split = refl;
-      one_earlier = e;
+      one_earlier = All-filter differs (λ n. list_any (makes_new n) past ≡ true) (arrivals past) (all_new past) k d l;
       other_later = or_left (same_msap name name) false (same_msap-refl name);
-      one_not_later = or_from (same_msap name n) false (not-true (same_msap name n) u) refl;
-    }) others unlike_it (all_filter (λ n. list_any (makes_new n) past ≡ true) (λ n. not (same_msap name n)) (arrivals past) (all_new past)))
-in_order (event ∷ past) = pairs_weaker (Before past) (Before (event ∷ past)) (λ a b h. Before-more event past a b refl h) (arrivals past) (in_order past)
+      one_not_later = or_from _ false (not-true _ (differ k d l)) refl;
+    })
+in_order (event ∷ past) = λ i j d l m. Before-more event past _ _ refl (in_order past i j d l m)
 
 module _ (events : List TableEvent) where
-  before_all : (x : Neighbor) (names : List MsapId) → AllByRecursion (Before events x.msap) names → AllByRecursion (IsNewBefore events x) (filter_map (λ name. live name events) names)
-  before_all x [] a = tt
-  before_all x (name ∷ names) a = before_one (live name events) (live-named name events) (before_all x names a.1)
+  before_all : (x : Neighbor) (names : List MsapId) → All (Before events x.msap) names → All (IsNewBefore events x) (filter_map (λ name. live name events) names)
+  before_all x [] a = All-nil (IsNewBefore events x)
+  before_all x (name ∷ names) a = one (live name events) (live-named name events) (before_all x names (All-tail (Before events x.msap) name names a))
     where
-      before_one : (o : Option Neighbor) → ((y : Neighbor) → o ≡ Some y → y.msap ≡ name) → AllByRecursion (IsNewBefore events x) (filter_map (λ n. live n events) names) → AllByRecursion (IsNewBefore events x) (cons_option o (filter_map (λ n. live n events) names))
-      before_one None h r = r
-      before_one (Some y) h r = (
-        record {
-          later = a.0.later;
-          earlier = a.0.earlier;
-          split = a.0.split;
-          one_earlier = a.0.one_earlier;
-          other_later = ap (λ n. list_any (makes_new n) a.0.later) (h y refl) ∙ a.0.other_later;
-          one_not_later = a.0.one_not_later;
-        },
-        r,
-      )
+      one : (o : Option Neighbor) → ((y : Neighbor) → o ≡ Some y → y.msap ≡ name) → All (IsNewBefore events x) (filter_map (λ n. live n events) names) → All (IsNewBefore events x) (cons_option o (filter_map (λ n. live n events) names))
+      one None h r = r
+      one (Some y) h r =
+          let b : Before events x.msap y.msap = rw (h y refl) (All-head (Before events x.msap) name names a) in
+          All-cons (IsNewBefore events x) y (filter_map (λ n. live n events) names) (record { later = b.later; earlier = b.earlier; split = b.split; one_earlier = b.one_earlier; other_later = b.other_later; one_not_later = b.one_not_later }) r
 
-  ordered : (names : List MsapId) → Pairs (Before events) names → Pairs (IsNewBefore events) (filter_map (λ name. live name events) names)
-  ordered [] p = tt
-  ordered (name ∷ names) p = grind (arith, common_steps, live-named, before_all, ordered names p.1)
-
-pairs_at : (R : Neighbor → Neighbor → Type 0) (xs : List Neighbor) → Pairs R xs → AllPairs R xs
-pairs_at R [] p i j d l m = absurd (omega arith)
-pairs_at R (x ∷ xs) p zero zero d l m = absurd (omega arith)
-pairs_at R (x ∷ xs) p zero (suc j) d l m = All-get_or (R x) xs j d (omega arith) (All-from_recursion (R x) xs p.0)
-pairs_at R (x ∷ xs) p (suc i) zero d l m = absurd (omega arith)
-pairs_at R (x ∷ xs) p (suc i) (suc j) d l m = pairs_at R xs p.1 i j d (omega arith) (omega arith)
+  ordered : (names : List MsapId) → AllPairs (Before events) names → AllPairs (IsNewBefore events) (filter_map (λ name. live name events) names)
+  ordered [] p = λ i j d l m. absurd (omega arith)
+  ordered (name ∷ names) p = one (live name events) (live-named name events) (ordered names (λ i j d l m. p (suc i) (suc j) d (omega arith) (omega arith)))
+    where
+      one : (o : Option Neighbor) → ((y : Neighbor) → o ≡ Some y → y.msap ≡ name) → AllPairs (IsNewBefore events) (filter_map (λ n. live n events) names) → AllPairs (IsNewBefore events) (cons_option o (filter_map (λ n. live n events) names))
+      one None h r = r
+      one (Some y) h r = AllPairs-cons (IsNewBefore events) y (filter_map (λ n. live n events) names) (before_all y names (rw (h y refl) (λ k d l. p 0 (suc k) d (omega arith) (omega arith)))) r
 
 -- the neighbors stand in the order in which each was last new
 pub neighbors_in_order : (events : List TableEvent) → AllPairs (IsNewBefore events) (neighbors events)
 unfolding neighbors
-neighbors_in_order events = pairs_at (IsNewBefore events) (neighbors events) (ordered events (arrivals events) (in_order events))
+neighbors_in_order events = ordered events (arrivals events) (in_order events)
 
 -- ## Too many neighbors
 

@@ -1,5 +1,5 @@
 -- Each call leaves a sound table sound.
-use Rattle.std.proofs.Common.{◌≡◌, ℕ, suc, ◌<◌, ◌≤◌, Bool, true, false, not, cond, nat_lt, List, [], ◌∷◌, ◌++◌, length, Option, Some, None, refl, ap, ◌∙◌, sym, subst, arith, map, length-append}
+use Rattle.std.proofs.Common.{◌≡◌, ℕ, suc, ◌-◌, ◌<◌, ◌≤◌, Bool, true, false, not, cond, nat_lt, List, [], ◌∷◌, ◌++◌, length, Option, Some, None, refl, ap, ◌∙◌, sym, subst, arith, map, length-append}
 use Rattle.std.specs.List.{list_any, filter_map, cons_option, AllByRecursion, IsDistinct}
 use Rattle.std.proofs.lemmas.Bool.{ltb-true, or_parts, or_from, cond_both}
 use Rattle.std.proofs.lemmas.List.{length-map, map-append}
@@ -65,15 +65,19 @@ aged_held x y k e =
 aged_named : (x y : Neighbor) → aged x ≡ Some y → y.msap ≡ x.msap
 aged_named x y e = sym (ap (λ (n : Neighbor). n.msap) (cond_some (nat_lt 1 x.left) _ y e).1)
 
-pub sound_ticked : (table : Contents) → IsSound table → IsSound (after_tick table)
-sound_ticked table h = record {
-  few = omega (arith, length-part aged table.neighbors, h.few);
+-- with some of the neighbors, and another timer, a table is sound
+sound_part : (g : Neighbor → Option Neighbor) → ((x y : Neighbor) → IsHeld x → g x ≡ Some y → IsHeld y) → ((x y : Neighbor) → g x ≡ Some y → y.msap ≡ x.msap) → (table : Contents) (left : ℕ) → IsSound table → IsSound (record table { neighbors = filter_map g table.neighbors; too_many_left = left })
+sound_part g held named table left h = record {
+  few = omega (arith, length-part g table.neighbors, h.few);
   most = h.most;
   room = h.room;
   least = h.least;
-  held = held-part aged aged_held table.neighbors h.held;
-  distinct = distinct-part aged aged_named table.neighbors h.distinct;
+  held = held-part g held table.neighbors h.held;
+  distinct = distinct-part g named table.neighbors h.distinct;
 }
+
+pub sound_ticked : (table : Contents) → IsSound table → IsSound (after_tick table)
+sound_ticked table h = sound_part aged aged_held aged_named table (table.too_many_left - 1) h
 
 -- ## `purge` and `forget`
 
@@ -81,27 +85,13 @@ pub sound_purged : (table : Contents) → IsSound table → IsSound (after_purge
 unfolding IsDistinct
 sound_purged table h = record { most = h.most; room = h.room; least = h.least; few = omega arith; held = tt; distinct = tt }
 
--- some of the neighbors
-abbrev with_neighbors : Contents → List Neighbor → Contents
-with_neighbors table xs = record { capacity = table.capacity; limit = table.limit; neighbors = xs; too_many_left = table.too_many_left }
-
 kept_part : (p : Neighbor → Bool) (x y : Neighbor) → keep p x ≡ Some y → x ≡ y
 kept_part p x y e = (cond_some (p x) x y e).1
-
-sound_some : (table : Contents) (p : Neighbor → Bool) → IsSound table → IsSound (with_neighbors table (filter_map (keep p) table.neighbors))
-sound_some table p h = record {
-  few = omega (arith, length-part (keep p) table.neighbors, h.few);
-  most = h.most;
-  room = h.room;
-  least = h.least;
-  held = held-part (keep p) (λ x y k e. subst IsHeld (kept_part p x y e) k) table.neighbors h.held;
-  distinct = distinct-part (keep p) (λ x y e. ap (λ (n : Neighbor). n.msap) (sym (kept_part p x y e))) table.neighbors h.distinct;
-}
 
 pub sound_forgotten : (table : Contents) (name : MsapId) → IsSound table → IsSound (after_forget table name)
 sound_forgotten table name h =
     let p : Neighbor → Bool = λ x. not (is_named name x) in
-    subst (λ xs. IsSound (with_neighbors table xs)) (filter_map-keep p table.neighbors) (sound_some table p h)
+    rw filter_map-keep at (sound_part (keep p) (λ x y k e. subst IsHeld (kept_part p x y e) k) (λ x y e. ap (λ (n : Neighbor). n.msap) (sym (kept_part p x y e))) table table.too_many_left h)
 
 -- ## `learn`
 

@@ -1,9 +1,7 @@
-use Rattle.std.proofs.Common.{◌≡◌, ◌++◌, ◌∷◌, [], sym, ap, ◌∙◌, subst, ◌-◌}
+use Rattle.std.proofs.Common.{◌≡◌, ◌++◌, ◌∷◌, [], sym, ap, ◌∙◌, ◌-◌}
 use Rattle.lldp_pdu.specs.View.{msap_seen}
 use Rattle.lldp_table.specs.Events.{forget}
 use Rattle.lldp_table.specs.Contents.{Contents, after_forget, holds_name}
-use Rattle.lldp_table.specs.Code.Layout.{contents_of}
-use Rattle.lldp_table.specs.Code.Queue.{ticks_left}
 use Rattle.lldp_table.proofs.StandingLemmas.{stands_after, held_is_live}
 use Rattle.lldp_table.proofs.LayoutLemmas.{found, not_found, forgotten_none, holds_named}
 use Rattle.lldp_table.proofs.LearnLemmas.{forgotten_after, forgotten_table}
@@ -12,42 +10,31 @@ use Rattle.lldp_table.proofs.table.Table.forget.Goals as goal
 pub invariant_of-self : goal.invariant_of-self
 invariant_of-self g c =
     let name = msap_seen c.args.msap.now in
-    let p = rw (c.deref.ensures.value, c.deref-2.ensures.0) at c.in-Some.ensures in
-    let f = found c.self.invariant.laid name c.in-Some.at p in
-    let moved = c.push.ensures.items ∙ ap (λ is. is ++ c.remove-slot.result ∷ []) c.remove-slot.ensures.items in
-    rw moved
-    (forgotten_table c.self.invariant c.in-Some.at f.0 name c.remove-slot.result f.1 c.remove-slot.ensures.value c.leave.new.self c.leave.ensures)
+    let f = found c.self.invariant.laid name c.in-Some.at (rw (c.deref.ensures.value, c.deref-2.ensures.0) at c.in-Some.ensures) in
+    rw (c.push.ensures.items, c.remove-slot.ensures.items) (forgotten_table c.self.invariant c.in-Some.at f.0 name f.1 c.remove-slot.ensures.value c.leave.ensures)
 
 pub returns-in-None-clause-answer : goal.returns-in-None-clause-answer
 returns-in-None-clause-answer g c =
     let name = msap_seen c.args.msap.now in
-    let p = rw (c.deref.ensures.value, c.deref-2.ensures.0) at c.in-None.ensures in
-    sym (not_found c.self.invariant.laid name p) ∙ ap (λ (table : Contents). holds_name table name) c.self.view_is
+    sym (not_found c.self.invariant.laid name (rw (c.deref.ensures.value, c.deref-2.ensures.0) at c.in-None.ensures)) ∙ ap (λ (table : Contents). holds_name table name) c.self.view_is
 
 pub returns-in-None-clause-after : goal.returns-in-None-clause-after
 returns-in-None-clause-after g c =
     let name = msap_seen c.args.msap.now in
-    let p = rw (c.deref.ensures.value, c.deref-2.ensures.0) at c.in-None.ensures in
-    let none = not_found c.self.invariant.laid name p in
-    subst (λ (table : Contents). table ≡ after_forget table name) c.self.view_is
-    (sym (forgotten_none c.self.invariant.laid name none))
+    let none = not_found c.self.invariant.laid name (rw (c.deref.ensures.value, c.deref-2.ensures.0) at c.in-None.ensures) in
+    rw (← c.self.view_is) (sym (forgotten_none c.self.invariant.laid name none))
 
 pub returns-in-Some-clause-answer : goal.returns-in-Some-clause-answer
 returns-in-Some-clause-answer g c =
     let name = msap_seen c.args.msap.now in
-    let p = rw (c.deref.ensures.value, c.deref-2.ensures.0) at c.in-Some.ensures in
-    let f = found c.self.invariant.laid name c.in-Some.at p in
+    let f = found c.self.invariant.laid name c.in-Some.at (rw (c.deref.ensures.value, c.deref-2.ensures.0) at c.in-Some.ensures) in
     sym (holds_named c.self.invariant.laid name c.in-Some.at f.0 f.1) ∙ ap (λ (table : Contents). holds_name table name) c.self.view_is
 
 pub returns-in-Some-clause-after : goal.returns-in-Some-clause-after
 returns-in-Some-clause-after g c =
-    let t = c.self.inside in
     let name = msap_seen c.args.msap.now in
-    let p = rw (c.deref.ensures.value, c.deref-2.ensures.0) at c.in-Some.ensures in
-    let f = found c.self.invariant.laid name c.in-Some.at p in
-    let moved = c.push.ensures.items ∙ ap (λ is. is ++ c.remove-slot.result ∷ []) c.remove-slot.ensures.items in
-    ap (λ is. contents_of t.slots.cap t.slots.items (ticks_left c.leave.new.self) is (t.used - 1) t.limit t.too_many) moved
-    ∙ forgotten_after c.self.invariant c.in-Some.at f.0 name c.remove-slot.result f.1 c.remove-slot.ensures.value c.leave.new.self c.leave.ensures
+    let f = found c.self.invariant.laid name c.in-Some.at (rw (c.deref.ensures.value, c.deref-2.ensures.0) at c.in-Some.ensures) in
+    rw (c.push.ensures.items, c.remove-slot.ensures.items) (forgotten_after c.self.invariant c.in-Some.at f.0 name f.1 c.remove-slot.ensures.value c.leave.ensures)
     ∙ ap (λ (table : Contents). after_forget table name) c.self.view_is
 
 pub returns-in-None-clause-answers : goal.returns-in-None-clause-answers

@@ -5,51 +5,42 @@ use Rattle.lldp_table.specs.Code.Queue.{ticks_left}
 use Rattle.lldp_table.proofs.ExtentLemmas.{info_is_extent}
 use Rattle.lldp_table.proofs.StandingLemmas.{stands_after, learn_answers}
 use Rattle.lldp_table.proofs.LayoutLemmas.{not_found, answer_refreshed, answer_new, answer_dropped, after_dropped}
-use Rattle.lldp_table.proofs.LearnLemmas.{found_as, then_enters, refreshed_after, refreshed_table, is_out, room_again, next_queued, new_after, new_table}
+use Rattle.lldp_table.proofs.LearnLemmas.{found_as, refreshed_after, refreshed_table, is_out, room_again, next_queued, new_after, new_table}
 use Rattle.lldp_table.proofs.table.Table.learn.Goals as goal
 
 -- ## A neighbor that is held
 
 pub returns-in-Some-clause-told : goal.returns-in-Some-clause-told
-returns-in-Some-clause-told g c = let info = c.args.info.now in info_is_extent info c.octets-octets.ensures.again (rw (← c.ttl-ttl.ensures.value) c.ttl-ttl.ensures.lives) c.requires
+returns-in-Some-clause-told g c = info_is_extent c.args.info.now c.octets-octets.ensures.again (rw (← c.ttl-ttl.ensures.value) c.ttl-ttl.ensures.lives) c.requires
 
 pub enter-requires-clause-room : goal.enter-requires-clause-room
 enter-requires-clause-room g c =
-    let info = c.args.info.now in
-    let p = rw (c.deref.ensures.value, c.deref-2.ensures.0) at c.in-Some.ensures in
-    let f = found_as c.self.invariant _ info.msap c.in-Some.at c.msap-name.ensures.value p in
+    let f = found_as c.self.invariant c.in-Some.at c.msap-name.ensures.value (rw (c.deref.ensures.value, c.deref-2.ensures.0) at c.in-Some.ensures) in
     rw (c.leave.ensures, c.deref-in-Some.ensures.0) (room_again c.self.invariant c.in-Some.at f.0)
 
 pub enter-requires-clause-new : goal.enter-requires-clause-new
 enter-requires-clause-new g c =
-    let info = c.args.info.now in
-    let p = rw (c.deref.ensures.value, c.deref-2.ensures.0) at c.in-Some.ensures in
-    let f = found_as c.self.invariant _ info.msap c.in-Some.at c.msap-name.ensures.value p in
+    let f = found_as c.self.invariant c.in-Some.at c.msap-name.ensures.value (rw (c.deref.ensures.value, c.deref-2.ensures.0) at c.in-Some.ensures) in
     rw (c.leave.ensures, c.deref-in-Some.ensures.0) (is_out c.self.invariant c.in-Some.at f.0)
 
 pub invariant_of-self : goal.invariant_of-self
 invariant_of-self g c =
-    let info = c.args.info.now in
-    let p = rw (c.deref.ensures.value, c.deref-2.ensures.0) at c.in-Some.ensures in
-    let f = found_as c.self.invariant _ info.msap c.in-Some.at c.msap-name.ensures.value p in
-    let told = info_is_extent info c.octets-octets.ensures.again (rw (← c.ttl-ttl.ensures.value) c.ttl-ttl.ensures.lives) c.requires in
-    refreshed_table c.self.invariant c.in-Some.at f.0 info.msap info.ttl info.octets c.store.new.self (c.store.ensures.octets ∙ c.octets-octets.ensures.value) (omega (arith, c.store.ensures.ttl, c.ttl-ttl.ensures.value)) told f.1
-    _ _ c.enter.new.self c.deref-in-Some.ensures.0 (omega (arith, c.ttl-ttl.ensures.value)) (then_enters _ _ _ _ _ c.leave.ensures c.enter.ensures)
+    let f = found_as c.self.invariant c.in-Some.at c.msap-name.ensures.value (rw (c.deref.ensures.value, c.deref-2.ensures.0) at c.in-Some.ensures) in
+    refreshed_table c.self.invariant c.in-Some.at f.0 (c.store.ensures.octets ∙ c.octets-octets.ensures.value) (omega (arith, c.store.ensures.ttl, c.ttl-ttl.ensures.value)) (info_is_extent c.args.info.now c.octets-octets.ensures.again (rw (← c.ttl-ttl.ensures.value) c.ttl-ttl.ensures.lives) c.requires) f.1
+    c.deref-in-Some.ensures.0 (omega (arith, c.ttl-ttl.ensures.value)) (rw c.leave.ensures at c.enter.ensures)
 
 pub returns-in-Some-clause-after : goal.returns-in-Some-clause-after
 returns-in-Some-clause-after g c =
     let info = c.args.info.now in
-    let p = rw (c.deref.ensures.value, c.deref-2.ensures.0) at c.in-Some.ensures in
-    let f = found_as c.self.invariant _ info.msap c.in-Some.at c.msap-name.ensures.value p in
-    refreshed_after c.self.invariant c.in-Some.at f.0 info.msap info.ttl info.octets c.store.new.self (c.store.ensures.octets ∙ c.octets-octets.ensures.value) (omega (arith, c.store.ensures.ttl, c.ttl-ttl.ensures.value)) (returns-in-Some-clause-told g c) f.1
-    _ _ c.enter.new.self c.deref-in-Some.ensures.0 (omega (arith, c.ttl-ttl.ensures.value)) (then_enters _ _ _ _ _ c.leave.ensures c.enter.ensures)
+    let f = found_as c.self.invariant c.in-Some.at c.msap-name.ensures.value (rw (c.deref.ensures.value, c.deref-2.ensures.0) at c.in-Some.ensures) in
+    refreshed_after c.self.invariant c.in-Some.at f.0 (c.store.ensures.octets ∙ c.octets-octets.ensures.value) (omega (arith, c.store.ensures.ttl, c.ttl-ttl.ensures.value)) (returns-in-Some-clause-told g c) f.1
+    c.deref-in-Some.ensures.0 (omega (arith, c.ttl-ttl.ensures.value)) (rw c.leave.ensures at c.enter.ensures)
     ∙ ap (λ (table : Contents). after_learn table info.msap info.ttl info.octets) c.self.view_is
 
 pub returns-in-Some-clause-answer : goal.returns-in-Some-clause-answer
 returns-in-Some-clause-answer g c =
     let info = c.args.info.now in
-    let p = rw (c.deref.ensures.value, c.deref-2.ensures.0) at c.in-Some.ensures in
-    let f = found_as c.self.invariant _ info.msap c.in-Some.at c.msap-name.ensures.value p in
+    let f = found_as c.self.invariant c.in-Some.at c.msap-name.ensures.value (rw (c.deref.ensures.value, c.deref-2.ensures.0) at c.in-Some.ensures) in
     sym (answer_refreshed c.self.invariant.laid info.msap c.in-Some.at f.0 f.1) ∙ ap (λ (table : Contents). learn_answer table info.msap) c.self.view_is
 
 pub returns-in-Some-clause-answers : goal.returns-in-Some-clause-answers
@@ -57,43 +48,37 @@ returns-in-Some-clause-answers g c = λ opened calls h. returns-in-Some-clause-a
 
 pub returns-in-Some-clause-stands : goal.returns-in-Some-clause-stands
 returns-in-Some-clause-stands g c = λ opened calls h.
-    let info = c.args.info.now in
-    stands_after c.args.self.now _ opened calls (learn info.msap info.ttl info.octets) (returns-in-Some-clause-after g c) (returns-in-Some-clause-told g c) h
+    stands_after c.args.self.now _ opened calls (learn c.args.info.now.msap c.args.info.now.ttl c.args.info.now.octets) (returns-in-Some-clause-after g c) (returns-in-Some-clause-told g c) h
 
 -- ## A new neighbor
 
 pub returns-then-self-clause-told : goal.returns-then-self-clause-told
-returns-then-self-clause-told g c = let info = c.args.info.now in info_is_extent info c.octets-octets.ensures.again (rw (← c.ttl-ttl.ensures.value) c.ttl-ttl.ensures.lives) c.requires
+returns-then-self-clause-told g c = info_is_extent c.args.info.now c.octets-octets.ensures.again (rw (← c.ttl-ttl.ensures.value) c.ttl-ttl.ensures.lives) c.requires
 
 pub enter-requires-then-self-clause-new : goal.enter-requires-then-self-clause-new
 enter-requires-then-self-clause-new g c =
-    next_queued c.self.invariant c.if-self.true _ _ c.write_next.ensures.slots c.write_next.ensures.order _ c.deref-then-self.ensures.0
+    next_queued c.self.invariant c.if-self.true c.write_next.ensures.slots c.write_next.ensures.order c.deref-then-self.ensures.0
 
 pub invariant_of-self-then-self : goal.invariant_of-self-then-self
 invariant_of-self-then-self g c =
-    let info = c.args.info.now in
-    let p = rw (c.deref.ensures.value, c.deref-2.ensures.0, c.msap-name.ensures.value) at c.in_default.ensures in
-    let none = not_found c.self.invariant.laid info.msap p in
-    let told = info_is_extent info c.octets-octets.ensures.again (rw (← c.ttl-ttl.ensures.value) c.ttl-ttl.ensures.lives) c.requires in
+    let none = not_found c.self.invariant.laid c.args.info.now.msap (rw (c.deref.ensures.value, c.deref-2.ensures.0, c.msap-name.ensures.value) at c.in_default.ensures) in
     rw c.write_next.ensures.room
-    (new_table c.self.invariant c.if-self.true _ _ c.write_next.ensures.slots c.write_next.ensures.order info.msap info.ttl info.octets c.store-then-self.new.self (c.store-then-self.ensures.octets ∙ c.octets-octets.ensures.value) (omega (arith, c.store-then-self.ensures.ttl, c.ttl-ttl.ensures.value)) told none
-    _ _ c.enter-then-self.new.self c.deref-then-self.ensures.0 (omega (arith, c.ttl-ttl.ensures.value)) c.enter-then-self.ensures)
+    (new_table c.self.invariant c.if-self.true c.write_next.ensures.slots c.write_next.ensures.order (c.store-then-self.ensures.octets ∙ c.octets-octets.ensures.value) (omega (arith, c.store-then-self.ensures.ttl, c.ttl-ttl.ensures.value)) (info_is_extent c.args.info.now c.octets-octets.ensures.again (rw (← c.ttl-ttl.ensures.value) c.ttl-ttl.ensures.lives) c.requires) none
+    c.deref-then-self.ensures.0 (omega (arith, c.ttl-ttl.ensures.value)) c.enter-then-self.ensures)
 
 pub returns-then-self-clause-after : goal.returns-then-self-clause-after
 returns-then-self-clause-after g c =
     let info = c.args.info.now in
-    let p = rw (c.deref.ensures.value, c.deref-2.ensures.0, c.msap-name.ensures.value) at c.in_default.ensures in
-    let none = not_found c.self.invariant.laid info.msap p in
+    let none = not_found c.self.invariant.laid c.args.info.now.msap (rw (c.deref.ensures.value, c.deref-2.ensures.0, c.msap-name.ensures.value) at c.in_default.ensures) in
     rw c.write_next.ensures.room
-    (new_after c.self.invariant c.if-self.true _ _ c.write_next.ensures.slots c.write_next.ensures.order info.msap info.ttl info.octets c.store-then-self.new.self (c.store-then-self.ensures.octets ∙ c.octets-octets.ensures.value) (omega (arith, c.store-then-self.ensures.ttl, c.ttl-ttl.ensures.value)) (returns-then-self-clause-told g c) none
-    _ _ c.enter-then-self.new.self c.deref-then-self.ensures.0 (omega (arith, c.ttl-ttl.ensures.value)) c.enter-then-self.ensures
+    (new_after c.self.invariant c.if-self.true c.write_next.ensures.slots c.write_next.ensures.order (c.store-then-self.ensures.octets ∙ c.octets-octets.ensures.value) (omega (arith, c.store-then-self.ensures.ttl, c.ttl-ttl.ensures.value)) (returns-then-self-clause-told g c) none
+    c.deref-then-self.ensures.0 (omega (arith, c.ttl-ttl.ensures.value)) c.enter-then-self.ensures
     ∙ ap (λ (table : Contents). after_learn table info.msap info.ttl info.octets) c.self.view_is)
 
 pub returns-then-self-clause-answer : goal.returns-then-self-clause-answer
 returns-then-self-clause-answer g c =
     let info = c.args.info.now in
-    let p = rw (c.deref.ensures.value, c.deref-2.ensures.0, c.msap-name.ensures.value) at c.in_default.ensures in
-    let none = not_found c.self.invariant.laid info.msap p in
+    let none = not_found c.self.invariant.laid c.args.info.now.msap (rw (c.deref.ensures.value, c.deref-2.ensures.0, c.msap-name.ensures.value) at c.in_default.ensures) in
     sym (answer_new c.self.invariant.laid info.msap none c.if-self.true) ∙ ap (λ (table : Contents). learn_answer table info.msap) c.self.view_is
 
 pub returns-then-self-clause-answers : goal.returns-then-self-clause-answers
@@ -101,19 +86,17 @@ returns-then-self-clause-answers g c = λ opened calls h. returns-then-self-clau
 
 pub returns-then-self-clause-stands : goal.returns-then-self-clause-stands
 returns-then-self-clause-stands g c = λ opened calls h.
-    let info = c.args.info.now in
-    stands_after c.args.self.now _ opened calls (learn info.msap info.ttl info.octets) (returns-then-self-clause-after g c) (returns-then-self-clause-told g c) h
+    stands_after c.args.self.now _ opened calls (learn c.args.info.now.msap c.args.info.now.ttl c.args.info.now.octets) (returns-then-self-clause-after g c) (returns-then-self-clause-told g c) h
 
 -- ## No room
 
 pub returns-clause-told : goal.returns-clause-told
-returns-clause-told g c = let info = c.args.info.now in info_is_extent info c.octets-octets.ensures.again (rw (← c.ttl-ttl.ensures.value) c.ttl-ttl.ensures.lives) c.requires
+returns-clause-told g c = info_is_extent c.args.info.now c.octets-octets.ensures.again (rw (← c.ttl-ttl.ensures.value) c.ttl-ttl.ensures.lives) c.requires
 
 pub returns-clause-after : goal.returns-clause-after
 returns-clause-after g c =
     let info = c.args.info.now in
-    let p = rw (c.deref.ensures.value, c.deref-2.ensures.0, c.msap-name.ensures.value) at c.in_default.ensures in
-    let none = not_found c.self.invariant.laid info.msap p in
+    let none = not_found c.self.invariant.laid c.args.info.now.msap (rw (c.deref.ensures.value, c.deref-2.ensures.0, c.msap-name.ensures.value) at c.in_default.ensures) in
     after_dropped c.self.invariant.laid info.msap none c.if-self.false info.ttl info.octets _
     (omega (arith, c.ttl-ttl.ensures.value))
     ∙ ap (λ (table : Contents). after_learn table info.msap info.ttl info.octets) c.self.view_is
@@ -121,8 +104,7 @@ returns-clause-after g c =
 pub returns-clause-answer : goal.returns-clause-answer
 returns-clause-answer g c =
     let info = c.args.info.now in
-    let p = rw (c.deref.ensures.value, c.deref-2.ensures.0, c.msap-name.ensures.value) at c.in_default.ensures in
-    let none = not_found c.self.invariant.laid info.msap p in
+    let none = not_found c.self.invariant.laid c.args.info.now.msap (rw (c.deref.ensures.value, c.deref-2.ensures.0, c.msap-name.ensures.value) at c.in_default.ensures) in
     sym (answer_dropped c.self.invariant.laid info.msap none c.if-self.false) ∙ ap (λ (table : Contents). learn_answer table info.msap) c.self.view_is
 
 pub returns-clause-answers : goal.returns-clause-answers
@@ -130,5 +112,4 @@ returns-clause-answers g c = λ opened calls h. returns-clause-answer g c ∙ le
 
 pub returns-clause-stands : goal.returns-clause-stands
 returns-clause-stands g c = λ opened calls h.
-    let info = c.args.info.now in
-    stands_after c.args.self.now _ opened calls (learn info.msap info.ttl info.octets) (returns-clause-after g c) (returns-clause-told g c) h
+    stands_after c.args.self.now _ opened calls (learn c.args.info.now.msap c.args.info.now.ttl c.args.info.now.octets) (returns-clause-after g c) (returns-clause-told g c) h
