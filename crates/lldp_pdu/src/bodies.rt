@@ -5,7 +5,7 @@ ghost use Rattle.std.specs.Option.{option_map};
 ghost use Rattle.lldp_pdu.specs.Capabilities.{caps_of};
 ghost use Rattle.lldp_pdu.specs.ManagementAddress.{address_of};
 ghost use Rattle.lldp_pdu.specs.WellFormed as well_formed;
-ghost use Rattle.lldp_pdu.specs.View.{unit_of, address_seen};
+ghost use Rattle.lldp_pdu.specs.View.{tlv_view, address_view};
 
 use crate::fields::{Caps, Mgmt};
 use crate::tlv::Tlv;
@@ -31,7 +31,7 @@ pub fn caps(body: &[u8]) -> Option<Caps>
 /// first octet, is not 2 to 32, the OID has more than 128 octets, or the body is longer or shorter
 /// than these say (IEEE 802.1AB-2009, 8.5.9).
 pub fn mgmt(body: &[u8]) -> Option<Mgmt<'_>>
-    ensures { option_map address_seen result ≡ address_of body.now }
+    ensures { option_map address_view result ≡ address_of body.now }
 {
     let m = usize::from(*body.first()?);
     if m < 2 || m > 32 {
@@ -53,7 +53,7 @@ pub fn mgmt(body: &[u8]) -> Option<Mgmt<'_>>
 /// Whether the body is well formed for the type.
 #[tactic(auto, unfolding(crate::specs::WellFormed::is_well_formed))]
 pub(crate) fn is_well_formed(tlv: &Tlv<'_>) -> bool
-    ensures { result ≡ well_formed.is_well_formed (unit_of tlv.now) }
+    ensures { result ≡ well_formed.is_well_formed (tlv_view tlv.now) }
 {
     let len = tlv.body.len();
     match tlv.kind {

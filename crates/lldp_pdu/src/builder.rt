@@ -6,7 +6,7 @@ ghost use Rattle.lldp_pdu.specs.Range.{is_between};
 ghost use Rattle.lldp_pdu.specs.Fault.{fault_of};
 ghost use Rattle.lldp_pdu.specs.Lldpdu.{msap_of, ttl_of};
 ghost use Rattle.lldp_pdu.specs.Info.{info_of};
-ghost use Rattle.lldp_pdu.specs.View.{unit_of};
+ghost use Rattle.lldp_pdu.specs.View.{tlv_view};
 ghost use Rattle.lldp_pdu.specs.Draft.{with_tlv, put_fault, lldpdu_octets, told_by};
 
 use crate::bodies::is_well_formed;
@@ -33,9 +33,9 @@ impl Model for Builder {
 
     ghost Value = { Draft };
 
-    ghost use Rattle.lldp_pdu.specs.Code.BuilderView.{draft_seen, Builds};
+    ghost use Rattle.lldp_pdu.specs.Code.BuilderView.{draft_view, Builds};
 
-    ghost view = { draft_seen };
+    ghost view = { draft_view };
 
     ghost invariant = { λ b. Builds b.octets.items b.met.types b.lives };
 }
@@ -73,7 +73,7 @@ impl Builder {
 
     /// Why a TLV can't be put next.
     fn refusal(&self, tlv: &Tlv<'_>) -> Option<BuildFault>
-        ensures { result ≡ put_fault self.now (unit_of tlv.now) }
+        ensures { result ≡ put_fault self.now (tlv_view tlv.now) }
     {
         if !is_optional_type(tlv.kind) {
             return Some(BuildFault::Kind);

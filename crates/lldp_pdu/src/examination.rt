@@ -5,7 +5,7 @@ ghost use Rattle.std.specs.List.{list_any};
 ghost use Rattle.lldp_pdu.specs.Cut.{cut};
 ghost use Rattle.lldp_pdu.specs.Lldpdu.{before_end};
 ghost use Rattle.lldp_pdu.specs.Fault.{fault_of, is_mandatory};
-ghost use Rattle.lldp_pdu.specs.View.{msap_seen};
+ghost use Rattle.lldp_pdu.specs.View.{msap_view};
 ghost use Rattle.lldp_pdu.specs.declared.fault.PduFault.TheVariants.{Repeated};
 ghost use Rattle.lldp_pdu.specs.Examined.{Answers, IsWithin};
 ghost use Rattle.lldp_pdu.specs.Code.Survey.{OpensWith, IsSurveyOf};
@@ -44,7 +44,7 @@ struct Optional<'a> {
 #[tactic(auto, unfolding(crate::specs::Fault::fault_of))]
 fn mandatory_tlvs(pdu: &[u8]) -> Result<Mandatory<'_>, PduFault>
     ensures err { IfErr result (λ f. fault_of pdu.now ≡ Some f) }
-    ensures ok { IfOk result (λ m. OpensWith pdu.now (msap_seen m.msap) m.ttl m.after.now) }
+    ensures ok { IfOk result (λ m. OpensWith pdu.now (msap_view m.msap) m.ttl m.after.now) }
 {
     let mut tlvs = Tlvs::new(pdu);
     let Some(chassis) = tlvs.next() else {

@@ -4,7 +4,7 @@ ghost use Rattle.std.specs.List.{AllByRecursion};
 ghost use Rattle.lldp_pdu.specs.Msap.{IsIdentifier};
 ghost use Rattle.lldp_pdu.specs.Kept.{IsKeptTlv};
 ghost use Rattle.lldp_pdu.specs.Info.{TellsItself};
-ghost use Rattle.lldp_pdu.specs.View.{msap_seen};
+ghost use Rattle.lldp_pdu.specs.View.{msap_view};
 
 use crate::kept::Kept;
 use crate::msap::Msap;
@@ -26,17 +26,17 @@ impl<'a> Model for Info<'a> {
 
     ghost Value = { LldpInfo };
 
-    ghost use Rattle.lldp_pdu.specs.Code.InfoView.{info_seen};
+    ghost use Rattle.lldp_pdu.specs.Code.InfoView.{info_view};
 
-    ghost view = { info_seen };
+    ghost view = { info_view };
 
-    ghost invariant = { λ i. IsInfo (info_seen i) × TellsItself (info_seen i) };
+    ghost invariant = { λ i. IsInfo (info_view i) × TellsItself (info_view i) };
 }
 
 impl<'a> Info<'a> {
     /// The neighbor's name: both bodies have 2 to 256 octets.
     pub fn msap(&self) -> Msap<'a>
-        ensures value { msap_seen result ≡ self.now.msap }
+        ensures value { msap_view result ≡ self.now.msap }
         ensures chassis { IsIdentifier self.now.msap.chassis }
         ensures port { IsIdentifier self.now.msap.port }
     {

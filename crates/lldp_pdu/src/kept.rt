@@ -4,7 +4,7 @@ ghost use Rattle.std.specs.Iterator.{item_count, YieldsFirstBy};
 ghost use Rattle.lldp_pdu.specs.Tlv.{TlvUnit};
 ghost use Rattle.lldp_pdu.specs.Cut.{cut};
 ghost use Rattle.lldp_pdu.specs.Code.Seen.{none_seen, kept_seen};
-ghost use Rattle.lldp_pdu.specs.View.{unit_of};
+ghost use Rattle.lldp_pdu.specs.View.{tlv_view};
 
 use crate::seen::Seen;
 use crate::tlv::{Tlv, Tlvs};
@@ -43,7 +43,7 @@ impl<'a> Kept<'a> {
 impl<'a> Iterator for Kept<'a> {
     type Item = Tlv<'a>;
 
-    ghost next_gives = { YieldsFirstBy unit_of (λ kept. kept) };
+    ghost next_gives = { YieldsFirstBy tlv_view (λ kept. kept) };
 
     ghost remaining = { item_count (λ kept. kept) };
 

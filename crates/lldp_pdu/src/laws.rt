@@ -4,7 +4,7 @@ ghost use Rattle.std.specs.Iterator.{YieldsThen};
 ghost use Rattle.lldp_pdu.specs.declared.tlv.Tlv.{Tlv};
 ghost use Rattle.lldp_pdu.specs.Tlv.{TlvUnit, AreOctets};
 ghost use Rattle.lldp_pdu.specs.Cut.{Cut, IsCut, cut};
-ghost use Rattle.lldp_pdu.specs.View.{unit_of, GivesFirstTlv};
+ghost use Rattle.lldp_pdu.specs.View.{tlv_view, GivesFirstTlv};
 ghost use Rattle.lldp_pdu.specs.Fault.{fault_of};
 ghost use Rattle.lldp_pdu.specs.Lldpdu.{extent, ttl_of};
 ghost use Rattle.lldp_pdu.specs.Info.{info_of, IsInfo, TellsItself};
@@ -22,7 +22,7 @@ pub fn one_cut()
 /// `Tlvs`, asked until it has no more, gives the TLVs of the cut, and is left with its rest.
 pub fn whole_cut()
     ensures tlvs { (octets left : List ℕ) (given : List Tlv) →
-        YieldsThen GivesFirstTlv octets given None left → map unit_of given ≡ (cut octets).tlvs }
+        YieldsThen GivesFirstTlv octets given None left → map tlv_view given ≡ (cut octets).tlvs }
     ensures rest { (octets left : List ℕ) (given : List Tlv) →
         YieldsThen GivesFirstTlv octets given None left → left ≡ (cut octets).rest }
 {}

@@ -2,7 +2,7 @@
 ghost use Rattle.std.specs.Prelude.{◌≡◌};
 ghost use Rattle.lldp_pdu.specs.Kept as kept;
 ghost use Rattle.lldp_pdu.specs.Code.Seen.{has_flag, with_flag, is_kept_seen, seen_after};
-ghost use Rattle.lldp_pdu.specs.View.{unit_of};
+ghost use Rattle.lldp_pdu.specs.View.{tlv_view};
 
 use crate::bodies::is_well_formed;
 use crate::tlv::Tlv;
@@ -44,8 +44,8 @@ impl Seen {
 
     /// Whether the next TLV is kept. It counts as met from then on where it is well formed.
     pub(crate) fn keeps(&mut self, tlv: &Tlv<'_>) -> bool
-        ensures kept { result ≡ is_kept_seen self.old.types (unit_of tlv.now) }
-        ensures met { self.new.types ≡ seen_after self.old.types (unit_of tlv.now) }
+        ensures kept { result ≡ is_kept_seen self.old.types (tlv_view tlv.now) }
+        ensures met { self.new.types ≡ seen_after self.old.types (tlv_view tlv.now) }
     {
         if !is_well_formed(tlv) {
             return false;

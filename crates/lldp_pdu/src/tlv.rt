@@ -3,7 +3,7 @@ ghost use Rattle.std.specs.Prelude.{◌≡◌, ℕ, List};
 ghost use Rattle.std.specs.Option.{option_map};
 ghost use Rattle.std.specs.Iterator.{item_count};
 ghost use Rattle.lldp_pdu.specs.Cut.{first_tlv, cut};
-ghost use Rattle.lldp_pdu.specs.View.{unit_of, GivesFirstTlv};
+ghost use Rattle.lldp_pdu.specs.View.{tlv_view, GivesFirstTlv};
 
 use std::marker::Model;
 
@@ -63,7 +63,7 @@ impl<'a> Iterator for Tlvs<'a> {
 
 /// The TLV at the front, and the octets after it.
 fn first(octets: &[u8]) -> Option<(Tlv<'_>, &[u8])>
-    ensures { option_map (λ x. (unit_of x.0, x.1.now)) result ≡ first_tlv octets.now }
+    ensures { option_map (λ x. (tlv_view x.0, x.1.now)) result ≡ first_tlv octets.now }
 {
     let [high, low, after @ ..] = octets else {
         return None;

@@ -3,7 +3,7 @@ ghost use Rattle.std.specs.Prelude.{◌≡◌, ◌+◌, ◌*◌, ◌<◌, ◌≤
 ghost use Rattle.std.specs.List.{AllByRecursion};
 ghost use Rattle.lldp_pdu.specs.Msap.{IsIdentifier};
 ghost use Rattle.lldp_pdu.specs.Kept.{kept_of, IsKeptTlv};
-ghost use Rattle.lldp_pdu.specs.View.{msap_seen};
+ghost use Rattle.lldp_pdu.specs.View.{msap_view};
 ghost use Rattle.lldp_table.specs.Contents.{IsExtent};
 
 use crate::slot::Slot;
@@ -33,7 +33,7 @@ impl<'a> Model for Entry<'a> {
 impl<'a> Entry<'a> {
     /// Its name.
     pub fn msap(&self) -> Msap<'a>
-        ensures value { msap_seen result ≡ self.now.msap }
+        ensures value { msap_view result ≡ self.now.msap }
         ensures chassis { IsIdentifier self.now.msap.chassis }
         ensures port { IsIdentifier self.now.msap.port }
     {

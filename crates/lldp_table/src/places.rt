@@ -1,7 +1,7 @@
 //! The slots of a table by their places in its order.
 ghost use Rattle.std.specs.Prelude.{◌≡◌, ◌≤◌, ◌<◌, ◌+◌, ◌*◌, true, false, List, length, take, map, MatchOption, slice_index_or, sum_by, IsPermutation, nat_eq, vec_capacity};
 ghost use Rattle.std.specs.List.{list_any, filter_map, AllByRecursion, IsDistinct};
-ghost use Rattle.lldp_pdu.specs.View.{msap_seen};
+ghost use Rattle.lldp_pdu.specs.View.{msap_view};
 ghost use Rattle.lldp_table.specs.Code.Stored.{Stored, tag_of};
 ghost use Rattle.lldp_table.specs.Msap.{same_msap};
 ghost use Rattle.lldp_table.specs.Contents.{aged};
@@ -18,12 +18,12 @@ use std::sync::ledger::Ledger;
 
 /// The place of the slot whose frame has this MSAP identifier, whose tag is given.
 pub(crate) fn place_of(slots: &[Slot], order: &[u8], name: &Msap<'_>, tag: u32) -> Option<usize>
-    requires tag { tag ≡ tag_of (msap_seen name.now) }
+    requires tag { tag ≡ tag_of (msap_view name.now) }
     requires within { AllByRecursion (λ i. i < length slots.now) order.now }
     ensures { MatchOption result
-        (list_any (same_msap (msap_seen name.now)) (map (msap_at slots.now) order.now) ≡ false)
+        (list_any (same_msap (msap_view name.now)) (map (msap_at slots.now) order.now) ≡ false)
         (λ at. (at < length order.now)
-        × (same_msap (msap_seen name.now) (msap_at slots.now (slice_index_or order.now at 0))
+        × (same_msap (msap_view name.now) (msap_at slots.now (slice_index_or order.now at 0))
         ≡ true)) }
 {
     for (at, slot) in order.iter().enumerate() {

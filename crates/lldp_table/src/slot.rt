@@ -2,7 +2,7 @@
 ghost use Rattle.std.specs.Prelude.{◌≡◌, ◌≤◌, length};
 ghost use Rattle.lldp_pdu.specs.Cut.{cut};
 ghost use Rattle.lldp_pdu.specs.Lldpdu.{msap_of, tlv_at};
-ghost use Rattle.lldp_pdu.specs.View.{msap_seen};
+ghost use Rattle.lldp_pdu.specs.View.{msap_view};
 ghost use Rattle.lldp_table.specs.Msap.{same_msap};
 ghost use Rattle.lldp_table.specs.Code.Layout.{blank};
 ghost use Rattle.lldp_table.specs.Code.Stored.{mixed as mixed_in, tag_of as tag_of_name};
@@ -45,7 +45,7 @@ fn next_body<'a>(tlvs: &mut Tlvs<'a>) -> &'a [u8]
 
 /// The MSAP identifier in an LLDPDU: the bodies of its first two TLVs.
 fn msap_in(octets: &[u8]) -> Msap<'_>
-    ensures { msap_seen result ≡ msap_of octets.now }
+    ensures { msap_view result ≡ msap_of octets.now }
 {
     let mut tlvs = Tlvs::new(octets);
     let chassis = next_body(&mut tlvs);
@@ -66,7 +66,7 @@ fn mixed(tag: u32, octets: &[u8]) -> u32
 
 /// The tag of a name: a mix of all its octets.
 pub(crate) fn tag_of(name: &Msap<'_>) -> u32
-    ensures { result ≡ tag_of_name (msap_seen name.now) }
+    ensures { result ≡ tag_of_name (msap_view name.now) }
 {
     mixed(mixed(0, name.chassis), name.port)
 }
@@ -97,15 +97,15 @@ impl Slot {
     }
 
     pub(crate) fn msap(&self) -> Msap<'_>
-        ensures { msap_seen result ≡ msap_of self.now.octets }
+        ensures { msap_view result ≡ msap_of self.now.octets }
     {
         msap_in(self.octets.as_slice())
     }
 
     /// Whether its frame has this name, whose tag is given.
     pub(crate) fn is_named(&self, name: &Msap<'_>, tag: u32) -> bool
-        requires { tag ≡ tag_of_name (msap_seen name.now) }
-        ensures { result ≡ same_msap (msap_seen name.now) (msap_of self.now.octets) }
+        requires { tag ≡ tag_of_name (msap_view name.now) }
+        ensures { result ≡ same_msap (msap_view name.now) (msap_of self.now.octets) }
     {
         if self.tag != tag {
             return false;

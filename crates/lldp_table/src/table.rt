@@ -1,7 +1,7 @@
 //! The neighbors of one port.
 ghost use Rattle.std.specs.Prelude.{◌≡◌, ℕ, List, ◌≤◌, ◌<◌, ◌↔◌, ◌+◌, ◌*◌, [], ◌∷◌, length, map, IfOk, IsTrue, sum_by, slice_index, slice_get, Some, is_some};
 ghost use Rattle.lldp_pdu.specs.Kept.{kept_of};
-ghost use Rattle.lldp_pdu.specs.View.{msap_seen};
+ghost use Rattle.lldp_pdu.specs.View.{msap_view};
 ghost use Rattle.lldp_table.specs.Contents.{IsExtent, IsHeld, IsSound, holds_name, learn_answer, after_learn, after_forget, after_purge, after_tick, after_set_limit, newly_opened};
 ghost use Rattle.lldp_table.specs.Events.{Call, learn, forget, purge, tick, set_limit, live, answer, aged_out, events_of};
 ghost use Rattle.lldp_table.specs.Standing.{Stands, ForEachCalls};
@@ -108,12 +108,12 @@ impl<A: Allocator> Table<A> {
 
     /// Gives up the neighbor of this name, and tells whether it was held.
     pub fn forget(&mut self, msap: &Msap<'_>) -> bool
-        ensures answer { result ≡ holds_name self.old (msap_seen msap.now) }
-        ensures after { self.new ≡ after_forget self.old (msap_seen msap.now) }
+        ensures answer { result ≡ holds_name self.old (msap_view msap.now) }
+        ensures after { self.new ≡ after_forget self.old (msap_view msap.now) }
         ensures answers { ForEachCalls self.old (λ opened calls.
-            result ≡ is_some (live (msap_seen msap.now) (events_of opened calls))) }
+            result ≡ is_some (live (msap_view msap.now) (events_of opened calls))) }
         ensures stands { ForEachCalls self.old (λ opened calls.
-            Stands opened (forget (msap_seen msap.now) ∷ calls) self.new) }
+            Stands opened (forget (msap_view msap.now) ∷ calls) self.new) }
     {
         let used = self.used as usize;
         match place_of(&self.slots, &self.order[..used], msap, tag_of(msap)) {

@@ -2,7 +2,7 @@
 ghost use Rattle.std.specs.Prelude.{◌≡◌, ◌≤◌, ◌++◌, length, Some};
 ghost use Rattle.lldp_pdu.specs.Kept.{IsKeptTlv};
 ghost use Rattle.lldp_pdu.specs.Capabilities.{caps_of, caps_fields};
-ghost use Rattle.lldp_pdu.specs.View.{unit_of};
+ghost use Rattle.lldp_pdu.specs.View.{tlv_view};
 ghost use Rattle.lldp_engine.specs.KeptTlv.{system_capabilities_text, management_tlv_text, organizational_text, unknown_text, tlv_text, HasAddress};
 
 use crate::show::capabilities::write_capabilities;
@@ -33,7 +33,7 @@ fn write_organizational(line: &mut Writer, body: &[u8])
 fn write_unknown(line: &mut Writer, tlv: Tlv<'_>)
     requires room { length line.old ≤ 60 }
     requires short { length tlv.body.now ≤ 511 }
-    ensures { line.new ≡ line.old ++ unknown_text (unit_of tlv.entry) }
+    ensures { line.new ≡ line.old ++ unknown_text (tlv_view tlv.entry) }
 {
     line.text(b"unknown.");
     line.decimal(u32::from(tlv.kind));
@@ -64,8 +64,8 @@ fn write_management(line: &mut Writer, body: &[u8])
 /// Writes a kept TLV.
 pub(crate) fn write_kept_tlv(line: &mut Writer, tlv: Tlv<'_>)
     requires room { length line.old ≤ 60 }
-    requires kept { IsKeptTlv (unit_of tlv) }
-    ensures { line.new ≡ line.old ++ tlv_text (unit_of tlv.entry) }
+    requires kept { IsKeptTlv (tlv_view tlv) }
+    ensures { line.new ≡ line.old ++ tlv_text (tlv_view tlv.entry) }
 {
     match tlv.kind {
         PORT_DESCRIPTION => line.escaped_value(b"port.descr=", tlv.body),

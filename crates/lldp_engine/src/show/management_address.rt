@@ -1,6 +1,6 @@
 //! Management Addresses.
 ghost use Rattle.std.specs.Prelude.{◌≡◌, ◌+◌, ◌≤◌, ◌++◌, length};
-ghost use Rattle.lldp_pdu.specs.View.{address_seen};
+ghost use Rattle.lldp_pdu.specs.View.{address_view};
 ghost use Rattle.lldp_engine.specs.Addresses.{address_kind as kind_of_address};
 ghost use Rattle.lldp_engine.specs.ManagementAddress.{address_text, management_text};
 
@@ -33,7 +33,7 @@ pub(crate) fn write_management_address(line: &mut Writer, address: Mgmt<'_>)
     requires room { length line.old + 360 ≤ 2048 }
     requires short { length address.address.now ≤ 31 }
     requires oid { length address.oid.now ≤ 128 }
-    ensures value { line.new ≡ line.old ++ management_text (address_seen address.entry) }
+    ensures value { line.new ≡ line.old ++ management_text (address_view address.entry) }
     ensures len { length line.new ≤ length line.old + 360 }
 {
     write_address(line, address.family, address.address);

@@ -14,8 +14,8 @@ use Rattle.lldp_pdu.specs.Code.Seen.{Flags}
 unfoldable pub draft_of : List ℕ → Draft
 draft_of octets = record { msap = msap_of octets; ttl = ttl_of octets; tlvs = drop 3 (cut octets).tlvs }
 
-abbrev pub draft_seen : Inside → Draft
-draft_seen b = draft_of b.octets.items
+abbrev pub draft_view : Inside → Draft
+draft_view b = draft_of b.octets.items
 
 -- each TLV is kept behind those before it
 abbrev pub AllKept : List TlvUnit → List TlvUnit → Type 0

@@ -1,7 +1,7 @@
 use Rattle.std.proofs.Common.{◌≡◌, ◌+◌, ◌<◌, cond, ltb, eqb, length, true, false, refl, sym, ap, ◌∙◌, arith, ℕ}
 use Rattle.std.proofs.lemmas.List.{length-take}
 use Rattle.std.proofs.lemmas.Bool.{eq-eqb, ne_eqb, eqb-true, eqb-false, lt-ltb, le-ltb}
-use Rattle.lldp_pdu.specs.View.{unit_of}
+use Rattle.lldp_pdu.specs.View.{tlv_view}
 use Rattle.lldp_pdu.proofs.Surveying.{bounds, one_more, survey_at_end, survey_at_rest}
 use Rattle.lldp_pdu.proofs.examination.optional_tlvs.Goals as goal
 
@@ -12,12 +12,12 @@ slice_bounds-result-end c =
 
 pub returns-then-tlv-eq-END_OF_LLDPDU-clause-ok : goal.returns-then-tlv-eq-END_OF_LLDPDU-clause-ok
 returns-then-tlv-eq-END_OF_LLDPDU-clause-ok c =
-    survey_at_end c.args.after.now c.loop-tlv.tlvs c.next.new.self c.loop-tlv.seen.types c.loop-tlv.len c.loop-tlv.discarded c.loop-tlv.unrecognized (unit_of c.in-Some.tlv) (λ i. omega (arith, c.type_inv.after i)) c.loop-tlv.invariant c.in-Some.ensures.steps.0 (eq-eqb _ _ c.if-tlv-eq-END_OF_LLDPDU.true)
+    survey_at_end c.args.after.now c.loop-tlv.tlvs c.next.new.self c.loop-tlv.seen.types c.loop-tlv.len c.loop-tlv.discarded c.loop-tlv.unrecognized (tlv_view c.in-Some.tlv) (λ i. omega (arith, c.type_inv.after i)) c.loop-tlv.invariant c.in-Some.ensures.steps.0 (eq-eqb _ _ c.if-tlv-eq-END_OF_LLDPDU.true)
 
 pub overflow_add-len-in-Some : goal.overflow_add-len-in-Some
 overflow_add-len-in-Some c =
     let b = bounds c.args.after.now c.loop-tlv.tlvs c.loop-tlv.seen.types c.loop-tlv.len c.loop-tlv.discarded c.loop-tlv.unrecognized (λ i. omega (arith, c.type_inv.after i)) c.loop-tlv.invariant in
-    omega (arith, one_more c.loop-tlv.tlvs c.next.new.self (unit_of c.in-Some.tlv) c.in-Some.ensures.steps.0 (ne_eqb _ _ c.if-tlv-eq-END_OF_LLDPDU.false), b.len)
+    omega (arith, one_more c.loop-tlv.tlvs c.next.new.self (tlv_view c.in-Some.tlv) c.in-Some.ensures.steps.0 (ne_eqb _ _ c.if-tlv-eq-END_OF_LLDPDU.false), b.len)
 
 pub overflow_add-discarded : goal.overflow_add-discarded
 overflow_add-discarded c =

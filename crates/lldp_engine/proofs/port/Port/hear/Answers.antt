@@ -1,5 +1,5 @@
 use Rattle.std.proofs.Common.{refl}
-use Rattle.lldp_pdu.specs.View.{msap_seen}
+use Rattle.lldp_pdu.specs.View.{msap_view}
 use Rattle.lldp_engine.proofs.HeardLemmas.{heard_refused, heard_leaves, heard_tells}
 use Rattle.lldp_engine.proofs.port.Port.hear.Goals as goal
 
@@ -13,12 +13,12 @@ returns-in-Err-clause-cause g c = rw (heard_refused c.args.pdu.now c.in-Err.fiel
 pub returns-in-Ok-Shutdown-clause-after : goal.returns-in-Ok-Shutdown-clause-after
 returns-in-Ok-Shutdown-clause-after g c =
     let told = rw c.in-Ok-Shutdown.field-0-is at c.in-Ok-Shutdown.ensures.answer in
-    rw (heard_leaves c.args.pdu.now (msap_seen c.in-Ok-Shutdown.msap) c.in-Ok-Shutdown.ensures.fault told.0 told.1, ← c.self.view_is, c.forget.ensures.after, c.count_received.ensures) refl
+    rw (heard_leaves c.args.pdu.now (msap_view c.in-Ok-Shutdown.msap) c.in-Ok-Shutdown.ensures.fault told.0 told.1, ← c.self.view_is, c.forget.ensures.after, c.count_received.ensures) refl
 
 pub returns-in-Ok-Shutdown-clause-cause : goal.returns-in-Ok-Shutdown-clause-cause
 returns-in-Ok-Shutdown-clause-cause g c =
     let told = rw c.in-Ok-Shutdown.field-0-is at c.in-Ok-Shutdown.ensures.answer in
-    rw (heard_leaves c.args.pdu.now (msap_seen c.in-Ok-Shutdown.msap) c.in-Ok-Shutdown.ensures.fault told.0 told.1) refl
+    rw (heard_leaves c.args.pdu.now (msap_view c.in-Ok-Shutdown.msap) c.in-Ok-Shutdown.ensures.fault told.0 told.1) refl
 
 pub returns-in-Ok-Info-clause-after : goal.returns-in-Ok-Info-clause-after
 returns-in-Ok-Info-clause-after g c =

@@ -2,16 +2,16 @@ use Rattle.std.proofs.Common.{◌≡◌, Option, Some, ap, sym, ◌∙◌, get_o
 use Rattle.std.specs.Option.{option_map}
 use Rattle.lldp_pdu.specs.declared.fields.Mgmt.{Mgmt}
 use Rattle.lldp_pdu.specs.ManagementAddress.{Address, address_fields}
-use Rattle.lldp_pdu.specs.View.{address_seen}
+use Rattle.lldp_pdu.specs.View.{address_view}
 use Rattle.lldp_engine.specs.ManagementAddress.{management_text}
 use Rattle.lldp_engine.proofs.TextJoined.{behind}
 use Rattle.lldp_engine.proofs.show.kept_tlv.write_management.Goals as goal
 
-seen_is : (r : Option Mgmt) (m : Mgmt) (o : Option Address) (a : Address) → option_map address_seen r ≡ o → o ≡ Some a → r ≡ Some m → address_seen m ≡ a
+seen_is : (r : Option Mgmt) (m : Mgmt) (o : Option Address) (a : Address) → option_map address_view r ≡ o → o ≡ Some a → r ≡ Some m → address_view m ≡ a
 seen_is r m o a e f g =
-    let k : Some (address_seen m) ≡ Some a = sym (ap (option_map address_seen) g) ∙ e ∙ f in cc
+    let k : Some (address_view m) ≡ Some a = sym (ap (option_map address_view) g) ∙ e ∙ f in cc
 
 pub returns : goal.returns
 returns c =
-    let e : address_seen c.unwrap.result ≡ address_fields c.args.body.now (get_or c.args.body.now 0 0) = seen_is _ c.unwrap.result _ _ c.mgmt.ensures c.requires.well_formed.address c.unwrap.ensures in
+    let e : address_view c.unwrap.result ≡ address_fields c.args.body.now (get_or c.args.body.now 0 0) = seen_is _ c.unwrap.result _ _ c.mgmt.ensures c.requires.well_formed.address c.unwrap.ensures in
     behind _ _ _ _ _ _ c.text.ensures.value c.write_management_address.ensures.value (ap management_text e)

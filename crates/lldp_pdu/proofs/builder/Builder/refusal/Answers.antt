@@ -3,7 +3,7 @@ use Rattle.std.proofs.lemmas.Bool.{eq-eqb, ne_eqb, lt-ltb, le-ltb, ltb-true, ltb
 use Rattle.lldp_pdu.specs.Tlv.{TlvUnit}
 use Rattle.lldp_pdu.specs.Kept.{is_single}
 use Rattle.lldp_pdu.specs.Code.Seen.{Flags, has_flag}
-use Rattle.lldp_pdu.specs.View.{unit_of}
+use Rattle.lldp_pdu.specs.View.{tlv_view}
 use Rattle.lldp_pdu.specs.Draft.{Draft, was_put}
 use Rattle.lldp_pdu.specs.Code.BuilderView.{draft_of, Builds}
 use Rattle.lldp_pdu.proofs.Keeping.{flag_is}
@@ -28,45 +28,45 @@ flagged d u octets met lives r v b h = sym (h ∙ flag_is met (λ kind. was_put 
 
 pub returns-then-not-is_optional_type : goal.returns-then-not-is_optional_type
 returns-then-not-is_optional_type c =
-    sym (put_fault_is c.args.self.now (unit_of c.args.tlv.now) false _ _ _ _ _ (sym c.if-not-is_optional_type.ensures) refl refl refl refl refl)
+    sym (put_fault_is c.args.self.now (tlv_view c.args.tlv.now) false _ _ _ _ _ (sym c.if-not-is_optional_type.ensures) refl refl refl refl refl)
 
 pub returns-then-not-self : goal.returns-then-not-self
 returns-then-not-self c =
-    sym (put_fault_is c.args.self.now (unit_of c.args.tlv.now) true true _ _ _ _ (sym c.if-not-is_optional_type.ensures)
+    sym (put_fault_is c.args.self.now (tlv_view c.args.tlv.now) true true _ _ _ _ (sym c.if-not-is_optional_type.ensures)
     (shutdown c.args.self.now c.self.inside.octets.items c.self.inside.met.types c.self.inside.lives c.self.view_is c.self.invariant c.if-not-self.true) refl refl refl refl)
 
 pub returns-then-has : goal.returns-then-has
 returns-then-has c =
-    sym (put_fault_is c.args.self.now (unit_of c.args.tlv.now) true false true _ _ _ (sym c.if-not-is_optional_type.ensures)
+    sym (put_fault_is c.args.self.now (tlv_view c.args.tlv.now) true false true _ _ _ (sym c.if-not-is_optional_type.ensures)
     (alive c.args.self.now c.self.inside.octets.items c.self.inside.met.types c.self.inside.lives c.self.view_is c.self.invariant c.if-not-self.false)
-    (flagged c.args.self.now (unit_of c.args.tlv.now) c.self.inside.octets.items c.self.inside.met.types c.self.inside.lives true c.self.view_is c.self.invariant c.if-has.ensures) refl refl refl)
+    (flagged c.args.self.now (tlv_view c.args.tlv.now) c.self.inside.octets.items c.self.inside.met.types c.self.inside.lives true c.self.view_is c.self.invariant c.if-has.ensures) refl refl refl)
 
 pub returns-then-tlv-gt511 : goal.returns-then-tlv-gt511
 returns-then-tlv-gt511 c =
-    sym (put_fault_is c.args.self.now (unit_of c.args.tlv.now) true false false true _ _ (sym c.if-not-is_optional_type.ensures)
+    sym (put_fault_is c.args.self.now (tlv_view c.args.tlv.now) true false false true _ _ (sym c.if-not-is_optional_type.ensures)
     (alive c.args.self.now c.self.inside.octets.items c.self.inside.met.types c.self.inside.lives c.self.view_is c.self.invariant c.if-not-self.false)
-    (flagged c.args.self.now (unit_of c.args.tlv.now) c.self.inside.octets.items c.self.inside.met.types c.self.inside.lives false c.self.view_is c.self.invariant c.if-has.ensures)
+    (flagged c.args.self.now (tlv_view c.args.tlv.now) c.self.inside.octets.items c.self.inside.met.types c.self.inside.lives false c.self.view_is c.self.invariant c.if-has.ensures)
     (lt-ltb 511 (length c.args.tlv.now.body.now) (omega arith)) refl refl)
 
 pub returns-then-not-is_well_formed : goal.returns-then-not-is_well_formed
 returns-then-not-is_well_formed c =
-    sym (put_fault_is c.args.self.now (unit_of c.args.tlv.now) true false false false false _ (sym c.if-not-is_optional_type.ensures)
+    sym (put_fault_is c.args.self.now (tlv_view c.args.tlv.now) true false false false false _ (sym c.if-not-is_optional_type.ensures)
     (alive c.args.self.now c.self.inside.octets.items c.self.inside.met.types c.self.inside.lives c.self.view_is c.self.invariant c.if-not-self.false)
-    (flagged c.args.self.now (unit_of c.args.tlv.now) c.self.inside.octets.items c.self.inside.met.types c.self.inside.lives false c.self.view_is c.self.invariant c.if-has.ensures)
+    (flagged c.args.self.now (tlv_view c.args.tlv.now) c.self.inside.octets.items c.self.inside.met.types c.self.inside.lives false c.self.view_is c.self.invariant c.if-has.ensures)
     (le-ltb 511 (length c.args.tlv.now.body.now) (omega arith)) (sym c.if-not-is_well_formed.ensures) refl)
 
 pub returns-then-len-tlv-gt1500 : goal.returns-then-len-tlv-gt1500
 returns-then-len-tlv-gt1500 c =
-    sym (put_fault_is c.args.self.now (unit_of c.args.tlv.now) true false false false true true (sym c.if-not-is_optional_type.ensures)
+    sym (put_fault_is c.args.self.now (tlv_view c.args.tlv.now) true false false false true true (sym c.if-not-is_optional_type.ensures)
     (alive c.args.self.now c.self.inside.octets.items c.self.inside.met.types c.self.inside.lives c.self.view_is c.self.invariant c.if-not-self.false)
-    (flagged c.args.self.now (unit_of c.args.tlv.now) c.self.inside.octets.items c.self.inside.met.types c.self.inside.lives false c.self.view_is c.self.invariant c.if-has.ensures)
+    (flagged c.args.self.now (tlv_view c.args.tlv.now) c.self.inside.octets.items c.self.inside.met.types c.self.inside.lives false c.self.view_is c.self.invariant c.if-has.ensures)
     (le-ltb 511 (length c.args.tlv.now.body.now) (omega arith)) (sym c.if-not-is_well_formed.ensures)
-    (let n = long c.args.self.now (unit_of c.args.tlv.now) c.self.inside.octets.items c.self.inside.met.types c.self.inside.lives c.self.view_is c.self.invariant in lt-ltb 1500 _ (omega (arith, n))))
+    (let n = long c.args.self.now (tlv_view c.args.tlv.now) c.self.inside.octets.items c.self.inside.met.types c.self.inside.lives c.self.view_is c.self.invariant in lt-ltb 1500 _ (omega (arith, n))))
 
 pub returns : goal.returns
 returns c =
-    sym (put_fault_is c.args.self.now (unit_of c.args.tlv.now) true false false false true false (sym c.if-not-is_optional_type.ensures)
+    sym (put_fault_is c.args.self.now (tlv_view c.args.tlv.now) true false false false true false (sym c.if-not-is_optional_type.ensures)
     (alive c.args.self.now c.self.inside.octets.items c.self.inside.met.types c.self.inside.lives c.self.view_is c.self.invariant c.if-not-self.false)
-    (flagged c.args.self.now (unit_of c.args.tlv.now) c.self.inside.octets.items c.self.inside.met.types c.self.inside.lives false c.self.view_is c.self.invariant c.if-has.ensures)
+    (flagged c.args.self.now (tlv_view c.args.tlv.now) c.self.inside.octets.items c.self.inside.met.types c.self.inside.lives false c.self.view_is c.self.invariant c.if-has.ensures)
     (le-ltb 511 (length c.args.tlv.now.body.now) (omega arith)) (sym c.if-not-is_well_formed.ensures)
-    (let n = long c.args.self.now (unit_of c.args.tlv.now) c.self.inside.octets.items c.self.inside.met.types c.self.inside.lives c.self.view_is c.self.invariant in le-ltb 1500 _ (omega (arith, n))))
+    (let n = long c.args.self.now (tlv_view c.args.tlv.now) c.self.inside.octets.items c.self.inside.met.types c.self.inside.lives c.self.view_is c.self.invariant in le-ltb 1500 _ (omega (arith, n))))

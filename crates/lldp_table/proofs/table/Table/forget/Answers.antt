@@ -1,5 +1,5 @@
 use Rattle.std.proofs.Common.{◌≡◌, ◌++◌, ◌∷◌, [], sym, ap, ◌∙◌, ◌-◌}
-use Rattle.lldp_pdu.specs.View.{msap_seen}
+use Rattle.lldp_pdu.specs.View.{msap_view}
 use Rattle.lldp_table.specs.Events.{forget}
 use Rattle.lldp_table.specs.Contents.{Contents, after_forget, holds_name}
 use Rattle.lldp_table.proofs.StandingLemmas.{stands_after, held_is_live}
@@ -9,42 +9,42 @@ use Rattle.lldp_table.proofs.table.Table.forget.Goals as goal
 
 pub invariant_of-self : goal.invariant_of-self
 invariant_of-self g c =
-    let name = msap_seen c.args.msap.now in
+    let name = msap_view c.args.msap.now in
     let f = found c.self.invariant.laid name c.in-Some.at (rw (c.deref.ensures.value, c.deref-2.ensures.0) at c.in-Some.ensures) in
     rw (c.push.ensures.items, c.remove-slot.ensures.items) (forgotten_table c.self.invariant c.in-Some.at f.0 name f.1 c.remove-slot.ensures.value c.leave.ensures)
 
 pub returns-in-None-clause-answer : goal.returns-in-None-clause-answer
 returns-in-None-clause-answer g c =
-    let name = msap_seen c.args.msap.now in
+    let name = msap_view c.args.msap.now in
     sym (not_found c.self.invariant.laid name (rw (c.deref.ensures.value, c.deref-2.ensures.0) at c.in-None.ensures)) ∙ ap (λ (table : Contents). holds_name table name) c.self.view_is
 
 pub returns-in-None-clause-after : goal.returns-in-None-clause-after
 returns-in-None-clause-after g c =
-    let name = msap_seen c.args.msap.now in
+    let name = msap_view c.args.msap.now in
     let none = not_found c.self.invariant.laid name (rw (c.deref.ensures.value, c.deref-2.ensures.0) at c.in-None.ensures) in
     rw (← c.self.view_is) (sym (forgotten_none c.self.invariant.laid name none))
 
 pub returns-in-Some-clause-answer : goal.returns-in-Some-clause-answer
 returns-in-Some-clause-answer g c =
-    let name = msap_seen c.args.msap.now in
+    let name = msap_view c.args.msap.now in
     let f = found c.self.invariant.laid name c.in-Some.at (rw (c.deref.ensures.value, c.deref-2.ensures.0) at c.in-Some.ensures) in
     sym (holds_named c.self.invariant.laid name c.in-Some.at f.0 f.1) ∙ ap (λ (table : Contents). holds_name table name) c.self.view_is
 
 pub returns-in-Some-clause-after : goal.returns-in-Some-clause-after
 returns-in-Some-clause-after g c =
-    let name = msap_seen c.args.msap.now in
+    let name = msap_view c.args.msap.now in
     let f = found c.self.invariant.laid name c.in-Some.at (rw (c.deref.ensures.value, c.deref-2.ensures.0) at c.in-Some.ensures) in
     rw (c.push.ensures.items, c.remove-slot.ensures.items) (forgotten_after c.self.invariant c.in-Some.at f.0 name f.1 c.remove-slot.ensures.value c.leave.ensures)
     ∙ ap (λ (table : Contents). after_forget table name) c.self.view_is
 
 pub returns-in-None-clause-answers : goal.returns-in-None-clause-answers
-returns-in-None-clause-answers g c = λ opened calls h. returns-in-None-clause-answer g c ∙ held_is_live c.args.self.now opened calls (msap_seen c.args.msap.now) h
+returns-in-None-clause-answers g c = λ opened calls h. returns-in-None-clause-answer g c ∙ held_is_live c.args.self.now opened calls (msap_view c.args.msap.now) h
 
 pub returns-in-None-clause-stands : goal.returns-in-None-clause-stands
-returns-in-None-clause-stands g c = λ opened calls h. stands_after c.args.self.now c.args.self.now opened calls (forget (msap_seen c.args.msap.now)) (returns-in-None-clause-after g c) tt h
+returns-in-None-clause-stands g c = λ opened calls h. stands_after c.args.self.now c.args.self.now opened calls (forget (msap_view c.args.msap.now)) (returns-in-None-clause-after g c) tt h
 
 pub returns-in-Some-clause-answers : goal.returns-in-Some-clause-answers
-returns-in-Some-clause-answers g c = λ opened calls h. returns-in-Some-clause-answer g c ∙ held_is_live c.args.self.now opened calls (msap_seen c.args.msap.now) h
+returns-in-Some-clause-answers g c = λ opened calls h. returns-in-Some-clause-answer g c ∙ held_is_live c.args.self.now opened calls (msap_view c.args.msap.now) h
 
 pub returns-in-Some-clause-stands : goal.returns-in-Some-clause-stands
-returns-in-Some-clause-stands g c = λ opened calls h. stands_after c.args.self.now _ opened calls (forget (msap_seen c.args.msap.now)) (returns-in-Some-clause-after g c) tt h
+returns-in-Some-clause-stands g c = λ opened calls h. stands_after c.args.self.now _ opened calls (forget (msap_view c.args.msap.now)) (returns-in-Some-clause-after g c) tt h
