@@ -14,14 +14,11 @@ use Rattle.lldp_transmit.proofs.Earliest.{is_earliest}
 use Rattle.lldp_transmit.proofs.Standing.{apart, exact}
 use Rattle.lldp_transmit.proofs.Activity.{stop_reads}
 use Rattle.lldp_transmit.proofs.Sending.{sent_reads}
+use Rattle.std.proofs.lemmas.Grind.{common_steps}
 
 -- Every history keeps its windows.
 pub windows_hold : (s : Settings) (h : History) → AreSettings s → WindowsHold s h
-windows_hold s h r = record {
-  bounded = is_bounded s h r.some_credit;
-  few_stops = stops_rarely s h r.some_wait;
-  earliest = λ later earlier e. is_earliest s earlier;
-}
+windows_hold s h r = grind (arith, common_steps, is_bounded, stops_rarely, is_earliest)
 
 -- with its own mark a moment adds its own frame, and its own stop
 frames_marked : (x y : Bool) (run : List Moment) → (x ≡ true → y ≡ false) → frames_with (cond x Shutdown (cond y Ordinary Quiet)) run ≡ one_if y + frames run
@@ -37,14 +34,10 @@ stops_marked false false run = omega arith
 
 module _ (s : Settings) (past : History) (e : Event) where
   frames_of_mark : (run : List Moment) → frames_with (mark_at s (e ∷ past)) run ≡ frames (moment s (moments s past) e ∷ run)
-  frames_of_mark run =
-      let m = moment s (moments s past) e in
-      frames_marked m.stop m.sent run (apart s (moments s past) e)
+  frames_of_mark run = grind (arith, common_steps, frames_marked, apart)
 
   stops_of_mark : (run : List Moment) → stops_with (mark_at s (e ∷ past)) run ≡ stops_in (moment s (moments s past) e ∷ run)
-  stops_of_mark run =
-      let m = moment s (moments s past) e in
-      stops_marked m.stop m.sent run
+  stops_of_mark run = grind (arith, common_steps, stops_marked)
 
   module _ (answer : Mark) (is : answer ≡ mark_at s (e ∷ past)) where
     pub bounded_with : AreSettings s → IsBoundedWith s past e answer
@@ -64,13 +57,7 @@ module _ (s : Settings) (past : History) (e : Event) where
         (λ marks t. omega (arith, is_earliest s (e ∷ past) marks t, frames_of_mark (moments s past)))
 
     pub ordinary_with : AreSettings s → (answer ≡ Ordinary) ↔ IsDueAndOpen s past e
-    ordinary_with r =
-        let sent = (exact s (moments s past) e answer is).0 in
-        let reads = sent_reads s past e r.some_credit in
-        (λ p. reads.0 (sent.0 p), λ q. sent.1 (reads.1 q))
+    ordinary_with r = grind (arith, common_steps, exact, sent_reads)
 
     pub shutdown_with : (answer ≡ Shutdown) ↔ StopsAt s past e
-    shutdown_with =
-        let stop = (exact s (moments s past) e answer is).1 in
-        let reads = stop_reads s past e in
-        (λ p. reads.0 (stop.0 p), λ q. stop.1 (reads.1 q))
+    shutdown_with = grind (arith, common_steps, exact, stop_reads)

@@ -6,6 +6,7 @@ use Rattle.std.proofs.lemmas.Bool.{cases_Bool, or_parts, or_left, or_right}
 use Rattle.std.proofs.lemmas.List.Folds.{list_any-append}
 use Rattle.lldp_transmit.specs.Fronts.{count, since, from_last, up_to_last}
 use Rattle.lldp_transmit.proofs.Windows.{one_if}
+use Rattle.std.proofs.lemmas.Grind.{common_steps}
 
 module _ {X : Type 0} (p : X → Bool) where
   pub count-append : (xs ys : List X) → count p (xs ++ ys) ≡ count p xs + count p ys
@@ -36,21 +37,15 @@ module _ {X : Type 0} (p : X → Bool) where
 
   pub since_at : (after : List X) (x : X) (before : List X) → p x ≡ true → count p after ≡ 0 → since p (after ++ x ∷ before) ≡ after
   since_at [] x before q e = ap (λ b. cond b [] (x ∷ since p before)) q
-  since_at (y ∷ after) x before q e =
-      ap (λ b. cond b [] (y ∷ since p (after ++ x ∷ before))) (first_fails (p y) (count p after) e)
-      ∙ ap (λ l. y ∷ l) (since_at after x before q (omega arith))
+  since_at (y ∷ after) x before q e = grind (arith, common_steps, first_fails, since_at after x before q (omega arith))
 
   pub up_to_at : (after : List X) (x : X) (before : List X) → p x ≡ true → count p after ≡ 0 → up_to_last p (after ++ x ∷ before) ≡ x ∷ before
   up_to_at [] x before q e = ap (λ b. cond b (x ∷ before) (up_to_last p before)) q
-  up_to_at (y ∷ after) x before q e =
-      ap (λ b. cond b (y ∷ after ++ x ∷ before) (up_to_last p (after ++ x ∷ before))) (first_fails (p y) (count p after) e)
-      ∙ up_to_at after x before q (omega arith)
+  up_to_at (y ∷ after) x before q e = grind (arith, common_steps, first_fails, up_to_at after x before q (omega arith))
 
   pub from_at : (after : List X) (x : X) (before : List X) → p x ≡ true → count p after ≡ 0 → from_last p (after ++ x ∷ before) ≡ after ++ x ∷ []
   from_at [] x before q e = ap (λ b. x ∷ cond b [] (from_last p before)) q
-  from_at (y ∷ after) x before q e =
-      ap (λ b. y ∷ cond b [] (from_last p (after ++ x ∷ before))) (first_fails (p y) (count p after) e)
-      ∙ ap (λ l. y ∷ l) (from_at after x before q (omega arith))
+  from_at (y ∷ after) x before q e = grind (arith, common_steps, first_fails, from_at after x before q (omega arith))
 
   pub up_to_none : (xs : List X) → list_any p xs ≡ false → up_to_last p xs ≡ []
   up_to_none [] e = refl
@@ -72,6 +67,4 @@ module _ {X : Type 0} (p : X → Bool) where
   -- a front without any that passes is part of what comes since the last
   pub since_keeps : (front rest : List X) → count p front ≡ 0 → since p (front ++ rest) ≡ front ++ since p rest
   since_keeps [] rest e = refl
-  since_keeps (x ∷ front) rest e =
-      ap (λ b. cond b [] (x ∷ since p (front ++ rest))) (first_fails (p x) (count p front) e)
-      ∙ ap (λ l. x ∷ l) (since_keeps front rest (omega arith))
+  since_keeps (x ∷ front) rest e = grind (arith, common_steps, first_fails, since_keeps front rest (omega arith))

@@ -14,6 +14,7 @@ use Rattle.lldp_transmit.specs.Windows.{StopsRarely}
 use Rattle.lldp_transmit.proofs.Windows.{earlier, one_if}
 use Rattle.lldp_transmit.proofs.Splits.{none_counted, find_last, since_at}
 use Rattle.lldp_transmit.proofs.Counters.{is_active-cons, until_start-cons, rested_is}
+use Rattle.std.proofs.lemmas.Grind.{common_steps}
 
 abbrev stops : List Moment → ℕ
 stops ms = count (λ m. m.stop) ms
@@ -36,10 +37,7 @@ rested_if_active s (e ∷ h) a =
 -- the stops of a run are so far apart, and the last is so long ago, as its ticks allow
 spaced_after : (r : ℕ) (stop some : Bool) (n w t k : ℕ) → (some ≡ true → r * n + w ≤ t + r) → (some ≡ false → n ≡ 0) → (stop ≡ true → some ≡ true → r ≤ w) →
     (stop || some) ≡ true → r * (one_if stop + n) + cond stop 0 (k + w) ≤ k + t + r
-spaced_after r true true n w t k i j l o =
-    let b : r * n + w ≤ t + r = i refl in
-    let a : r ≤ w = l refl refl in
-    omega arith
+spaced_after r true true n w t k i j l o = grind (arith, common_steps)
 spaced_after r true false n w t k i j l o = let none : n ≡ 0 = j refl in rw none (omega arith)
 spaced_after r false true n w t k i j l o = let b : r * n + w ≤ t + r = i refl in omega arith
 spaced_after r false false n w t k i j l o = cc o
@@ -49,9 +47,7 @@ any_front : (run before : List Moment) → list_any (λ m. m.stop) run ≡ true 
 any_front run before e = list_any-append (λ m. m.stop) run before ∙ or_left _ _ e
 
 since_front : (run before : List Moment) → list_any (λ m. m.stop) run ≡ true → since (λ m. m.stop) (run ++ before) ≡ since (λ m. m.stop) run
-since_front run before e =
-    let w = find_last (λ m. m.stop) run e in
-    rw (w.3, append_assoc) (since_at (λ m. m.stop) w.0 w.2 (w.1 ++ before) w.4 w.5 ∙ sym (since_at (λ m. m.stop) w.0 w.2 w.1 w.4 w.5))
+since_front run before e = grind (arith, common_steps, find_last, append_assoc, since_at)
 
 enough_ticks : (q : Bool) (r t : ℕ) → q ≡ true → cond q (r - t) 0 ≡ 0 → r ≤ t
 enough_ticks true r t e z = omega arith
@@ -86,11 +82,4 @@ few_from r (suc n) t p b = let q : n ≤ t / r = le-div n t r p (omega arith) in
 
 -- A run has at most one stop, and one more for each reinitDelay ticks in it.
 pub stops_rarely : (s : Settings) (h : History) → 1 ≤ s.reinit → StopsRarely s h
-stops_rarely s h most later run before i = go (list_any (λ m. m.stop) run) refl
-  where
-    go : (b : Bool) → list_any (λ m. m.stop) run ≡ b → stops run ≤ 1 + ticks run / s.reinit
-    go true e =
-        let w = earlier s h later (run ++ before) i in
-        let bound = spaced s w.0 run before w.1 e in
-        few_from s.reinit (stops run) (ticks run) most (omega arith)
-    go false e = let none : stops run ≡ 0 = none_counted (λ m. m.stop) run e in omega arith
+stops_rarely s h most later run before i = grind (arith, common_steps, earlier, spaced, few_from, none_counted)

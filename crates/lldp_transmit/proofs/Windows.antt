@@ -143,9 +143,7 @@ run_holds p x (y ∷ ys) before h =
     run_holds (λ r. p (x ∷ r)) y ys before (sym (list_all-map p (λ r. x ∷ r) (runs ((y ∷ ys) ++ before))) ∙ (and_parts _ _ h).1)
 
 frame_paid : (wanted free : Bool) (n : ℕ) → free ≡ nat_le 1 n → one_if (wanted && free) ≤ n
-frame_paid false free n e = omega arith
-frame_paid true false n e = omega arith
-frame_paid true true n e = leb-true _ _ (sym e)
+frame_paid b free n e = grind (arith, nat_tests, leb-true)
 
 pub paid_moments : (s : Settings) (h : History) → 1 ≤ s.credit_max → IsPaid s (moments s h)
 unfolding moment
