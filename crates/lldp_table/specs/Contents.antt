@@ -9,6 +9,7 @@ use Rattle.lldp_table.specs.Msap.{same_msap}
 use Rattle.lldp_table.specs.Events.{Neighbor, Call, learn, forget, purge, tick, set_limit}
 use Rattle.lldp_table.specs.declared.learned.Learned.{Learned}
 use Rattle.lldp_table.specs.declared.learned.Learned.TheVariants.{New, Refreshed, Dropped}
+use Rattle.lldp_table.specs.declared.limits.TheConstants.{MOST_NEIGHBORS, MOST_OCTETS}
 
 -- a table: the limit of opening, that in force, its neighbors in the order in which they were last new, and the ticks
 -- left of its too-many timer
@@ -82,7 +83,7 @@ newly_opened limit = record { capacity = limit; limit = limit; neighbors = []; t
 -- what a learned frame told: at most 1,500 octets, which alone are a sound LLDPDU with this MSAP identifier and this TTL,
 -- not 0, and are whole its extent
 pub record IsExtent (msap : MsapId) (ttl : ℕ) (octets : List ℕ) : Type 0 where
-  pub short : length octets ≤ 1500
+  pub short : length octets ≤ MOST_OCTETS
   pub lives : 0 < ttl
   pub chassis : IsIdentifier msap.chassis
   pub port : IsIdentifier msap.port
@@ -103,7 +104,7 @@ names_of neighbors = map (λ neighbor. neighbor.msap) neighbors
 
 -- room for 1 to 128 neighbors, a limit from 1 to that, no more neighbors than the limit, and no two of one name
 pub record IsSound (table : Contents) : Type 0 where
-  pub most : table.capacity ≤ 128
+  pub most : table.capacity ≤ MOST_NEIGHBORS
   pub room : table.limit ≤ table.capacity
   pub least : 0 < table.limit
   pub few : length table.neighbors ≤ table.limit

@@ -12,6 +12,8 @@ ghost use Rattle.lldp_table.specs.Contents.{Contents, IsExtent, IsHeld, IsSound,
 ghost use Rattle.lldp_table.specs.Standing.{Stands, ForEachCalls, IsTold, AreTold, table_of};
 ghost use Rattle.lldp_table.specs.Positions.{IsLastStored, IsLive, HasRoom, IsNewBefore, WasDropped};
 
+use crate::limits::{MOST_NEIGHBORS, MOST_OCTETS};
+
 /// What a table that stands for a list of calls makes of one more stands for the list with it.
 pub fn carries_standing()
     ensures { (table : Contents) (call : Call) → IsTold table call →
@@ -21,7 +23,7 @@ pub fn carries_standing()
 /// A table that stands for a list of calls is the one that they leave, an empty one where there was
 /// none; and it answers as the definitions do of the list.
 pub fn standing_tells_the_table()
-    ensures opened { (opened : ℕ) → 0 < opened → opened ≤ 128 →
+    ensures opened { (opened : ℕ) → 0 < opened → opened ≤ MOST_NEIGHBORS →
         Stands opened [] (newly_opened opened) }
     ensures learned { (table : Contents) (name : MsapId) →
         ForEachCalls table (λ opened calls. learn_answer table name
@@ -35,7 +37,7 @@ pub fn standing_tells_the_table()
 
 /// An empty table is sound, and each call leaves a sound table sound.
 pub fn calls_leave_sound_tables()
-    ensures opened { (limit : ℕ) → 0 < limit → limit ≤ 128 → IsSound (newly_opened limit) }
+    ensures opened { (limit : ℕ) → 0 < limit → limit ≤ MOST_NEIGHBORS → IsSound (newly_opened limit) }
     ensures after { (table : Contents) (call : Call) → IsSound table → IsTold table call →
         IsSound (table_after table call) }
 {}
@@ -44,7 +46,7 @@ pub fn calls_leave_sound_tables()
 /// kept TLVs.
 pub fn extents_can_be_stored()
     ensures stored { (pdu : List ℕ) → AreOctets pdu → fault_of pdu ≡ None → 0 < ttl_of pdu →
-        length pdu ≤ 1500 →
+        length pdu ≤ MOST_OCTETS →
         IsExtent (msap_of pdu) (ttl_of pdu) (extent pdu) }
     ensures few { (neighbor : Neighbor) → IsHeld neighbor →
         12 + 2 * length (kept_of neighbor.octets) ≤ length neighbor.octets }
@@ -69,9 +71,9 @@ pub fn lists_leave_last_stored_frames()
         ↔ IsLastStored (events_of opened calls) neighbor }
     ensures order { (opened : ℕ) (calls : List Call) →
         AllPairs (IsNewBefore (events_of opened calls)) (neighbors (events_of opened calls)) }
-    ensures sound { (opened : ℕ) (calls : List Call) → 0 < opened → opened ≤ 128 →
+    ensures sound { (opened : ℕ) (calls : List Call) → 0 < opened → opened ≤ MOST_NEIGHBORS →
         AreTold opened calls → IsSound (table_of opened calls) }
-    ensures stands { (opened : ℕ) (calls : List Call) → 0 < opened → opened ≤ 128 →
+    ensures stands { (opened : ℕ) (calls : List Call) → 0 < opened → opened ≤ MOST_NEIGHBORS →
         AreTold opened calls → Stands opened calls (table_of opened calls) }
 {}
 

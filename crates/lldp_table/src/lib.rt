@@ -4,6 +4,7 @@
 mod entry;
 mod laws;
 mod learned;
+mod limits;
 mod places;
 mod queue;
 mod slot;
@@ -17,6 +18,7 @@ pub use laws::{
     standing_tells_the_table,
 };
 pub use learned::Learned;
+pub use limits::{MOST_NEIGHBORS, MOST_OCTETS};
 pub use table::Table;
 pub use times::Accesses;
 

@@ -8,6 +8,7 @@ ghost use Rattle.lldp_table.specs.Contents.{aged};
 ghost use Rattle.lldp_table.specs.Code.Queue.{holds, ticks_left, IsTimed};
 ghost use Rattle.lldp_table.specs.Code.Layout.{blank, msap_at, octets_at, neighbors_at, with_next};
 
+use crate::limits::{MOST_NEIGHBORS, MOST_OCTETS};
 use crate::queue::{Queue, place_in};
 use crate::slot::Slot;
 use crate::times::Accesses;
@@ -37,13 +38,13 @@ pub(crate) fn place_of(slots: &[Slot], order: &[u8], name: &Msap<'_>, tag: u32) 
 /// Writes one more slot where all that were written are in use. The room was made at opening.
 pub(crate) fn write_next<A: Allocator>(
     slots: &mut Vec<Slot, A>,
-    order: &mut ArrayVec<u8, 128>,
+    order: &mut ArrayVec<u8, MOST_NEIGHBORS>,
     used: usize,
 )
     requires same { length order.old.items ≡ length slots.old.items }
     requires fits { used ≤ length slots.old.items }
     requires room { used < vec_capacity slots.old }
-    requires few { used < 128 }
+    requires few { used < MOST_NEIGHBORS }
     ensures slots { slots.new.items ≡ with_next used blank slots.old.items }
     ensures order { order.new.items ≡ with_next used used order.old.items }
     ensures room { vec_capacity slots.new ≡ vec_capacity slots.old }
@@ -59,7 +60,7 @@ pub(crate) fn write_next<A: Allocator>(
 #[inline(always)]
 pub(crate) fn age_out<L: Ledger>(
     queue: &mut Queue,
-    order: &mut ArrayVec<u8, 128>,
+    order: &mut ArrayVec<u8, MOST_NEIGHBORS>,
     used: usize,
     accesses: &mut Accesses<L>,
 ) -> usize
@@ -88,9 +89,9 @@ pub(crate) fn age_out<L: Ledger>(
 }
 
 /// The ticks left of the neighbors in these slots.
-pub(crate) fn lefts_of(queue: &Queue, order: &[u8]) -> ArrayVec<u16, 128>
-    requires few { length order.now ≤ 128 }
-    requires within { AllByRecursion (λ i. i < 128) order.now }
+pub(crate) fn lefts_of(queue: &Queue, order: &[u8]) -> ArrayVec<u16, MOST_NEIGHBORS>
+    requires few { length order.now ≤ MOST_NEIGHBORS }
+    requires within { AllByRecursion (λ i. i < MOST_NEIGHBORS) order.now }
     requires queued { AllByRecursion (λ i. holds i queue.now ≡ true) order.now }
     ensures { result.items ≡ map (ticks_left queue.now) order.now }
 {
@@ -105,9 +106,9 @@ pub(crate) fn lefts_of(queue: &Queue, order: &[u8]) -> ArrayVec<u16, 128>
 /// How many octets these slots store.
 pub(crate) fn octets_of(slots: &[Slot], order: &[u8]) -> u32
     requires within { AllByRecursion (λ i. i < length slots.now) order.now }
-    requires few { length order.now ≤ 128 }
+    requires few { length order.now ≤ MOST_NEIGHBORS }
     ensures sum { result ≡ sum_by (λ i. length (octets_at slots.now i)) order.now }
-    ensures most { result ≤ 1500 * length order.now }
+    ensures most { result ≤ MOST_OCTETS * length order.now }
 {
     let mut octets = 0;
     for slot in order {

@@ -3,6 +3,7 @@ ghost use Rattle.std.specs.Prelude.{◌≡◌, ℕ, true, false, ◌≤◌, ◌<
 ghost use Rattle.std.specs.List.{list_any, AllByRecursion};
 ghost use Rattle.lldp_table.specs.Code.Queue.{due, dues, holds, ticks_left, put, enter, leave, less_first, add_first, is_spent, IsRunning, IsQueue};
 
+use crate::limits::MOST_NEIGHBORS;
 use crate::times::{Accesses, Times};
 use arrayvec::ArrayVec;
 use std::marker::{Brand, Model};
@@ -25,7 +26,7 @@ pub(crate) fn place_in(slots: &[u8], slot: u8) -> usize
 /// The place at which a neighbor with so many ticks left enters, and the difference that it has
 /// there.
 fn place_for(slots: &[u8], times: &Times, left: u16) -> (usize, u16)
-    requires { AllByRecursion (λ i. i < 128) slots.now }
+    requires { AllByRecursion (λ i. i < MOST_NEIGHBORS) slots.now }
     ensures within { result.0 ≤ length slots.now }
     ensures place { (slot : ℕ) →
         enter slot left (dues times.now slots.now) ≡ take result.0 (dues times.now slots.now)
@@ -56,7 +57,7 @@ fn lessen<L: Ledger>(
     requires queue { IsQueue times.old slots.now }
     requires most { at < length slots.now →
         less ≤ slice_index times.old (slice_index slots.now at) }
-    ensures all { length times.new ≡ 128 }
+    ensures all { length times.new ≡ MOST_NEIGHBORS }
     ensures after { dues times.new slots.now ≡ take at (dues times.old slots.now)
         ++ less_first less (drop at (dues times.old slots.now)) }
 {
@@ -79,7 +80,7 @@ fn raise<L: Ledger>(
     requires queue { IsQueue times.old slots.now }
     requires fits { at < length slots.now →
         more + slice_index times.old (slice_index slots.now at) < 2 ^ 16 }
-    ensures all { length times.new ≡ 128 }
+    ensures all { length times.new ≡ MOST_NEIGHBORS }
     ensures after { dues times.new slots.now ≡ take at (dues times.old slots.now)
         ++ add_first more (drop at (dues times.old slots.now)) }
 {
@@ -93,15 +94,15 @@ fn raise<L: Ledger>(
 
 /// A slot whose neighbor has so many ticks left enters.
 fn enter_into<L: Ledger>(
-    slots: &mut ArrayVec<u8, 128>,
+    slots: &mut ArrayVec<u8, MOST_NEIGHBORS>,
     times: &mut Times,
     slot: u8,
     left: u16,
     blank: Blank,
 )
     requires queue { IsQueue times.old slots.old.items }
-    requires room { length slots.old.items < 128 }
-    requires within { slot < 128 }
+    requires room { length slots.old.items < MOST_NEIGHBORS }
+    requires within { slot < MOST_NEIGHBORS }
     requires new { holds slot (dues times.old slots.old.items) ≡ false }
     requires name { blank.name ≡ L.name }
     requires parts { blank.parts ≡ L.parts }
@@ -118,7 +119,12 @@ fn enter_into<L: Ledger>(
 }
 
 /// A slot leaves, and the one behind it has its difference too.
-fn leave_from<L: Ledger>(slots: &mut ArrayVec<u8, 128>, times: &mut Times, slot: u8, blank: Blank)
+fn leave_from<L: Ledger>(
+    slots: &mut ArrayVec<u8, MOST_NEIGHBORS>,
+    times: &mut Times,
+    slot: u8,
+    blank: Blank,
+)
     requires queue { IsQueue times.old slots.old.items }
     requires there { holds slot (dues times.old slots.old.items) ≡ true }
     requires name { blank.name ≡ L.name }
@@ -135,12 +141,12 @@ fn leave_from<L: Ledger>(slots: &mut ArrayVec<u8, 128>, times: &mut Times, slot:
 }
 
 /// The ticks left of each slot.
-fn lefts_in(slots: &[u8], times: &Times) -> [u16; 128]
+fn lefts_in(slots: &[u8], times: &Times) -> [u16; MOST_NEIGHBORS]
     requires { IsQueue times.now slots.now }
     ensures { AllByRecursion (λ i. slice_index result i
         ≡ ticks_left (dues times.now slots.now) i) slots.now }
 {
-    let mut lefts = [0; 128];
+    let mut lefts = [0; MOST_NEIGHBORS];
     let mut left = 0;
     for slot in slots {
         left += times.look(*slot);
@@ -153,7 +159,7 @@ fn lefts_in(slots: &[u8], times: &Times) -> [u16; 128]
 /// ticks left to those of the slot before it.
 #[derive(Drop)]
 pub(crate) struct Queue {
-    slots: ArrayVec<u8, 128>,
+    slots: ArrayVec<u8, MOST_NEIGHBORS>,
     times: Times,
 }
 
@@ -186,8 +192,8 @@ impl Queue {
 
     /// A slot whose neighbor has so many ticks left enters, behind those that expire no later.
     pub(crate) fn enter(&mut self, slot: u8, left: u16)
-        requires room { length self.old < 128 }
-        requires within { slot < 128 }
+        requires room { length self.old < MOST_NEIGHBORS }
+        requires within { slot < MOST_NEIGHBORS }
         requires new { holds slot self.old ≡ false }
         ensures { self.new ≡ enter slot left self.old }
     {
@@ -239,7 +245,7 @@ impl Queue {
     }
 
     /// The ticks left of each slot.
-    pub(crate) fn lefts(&self) -> [u16; 128]
+    pub(crate) fn lefts(&self) -> [u16; MOST_NEIGHBORS]
         ensures { (slot : ℕ) → holds slot self.now ≡ true →
             slice_index result slot ≡ ticks_left self.now slot }
     {

@@ -7,6 +7,7 @@ ghost use Rattle.lldp_table.specs.Msap.{same_msap};
 ghost use Rattle.lldp_table.specs.Code.Layout.{blank};
 ghost use Rattle.lldp_table.specs.Code.Stored.{mixed as mixed_in, tag_of as tag_of_name};
 
+use crate::limits::MOST_OCTETS;
 use arrayvec::ArrayVec;
 use lldp_pdu::{Msap, Tlvs};
 use std::marker::Model;
@@ -14,7 +15,7 @@ use std::marker::Model;
 /// The room for one neighbor, which stores the extent of its frame.
 #[derive(Drop)]
 pub(crate) struct Slot {
-    octets: ArrayVec<u8, 1500>,
+    octets: ArrayVec<u8, MOST_OCTETS>,
     ttl: u16,
     /// The tag of its name, which tells most names apart at once.
     tag: u32,
@@ -85,7 +86,7 @@ impl Slot {
     /// The octets that it stores.
     pub(crate) fn octets(&self) -> &[u8]
         ensures value { result.now ≡ self.now.octets }
-        ensures short { length result.now ≤ 1500 }
+        ensures short { length result.now ≤ MOST_OCTETS }
     {
         self.octets.as_slice()
     }
@@ -116,7 +117,7 @@ impl Slot {
 
     /// Stores a frame, whose name has this tag, in place of the one before.
     pub(crate) fn store(&mut self, octets: &[u8], ttl: u16, tag: u32)
-        requires short { length octets.now ≤ 1500 }
+        requires short { length octets.now ≤ MOST_OCTETS }
         requires tag { tag ≡ tag_of_name (msap_of octets.now) }
         ensures octets { self.new.octets ≡ octets.now }
         ensures ttl { self.new.ttl ≡ ttl }

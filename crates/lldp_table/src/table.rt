@@ -8,6 +8,7 @@ ghost use Rattle.lldp_table.specs.Standing.{Stands, ForEachCalls};
 
 use crate::entry::Entry;
 use crate::learned::Learned;
+use crate::limits::{MOST_NEIGHBORS, MOST_OCTETS};
 use crate::places::{age_out, lefts_of, octets_of, place_of, write_next};
 use crate::queue::Queue;
 use crate::slot::{Slot, tag_of};
@@ -26,7 +27,7 @@ pub struct Table<A: Allocator> {
     slots: Vec<Slot, A>,
     /// The index of each of these: first those in use, in the order in which their neighbors were
     /// last new.
-    order: ArrayVec<u8, 128>,
+    order: ArrayVec<u8, MOST_NEIGHBORS>,
     /// How many slots are in use.
     used: u8,
     /// The slots in use, in the order in which their neighbors expire.
@@ -55,7 +56,7 @@ impl<A: Allocator> Table<A> {
     /// error says that there was none.
     pub fn open(alloc: A, limit: u8) -> Result<Table<A>, AllocError>
         requires least { 0 < limit }
-        requires most { limit ≤ 128 }
+        requires most { limit ≤ MOST_NEIGHBORS }
         ensures empty { IfOk result (λ table. table ≡ newly_opened limit) }
         ensures stands { IfOk result (λ table. Stands limit [] table) }
     {
@@ -72,7 +73,7 @@ impl<A: Allocator> Table<A> {
     /// Stores a frame where its neighbor is held, or where there is room for it; a frame that finds
     /// none is dropped.
     pub fn learn(&mut self, info: &Info<'_>) -> Learned
-        requires { length info.now.octets ≤ 1500 }
+        requires { length info.now.octets ≤ MOST_OCTETS }
         ensures answer { result ≡ learn_answer self.old info.now.msap }
         ensures after { self.new ≡ after_learn self.old info.now.msap info.now.ttl info.now.octets }
         ensures told { IsExtent info.now.msap info.now.ttl info.now.octets }
@@ -226,7 +227,7 @@ impl<A: Allocator> Table<A> {
     /// How many octets are stored, for all neighbors together.
     pub fn octets(&self) -> u32
         ensures sum { result ≡ sum_by (λ neighbor. length neighbor.octets) self.now.neighbors }
-        ensures most { result ≤ 1500 * length self.now.neighbors }
+        ensures most { result ≤ MOST_OCTETS * length self.now.neighbors }
     {
         octets_of(&self.slots, &self.order[..self.used as usize])
     }
@@ -239,7 +240,7 @@ impl<A: Allocator> Table<A> {
     }
 
     /// The ticks left of each neighbor, in the order of the table. It goes over all of them once.
-    pub fn lefts(&self) -> ArrayVec<u16, 128>
+    pub fn lefts(&self) -> ArrayVec<u16, MOST_NEIGHBORS>
         ensures { result.items ≡ map (λ neighbor. neighbor.left) self.now.neighbors }
     {
         lefts_of(&self.queue, &self.order[..self.used as usize])

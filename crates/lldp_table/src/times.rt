@@ -2,6 +2,7 @@
 //! changes nothing.
 ghost use Rattle.std.specs.Prelude.{◌≡◌, ℕ, ◌+◌, ◌<◌, length, slice_index, slice_set};
 
+use crate::limits::MOST_NEIGHBORS;
 use std::marker::Model;
 use std::sync::ledger::{Blank, Book, Ledger, Share};
 
@@ -45,29 +46,32 @@ impl<L: Ledger> Accesses<L> {
 /// The stored time of each slot.
 #[derive(Drop)]
 pub(crate) struct Times {
-    each: [u16; 128],
+    each: [u16; MOST_NEIGHBORS],
 }
 
 impl Model for Times {
     ghost use Rattle.std.specs.Prelude.{◌≡◌, ℕ, List, length};
+    ghost use Rattle.lldp_table.specs.declared.limits.TheConstants.{MOST_NEIGHBORS};
 
     ghost Value = { List ℕ };
 
     ghost view = { λ t. t.each };
 
-    ghost invariant = { λ t. length t.each ≡ 128 };
+    ghost invariant = { λ t. length t.each ≡ MOST_NEIGHBORS };
 }
 
 impl Times {
     pub(crate) fn new() -> Times
-        ensures { length result ≡ 128 }
+        ensures { length result ≡ MOST_NEIGHBORS }
     {
-        Times { each: [0; 128] }
+        Times {
+            each: [0; MOST_NEIGHBORS],
+        }
     }
 
     /// Gets the time of a slot.
     pub(crate) fn get<L: Ledger>(&mut self, slot: u8, accesses: &mut Accesses<L>) -> u16
-        requires { slot < 128 }
+        requires { slot < MOST_NEIGHBORS }
         ensures value { result ≡ slice_index self.old slot }
         ensures same { self.new ≡ self.old }
         ensures counted { accesses.new ≡ accesses.old + 1 }
@@ -78,7 +82,7 @@ impl Times {
 
     /// Sets the time of a slot.
     pub(crate) fn set<L: Ledger>(&mut self, slot: u8, time: u16, accesses: &mut Accesses<L>)
-        requires { slot < 128 }
+        requires { slot < MOST_NEIGHBORS }
         ensures value { self.new ≡ slice_set self.old slot time }
         ensures counted { accesses.new ≡ accesses.old + 1 }
     {
@@ -88,7 +92,7 @@ impl Times {
 
     /// Looks at the time of a slot.
     pub(crate) fn look(&self, slot: u8) -> u16
-        requires { slot < 128 }
+        requires { slot < MOST_NEIGHBORS }
         ensures { result ≡ slice_index self.now slot }
     {
         self.each[slot as usize]

@@ -2,6 +2,7 @@
 -- ticks left to those of the slot before it.
 use Rattle.std.specs.Prelude.{◌≡◌, ℕ, ◌+◌, ◌-◌, ◌<◌, ◌^◌, Bool, false, if◌then◌else◌, ◌==◌, nat_le, nat_eq, List, [], ◌∷◌, length, map, slice_index}
 use Rattle.std.specs.List.{list_any, sum_by, AllByRecursion, IsDistinct}
+use Rattle.lldp_table.specs.declared.limits.TheConstants.{MOST_NEIGHBORS}
 
 -- a slot in the queue, and its difference
 pub record Due : Type 0 where
@@ -65,8 +66,8 @@ dues times slots = map (λ i. due i (slice_index times i)) slots
 
 -- what is true of a queue's parts: no slot stands in it twice, and the sum of the differences fits in 16 bits
 pub record IsQueue (times slots : List ℕ) : Type 0 where
-  pub all : length times ≡ 128
-  pub within : AllByRecursion (λ i. i < 128) slots
+  pub all : length times ≡ MOST_NEIGHBORS
+  pub within : AllByRecursion (λ i. i < MOST_NEIGHBORS) slots
   pub distinct : IsDistinct nat_eq slots
   pub fits : total (dues times slots) < 2 ^ 16
 
