@@ -37,7 +37,8 @@ pub fn standing_tells_the_table()
 
 /// An empty table is sound, and each call leaves a sound table sound.
 pub fn calls_leave_sound_tables()
-    ensures opened { (limit : ℕ) → 0 < limit → limit ≤ MOST_NEIGHBORS → IsSound (newly_opened limit) }
+    ensures opened { (limit : ℕ) → 0 < limit → limit ≤ MOST_NEIGHBORS →
+        IsSound (newly_opened limit) }
     ensures after { (table : Contents) (call : Call) → IsSound table → IsTold table call →
         IsSound (table_after table call) }
 {}

@@ -7,6 +7,7 @@
 
 mod event;
 mod laws;
+mod limits;
 mod machine;
 #[cfg(test)]
 mod tests;
@@ -16,4 +17,5 @@ pub use laws::{
     activity_by_positions, frames_are_timely, nothing_changes, opened_stands, sending_by_positions,
     signals_by_positions, step_carries, windows_hold,
 };
+pub use limits::{MOST_CREDIT, MOST_FAST_INIT, MOST_REINIT};
 pub use machine::Transmit;

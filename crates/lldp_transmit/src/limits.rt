@@ -1,0 +1,10 @@
+//! The greatest numbers that a transmit machine can be opened with.
+
+/// The greatest txCreditMax.
+pub const MOST_CREDIT: u8 = 10;
+
+/// The greatest txFastInit.
+pub const MOST_FAST_INIT: u8 = 8;
+
+/// The greatest reinitDelay, in seconds.
+pub const MOST_REINIT: u8 = 10;
