@@ -38,6 +38,13 @@ pub events-more : (opened : ℕ) (call : Call) (calls : List Call) → events_of
 unfolding events_of
 events-more opened call calls = refl
 
+-- what a table that stands for a list of calls has
+pub stands_limit : (table : Contents) (opened : ℕ) (calls : List Call) → Stands opened calls table → table.limit ≡ limit_after opened (events_of opened calls)
+stands_limit table opened calls h = ap (λ (t : Contents). t.limit) h.is
+
+pub stands_neighbors : (table : Contents) (opened : ℕ) (calls : List Call) → Stands opened calls table → table.neighbors ≡ neighbors (events_of opened calls)
+stands_neighbors table opened calls h = ap (λ (t : Contents). t.neighbors) h.is
+
 -- what a table stands for decides what `learn` answers
 answered : (opened : ℕ) (calls : List Call) (name : MsapId) → learn_answer (table_of opened calls) name ≡ answer opened name (events_of opened calls)
 answered opened calls name =
