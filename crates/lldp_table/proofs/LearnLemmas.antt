@@ -14,6 +14,7 @@ use Rattle.lldp_table.proofs.PlaceLemmas.{one-out, not_before, none-with, distin
 use Rattle.lldp_table.proofs.QueueOrderLemmas.{running-enter, running-leave}
 use Rattle.lldp_table.proofs.TimedLemmas.{queued_enter, queued_leave, enter_here, enter_others, holds_it, out_of, leave_others, again_others}
 use Rattle.lldp_table.proofs.LayoutLemmas.{IsStored, fresh_in, fits, index_within, found, HasFree, has_free, after_refreshed, laid_refreshed, after_new, laid_new, moved_out, after_forgotten, laid_forgotten, laid_purged, laid_open}
+use Rattle.std.proofs.lemmas.Grind.{common_steps}
 
 timed_none : IsTimed [] []
 unfolding IsDistinct
@@ -124,9 +125,7 @@ module _ {capacity : ℕ} {slots : List Stored} {queue : List Due} {order : List
     in_line = let f = free in omega (arith, f.free, f.laid.indices.all)
 
     not_used : list_any (nat_eq next) (take used order) ≡ false
-    not_used =
-        let f = free in
-        subst (λ is. list_any (nat_eq next) is ≡ false) f.order_same (none-with next (take used order') (not_before order' used in_line f.laid.indices.distinct))
+    not_used = grind (arith, common_steps, free, none-with, not_before, in_line)
 
     -- `read` is the order as it was read
     pub next_queued : {read : List ℕ} → read ≡ order' → holds (get_or read used 0) queue ≡ false
@@ -134,13 +133,7 @@ module _ {capacity : ℕ} {slots : List Stored} {queue : List Due} {order : List
 
     module _ {name : MsapId} {ttl : ℕ} {octets : List ℕ} {slot : Stored} (o : slot.octets ≡ octets) (n : slot.ttl ≡ ttl) (t : IsExtent name ttl octets) (none : list_any (is_named name) (neighbors_at slots (ticks_left queue) (take used order)) ≡ false) where
       stored_new : IsStored (take used order') (ticks_left queue) next slot (ticks_left (enter next ttl queue)) (fresh name ttl octets)
-      stored_new =
-          let f = free in
-          subst (λ is. IsStored is (ticks_left queue) next slot (ticks_left (enter next ttl queue)) (fresh name ttl octets)) (sym f.order_same)
-          (record {
-            here = ap (neighbor_of slot) (enter_here queue (take used order) h.timed.queued next ttl not_used) ∙ fresh_in slot name ttl octets o n t;
-            others = enter_others queue (take used order) h.timed.queued next ttl not_used;
-          })
+      stored_new = grind (arith, common_steps, free, IsStored, enter_here, not_used, fresh_in, enter_others)
 
       timed_new : IsTimed (enter next ttl queue) (take (used + 1) order')
       timed_new =
@@ -156,9 +149,7 @@ module _ {capacity : ℕ} {slots : List Stored} {queue : List Due} {order : List
 
       module _ {read : List ℕ} {left : ℕ} {queue' : List Due} (r : read ≡ order') (k : left ≡ ttl) (q : queue' ≡ enter (get_or read used 0) left queue) where
         pub new_after : contents_of capacity (set slots' (get_or read used 0) slot) (ticks_left queue') order' (used + 1) limit too_many ≡ after_learn (contents_of capacity slots (ticks_left queue) order used limit too_many) name ttl octets
-        new_after =
-            let f = free in
-            rw (q, r, k) (after_new f.laid name ttl octets slot _ none_there l f.free stored_new ∙ ap (λ (table : Contents). after_learn table name ttl octets) f.same)
+        new_after = grind (arith, common_steps, free, after_new, none_there, stored_new)
 
         pub new_table : IsTable capacity (set slots' (get_or read used 0) slot) queue' order' (used + 1) limit too_many
         new_table =

@@ -15,6 +15,7 @@ use Rattle.lldp_table.proofs.EventLemmas.{keep, filter_map-keep, by_new}
 use Rattle.lldp_table.proofs.PlaceLemmas.{all-push}
 use Rattle.lldp_table.specs.declared.learned.Learned.{Learned}
 use Rattle.lldp_table.specs.declared.learned.Learned.TheVariants.{New, Refreshed, Dropped}
+use Rattle.std.proofs.lemmas.Grind.{common_steps}
 
 -- ## A part of the neighbors, each under its name
 
@@ -57,24 +58,14 @@ held-part g h (x ∷ xs) k = held-cons (g x) (filter_map g xs) (λ y e. h x y k.
 -- ## `tick`
 
 aged_held : (x y : Neighbor) → IsHeld x → aged x ≡ Some y → IsHeld y
-aged_held x y k e =
-    let p = cond_some (nat_lt 1 x.left) _ y e in
-    let more : 1 < x.left = ltb-true 1 x.left p.0 in
-    subst IsHeld p.1 (record { told = k.told; lives = omega arith; left = omega arith })
+aged_held x y k e = grind (arith, common_steps, cond_some, ltb-true)
 
 aged_named : (x y : Neighbor) → aged x ≡ Some y → y.msap ≡ x.msap
 aged_named x y e = sym (ap (λ (n : Neighbor). n.msap) (cond_some (nat_lt 1 x.left) _ y e).1)
 
 -- with some of the neighbors, and another timer, a table is sound
 sound_part : (g : Neighbor → Option Neighbor) → ((x y : Neighbor) → IsHeld x → g x ≡ Some y → IsHeld y) → ((x y : Neighbor) → g x ≡ Some y → y.msap ≡ x.msap) → (table : Contents) (left : ℕ) → IsSound table → IsSound (record table { neighbors = filter_map g table.neighbors; too_many_left = left })
-sound_part g held named table left h = record {
-  few = omega (arith, length-part g table.neighbors, h.few);
-  most = h.most;
-  room = h.room;
-  least = h.least;
-  held = held-part g held table.neighbors h.held;
-  distinct = distinct-part g named table.neighbors h.distinct;
-}
+sound_part g held named table left h = grind (arith, common_steps, length-part, held-part, distinct-part)
 
 pub sound_ticked : (table : Contents) → IsSound table → IsSound (after_tick table)
 sound_ticked table h = sound_part aged aged_held aged_named table (table.too_many_left - 1) h
@@ -113,26 +104,8 @@ held-refreshed name ttl octets [] k h = tt
 held-refreshed name ttl octets (x ∷ xs) k h = (cond_both (is_named name x) (fresh name ttl octets) x IsHeld (λ e. k) (λ e. h.0), held-refreshed name ttl octets xs k h.1)
 
 sound_learned_as : (a : Learned) (table : Contents) (name : MsapId) (ttl : ℕ) (octets : List ℕ) → learn_answer table name ≡ a → IsExtent name ttl octets → IsSound table → IsSound (learned_as a table name ttl octets)
-sound_learned_as New table name ttl octets e t h =
-    let room = by_new (list_any (is_named name) table.neighbors) _ e in
-    let less : length table.neighbors < table.limit = ltb-true (length table.neighbors) table.limit room.1 in
-    record {
-      few = omega (arith, length-append table.neighbors (fresh name ttl octets ∷ []));
-      most = h.most;
-      room = h.room;
-      least = h.least;
-      held = all-push IsHeld table.neighbors (fresh name ttl octets) h.held (record { told = t; lives = t.lives; left = omega arith });
-      distinct = subst (IsDistinct same_msap) (sym (map-append (λ (x : Neighbor). x.msap) table.neighbors (fresh name ttl octets ∷ [])))
-          (IsDistinct-push same_msap-laws (names_of table.neighbors) name h.distinct (names_none name table.neighbors room.0));
-    }
-sound_learned_as Refreshed table name ttl octets e t h = record {
-  few = omega (arith, length-map table.neighbors (refreshed name ttl octets), h.few);
-  most = h.most;
-  room = h.room;
-  least = h.least;
-  held = held-refreshed name ttl octets table.neighbors (record { told = t; lives = t.lives; left = omega arith }) h.held;
-  distinct = subst (IsDistinct same_msap) (sym (names-refreshed name ttl octets table.neighbors)) h.distinct;
-}
+sound_learned_as New table name ttl octets e t h = grind (arith, common_steps, by_new, ltb-true, length-append, all-push, map-append, IsDistinct-push, same_msap-laws, names_none)
+sound_learned_as Refreshed table name ttl octets e t h = grind (arith, common_steps, length-map, held-refreshed, names-refreshed)
 sound_learned_as Dropped table name ttl octets e t h = record { most = h.most; room = h.room; least = h.least; few = h.few; held = h.held; distinct = h.distinct }
 
 pub sound_learned : (table : Contents) (name : MsapId) (ttl : ℕ) (octets : List ℕ) → IsExtent name ttl octets → IsSound table → IsSound (after_learn table name ttl octets)

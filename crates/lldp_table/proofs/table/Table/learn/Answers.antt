@@ -7,6 +7,7 @@ use Rattle.lldp_table.proofs.StandingLemmas.{stands_after, learn_answers}
 use Rattle.lldp_table.proofs.LayoutLemmas.{not_found, answer_refreshed, answer_new, answer_dropped, after_dropped}
 use Rattle.lldp_table.proofs.LearnLemmas.{found_as, refreshed_after, refreshed_table, is_out, room_again, next_queued, new_after, new_table}
 use Rattle.lldp_table.proofs.table.Table.learn.Goals as goal
+use Rattle.std.proofs.lemmas.Grind.{common_steps}
 
 -- ## A neighbor that is held
 
@@ -30,12 +31,7 @@ invariant_of-self g c =
     c.deref-in-Some.ensures.0 (omega (arith, c.ttl-ttl.ensures.value)) (rw c.leave.ensures at c.enter.ensures)
 
 pub returns-in-Some-clause-after : goal.returns-in-Some-clause-after
-returns-in-Some-clause-after g c =
-    let info = c.args.info.now in
-    let f = found_as c.self.invariant c.in-Some.at c.msap-name.ensures.value (rw (c.deref.ensures.value, c.deref-2.ensures.0) at c.in-Some.ensures) in
-    refreshed_after c.self.invariant c.in-Some.at f.0 (c.store.ensures.octets ∙ c.octets-octets.ensures.value) (omega (arith, c.store.ensures.ttl, c.ttl-ttl.ensures.value)) (returns-in-Some-clause-told g c) f.1
-    c.deref-in-Some.ensures.0 (omega (arith, c.ttl-ttl.ensures.value)) (rw c.leave.ensures at c.enter.ensures)
-    ∙ ap (λ (table : Contents). after_learn table info.msap info.ttl info.octets) c.self.view_is
+returns-in-Some-clause-after g c = grind (arith, common_steps, found_as, refreshed_after, returns-in-Some-clause-told)
 
 pub returns-in-Some-clause-answer : goal.returns-in-Some-clause-answer
 returns-in-Some-clause-answer g c =
