@@ -1,5 +1,5 @@
 -- Active, rested, start and stop, read by positions.
-use Rattle.std.specs.Prelude.{◌≡◌, ℕ, ◌+◌, ◌≤◌, ◌↔◌, Bool, true, false, cond, not, ◌&&◌, ◌||◌, nat_le, IsTrue, List, [], ◌∷◌, ◌++◌}
+use Rattle.std.specs.Prelude.{◌≡◌, ℕ, ◌+◌, ◌≤◌, ◌↔◌, Bool, true, false, cond, not, ◌&&◌, ◌||◌, IsTrue, List, [], ◌∷◌, ◌++◌}
 use Rattle.std.specs.List.{list_any}
 use Rattle.std.proofs.Common.{refl, ap, ap₂, sym, ◌∙◌, arith}
 use Rattle.std.proofs.lemmas.Bool.{and_parts, and_from, leb-true, le-leb, not-true, not_from_false, false_from_ne_true, false≢true}
@@ -7,7 +7,7 @@ use Rattle.lldp_transmit.specs.declared.event.Cause.{Cause}
 use Rattle.lldp_transmit.specs.declared.event.Cause.TheVariants.{Tick, Down, Up}
 use Rattle.lldp_transmit.specs.Fronts.{count, since}
 use Rattle.lldp_transmit.specs.History.{Settings, Event, History, is_tick, is_down}
-use Rattle.lldp_transmit.specs.Moments.{moment, Moment, moments, ticks, ends, up_after, is_active, is_allowed, is_up, rested}
+use Rattle.lldp_transmit.specs.Moments.{moment, Moment, moments, ticks, ends, up_after, is_active, is_up, rested}
 use Rattle.lldp_transmit.specs.Positions.{HasStarted, HasRested, StaysUp, IsStart, IsStop, stops_in}
 use Rattle.lldp_transmit.proofs.Windows.{one_if}
 use Rattle.lldp_transmit.proofs.Splits.{find_last, since_at}

@@ -1,11 +1,11 @@
 -- What each counter is after one more moment, by the labels of that moment.
 use Rattle.std.specs.Prelude.{◌≡◌, ℕ, ◌+◌, ◌-◌, Bool, true, false, cond, not, ◌&&◌, ◌||◌, ◌==◌, nat_le, nat_lt, List, [], ◌∷◌}
 use Rattle.std.specs.List.{list_any}
-use Rattle.std.proofs.Common.{refl, ap, arith}
+use Rattle.std.proofs.Common.{refl, arith}
 use Rattle.std.proofs.lemmas.Bool.Decides.{nat_tests}
-use Rattle.lldp_transmit.specs.Fronts.{count, since, from_last, up_to_last}
+use Rattle.lldp_transmit.specs.Fronts.{since}
 use Rattle.lldp_transmit.specs.History.{Settings, is_tick}
-use Rattle.lldp_transmit.specs.Moments.{Moment, ticks, is_active, is_waiting, ends, rested, spends, signals_left, distance}
+use Rattle.lldp_transmit.specs.Moments.{Moment, is_active, is_waiting, ends, rested, spends, signals_left, distance}
 use Rattle.lldp_transmit.specs.Remaining.{until_start, until_signal}
 use Rattle.lldp_transmit.proofs.Windows.{one_if}
 use Rattle.std.proofs.lemmas.Grind.{common_steps}

@@ -1,17 +1,13 @@
 -- The law: a step carries standing from every history to that history and the event.
-use Rattle.std.specs.Prelude.{◌≡◌, ℕ, ◌-◌, ◌≤◌, Bool, true, false, cond, not, ◌&&◌, ◌||◌, nat_le, List, [], ◌∷◌, IsTrue, ◌↔◌}
+use Rattle.std.specs.Prelude.{◌≡◌, ℕ, ◌-◌, ◌≤◌, Bool, true, false, cond, not, ◌&&◌, nat_le, List, [], ◌∷◌, IsTrue, ◌↔◌}
 use Rattle.std.proofs.Common.{refl, ap, sym, subst, ◌∙◌, arith}
 use Rattle.std.proofs.lemmas.Bool.Decides.{nat_tests}
 use Rattle.lldp_transmit.specs.declared.event.Cause.{Cause}
-use Rattle.lldp_transmit.specs.declared.event.Cause.TheVariants.{Nothing}
 use Rattle.lldp_transmit.specs.declared.event.Mark.{Mark}
 use Rattle.lldp_transmit.specs.declared.event.Mark.TheVariants.{Quiet, Ordinary, Shutdown}
 use Rattle.lldp_transmit.specs.Code.Machine.{Machine, opened, stepped}
-use Rattle.lldp_transmit.specs.History.{Settings, Event, History, event, is_tick, is_down}
-use Rattle.lldp_transmit.specs.Moments.{Moment, moments, moment, mark_of, mark_at, unlabelled, is_active, is_allowed, is_waiting, open_at, allowed_after, is_up}
-use Rattle.std.specs.List.{list_any}
-use Rattle.lldp_transmit.specs.Fronts.{since, from_last}
-use Rattle.lldp_transmit.specs.Remaining.{credit_left}
+use Rattle.lldp_transmit.specs.History.{Settings, Event, History}
+use Rattle.lldp_transmit.specs.Moments.{Moment, moments, moment, mark_of, mark_at, unlabelled, is_active, is_allowed, is_waiting, open_at}
 use Rattle.lldp_transmit.specs.Standing.{Stands, AreSettings, machine_of}
 use Rattle.lldp_transmit.proofs.Windows.{one_if, begun, wanted, bucket, IsPaid, open_is, paid_moments, bucket_le, credit_is}
 use Rattle.lldp_transmit.proofs.Counters.{until_start-cons, until_signal-cons, signals_left-cons, is_waiting-cons, is_active-cons, wanted-cons}
