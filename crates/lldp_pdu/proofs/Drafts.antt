@@ -15,11 +15,11 @@ use Rattle.lldp_pdu.specs.Range.{is_between}
 use Rattle.lldp_pdu.specs.WellFormed.{is_well_formed}
 use Rattle.lldp_pdu.specs.Lldpdu.{is_end, before_end, extent, ended_incomplete, tlv_at, seconds, ttl_of, msap_of, later_tlvs}
 use Rattle.lldp_pdu.specs.Msap.{MsapId, IsIdentifier}
-use Rattle.lldp_pdu.specs.Fault.{is_mandatory, fault_of}
+use Rattle.lldp_pdu.specs.Fault.{is_mandatory}
 use Rattle.lldp_pdu.specs.Kept.{is_single, has_well_formed, kept_after, others_after, kept_of, discarded_of, count_unrecognized, IsKeptTlv}
-use Rattle.lldp_pdu.specs.Info.{LldpInfo, info_of}
+use Rattle.lldp_pdu.specs.Info.{LldpInfo}
 use Rattle.lldp_pdu.specs.Code.Seen.{Flags, none_seen, with_flag}
-use Rattle.lldp_pdu.specs.Draft.{Draft, all_tlvs, end_of_lldpdu, lldpdu_octets, with_tlv, was_put, put_fault, told_by, CanPut, CanPutEach, CanBuild, IsReadBack}
+use Rattle.lldp_pdu.specs.Draft.{Draft, all_tlvs, end_of_lldpdu, lldpdu_octets, with_tlv, was_put, put_fault, CanPut, CanPutEach, CanBuild, IsReadBack}
 use Rattle.lldp_pdu.specs.Code.BuilderView.{draft_of, AllKept, IsDraft, Builds}
 use Rattle.lldp_pdu.proofs.Cuts.{cut-spellings}
 use Rattle.lldp_pdu.proofs.Opening.{fault_from, sound_checks}

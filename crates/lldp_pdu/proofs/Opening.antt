@@ -1,5 +1,5 @@
 -- LLDPDUs that begin with the three mandatory TLVs.
-use Rattle.std.proofs.Common.{◌≡◌, ℕ, suc, ◌+◌, ◌≤◌, cond, ◌&&◌, List, ◌∷◌, length, drop, Some, None, refl, sym, ap, ◌∙◌, arith}
+use Rattle.std.proofs.Common.{◌≡◌, ℕ, ◌+◌, ◌≤◌, cond, ◌&&◌, List, ◌∷◌, length, drop, Some, None, sym, ap, ◌∙◌, arith}
 use Rattle.std.specs.Prelude.{nat_lt}
 use Rattle.std.specs.List.{list_any}
 use Rattle.std.proofs.lemmas.Bool.{le-leb, lt-leb, le-ltb}
@@ -11,6 +11,7 @@ use Rattle.lldp_pdu.specs.Check.{first_fault}
 use Rattle.lldp_pdu.specs.Lldpdu.{seconds, tlv_at, ttl_of, later_tlvs}
 use Rattle.lldp_pdu.specs.Fault.{checks, fault_of, is_mandatory}
 use Rattle.lldp_pdu.specs.Code.Survey.{OpensWith}
+use Rattle.std.proofs.lemmas.Grind.{common_steps}
 
 -- the cut where u stands before the octets t
 abbrev pub with_front : TlvUnit → List ℕ → Cut
@@ -26,16 +27,11 @@ opened octets a t1 t2 t3 u1 u2 u3 e p q r = ap cut (sym e) ∙ p ∙ ap (after_f
 -- with sound mandatory TLVs only the last check is left
 pub sound_checks : (chassis port body : List ℕ) (us : List TlvUnit) (ttl : ℕ) (later : List TlvUnit) → 2 ≤ length chassis → length chassis ≤ 256 → 2 ≤ length port → length port ≤ 256 → 2 ≤ length body
     → first_fault (checks (record { kind = 1; body = chassis } ∷ record { kind = 2; body = port } ∷ record { kind = 3; body = body } ∷ us) ttl later) ≡ cond (nat_lt 0 ttl && list_any is_mandatory later) (Some Repeated) None
-sound_checks chassis port body us ttl later h1 h2 h3 h4 h5 =
-    let n = suc (suc (suc (length us))) in
-    rw (lt-leb n 0 (omega arith), lt-leb n 1 (omega arith), lt-leb n 2 (omega arith), le-leb 2 (length chassis) h1, le-leb (length chassis) 256 h2, le-leb 2 (length port) h3, le-leb (length port) 256 h4, le-ltb (length body) 2 h5) refl
+sound_checks chassis port body us ttl later h1 h2 h3 h4 h5 = grind (arith, common_steps, lt-leb, le-leb, le-ltb)
 
 pub fault_from : (octets : List ℕ) (us : List TlvUnit) (ttl : ℕ) → (cut octets).tlvs ≡ us → ttl_of octets ≡ ttl → fault_of octets ≡ first_fault (checks us ttl (later_tlvs octets))
 unfolding fault_of
-fault_from octets us ttl e t = ap (λ (x : List TlvUnit × ℕ). first_fault (checks x.0 x.1 (later_tlvs octets))) (both e t)
-  where
-    both : {a b : List TlvUnit} {m n : ℕ} → a ≡ b → m ≡ n → ◌≡◌ {A = List TlvUnit × ℕ} (a, m) (b, n)
-    both p q = cc
+fault_from octets us ttl e t = grind (arith, common_steps, ℕ)
 
 pub ttl_from : (octets : List ℕ) (c : Cut) → cut octets ≡ c → ttl_of octets ≡ seconds (tlv_at c.tlvs 2).body
 unfolding ttl_of

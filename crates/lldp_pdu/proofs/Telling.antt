@@ -1,5 +1,5 @@
 -- What the extent of a sound LLDPDU tells again.
-use Rattle.std.proofs.Common.{◌≡◌, ℕ, zero, suc, ◌+◌, ◌*◌, ◌<◌, ◌≤◌, Bool, true, false, cond, not, ◌&&◌, ltb, leb, eqb, List, [], ◌∷◌, ◌++◌, length, drop, get_or, Some, None, refl, sym, ap, subst, ◌∙◌, arith}
+use Rattle.std.proofs.Common.{◌≡◌, ℕ, zero, suc, ◌+◌, ◌*◌, ◌<◌, ◌≤◌, Bool, true, false, cond, not, ◌&&◌, ltb, leb, eqb, List, [], ◌∷◌, ◌++◌, length, drop, get_or, None, refl, sym, ap, subst, ◌∙◌, arith}
 use Rattle.std.specs.List.{list_any, AllByRecursion}
 use Rattle.std.proofs.lemmas.Bool.{not-false, eqb-true, lt-leb, true≢false, ltb-false, and_right, and_parts, leb-true, lt-ltb, or_parts}
 use Rattle.std.proofs.lemmas.List.{append-nil, length-append}
@@ -11,9 +11,8 @@ use Rattle.lldp_pdu.specs.Check.{Check, first_fault}
 use Rattle.lldp_pdu.specs.Lldpdu.{is_end, before_end, extent_tlvs, extent, ended_incomplete, tlv_at, seconds, ttl_of, msap_of, later_tlvs}
 use Rattle.lldp_pdu.specs.Msap.{MsapId, IsIdentifier}
 use Rattle.lldp_pdu.specs.Fault.{checks, fault_of, is_mandatory}
-use Rattle.lldp_pdu.specs.Kept.{count_unrecognized, kept_after, others_after, kept_of, discarded_of, IsKeptTlv, is_single, has_well_formed, is_kept}
+use Rattle.lldp_pdu.specs.Kept.{count_unrecognized, kept_after, others_after, kept_of, discarded_of, IsKeptTlv}
 use Rattle.lldp_pdu.specs.Info.{info_of, IsInfo, TellsItself}
-use Rattle.lldp_pdu.specs.WellFormed.{is_well_formed}
 use Rattle.lldp_pdu.proofs.Surveying.{extent_is_front}
 use Rattle.lldp_pdu.proofs.Cuts.{AreOctets-left, cut_is_cut, cut-spellings}
 use Rattle.lldp_pdu.proofs.Opening.{fault_from}

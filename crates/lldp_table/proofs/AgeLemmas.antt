@@ -1,13 +1,13 @@
 -- A tick over the queue does to the neighbors what a tick does: what the loop keeps that takes the expired slots out of
 -- the queue and out of the order, one after the other.
-use Rattle.std.proofs.Common.{◌≡◌, ℕ, zero, suc, ◌-◌, ◌<◌, ◌≤◌, Bool, true, false, cond, nat_eq, nat_lt, List, [], ◌∷◌, ◌++◌, length, take, get_or, Some, None, refl, inl, inr, ap, ◌∙◌, sym, subst, arith, map, length-take-le}
+use Rattle.std.proofs.Common.{◌≡◌, ℕ, zero, suc, ◌-◌, ◌<◌, ◌≤◌, Bool, true, false, cond, nat_eq, nat_lt, List, [], ◌∷◌, ◌++◌, length, take, get_or, refl, ap, ◌∙◌, sym, subst, arith, map, length-take-le}
 use Rattle.std.specs.List.{list_any, filter, filter_map, cons_option, AllByRecursion, IsDistinct, remove}
 use Rattle.std.specs.List.Sorted.{IsPermutation}
-use Rattle.std.proofs.lemmas.Bool.{cases_Bool, lt-ltb, ltb-true, ltb-false, le-ltb, cond-true, cond-false, eq-eqb, or_left}
+use Rattle.std.proofs.lemmas.Bool.{cases_Bool, lt-ltb, ltb-true, ltb-false, le-ltb, cond-true, cond-false}
 use Rattle.std.proofs.lemmas.List.Sorted.{IsPermutation-refl, IsPermutation-trans, IsPermutation-remove, IsPermutation-append_comm, length_permutation}
 use Rattle.std.proofs.lemmas.Map.Keys.{IsDistinct-head, IsDistinct-tail}
 use Rattle.lldp_table.specs.Events.{Neighbor}
-use Rattle.lldp_table.specs.Contents.{Contents, aged, after_tick}
+use Rattle.lldp_table.specs.Contents.{aged, after_tick}
 use Rattle.lldp_table.specs.Code.Stored.{Stored}
 use Rattle.lldp_table.specs.Code.Queue.{Due, due, holds, slots_of, ticks_left, less_first, is_spent, IsRunning, IsQueued, IsTimed}
 use Rattle.lldp_table.specs.Code.Layout.{neighbor_of, neighbors_at, blank, contents_of, IsLaidOut}

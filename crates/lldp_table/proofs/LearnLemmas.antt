@@ -12,8 +12,8 @@ use Rattle.lldp_table.specs.Code.Queue.{Due, holds, ticks_left, enter, leave, Is
 use Rattle.lldp_table.specs.Code.Stored.{Stored}
 use Rattle.lldp_table.proofs.PlaceLemmas.{one-out, not_before, none-with, distinct-take}
 use Rattle.lldp_table.proofs.QueueOrderLemmas.{running-enter, running-leave}
-use Rattle.lldp_table.proofs.TimedLemmas.{queued_enter, queued_leave, enter_here, enter_others, holds_it, out_of, leave_others, again_others}
-use Rattle.lldp_table.proofs.LayoutLemmas.{IsStored, fresh_in, fits, index_within, found, HasFree, has_free, after_refreshed, laid_refreshed, after_new, laid_new, moved_out, after_forgotten, laid_forgotten, laid_purged, laid_open}
+use Rattle.lldp_table.proofs.TimedLemmas.{queued_enter, queued_leave, enter_here, enter_others, out_of, leave_others, again_others}
+use Rattle.lldp_table.proofs.LayoutLemmas.{IsStored, fresh_in, fits, found, HasFree, has_free, after_refreshed, laid_refreshed, after_new, laid_new, moved_out, after_forgotten, laid_forgotten, laid_purged, laid_open}
 use Rattle.std.proofs.lemmas.Grind.{common_steps}
 
 timed_none : IsTimed [] []
@@ -133,7 +133,7 @@ module _ {capacity : ℕ} {slots : List Stored} {queue : List Due} {order : List
 
     module _ {name : MsapId} {ttl : ℕ} {octets : List ℕ} {slot : Stored} (o : slot.octets ≡ octets) (n : slot.ttl ≡ ttl) (t : IsExtent name ttl octets) (none : list_any (is_named name) (neighbors_at slots (ticks_left queue) (take used order)) ≡ false) where
       stored_new : IsStored (take used order') (ticks_left queue) next slot (ticks_left (enter next ttl queue)) (fresh name ttl octets)
-      stored_new = grind (arith, common_steps, free, IsStored, enter_here, not_used, fresh_in, enter_others)
+      stored_new = grind (arith, common_steps, free, enter_here, not_used, fresh_in, enter_others)
 
       timed_new : IsTimed (enter next ttl queue) (take (used + 1) order')
       timed_new =

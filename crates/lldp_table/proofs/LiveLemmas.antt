@@ -1,5 +1,5 @@
 -- The live neighbors are the last stored frames that haven't expired.
-use Rattle.std.proofs.Common.{◌+◌, ◌≡◌, ℕ, suc, ◌-◌, ◌<◌, Bool, true, false, ◌||◌, cond, nat_lt, List, [], ◌∷◌, ◌++◌, Option, Some, None, refl, inl, inr, ap, ◌∙◌, sym, subst, arith, is_some, is_none, length, count_by}
+use Rattle.std.proofs.Common.{◌+◌, ◌≡◌, ℕ, suc, ◌-◌, ◌<◌, Bool, true, false, ◌||◌, cond, nat_lt, List, [], ◌∷◌, ◌++◌, Option, Some, None, refl, inl, inr, ap, ◌∙◌, sym, subst, arith, is_none, length, count_by}
 use Rattle.std.specs.List.{find, filter_map, cons_option, list_any, AllByRecursion, Contains}
 use Rattle.std.specs.Option.{option_and_then}
 use Rattle.std.proofs.lemmas.Bool.{cases_Bool, and_parts, and_from, ltb-true, lt-ltb, cond-true}
@@ -8,7 +8,7 @@ use Rattle.std.proofs.lemmas.List.Elements.{All-contains, All-from_recursion}
 use Rattle.lldp_pdu.specs.Msap.{MsapId}
 use Rattle.lldp_table.specs.Msap.{same_msap}
 use Rattle.lldp_table.proofs.MsapLemmas.{same_msap-refl, same_msap-true}
-use Rattle.lldp_table.specs.Events.{aged_out, Call, tick, TableEvent, learned, forgot, purged, ticked, limit_set, Neighbor, live, live_after, ticks, since, decides_on, arrivals, neighbors, is_stored, events_of}
+use Rattle.lldp_table.specs.Events.{aged_out, Call, tick, TableEvent, learned, ticked, Neighbor, live, live_after, ticks, since, decides_on, arrivals, neighbors, is_stored, events_of}
 use Rattle.lldp_table.specs.Contents.{Contents, aged}
 use Rattle.lldp_table.specs.Standing.{Stands}
 use Rattle.lldp_table.specs.Positions.{IsLastStored}

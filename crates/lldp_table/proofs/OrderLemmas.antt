@@ -1,16 +1,16 @@
 -- The order of the neighbors, and what the too-many timer says.
-use Rattle.std.proofs.Common.{◌≡◌, ℕ, zero, suc, ◌+◌, ◌-◌, ◌<◌, ◌≤◌, Bool, true, false, not, cond, List, [], ◌∷◌, ◌++◌, Option, Some, None, refl, inl, inr, ap, ◌∙◌, sym, subst, arith, max}
+use Rattle.std.proofs.Common.{◌≡◌, ℕ, suc, ◌+◌, ◌-◌, ◌<◌, ◌≤◌, Bool, true, false, not, List, [], ◌∷◌, ◌++◌, Option, Some, None, refl, inl, inr, ap, ◌∙◌, arith, max}
 use Rattle.std.specs.List.{filter, filter_map, cons_option, list_any, All, AllByRecursion, AllPairs}
-use Rattle.std.proofs.lemmas.Bool.{cases_Bool, or_left, or_right, or_from, cases_lt, not-true}
+use Rattle.std.proofs.lemmas.Bool.{or_left, or_right, or_from, cases_lt, not-true}
 use Rattle.std.proofs.lemmas.List.Elements.{All-nil, All-cons, All-head, All-tail, All-push, All-filter, All-weaker, filter_passes}
 use Rattle.std.proofs.lemmas.List.Quantifiers.{all_pairs_push}
 use Rattle.std.proofs.lemmas.List.Kept.{AllPairs-cons, AllPairs-filter}
 use Rattle.lldp_pdu.specs.Msap.{MsapId}
 use Rattle.lldp_table.specs.Msap.{same_msap}
 use Rattle.lldp_table.proofs.MsapLemmas.{same_msap-refl}
-use Rattle.lldp_table.specs.Events.{TableEvent, learned, forgot, purged, ticked, limit_set, Neighbor, live, arrivals, neighbors, ticks, since, is_purge, most_left, too_many_left}
+use Rattle.lldp_table.specs.Events.{TableEvent, learned, purged, ticked, Neighbor, live, arrivals, neighbors, ticks, since, is_purge, most_left, too_many_left}
 use Rattle.lldp_table.specs.Positions.{makes_new, IsNewBefore, WasDropped}
-use Rattle.lldp_table.specs.declared.learned.Learned.TheVariants.{New, Refreshed, Dropped}
+use Rattle.lldp_table.specs.declared.learned.Learned.TheVariants.{New, Dropped}
 use Rattle.lldp_table.proofs.EventLemmas.{live-named}
 use Rattle.std.proofs.lemmas.Grind.{common_steps}
 

@@ -5,8 +5,8 @@ use Rattle.std.specs.List.{AllByRecursion, list_any}
 use Rattle.lldp_pdu.specs.Msap.{MsapId}
 use Rattle.lldp_table.specs.Msap.{same_msap}
 use Rattle.lldp_table.specs.declared.learned.Learned.{Learned}
-use Rattle.lldp_table.specs.declared.learned.Learned.TheVariants.{New, Refreshed, Dropped}
-use Rattle.lldp_table.specs.Events.{TableEvent, learned, forgot, purged, ticked, limit_set, Neighbor, neighbors, limit_after, is_purge, is_stored, decides_on, ticks}
+use Rattle.lldp_table.specs.declared.learned.Learned.TheVariants.{New, Dropped}
+use Rattle.lldp_table.specs.Events.{TableEvent, learned, Neighbor, neighbors, limit_after, is_purge, is_stored, decides_on, ticks}
 
 -- The neighbor is its name's last stored frame that hasn't expired: since that frame was stored nothing stored another
 -- of the name, forgot the name or purged the table, and so many ticks came as are gone of its TTL, which leaves some.

@@ -1,9 +1,10 @@
-use Rattle.std.proofs.Common.{◌≡◌, ◌+◌, ◌<◌, cond, ltb, eqb, length, true, false, refl, sym, ap, ◌∙◌, arith, ℕ}
+use Rattle.std.proofs.Common.{◌≡◌, ◌+◌, cond, ltb, eqb, length, true, false, sym, ap, ◌∙◌, arith, ℕ}
 use Rattle.std.proofs.lemmas.List.{length-take}
 use Rattle.std.proofs.lemmas.Bool.{eq-eqb, ne_eqb, eqb-true, eqb-false, lt-ltb, le-ltb}
 use Rattle.lldp_pdu.specs.View.{tlv_view}
 use Rattle.lldp_pdu.proofs.Surveying.{bounds, one_more, survey_at_end, survey_at_rest}
 use Rattle.lldp_pdu.proofs.examination.optional_tlvs.Goals as goal
+use Rattle.std.proofs.lemmas.Grind.{common_steps}
 
 pub slice_bounds-result-end : goal.slice_bounds-result-end
 slice_bounds-result-end c =
@@ -39,10 +40,7 @@ none_left : (n m k : ℕ) → n ≡ m → eqb n 0 ≡ true → k ≡ k + cond (l
 none_left n m k e h = rw (le-ltb 0 m (omega (arith, e, eqb-true n 0 h))) (omega arith)
 
 some_left : (n m k : ℕ) → n ≡ m → eqb n 0 ≡ false → k + 1 ≡ k + cond (ltb 0 m) 1 0
-some_left n m k e h = rw (lt-ltb 0 m (some n m e (eqb-false n 0 h))) refl
-  where
-    some : (n m : ℕ) → n ≡ m → (n ≡ 0 → ⊥) → 0 < m
-    some n m e h = omega arith
+some_left n m k e h = grind (arith, common_steps, lt-ltb, eqb-false, ℕ)
 
 pub returns-then-is_empty-clause-ok : goal.returns-then-is_empty-clause-ok
 returns-then-is_empty-clause-ok c =

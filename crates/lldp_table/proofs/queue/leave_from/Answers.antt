@@ -1,4 +1,4 @@
-use Rattle.std.proofs.Common.{◌+◌, ◌<◌, arith, sym, ◌∙◌, length}
+use Rattle.std.proofs.Common.{arith, sym, ◌∙◌}
 use Rattle.lldp_table.proofs.DueLemmas.{left_at, holds-dues, queue_left, two_fit}
 use Rattle.lldp_table.proofs.queue.leave_from.Goals as goal
 use Rattle.std.proofs.lemmas.Grind.{common_steps}

@@ -1,4 +1,4 @@
-use Rattle.std.proofs.Common.{◌≡◌, ℕ, ◌<◌, ◌≤◌, Bool, true, false, length, List, eqb, ltb, ◌&&◌, refl, sym, ap, ◌∙◌, subst, arith}
+use Rattle.std.proofs.Common.{◌≡◌, ℕ, Bool, true, false, length, List, eqb, ltb, ◌&&◌, refl, sym, ◌∙◌, subst, arith}
 use Rattle.std.proofs.lemmas.Bool.{eq-eqb, ne_eqb, lt-ltb, le-ltb, ltb-true, ltb-false}
 use Rattle.lldp_pdu.specs.Tlv.{TlvUnit}
 use Rattle.lldp_pdu.specs.Kept.{is_single}
@@ -9,31 +9,23 @@ use Rattle.lldp_pdu.specs.Code.BuilderView.{draft_of, Builds}
 use Rattle.lldp_pdu.proofs.Keeping.{flag_is}
 use Rattle.lldp_pdu.proofs.Drafts.{put_fault_is, long}
 use Rattle.lldp_pdu.proofs.builder.Builder.refusal.Goals as goal
+use Rattle.std.proofs.lemmas.Grind.{common_steps}
 
 -- what the fields say of the draft
 shutdown : (d : Draft) (octets : List ℕ) (met : List Bool) (lives : Bool) → draft_of octets ≡ d → Builds octets met lives → lives ≡ false → eqb d.ttl 0 ≡ true
-shutdown d octets met lives v b h =
-    let e : ltb 0 d.ttl ≡ false = sym (b.lives_is ∙ ap (λ (d : Draft). ltb 0 d.ttl) v) ∙ h in
-    let z : d.ttl ≤ 0 = ltb-false 0 d.ttl e in
-    eq-eqb d.ttl 0 (omega arith)
+shutdown d octets met lives v b h = grind (arith, common_steps, ltb, ltb-false, eq-eqb)
 
 alive : (d : Draft) (octets : List ℕ) (met : List Bool) (lives : Bool) → draft_of octets ≡ d → Builds octets met lives → lives ≡ true → eqb d.ttl 0 ≡ false
-alive d octets met lives v b h =
-    let e : ltb 0 d.ttl ≡ true = sym (b.lives_is ∙ ap (λ (d : Draft). ltb 0 d.ttl) v) ∙ h in
-    let z : 0 < d.ttl = ltb-true 0 d.ttl e in
-    ne_eqb d.ttl 0 (λ k. omega (arith, k, z))
+alive d octets met lives v b h = grind (arith, common_steps, ltb, ltb-true, ne_eqb)
 
 flagged : (d : Draft) (u : TlvUnit) (octets : List ℕ) (met : List Bool) (lives r : Bool) → draft_of octets ≡ d → Builds octets met lives → r ≡ has_flag met u.kind → (is_single u.kind && was_put u.kind d.tlvs) ≡ r
 flagged d u octets met lives r v b h = sym (h ∙ flag_is met (λ kind. was_put kind d.tlvs) u.kind (subst (λ (d : Draft). Flags met (λ kind. was_put kind d.tlvs)) v b.flags))
 
 pub returns-then-not-is_optional_type : goal.returns-then-not-is_optional_type
-returns-then-not-is_optional_type c =
-    sym (put_fault_is c.args.self.now (tlv_view c.args.tlv.now) false _ _ _ _ _ (sym c.if-not-is_optional_type.ensures) refl refl refl refl refl)
+returns-then-not-is_optional_type c = grind (arith, common_steps, put_fault_is)
 
 pub returns-then-not-self : goal.returns-then-not-self
-returns-then-not-self c =
-    sym (put_fault_is c.args.self.now (tlv_view c.args.tlv.now) true true _ _ _ _ (sym c.if-not-is_optional_type.ensures)
-    (shutdown c.args.self.now c.self.inside.octets.items c.self.inside.met.types c.self.inside.lives c.self.view_is c.self.invariant c.if-not-self.true) refl refl refl refl)
+returns-then-not-self c = grind (arith, common_steps, put_fault_is, shutdown)
 
 pub returns-then-has : goal.returns-then-has
 returns-then-has c =

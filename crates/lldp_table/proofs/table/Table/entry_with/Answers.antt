@@ -2,7 +2,6 @@ use Rattle.std.proofs.Common.{◌<◌, Some, length, map, get_or, arith, ap, ◌
 use Rattle.std.specs.List.{slice_get}
 use Rattle.lldp_table.specs.Events.{Neighbor}
 use Rattle.lldp_table.specs.Contents.{Contents, IsHeld}
-use Rattle.lldp_table.specs.Code.Queue.{ticks_left}
 use Rattle.lldp_table.proofs.LayoutLemmas.{count, held_at, entry_with_at, get_at}
 use Rattle.lldp_table.proofs.table.Table.entry_with.Goals as goal
 

@@ -1,4 +1,4 @@
-use Rattle.std.proofs.Common.{◌≡◌, ◌++◌, ◌∷◌, [], sym, ap, ◌∙◌, ◌-◌}
+use Rattle.std.proofs.Common.{sym, ap, ◌∙◌}
 use Rattle.lldp_pdu.specs.View.{msap_view}
 use Rattle.lldp_table.specs.Events.{forget}
 use Rattle.lldp_table.specs.Contents.{Contents, after_forget, holds_name}

@@ -1,7 +1,6 @@
 use Rattle.std.proofs.Common.{map, sym, ap, ◌∙◌}
 use Rattle.lldp_table.specs.Events.{Neighbor}
 use Rattle.lldp_table.specs.Contents.{Contents}
-use Rattle.lldp_table.specs.Code.Queue.{ticks_left}
 use Rattle.lldp_table.proofs.LayoutLemmas.{lefts_held}
 use Rattle.lldp_table.proofs.TimedLemmas.{all_queued}
 use Rattle.lldp_table.proofs.table.Table.lefts.Goals as goal

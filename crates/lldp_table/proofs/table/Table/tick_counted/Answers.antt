@@ -1,6 +1,6 @@
 use Rattle.lldp_table.proofs.AgeLemmas.{laid_ticked, after_ticked}
-use Rattle.std.proofs.Common.{length, ap, ◌∙◌, arith}
-use Rattle.lldp_table.specs.Contents.{Contents, after_tick}
+use Rattle.std.proofs.Common.{length, ap, arith}
+use Rattle.lldp_table.specs.Contents.{Contents}
 use Rattle.lldp_table.specs.Code.Queue.{ticks_left}
 use Rattle.lldp_table.proofs.LayoutLemmas.{count}
 use Rattle.lldp_table.proofs.table.Table.tick_counted.Goals as goal
