@@ -16,10 +16,13 @@ pub mod NumberDigits
 pub mod WordsBounds
 pub mod WordsGrammar
 pub mod WordsReading
+pub mod DigitLemmas
+pub mod LaneLemmas
 pub mod TextJoined
 pub mod AddressesPairs
 pub mod CapabilitiesWritten
 pub mod KeptTlvFields
+pub mod LineParts
 pub mod LinesTaken
 pub mod OneLineKept
 pub mod LinesBound

@@ -1,17 +1,34 @@
 -- Which line a sink keeps that keeps one.
-use Rattle.std.proofs.Common.{◌≡◌, ℕ, zero, suc, List, [], ◌∷◌, Some, None, ap, sym}
+use Rattle.std.proofs.Common.{◌≡◌, ℕ, zero, suc, ◌≤◌, List, [], ◌∷◌, length, true, false, Option, Some, None, ap, sym, subst}
 use Rattle.std.specs.Prelude.{slice_get}
 use Rattle.lldp_engine.specs.Takes.{Takes}
-use Rattle.lldp_engine.specs.Code.OneLineState.{OneLineState, KeepsOne}
+use Rattle.lldp_engine.specs.declared.show.writer.TheConstants.{LINE_ROOM}
+use Rattle.lldp_engine.specs.Text.{ended}
+use Rattle.lldp_engine.specs.declared.show.one_line.OneLine.{OneLine}
+use Rattle.lldp_engine.specs.Code.OneLineState.{KeepsOne}
 
-stays : (before : ℕ) (line : List ℕ) (b : OneLineState) (lines : List (List ℕ)) → Takes KeepsOne (record { before = before; line = Some line }) b lines → b.line ≡ Some line
+-- what is kept is no longer than a line and its LF
+pub is_short : (a b : OneLine) (lines : List (List ℕ)) → Takes KeepsOne a b lines → length a.line ≤ LINE_ROOM → length b.line ≤ LINE_ROOM
 unfolding Takes
-stays before line b [] h = ap (λ (a : OneLineState). a.line) (sym h)
-stays before line b (x ∷ xs) h = stays before line b xs (rw h.1 at h.2)
+is_short a b [] h short = subst (λ (s : OneLine). length s.line ≤ LINE_ROOM) h short
+is_short a b (x ∷ xs) h short = is_short h.0 b xs h.2 (h.1.1 short)
 
-pub wanted_line : (before : ℕ) (b : OneLineState) (lines : List (List ℕ)) → Takes KeepsOne (record { before = before; line = None }) b lines → b.line ≡ slice_get lines before
+-- what is given for a sink: none where the line didn't come, and else the line
+pub record Gives (sink : OneLine) (given : Option (List ℕ)) : Type 0 where
+  pub none : sink.came ≡ false → given ≡ None
+  pub line : (line : List ℕ) → sink.came ≡ true → sink.line ≡ ended line → given ≡ Some line
+
+stays : (before : ℕ) (kept : List ℕ) (b : OneLine) (lines : List (List ℕ)) → Takes KeepsOne (record { before = before; came = true; line = kept }) b lines → b ≡ record { before = before; came = true; line = kept }
 unfolding Takes
-wanted_line zero b [] h = ap (λ (a : OneLineState). a.line) (sym h)
-wanted_line (suc before) b [] h = ap (λ (a : OneLineState). a.line) (sym h)
-wanted_line zero b (x ∷ xs) h = stays 0 x b xs (rw h.1 at h.2)
-wanted_line (suc before) b (x ∷ xs) h = wanted_line before b xs (rw h.1 at h.2)
+stays before kept b [] h = sym h
+stays before kept b (x ∷ xs) h = stays before kept b xs (rw h.1.0 at h.2)
+
+gives_kept : (before : ℕ) (line : List ℕ) (b : OneLine) (given : Option (List ℕ)) → b ≡ record { before = before; came = true; line = ended line } → Gives b given → given ≡ Some line
+gives_kept before line b given e gives = gives.line line (ap (λ (s : OneLine). s.came) e) (ap (λ (s : OneLine). s.line) e)
+
+pub wanted_line : (before : ℕ) (kept : List ℕ) (b : OneLine) (lines : List (List ℕ)) (given : Option (List ℕ)) → Takes KeepsOne (record { before = before; came = false; line = kept }) b lines → Gives b given → given ≡ slice_get lines before
+unfolding Takes
+wanted_line zero kept b [] given h gives = gives.none (ap (λ (s : OneLine). s.came) (sym h))
+wanted_line (suc before) kept b [] given h gives = gives.none (ap (λ (s : OneLine). s.came) (sym h))
+wanted_line zero kept b (x ∷ xs) given h gives = gives_kept 0 x b given (stays 0 (ended x) b xs (rw h.1.0 at h.2)) gives
+wanted_line (suc before) kept b (x ∷ xs) given h gives = wanted_line before (ended x) b xs given (rw h.1.0 at h.2) gives

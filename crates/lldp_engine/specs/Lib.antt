@@ -33,5 +33,6 @@ pub mod StatisticsLines
 pub mod ChassisLines
 pub mod ConfigurationLines
 pub mod Takes
+pub mod LineRoom
 pub mod Lines
 pub mod Code

@@ -16,3 +16,7 @@ escaped octets = flat_map escape octets
 abbrev pub separator : ℕ → ℕ → List ℕ
 separator octet zero = []
 separator octet (suc before) = octet ∷ []
+
+-- a line and its LF
+abbrev pub ended : List ℕ → List ℕ
+ended line = line ++ 10 ∷ []

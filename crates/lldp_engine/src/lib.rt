@@ -4,6 +4,7 @@
 
 mod agent;
 mod command;
+mod digits;
 mod laws;
 mod port;
 mod show;
@@ -20,6 +21,7 @@ pub use command::fault::CommandFault;
 pub use command::number::number;
 pub use command::words::{Words, split, split_at_bare, words_are_spelled};
 pub use command::{Command, Show, complete_forms_take_no_word};
+pub use digits::{decode_digits, encode_digits};
 pub use laws::{
     every_standing_agent_is_promised, last_events_decide, step_carries_standing,
     the_right_follows_the_status,
@@ -29,7 +31,7 @@ pub use port::counters::Counters;
 pub use port::status::Status;
 pub use show::line_sink::LineSink;
 pub use show::lines::MOST_LINES;
-pub use show::writer::Line;
+pub use show::writer::{LINE_ROOM, Line, ROOM, Writer};
 
 #[cfg(test)]
 mod tests;

@@ -1,5 +1,6 @@
 //! Worked examples that no transcript of `examples/` has, through agents that are opened.
 mod commands;
+mod digits;
 mod events;
 mod memory;
 mod opening;
@@ -10,7 +11,7 @@ mod words;
 
 use super::{
     Agent, Command, CommandFault, Counters, Event, Line, LineSink, Marks, OpenFault, Options, Role,
-    Setting, Show, Status,
+    Setting, Show, Status, Writer,
 };
 use arrayvec::ArrayVec;
 use std::alloc::{Allocator, Global};
@@ -158,6 +159,7 @@ fn counters<A: Allocator>(rt: &impl Abort, agent: &Agent<A>, port: u8) -> Counte
 #[derive(Drop)]
 struct Count {
     lines: u32,
+    line: Writer,
 }
 
 impl LineSink for Count {
@@ -165,8 +167,10 @@ impl LineSink for Count {
 
     ghost takes = { λ old new line. new.lines ≡ min (old.lines + 1) (2 ^ 32 - 1) };
 
-    fn line(&mut self, _line: &[u8]) {
+    fn begin_line(&mut self) -> Option<&mut Writer> {
         self.lines = self.lines.saturating_add(1);
+        self.line.clear();
+        Some(&mut self.line)
     }
 
     fn is_done(&self) -> bool {
@@ -186,7 +190,10 @@ fn shown<A: Allocator>(agent: &Agent<A>, show: Show, i: u32) -> Option<Line> {
 
 /// How many lines a show has.
 fn count_lines<A: Allocator>(agent: &Agent<A>, show: Show) -> u32 {
-    let mut count = Count { lines: 0 };
+    let mut count = Count {
+        lines: 0,
+        line: Writer::new(),
+    };
     agent.show_lines(&show, &mut count);
     count.lines
 }

@@ -1,6 +1,4 @@
 pub mod PlainLemmas
-pub mod DigitLemmas
-pub mod LaneLemmas
 pub mod Written
 pub mod OutputLemmas
 pub mod BufferLemmas

@@ -1,6 +1,7 @@
 -- Text on its way: what was taken, and what waits behind it.
-use Rattle.std.proofs.Common.{◌≡◌, ◌≢◌, ℕ, true, false, List, [], ◌∷◌, ◌++◌, refl, sym, ap, ◌∙◌, append_assoc, subst, Option, rules}
-use Rattle.std.specs.Prelude.{Result, Ok, Err, is_ok, OnOk}
+use Rattle.std.proofs.Common.{◌≡◌, ◌≢◌, ℕ, true, false, List, [], ◌∷◌, ◌++◌, refl, sym, ap, ◌∙◌, append_assoc, subst, Option, Some, rules}
+use Rattle.std.specs.Prelude.{Result, Ok, Err, is_ok, is_err, OnOk}
+use Rattle.std.specs.Borrow.{MutBor}
 use Rattle.std.specs.Io.KnownBytes.{Appends}
 use Rattle.std.specs.List.{flat_map}
 use Rattle.std.proofs.lemmas.List.{append-nil}
@@ -126,6 +127,21 @@ behind_waits a waits text (Err fault) is ok e = cc
 
 pub puts_waiting : (a : Output) (waits text : List ℕ) → is_ok a.answer ≡ true → waits ≡ a.waits ++ text → Puts text a (record a { waits = waits })
 puts_waiting a waits text ok e = behind_waits a waits text a.answer refl ok e
+
+-- an answer that is no fault
+pub no_fault : (r : Answer) → is_err r ≡ false → is_ok r ≡ true
+no_fault (Ok done) h = refl
+no_fault (Err fault) h = cc
+
+pub a_fault : (r : Answer) → is_err r ≡ true → is_ok r ≡ false
+a_fault (Ok done) h = cc
+a_fault (Err fault) h = refl
+
+-- what stands behind the text of a writer stands behind that of the same writer
+pub behind_lent : (x y : MutBor (List ℕ)) (text line : List ℕ) → Some x ≡ Some y → text ≡ y.now ++ line → text ≡ x.now ++ line
+behind_lent x y text line is e =
+    let same : x ≡ y = cc in
+    e ∙ ap (λ (w : MutBor (List ℕ)). w.now ++ line) (sym same)
 
 -- behind a write that failed nothing happens
 behind_fault : (a : Output) (text : List ℕ) (r : Answer) → a.answer ≡ r → is_ok r ≡ false → GoesBehind r text a a

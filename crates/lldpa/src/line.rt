@@ -7,8 +7,9 @@ ghost use Rattle.lldp_engine.specs.Answer.{on_ok};
 ghost use Rattle.lldpa.specs.Forms.{fault_text, is_skipped, or_hex, complete, tick_form, frame_form, link_form, command_form, work_given};
 ghost use Rattle.lldpa.specs.Work.{frame, work_of, AllowsWork};
 
-use crate::digits::decode_digits;
-use lldp_engine::{Agent, Command, CommandFault, Words, number, split, split_at_bare};
+use lldp_engine::{
+    Agent, Command, CommandFault, Words, decode_digits, number, split, split_at_bare,
+};
 
 /// How many octets a line has at most, its LF left out.
 pub const LONGEST: usize = 4096;

@@ -5,14 +5,12 @@ pub mod addresses;
 pub mod arguments;
 pub mod buffer;
 pub mod device;
-pub mod digits;
 pub mod help;
 pub mod line;
 pub mod output;
 pub mod program;
 pub mod serve;
 pub mod trace;
-pub mod waiting;
 
 use std::process::ExitCode;
 use std::{env, io};

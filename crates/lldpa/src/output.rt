@@ -4,7 +4,7 @@ ghost use Rattle.std.specs.List.{flat_map, AllByRecursion};
 ghost use Rattle.lldp_engine.specs.AgentState.{names_of, IsPort};
 ghost use Rattle.lldp_engine.specs.Frames.{IsSent};
 ghost use Rattle.lldp_engine.specs.Lines.{lines_of as show_lines};
-ghost use Rattle.lldpa.specs.declared.waiting.TheConstants.{ROOM};
+ghost use Rattle.lldp_engine.specs.declared.show.writer.TheConstants.{ROOM};
 ghost use Rattle.lldpa.specs.Devices.{failures_after};
 ghost use Rattle.lldpa.specs.Lines.{ended};
 ghost use Rattle.lldpa.specs.Code.Output.{WrittenBy, Puts, Flushes, Writes, begun};
@@ -12,8 +12,7 @@ ghost use Rattle.lldpa.specs.Sent.{sent_line, mark_line};
 ghost use Rattle.lldpa.specs.Code.Told.{told, Between};
 
 use crate::device::{DeviceFault, Sink};
-use crate::waiting::Waiting;
-use lldp_engine::{Agent, Frame, LineSink, Marks, Show};
+use lldp_engine::{Agent, Frame, LINE_ROOM, LineSink, Marks, Show, Writer};
 
 /// Writes all of the octets.
 fn send<W: Sink>(sink: &mut W, octets: &[u8]) -> Result<(), DeviceFault>
@@ -33,7 +32,7 @@ fn send<W: Sink>(sink: &mut W, octets: &[u8]) -> Result<(), DeviceFault>
 #[derive(Drop)]
 pub struct Output<'w, W> {
     sink: &'w mut W,
-    waiting: Waiting,
+    waiting: Writer,
     answer: Result<(), DeviceFault>,
 }
 
@@ -47,7 +46,7 @@ impl<'w, W: Sink> Output<'w, W> {
     {
         Output {
             sink,
-            waiting: Waiting::new(),
+            waiting: Writer::new(),
             answer: Ok(()),
         }
     }
@@ -101,11 +100,11 @@ impl<W: Sink> Output<'_, W> {
     {
         self.make_room(name.len() + 2 * frame.len() + 5);
         if self.answer.is_ok() {
-            self.waiting.append(b"tx ");
-            self.waiting.append(name);
-            self.waiting.append(b" ");
-            self.waiting.append_hex(frame);
-            self.waiting.append(b"\n");
+            self.waiting.text(b"tx ");
+            self.waiting.text(name);
+            self.waiting.text(b" ");
+            self.waiting.hex(frame);
+            self.waiting.end_line();
         }
     }
 
@@ -121,6 +120,18 @@ impl<W: Sink> Output<'_, W> {
             agent.write_frame(*port, *mark, &mut frame);
             self.sent(agent.port_name(*port), frame.as_slice());
         }
+    }
+
+    /// Puts a line and its LF behind what waits.
+    fn line(&mut self, line: &[u8])
+        requires { length line.now ≤ 2048 }
+        ensures { Between W.taken W.failures W.place self.old self.new (Puts (ended line.now)) }
+    {
+        let Some(text) = self.begin_line() else {
+            return;
+        };
+        text.text(line);
+        text.end_line();
     }
 
     /// Writes a line and its LF.
@@ -163,13 +174,13 @@ impl<W: Sink> Output<'_, W> {
 impl<W: Sink> LineSink for Output<'_, W> {
     ghost takes = { λ old new line. Between W.taken W.failures W.place old new (Puts (ended line)) };
 
-    /// Puts a line and its LF behind what waits.
-    fn line(&mut self, line: &[u8]) {
-        self.make_room(line.len() + 1);
-        if self.answer.is_ok() {
-            self.waiting.append(line);
-            self.waiting.append(b"\n");
+    /// Lends what waits, behind which the next line is written.
+    fn begin_line(&mut self) -> Option<&mut Writer> {
+        self.make_room(LINE_ROOM);
+        if self.answer.is_err() {
+            return None;
         }
+        Some(&mut self.waiting)
     }
 
     fn is_done(&self) -> bool {

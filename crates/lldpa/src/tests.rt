@@ -2,7 +2,6 @@
 //! fail, altered frames, connections.
 
 mod devices;
-mod digits;
 mod failing;
 mod hostile;
 mod listening;

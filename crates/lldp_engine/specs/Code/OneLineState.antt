@@ -1,17 +1,15 @@
 -- What the sink of one line holds.
-use Rattle.std.specs.Prelude.{◌≡◌, ℕ, suc, zero, List, Option, Some, None}
+use Rattle.std.specs.Prelude.{◌≡◌, ℕ, suc, zero, ◌≤◌, List, length, Bool, true, false}
+use Rattle.lldp_engine.specs.declared.show.one_line.OneLine.{OneLine}
+use Rattle.lldp_engine.specs.declared.show.writer.TheConstants.{LINE_ROOM}
+use Rattle.lldp_engine.specs.Text.{ended}
 
--- how many lines come before it, and the line once it came
-pub record OneLineState : Type 0 where
-  pub before : ℕ
-  pub line : Option (List ℕ)
+-- what it holds after a line came, by how many came before the one that is wanted, and whether that one had come
+abbrev pub after_line : ℕ → Bool → List ℕ → List ℕ → OneLine
+after_line before true kept line = record { before = before; came = true; line = kept }
+after_line zero false kept line = record { before = 0; came = true; line = ended line }
+after_line (suc before) false kept line = record { before = before; came = false; line = ended line }
 
--- what it holds after a line came
-abbrev pub after_line : ℕ → Option (List ℕ) → List ℕ → OneLineState
-after_line before (Some kept) line = record { before = before; line = Some kept }
-after_line zero None line = record { before = 0; line = Some line }
-after_line (suc before) None line = record { before = before; line = None }
-
--- it keeps the line where its turn came
-abbrev pub KeepsOne : OneLineState → OneLineState → List ℕ → Type 0
-KeepsOne old new line = new ≡ after_line old.before old.line line
+-- a line came, at most 2,048 octets and an LF
+abbrev pub KeepsOne : OneLine → OneLine → List ℕ → Type 0
+KeepsOne old new line = (new ≡ after_line old.before old.came old.line line) × (length old.line ≤ LINE_ROOM → length new.line ≤ LINE_ROOM)

@@ -1,5 +1,6 @@
 //! MAC, IPv4 and IPv6 addresses.
 ghost use Rattle.std.specs.Prelude.{◌≡◌, ◌+◌, ◌*◌, ◌≤◌, ◌++◌, length};
+ghost use Rattle.lldp_engine.specs.declared.show.writer.TheConstants.{ROOM};
 ghost use Rattle.lldp_engine.specs.Addresses.{mac_text, ipv4_text, ipv6_text, address_kind as kind_of_address};
 
 use crate::show::writer::Writer;
@@ -32,7 +33,7 @@ pub(crate) fn address_kind(family: u8, len: usize) -> AddressKind
 
 /// Writes a MAC address of six octets.
 pub(crate) fn write_mac(line: &mut Writer, octets: &[u8])
-    requires room { length line.old + 18 ≤ 2048 }
+    requires room { length line.old + 18 ≤ ROOM }
     requires six { length octets.now ≡ 6 }
     ensures value { line.new ≡ line.old ++ mac_text octets.now }
     ensures len { length line.new ≤ length line.old + 18 }
@@ -45,7 +46,7 @@ pub(crate) fn write_mac(line: &mut Writer, octets: &[u8])
 
 /// Writes an IPv4 address of four octets.
 pub(crate) fn write_ipv4(line: &mut Writer, octets: &[u8])
-    requires room { length line.old + 44 ≤ 2048 }
+    requires room { length line.old + 44 ≤ ROOM }
     requires four { length octets.now ≡ 4 }
     ensures value { line.new ≡ line.old ++ ipv4_text octets.now }
     ensures len { length line.new ≤ length line.old + 44 }
@@ -58,7 +59,7 @@ pub(crate) fn write_ipv4(line: &mut Writer, octets: &[u8])
 
 /// Writes an IPv6 address of sixteen octets.
 pub(crate) fn write_ipv6(line: &mut Writer, octets: &[u8])
-    requires room { length line.old + 40 ≤ 2048 }
+    requires room { length line.old + 40 ≤ ROOM }
     requires sixteen { length octets.now ≡ 16 }
     ensures value { line.new ≡ line.old ++ ipv6_text octets.now }
     ensures len { length line.new ≤ length line.old + 40 }

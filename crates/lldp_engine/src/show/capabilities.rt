@@ -1,5 +1,6 @@
 //! System Capabilities.
 ghost use Rattle.std.specs.Prelude.{◌≡◌, ◌+◌, ◌*◌, ◌<◌, ◌≤◌, ◌++◌, length};
+ghost use Rattle.lldp_engine.specs.declared.show.writer.TheConstants.{ROOM};
 ghost use Rattle.lldp_engine.specs.Capabilities.{capability_name as name_of, is_set as is_set_of, on_or_off as on_or_off_of, capability_text, capabilities_text};
 
 use crate::show::writer::Writer;
@@ -50,7 +51,7 @@ fn on_or_off(on: bool) -> &'static [u8]
 
 /// Writes one capability, and whether it is enabled.
 fn write_capability(line: &mut Writer, caps: Caps, bit: u8)
-    requires room { length line.old + 12 ≤ 2048 }
+    requires room { length line.old + 12 ≤ ROOM }
     requires known { bit < 16 }
     ensures value { line.new ≡ line.old ++ capability_text caps bit }
     ensures len { length line.new ≤ length line.old + 12 }
@@ -62,7 +63,7 @@ fn write_capability(line: &mut Writer, caps: Caps, bit: u8)
 
 /// Writes the available capabilities.
 pub(crate) fn write_capabilities(line: &mut Writer, caps: Caps)
-    requires room { length line.old + 208 ≤ 2048 }
+    requires room { length line.old + 208 ≤ ROOM }
     ensures value { line.new ≡ line.old ++ capabilities_text caps }
     ensures len { length line.new ≤ length line.old + 208 }
 {

@@ -8,15 +8,17 @@ use crate::agent::configuration::Configuration;
 use crate::agent::options::Role;
 use crate::show::addresses::{write_ipv4, write_mac};
 use crate::show::line_sink::LineSink;
-use crate::show::writer::Writer;
 
 /// The line of the MAC address.
-fn put_mac<S: LineSink>(sink: &mut S, line: &mut Writer, mac: &[u8; 6])
+fn put_mac<S: LineSink>(sink: &mut S, mac: &[u8; 6])
     ensures { S.takes sink.old sink.new (mac_line mac.now) }
 {
-    line.begin(b"local-chassis.mac=");
+    let Some(line) = sink.begin_line() else {
+        return;
+    };
+    line.text(b"local-chassis.mac=");
     write_mac(line, mac);
-    sink.line(line.as_slice());
+    line.end_line();
 }
 
 fn role_text(role: Role) -> &'static [u8]
@@ -31,65 +33,68 @@ fn role_text(role: Role) -> &'static [u8]
 }
 
 /// The line of the capabilities: that of the role, which is on.
-fn put_role<S: LineSink>(sink: &mut S, line: &mut Writer, role: Role)
+fn put_role<S: LineSink>(sink: &mut S, role: Role)
     ensures { S.takes sink.old sink.new (role_line role) }
 {
-    line.begin(b"local-chassis.caps=");
+    let Some(line) = sink.begin_line() else {
+        return;
+    };
+    line.text(b"local-chassis.caps=");
     line.text(role_text(role));
-    sink.line(line.as_slice());
+    line.end_line();
 }
 
 /// A line of escaped text.
-fn put_text<S: LineSink>(sink: &mut S, line: &mut Writer, key: &[u8], text: &[u8])
+fn put_text<S: LineSink>(sink: &mut S, key: &[u8], text: &[u8])
     requires key { length key.now ≤ 60 }
     requires text { length text.now ≤ 255 }
     ensures { S.takes sink.old sink.new (key.now ++ escaped text.now) }
 {
-    line.begin(key);
+    let Some(line) = sink.begin_line() else {
+        return;
+    };
+    line.text(key);
     line.escaped(text);
-    sink.line(line.as_slice());
+    line.end_line();
 }
 
 /// The line of a management address, with interface number 0 of unknown numbering, and no OID.
-fn put_management<S: LineSink>(sink: &mut S, line: &mut Writer, address: &[u8; 4])
+fn put_management<S: LineSink>(sink: &mut S, address: &[u8; 4])
     ensures { S.takes sink.old sink.new (management_line address.now) }
 {
-    line.begin(b"local-chassis.mgmt=");
+    let Some(line) = sink.begin_line() else {
+        return;
+    };
+    line.text(b"local-chassis.mgmt=");
     write_ipv4(line, address);
     line.text(b",1,0,");
-    sink.line(line.as_slice());
+    line.end_line();
 }
 
 /// The line of the management address, where one was given.
-fn put_if_given<S: LineSink>(sink: &mut S, line: &mut Writer, management: Option<[u8; 4]>)
+fn put_if_given<S: LineSink>(sink: &mut S, management: Option<[u8; 4]>)
     ensures { Takes S.takes sink.old sink.new (management_lines management) }
 {
     if let Some(address) = management {
-        put_management(sink, line, &address);
+        put_management(sink, &address);
     }
 }
 
 /// The lines of `show chassis`.
-pub(crate) fn put_chassis<S: LineSink>(
-    sink: &mut S,
-    line: &mut Writer,
-    configuration: &Configuration,
-)
+pub(crate) fn put_chassis<S: LineSink>(sink: &mut S, configuration: &Configuration)
     ensures { Takes S.takes sink.old sink.new (chassis_lines configuration.now) }
 {
-    put_mac(sink, line, &configuration.mac);
+    put_mac(sink, &configuration.mac);
     put_text(
         sink,
-        line,
         b"local-chassis.name=",
         configuration.hostname.as_slice(),
     );
     put_text(
         sink,
-        line,
         b"local-chassis.descr=",
         configuration.description.as_slice(),
     );
-    put_role(sink, line, configuration.role);
-    put_if_given(sink, line, configuration.management);
+    put_role(sink, configuration.role);
+    put_if_given(sink, configuration.management);
 }

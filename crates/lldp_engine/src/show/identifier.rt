@@ -1,6 +1,7 @@
 //! Chassis IDs and port IDs.
 ghost use Rattle.std.specs.Prelude.{◌≡◌, ◌+◌, ◌*◌, ◌≤◌, ◌++◌, length, codes, slice_index, drop};
 ghost use Rattle.lldp_pdu.specs.Msap.{IsIdentifier};
+ghost use Rattle.lldp_engine.specs.declared.show.writer.TheConstants.{ROOM};
 ghost use Rattle.lldp_engine.specs.Addresses.{address_kind as kind_of_address};
 ghost use Rattle.lldp_engine.specs.Identifier.{chassis_kind as kind_of_chassis, port_kind as kind_of_port, unhandled_text, network_text, identifier_text, chassis_text, port_text};
 
@@ -54,8 +55,9 @@ fn port_kind(subtype: u8) -> IdentifierKind
 /// Writes a whole body, its subtype included.
 fn write_unhandled(line: &mut Writer, body: &[u8])
     requires fits { length body.now ≤ 256 }
-    requires room { length line.old ≤ 60 }
-    ensures { line.new ≡ line.old ++ unhandled_text body.now }
+    requires room { length line.old + 1050 ≤ ROOM }
+    ensures value { line.new ≡ line.old ++ unhandled_text body.now }
+    ensures len { length line.new ≤ length line.old + 1050 }
 {
     line.text(b"unhandled=");
     line.hex(body);
@@ -64,9 +66,10 @@ fn write_unhandled(line: &mut Writer, body: &[u8])
 /// Writes a network address, where it has the length of its family.
 fn write_network(line: &mut Writer, body: &[u8])
     requires fits { IsIdentifier body.now }
-    requires room { length line.old ≤ 60 }
-    ensures { line.new ≡ line.old
+    requires room { length line.old + 1050 ≤ ROOM }
+    ensures value { line.new ≡ line.old
         ++ network_text (kind_of_address (slice_index body.now 1) (length (drop 2 body.now))) body.now }
+    ensures len { length line.new ≤ length line.old + 1050 }
 {
     let address = &body[2..];
     match address_kind(body[1], address.len()) {
@@ -85,8 +88,9 @@ fn write_network(line: &mut Writer, body: &[u8])
 /// Writes an identifier of a kind. The body has its subtype too.
 fn write_identifier(line: &mut Writer, kind: IdentifierKind, body: &[u8])
     requires fits { IsIdentifier body.now }
-    requires room { length line.old ≤ 60 }
-    ensures { line.new ≡ line.old ++ identifier_text kind body.now }
+    requires room { length line.old + 1050 ≤ ROOM }
+    ensures value { line.new ≡ line.old ++ identifier_text kind body.now }
+    ensures len { length line.new ≤ length line.old + 1050 }
 {
     let identifier = &body[1..];
     match kind {
@@ -112,8 +116,9 @@ fn write_identifier(line: &mut Writer, kind: IdentifierKind, body: &[u8])
 /// Writes a chassis ID.
 pub(crate) fn write_chassis(line: &mut Writer, body: &[u8])
     requires fits { IsIdentifier body.now }
-    requires room { length line.old ≤ 60 }
-    ensures { line.new ≡ line.old ++ chassis_text body.now }
+    requires room { length line.old + 1050 ≤ ROOM }
+    ensures value { line.new ≡ line.old ++ chassis_text body.now }
+    ensures len { length line.new ≤ length line.old + 1050 }
 {
     write_identifier(line, chassis_kind(body[0]), body);
 }
@@ -121,8 +126,9 @@ pub(crate) fn write_chassis(line: &mut Writer, body: &[u8])
 /// Writes a port ID.
 pub(crate) fn write_port(line: &mut Writer, body: &[u8])
     requires fits { IsIdentifier body.now }
-    requires room { length line.old ≤ 60 }
-    ensures { line.new ≡ line.old ++ port_text body.now }
+    requires room { length line.old + 1050 ≤ ROOM }
+    ensures value { line.new ≡ line.old ++ port_text body.now }
+    ensures len { length line.new ≤ length line.old + 1050 }
 {
     write_identifier(line, port_kind(body[0]), body);
 }

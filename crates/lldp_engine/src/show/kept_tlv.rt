@@ -1,8 +1,9 @@
 //! Kept TLVs.
-ghost use Rattle.std.specs.Prelude.{◌≡◌, ◌≤◌, ◌++◌, length, Some};
+ghost use Rattle.std.specs.Prelude.{◌≡◌, ◌+◌, ◌≤◌, ◌++◌, length, Some};
 ghost use Rattle.lldp_pdu.specs.Kept.{IsKeptTlv};
 ghost use Rattle.lldp_pdu.specs.Capabilities.{caps_of, caps_fields};
 ghost use Rattle.lldp_pdu.specs.View.{tlv_view};
+ghost use Rattle.lldp_engine.specs.declared.show.writer.TheConstants.{ROOM};
 ghost use Rattle.lldp_engine.specs.KeptTlv.{system_capabilities_text, management_tlv_text, organizational_text, unknown_text, tlv_text, HasAddress};
 
 use crate::show::capabilities::write_capabilities;
@@ -16,10 +17,11 @@ use lldp_pdu::{Tlv, caps, mgmt};
 
 /// Writes an organizationally specific TLV.
 fn write_organizational(line: &mut Writer, body: &[u8])
-    requires room { length line.old ≤ 60 }
+    requires room { length line.old + 1050 ≤ ROOM }
     requires least { 4 ≤ length body.now }
     requires short { length body.now ≤ 511 }
-    ensures { line.new ≡ line.old ++ organizational_text body.now }
+    ensures value { line.new ≡ line.old ++ organizational_text body.now }
+    ensures len { length line.new ≤ length line.old + 1050 }
 {
     line.text(b"org.");
     line.hex(&body[..3]);
@@ -31,9 +33,10 @@ fn write_organizational(line: &mut Writer, body: &[u8])
 
 /// Writes a TLV of a reserved type.
 fn write_unknown(line: &mut Writer, tlv: Tlv<'_>)
-    requires room { length line.old ≤ 60 }
+    requires room { length line.old + 1050 ≤ ROOM }
     requires short { length tlv.body.now ≤ 511 }
-    ensures { line.new ≡ line.old ++ unknown_text (tlv_view tlv.entry) }
+    ensures value { line.new ≡ line.old ++ unknown_text (tlv_view tlv.entry) }
+    ensures len { length line.new ≤ length line.old + 1050 }
 {
     line.text(b"unknown.");
     line.decimal(u32::from(tlv.kind));
@@ -43,9 +46,10 @@ fn write_unknown(line: &mut Writer, tlv: Tlv<'_>)
 
 /// Writes System Capabilities.
 fn write_system_capabilities(line: &mut Writer, body: &[u8])
-    requires room { length line.old ≤ 60 }
+    requires room { length line.old + 1050 ≤ ROOM }
     requires well_formed { caps_of body.now ≡ Some (caps_fields body.now) }
-    ensures { line.new ≡ line.old ++ system_capabilities_text body.now }
+    ensures value { line.new ≡ line.old ++ system_capabilities_text body.now }
+    ensures len { length line.new ≤ length line.old + 1050 }
 {
     line.text(b"chassis.caps=");
     write_capabilities(line, caps(body).unwrap());
@@ -53,9 +57,10 @@ fn write_system_capabilities(line: &mut Writer, body: &[u8])
 
 /// Writes a Management Address TLV.
 fn write_management(line: &mut Writer, body: &[u8])
-    requires room { length line.old ≤ 60 }
+    requires room { length line.old + 1050 ≤ ROOM }
     requires well_formed { HasAddress body.now }
-    ensures { line.new ≡ line.old ++ management_tlv_text body.now }
+    ensures value { line.new ≡ line.old ++ management_tlv_text body.now }
+    ensures len { length line.new ≤ length line.old + 1050 }
 {
     line.text(b"chassis.mgmt=");
     write_management_address(line, mgmt(body).unwrap());
@@ -63,9 +68,10 @@ fn write_management(line: &mut Writer, body: &[u8])
 
 /// Writes a kept TLV.
 pub(crate) fn write_kept_tlv(line: &mut Writer, tlv: Tlv<'_>)
-    requires room { length line.old ≤ 60 }
+    requires room { length line.old + 1050 ≤ ROOM }
     requires kept { IsKeptTlv (tlv_view tlv) }
-    ensures { line.new ≡ line.old ++ tlv_text (tlv_view tlv.entry) }
+    ensures value { line.new ≡ line.old ++ tlv_text (tlv_view tlv.entry) }
+    ensures len { length line.new ≤ length line.old + 1050 }
 {
     match tlv.kind {
         PORT_DESCRIPTION => line.escaped_value(b"port.descr=", tlv.body),

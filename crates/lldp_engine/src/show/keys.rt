@@ -1,5 +1,6 @@
 //! What the lines of ports and neighbors begin with.
-ghost use Rattle.std.specs.Prelude.{◌≡◌, ◌≤◌, ◌++◌, length, decimal};
+ghost use Rattle.std.specs.Prelude.{◌≡◌, ◌+◌, ◌≤◌, ◌++◌, length, decimal};
+ghost use Rattle.lldp_engine.specs.declared.show.writer.TheConstants.{ROOM};
 ghost use Rattle.lldp_engine.specs.Keys.{port_key, neighbor_key};
 
 use crate::show::line_sink::LineSink;
@@ -7,20 +8,22 @@ use crate::show::writer::Writer;
 
 /// Begins a line by `lldp.PORT.`.
 pub(crate) fn begin_port_line(line: &mut Writer, name: &[u8])
-    requires { length name.now ≤ 15 }
-    ensures value { line.new ≡ port_key name.now }
-    ensures short { length line.new ≤ 21 }
+    requires room { length line.old + 21 ≤ ROOM }
+    requires name { length name.now ≤ 15 }
+    ensures value { line.new ≡ line.old ++ port_key name.now }
+    ensures len { length line.new ≤ length line.old + 21 }
 {
-    line.begin(b"lldp.");
+    line.text(b"lldp.");
     line.text(name);
     line.text(b".");
 }
 
 /// Begins a line by `lldp.PORT.N.`.
 pub(crate) fn begin_neighbor_line(line: &mut Writer, name: &[u8], number: u8)
-    requires { length name.now ≤ 15 }
-    ensures value { line.new ≡ neighbor_key name.now number }
-    ensures short { length line.new ≤ 32 }
+    requires room { length line.old + 32 ≤ ROOM }
+    requires name { length name.now ≤ 15 }
+    ensures value { line.new ≡ line.old ++ neighbor_key name.now number }
+    ensures len { length line.new ≤ length line.old + 32 }
 {
     begin_port_line(line, name);
     line.decimal(u32::from(number));
@@ -28,18 +31,15 @@ pub(crate) fn begin_neighbor_line(line: &mut Writer, name: &[u8], number: u8)
 }
 
 /// A line of a port that has a number.
-pub(crate) fn put_port_number<S: LineSink>(
-    sink: &mut S,
-    line: &mut Writer,
-    name: &[u8],
-    key: &[u8],
-    n: u32,
-)
+pub(crate) fn put_port_number<S: LineSink>(sink: &mut S, name: &[u8], key: &[u8], n: u32)
     requires name { length name.now ≤ 15 }
     requires key { length key.now ≤ 20 }
     ensures { S.takes sink.old sink.new (port_key name.now ++ (key.now ++ decimal n)) }
 {
+    let Some(line) = sink.begin_line() else {
+        return;
+    };
     begin_port_line(line, name);
     line.decimal_value(key, n);
-    sink.line(line.as_slice());
+    line.end_line();
 }

@@ -1,5 +1,10 @@
 //! What takes the lines of a show.
-ghost use Rattle.std.specs.Prelude.{◌≡◌, ◌≤◌, ℕ, List, length, true};
+ghost use Rattle.std.specs.Prelude.{◌≡◌, ◌+◌, ◌≤◌, ℕ, List, length, true, IfSome};
+ghost use Rattle.std.specs.Borrow.{sem};
+ghost use Rattle.lldp_engine.specs.declared.show.writer.TheConstants.{LINE_ROOM, ROOM};
+ghost use Rattle.lldp_engine.specs.LineRoom.{LendsRoom};
+
+use crate::show::writer::Writer;
 
 /// What takes the lines of a show, one after another. A sink that can fail keeps its fault, and is
 /// done from then on.
@@ -7,10 +12,12 @@ pub trait LineSink {
     /// How it is after it took a line.
     ghost takes: { Self → Self → List ℕ → Type 0 };
 
-    /// Takes a line, at most 2,048 octets, without its line feed.
-    fn line(&mut self, line: &[u8])
-        requires { length line.now ≤ 2048 }
-        ensures { takes self.old self.new line.now };
+    /// Lends the writer in which the next line is written, behind what stands there; None where no
+    /// line changes the sink any more. What is written there is taken as a line: at most 2,048
+    /// octets, and a line feed.
+    fn begin_line(&mut self) -> Option<&mut Writer>
+        ensures* takes_line { sem 𝓛 (LendsRoom Self.row takes self.entry result) }
+        ensures room { IfSome result (λ writer. length writer.now + LINE_ROOM ≤ ROOM) };
 
     /// Whether no line changes it any more, so that the others need not come. A show asks this
     /// before each port and before each neighbor: a sink that is done is given no more than the

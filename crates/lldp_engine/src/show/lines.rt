@@ -14,7 +14,7 @@ use crate::show::line_sink::LineSink;
 use crate::show::neighbor_lines::put_neighbors;
 use crate::show::one_line::OneLine;
 use crate::show::statistics_lines::put_statistics;
-use crate::show::writer::{Line, Writer};
+use crate::show::writer::Line;
 use std::alloc::Allocator;
 
 /// No show has more lines: each of 64 ports has 3 and those of 128 neighbors, each of which has 4
@@ -34,12 +34,11 @@ impl<A: Allocator> Agent<A> {
     {
         let configuration = self.configuration();
         let ports = self.all_ports();
-        let mut line = Writer::new();
         match show {
-            Show::Neighbors => put_neighbors(sink, &mut line, ports),
-            Show::Statistics => put_statistics(sink, &mut line, ports),
-            Show::Chassis => put_chassis(sink, &mut line, configuration),
-            Show::Configuration => put_configuration(sink, &mut line, configuration, ports),
+            Show::Neighbors => put_neighbors(sink, ports),
+            Show::Statistics => put_statistics(sink, ports),
+            Show::Chassis => put_chassis(sink, configuration),
+            Show::Configuration => put_configuration(sink, configuration, ports),
         }
     }
 

@@ -1,6 +1,7 @@
 //! Management Addresses.
 ghost use Rattle.std.specs.Prelude.{◌≡◌, ◌+◌, ◌≤◌, ◌++◌, length};
 ghost use Rattle.lldp_pdu.specs.View.{address_view};
+ghost use Rattle.lldp_engine.specs.declared.show.writer.TheConstants.{ROOM};
 ghost use Rattle.lldp_engine.specs.Addresses.{address_kind as kind_of_address};
 ghost use Rattle.lldp_engine.specs.ManagementAddress.{address_text, management_text};
 
@@ -10,7 +11,7 @@ use lldp_pdu::Mgmt;
 
 /// Writes an address of any family.
 fn write_address(line: &mut Writer, family: u8, octets: &[u8])
-    requires room { length line.old + 80 ≤ 2048 }
+    requires room { length line.old + 80 ≤ ROOM }
     requires short { length octets.now ≤ 31 }
     ensures value { line.new ≡ line.old
         ++ address_text (kind_of_address family (length octets.now)) family octets.now }
@@ -30,7 +31,7 @@ fn write_address(line: &mut Writer, family: u8, octets: &[u8])
 
 /// Writes a management address.
 pub(crate) fn write_management_address(line: &mut Writer, address: Mgmt<'_>)
-    requires room { length line.old + 360 ≤ 2048 }
+    requires room { length line.old + 360 ≤ ROOM }
     requires short { length address.address.now ≤ 31 }
     requires oid { length address.oid.now ≤ 128 }
     ensures value { line.new ≡ line.old ++ management_text (address_view address.entry) }

@@ -1,62 +1,69 @@
 //! A sink that keeps one line.
-ghost use Rattle.std.specs.Prelude.{◌≡◌, None};
+ghost use Rattle.std.specs.Prelude.{◌≡◌, ◌≤◌, ℕ, List, [], true, false, None, Some, length};
 ghost use Rattle.std.specs.Option.{option_map};
 ghost use Rattle.lldp_engine.specs.Lines.{octets_of};
+ghost use Rattle.lldp_engine.specs.declared.show.writer.TheConstants.{LINE_ROOM};
+ghost use Rattle.lldp_engine.specs.Text.{ended};
 ghost use Rattle.lldp_engine.specs.Code.OneLineState.{KeepsOne};
 
 use crate::show::line_sink::LineSink;
-use crate::show::writer::Line;
+use crate::show::writer::{Line, Writer};
 use arrayvec::ArrayVec;
-use std::marker::Model;
 
-/// How many lines come before the one that is wanted, and that line once it came.
+/// How many lines come before the one that is wanted, whether that one came, and the last line that
+/// was written, with its line feed.
 #[derive(Drop)]
 pub(crate) struct OneLine {
     before: u32,
-    line: Option<Line>,
-}
-
-impl Model for OneLine {
-    ghost use Rattle.std.specs.Option.{option_map};
-    ghost use Rattle.lldp_engine.specs.Lines.{octets_of};
-    ghost use Rattle.lldp_engine.specs.Code.OneLineState.{OneLineState};
-
-    ghost Value = { OneLineState };
-
-    ghost view = { λ s. record { before = s.before; line = option_map octets_of s.line } };
+    came: bool,
+    line: Writer,
 }
 
 impl OneLine {
     pub fn new(before: u32) -> OneLine
-        ensures { result ≡ record { before = before; line = None } }
+        ensures { result ≡ record { before = before; came = false; line = [] } }
     {
-        OneLine { before, line: None }
+        OneLine {
+            before,
+            came: false,
+            line: Writer::new(),
+        }
     }
 
+    /// The line that is wanted, where it came, without its line feed.
     pub fn into_line(self) -> Option<Line>
-        ensures { option_map octets_of result ≡ self.line }
+        requires { length self.line ≤ LINE_ROOM }
+        ensures none { self.came ≡ false → result ≡ None }
+        ensures line { (line : List ℕ) → self.came ≡ true → self.line ≡ ended line
+            → option_map octets_of result ≡ Some line }
     {
-        self.line
+        if !self.came {
+            return None;
+        }
+        let (_, octets) = self.line.as_slice().split_last()?;
+        let mut line = ArrayVec::new();
+        let _ = line.try_extend_from_slice(octets);
+        Some(line)
     }
 }
 
 impl LineSink for OneLine {
     ghost takes = { KeepsOne };
 
-    fn line(&mut self, line: &[u8]) {
-        if self.line.is_some() {
-            return;
+    fn begin_line(&mut self) -> Option<&mut Writer> {
+        if self.came {
+            return None;
         }
-        if self.before > 0 {
+        if self.before == 0 {
+            self.came = true;
+        } else {
             self.before -= 1;
-            return;
         }
-        let mut kept = ArrayVec::new();
-        let _ = kept.try_extend_from_slice(line);
-        self.line = Some(kept);
+        self.line.clear();
+        Some(&mut self.line)
     }
 
     fn is_done(&self) -> bool {
-        self.line.is_some()
+        self.came
     }
 }

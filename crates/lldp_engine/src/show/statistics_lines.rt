@@ -5,44 +5,33 @@ ghost use Rattle.lldp_engine.specs.Takes.{Takes};
 use crate::port::Port;
 use crate::show::keys::put_port_number;
 use crate::show::line_sink::LineSink;
-use crate::show::writer::Writer;
 use std::alloc::Allocator;
 
 /// The lines of a port: its nine counters.
-fn put_counters<A: Allocator, S: LineSink>(sink: &mut S, line: &mut Writer, port: &Port<A>)
+fn put_counters<A: Allocator, S: LineSink>(sink: &mut S, port: &Port<A>)
     ensures { Takes S.takes sink.old sink.new (counter_lines port.now) }
 {
     let name = port.name();
     let counters = port.counters();
-    put_port_number(sink, line, name, b"sent=", counters.sent);
-    put_port_number(sink, line, name, b"shutdowns=", counters.shutdowns);
-    put_port_number(sink, line, name, b"received=", counters.received);
-    put_port_number(sink, line, name, b"discarded=", counters.discarded);
-    put_port_number(sink, line, name, b"errors=", counters.errors);
-    put_port_number(
-        sink,
-        line,
-        name,
-        b"tlvs-discarded=",
-        counters.tlvs_discarded,
-    );
-    put_port_number(sink, line, name, b"unrecognized=", counters.unrecognized);
-    put_port_number(sink, line, name, b"ageouts=", counters.ageouts);
-    put_port_number(sink, line, name, b"drops=", counters.drops);
+    put_port_number(sink, name, b"sent=", counters.sent);
+    put_port_number(sink, name, b"shutdowns=", counters.shutdowns);
+    put_port_number(sink, name, b"received=", counters.received);
+    put_port_number(sink, name, b"discarded=", counters.discarded);
+    put_port_number(sink, name, b"errors=", counters.errors);
+    put_port_number(sink, name, b"tlvs-discarded=", counters.tlvs_discarded);
+    put_port_number(sink, name, b"unrecognized=", counters.unrecognized);
+    put_port_number(sink, name, b"ageouts=", counters.ageouts);
+    put_port_number(sink, name, b"drops=", counters.drops);
 }
 
 /// The lines of `show statistics`.
-pub(crate) fn put_statistics<A: Allocator, S: LineSink>(
-    sink: &mut S,
-    line: &mut Writer,
-    ports: &[Port<A>],
-)
+pub(crate) fn put_statistics<A: Allocator, S: LineSink>(sink: &mut S, ports: &[Port<A>])
     ensures { Takes S.takes sink.old sink.new (statistics_lines ports.now) }
 {
     for port in ports {
         if sink.is_done() {
             return;
         }
-        put_counters(sink, line, port);
+        put_counters(sink, port);
     }
 }

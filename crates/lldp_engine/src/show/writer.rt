@@ -1,19 +1,26 @@
-//! A line that is written piece by piece.
+//! Lines that are written piece by piece, one behind another.
 ghost use Rattle.std.specs.Prelude.{◌≡◌, ◌+◌, ◌*◌, ◌≤◌, ◌∷◌, ◌++◌, [], length, decimal};
 ghost use Rattle.hex.specs.Hex.{encode_lower};
 ghost use Rattle.lldp_engine.specs.Text.{escape, escaped as escaped_text, separator as separator_text};
 
+use crate::digits::encode_digits;
 use arrayvec::ArrayVec;
 use std::marker::Model;
 
 /// A line, at most 2,048 octets, without its line feed.
 pub type Line = ArrayVec<u8, 2048>;
 
-/// A line that is being written. Each method asks for the room that it may need, so no line is cut.
-/// Beginning anew leaves the octets where they are, which an `ArrayVec` would blank.
+/// The room that a line takes at most, with its line feed.
+pub const LINE_ROOM: usize = 2049;
+
+/// How many octets stand in a writer at most.
+pub const ROOM: usize = 8192;
+
+/// Octets that are written one behind another. Each method asks for the room that it needs, so no
+/// octet is cut off. Clearing leaves the octets where they are, which an `ArrayVec` would blank.
 #[derive(Drop)]
-pub(crate) struct Writer {
-    room: [u8; 2048],
+pub struct Writer {
+    room: [u8; ROOM],
     len: usize,
 }
 
@@ -24,30 +31,46 @@ impl Model for Writer {
 
     ghost view = { λ w. take w.len w.room };
 
-    ghost invariant = { λ w. w.len ≤ 2048 };
+    ghost invariant = { λ w. w.len ≤ 8192 };
 }
 
 impl Writer {
+    /// One in which nothing stands.
     pub fn new() -> Self
         ensures { result ≡ [] }
     {
         Writer {
-            room: [0; 2048],
+            room: [0; ROOM],
             len: 0,
         }
     }
 
-    /// Begins anew by this.
-    pub fn begin(&mut self, key: &[u8])
-        requires { length key.now ≤ 2048 }
-        ensures { self.new ≡ key.now }
+    /// How many octets more there is room for.
+    pub fn room_left(&self) -> usize
+        ensures { length self.now + result ≡ ROOM }
     {
-        self.len = 0;
-        self.text(key);
+        ROOM - self.len
     }
 
-    pub fn octet(&mut self, octet: u8)
-        requires { length self.old + 1 ≤ 2048 }
+    /// Forgets what was written.
+    pub fn clear(&mut self)
+        ensures { self.new ≡ [] }
+    {
+        self.len = 0;
+    }
+
+    /// Ends a line by its line feed.
+    pub fn end_line(&mut self)
+        requires { length self.old + 1 ≤ ROOM }
+        ensures value { self.new ≡ self.old ++ 10 ∷ [] }
+        ensures len { length self.new ≡ length self.old + 1 }
+    {
+        self.octet(b'\n');
+    }
+
+    /// One octet.
+    pub(crate) fn octet(&mut self, octet: u8)
+        requires { length self.old + 1 ≤ ROOM }
         ensures value { self.new ≡ self.old ++ octet ∷ [] }
         ensures len { length self.new ≡ length self.old + 1 }
     {
@@ -56,7 +79,7 @@ impl Writer {
 
     /// Octets that stand as they are.
     pub fn text(&mut self, octets: &[u8])
-        requires { length self.old + length octets.now ≤ 2048 }
+        requires { length self.old + length octets.now ≤ ROOM }
         ensures value { self.new ≡ self.old ++ octets.now }
         ensures len { length self.new ≡ length self.old + length octets.now }
     {
@@ -66,8 +89,8 @@ impl Writer {
     }
 
     /// What stands between the items of a list: nothing before the first.
-    pub fn separator(&mut self, separator: u8, before: usize)
-        requires { length self.old + 1 ≤ 2048 }
+    pub(crate) fn separator(&mut self, separator: u8, before: usize)
+        requires { length self.old + 1 ≤ ROOM }
         ensures value { self.new ≡ self.old ++ separator_text separator before }
         ensures len { length self.new ≤ length self.old + 1 }
     {
@@ -78,18 +101,18 @@ impl Writer {
 
     /// Octets in hexadecimal.
     pub fn hex(&mut self, octets: &[u8])
-        requires { length self.old + 2 * length octets.now ≤ 2048 }
+        requires { length self.old + 2 * length octets.now ≤ ROOM }
         ensures value { self.new ≡ self.old ++ encode_lower octets.now }
         ensures len { length self.new ≡ length self.old + 2 * length octets.now }
     {
         let end = self.len + 2 * octets.len();
-        let _ = hex::encode_to_slice(octets, &mut self.room[self.len..end]);
+        encode_digits(octets, &mut self.room[self.len..end]);
         self.len = end;
     }
 
     /// One octet in hexadecimal.
-    pub fn hex_octet(&mut self, octet: u8)
-        requires { length self.old + 2 ≤ 2048 }
+    pub(crate) fn hex_octet(&mut self, octet: u8)
+        requires { length self.old + 2 ≤ ROOM }
         ensures value { self.new ≡ self.old ++ encode_lower (octet ∷ []) }
         ensures len { length self.new ≡ length self.old + 2 }
     {
@@ -97,7 +120,7 @@ impl Writer {
     }
 
     fn escape(&mut self, octet: u8)
-        requires { length self.old + 4 ≤ 2048 }
+        requires { length self.old + 4 ≤ ROOM }
         ensures value { self.new ≡ self.old ++ escape octet }
         ensures len { length self.new ≤ length self.old + 4 }
     {
@@ -112,8 +135,8 @@ impl Writer {
     }
 
     /// Escaped text.
-    pub fn escaped(&mut self, octets: &[u8])
-        requires { length self.old + 4 * length octets.now ≤ 2048 }
+    pub(crate) fn escaped(&mut self, octets: &[u8])
+        requires { length self.old + 4 * length octets.now ≤ ROOM }
         ensures value { self.new ≡ self.old ++ escaped_text octets.now }
         ensures len { length self.new ≤ length self.old + 4 * length octets.now }
     {
@@ -122,8 +145,9 @@ impl Writer {
         }
     }
 
-    pub fn decimal(&mut self, n: u32)
-        requires { length self.old + 10 ≤ 2048 }
+    /// A number in decimal.
+    pub(crate) fn decimal(&mut self, n: u32)
+        requires { length self.old + 10 ≤ ROOM }
         ensures value { self.new ≡ self.old ++ decimal n }
         ensures len { length self.new ≤ length self.old + 10 }
     {
@@ -132,26 +156,28 @@ impl Writer {
     }
 
     /// A key and escaped text.
-    pub fn escaped_value(&mut self, key: &[u8], text: &[u8])
-        requires { length self.old + length key.now + 4 * length text.now ≤ 2048 }
-        ensures { self.new ≡ self.old ++ (key.now ++ escaped_text text.now) }
+    pub(crate) fn escaped_value(&mut self, key: &[u8], text: &[u8])
+        requires { length self.old + length key.now + 4 * length text.now ≤ ROOM }
+        ensures value { self.new ≡ self.old ++ (key.now ++ escaped_text text.now) }
+        ensures len { length self.new ≤ length self.old + length key.now + 4 * length text.now }
     {
         self.text(key);
         self.escaped(text);
     }
 
     /// A key and a number.
-    pub fn decimal_value(&mut self, key: &[u8], n: u32)
-        requires { length self.old + length key.now + 10 ≤ 2048 }
-        ensures { self.new ≡ self.old ++ (key.now ++ decimal n) }
+    pub(crate) fn decimal_value(&mut self, key: &[u8], n: u32)
+        requires { length self.old + length key.now + 10 ≤ ROOM }
+        ensures value { self.new ≡ self.old ++ (key.now ++ decimal n) }
+        ensures len { length self.new ≤ length self.old + length key.now + 10 }
     {
         self.text(key);
         self.decimal(n);
     }
 
+    /// All that was written.
     pub fn as_slice(&self) -> &[u8]
-        ensures value { result.now ≡ self.now }
-        ensures short { length result.now ≤ 2048 }
+        ensures { result.now ≡ self.now }
     {
         &self.room[..self.len]
     }

@@ -1,6 +1,6 @@
 //! Every show at 64 ports, with tables of up to 128 neighbors, line by line against `show_line`.
 use super::{hear, open, shown};
-use crate::{Agent, LineSink, Show};
+use crate::{Agent, LineSink, Show, Writer};
 use std::process::Abort;
 use std::test::Fail;
 
@@ -41,22 +41,36 @@ struct Compared<'a> {
     show: Show,
     step: u32,
     lines: u32,
+    line: Writer,
     different: u32,
 }
 
-impl LineSink for Compared<'_> {
-    ghost use Rattle.std.specs.Prelude.{◌≡◌, min, ◌+◌, ◌-◌, ◌^◌};
-
-    ghost takes = { λ old new line. new.lines ≡ min (old.lines + 1) (2 ^ 32 - 1) };
-
-    fn line(&mut self, line: &[u8]) {
-        if self.lines.checked_rem(self.step) == Some(0) {
-            let again = shown(self.agent, self.show, self.lines);
+impl Compared<'_> {
+    /// Compares the line that was written last, where there is one.
+    fn compare(&mut self) {
+        let Some((_, line)) = self.line.as_slice().split_last() else {
+            return;
+        };
+        let number = self.lines.saturating_sub(1);
+        if number.checked_rem(self.step) == Some(0) {
+            let again = shown(self.agent, self.show, number);
             if !again.is_some_and(|again| again.as_slice() == line) {
                 self.different = self.different.saturating_add(1);
             }
         }
+    }
+}
+
+impl LineSink for Compared<'_> {
+    ghost use Rattle.std.specs.Prelude.{⊤};
+
+    ghost takes = { λ old new line. ⊤ };
+
+    fn begin_line(&mut self) -> Option<&mut Writer> {
+        self.compare();
         self.lines = self.lines.saturating_add(1);
+        self.line.clear();
+        Some(&mut self.line)
     }
 
     fn is_done(&self) -> bool {
@@ -71,9 +85,11 @@ fn expect_same(rt: &impl Abort, agent: &Agent, show: Show, step: u32, lines: u32
         show,
         step,
         lines: 0,
+        line: Writer::new(),
         different: 0,
     };
     agent.show_lines(&show, &mut compared);
+    compared.compare();
     assert_eq!(rt; compared.different, 0);
     assert_eq!(rt; compared.lines, lines);
     assert!(rt; shown(agent, show, lines).is_none());

@@ -36,5 +36,17 @@ write_management-requires-clause-well_formed c = address_is c.args.tlv.body.now 
 pub write_organizational-requires-clause-least : goal.write_organizational-requires-clause-least
 write_organizational-requires-clause-least c = organizational_least c.args.tlv.body.now (at_kind _ _ 127 c.in-127.is c.requires.kept)
 
-pub returns-in-5 : goal.returns-in-5
-returns-in-5 c = written c.args.tlv.body.now _ _ _ _ 5 c.in-5.is c.escaped_value-in-5.ensures refl
+pub returns-in-4-clause-len : goal.returns-in-4-clause-len
+returns-in-4-clause-len c =
+    let short : length c.args.tlv.body.now ≤ 255 = description_short c.args.tlv.body.now (at_kind _ _ 4 c.in-4.is c.requires.kept) in omega arith
+
+pub returns-in-5-clause-value : goal.returns-in-5-clause-value
+returns-in-5-clause-value c = written c.args.tlv.body.now _ _ _ _ 5 c.in-5.is c.escaped_value-in-5.ensures.value refl
+
+pub returns-in-5-clause-len : goal.returns-in-5-clause-len
+returns-in-5-clause-len c =
+    let short : length c.args.tlv.body.now ≤ 255 = name_short c.args.tlv.body.now (at_kind _ _ 5 c.in-5.is c.requires.kept) in omega arith
+
+pub returns-in-6-clause-len : goal.returns-in-6-clause-len
+returns-in-6-clause-len c =
+    let short : length c.args.tlv.body.now ≤ 255 = system_short c.args.tlv.body.now (at_kind _ _ 6 c.in-6.is c.requires.kept) in omega arith

@@ -11,7 +11,7 @@ seen_is : (r : Option Mgmt) (m : Mgmt) (o : Option Address) (a : Address) → op
 seen_is r m o a e f g =
     let k : Some (address_view m) ≡ Some a = sym (ap (option_map address_view) g) ∙ e ∙ f in cc
 
-pub returns : goal.returns
-returns c =
+pub returns-clause-value : goal.returns-clause-value
+returns-clause-value c =
     let e : address_view c.unwrap.result ≡ address_fields c.args.body.now (get_or c.args.body.now 0 0) = seen_is _ c.unwrap.result _ _ c.mgmt.ensures c.requires.well_formed.address c.unwrap.ensures in
     behind _ _ _ _ _ _ c.text.ensures.value c.write_management_address.ensures.value (ap management_text e)

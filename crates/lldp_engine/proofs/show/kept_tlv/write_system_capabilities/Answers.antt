@@ -4,7 +4,7 @@ use Rattle.lldp_engine.specs.Capabilities.{capabilities_text}
 use Rattle.lldp_engine.proofs.TextJoined.{behind}
 use Rattle.lldp_engine.proofs.show.kept_tlv.write_system_capabilities.Goals as goal
 
-pub returns : goal.returns
-returns c =
+pub returns-clause-value : goal.returns-clause-value
+returns-clause-value c =
     let e : c.unwrap.result ≡ caps_fields c.args.body.now = cc in
     behind _ _ _ _ _ _ c.text.ensures.value c.write_capabilities.ensures.value (ap capabilities_text e)

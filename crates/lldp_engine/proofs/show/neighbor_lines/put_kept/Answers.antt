@@ -14,6 +14,6 @@ pub loop-tlv-preserved : goal.loop-tlv-preserved
 loop-tlv-preserved g c =
     let first = c.in-Some.ensures.steps in
     record {
-      taken = takes_more _ _ _ _ (_ ∷ []) _ _ (rw first at c.loop-tlv.invariant.taken) (takes_line _ _ c.line.new.self _ _ _ (rw (c.as_slice.ensures.value, c.write_kept_tlv.ensures, c.begin_neighbor_line.ensures.value) at c.line.ensures) (takes_none _ _));
+      taken = takes_more _ _ _ _ (_ ∷ []) _ _ (rw first at c.loop-tlv.invariant.taken) (takes_line _ _ _ _ _ _ c.put_kept_tlv.ensures (takes_none _ _));
       kept = search rules;
     }

@@ -7,8 +7,8 @@ use Rattle.lldpa.proofs.output.Output.sent.Goals as goal
 
 pub returns-then-is_ok : goal.returns-then-is_ok
 returns-then-is_ok g c =
-    let whole = sent_waits c.make_room.new.self.waiting c.append.new.self c.append-then-is_ok.new.self c.append-then-is_ok-2.new.self c.append_hex.new.self c.append-then-is_ok-3.new.self c.args.name.now (encode_lower c.args.frame.now)
-    c.append.ensures c.append-then-is_ok.ensures c.append-then-is_ok-2.ensures c.append_hex.ensures.value c.append-then-is_ok-3.ensures in
+    let whole = sent_waits c.make_room.new.self.waiting c.text.new.self c.text-then-is_ok.new.self c.text-then-is_ok-2.new.self c.hex.new.self c.end_line.new.self c.args.name.now (encode_lower c.args.frame.now)
+    c.text.ensures.value c.text-then-is_ok.ensures.value c.text-then-is_ok-2.ensures.value c.hex.ensures.value c.end_line.ensures.value in
     puts_then _ _ _ _ _ c.make_room.ensures.puts (puts_waiting _ _ (sent_line c.args.name.now c.args.frame.now) (sym c.is_ok.ensures.value ∙ c.if-is_ok.true) whole)
 
 pub returns-else-is_ok : goal.returns-else-is_ok
