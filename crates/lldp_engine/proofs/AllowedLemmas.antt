@@ -20,6 +20,7 @@ use Rattle.lldp_engine.specs.Port.Past.{Happened, status_after, up_after, calls_
 use Rattle.lldp_engine.specs.Code.Taking.{FitsLimit}
 use Rattle.lldp_engine.proofs.HeardLemmas.{event_told, octets_for}
 use Rattle.lldp_engine.proofs.PortsLemmas.{own_or_nothing}
+use Rattle.std.proofs.lemmas.Grind.{common_steps}
 
 -- ## The limit of opening never changes
 
@@ -45,9 +46,7 @@ holds_few o past name n h = grind (arith, nat_tests, h)
 fits_at : (o : Options) (events : List Event) (n s k : ℕ) (names : List (List ℕ)) → k < length names → fits (ports_after o events s names) n ≡ true
     → length (port_table o (port_past o (s + k) events)).neighbors ≤ n
 fits_at o events n s k [] lt h = absurd (omega arith)
-fits_at o events n s zero (name ∷ names) lt h =
-    let b = and_parts (nat_le (length (port_after o (port_past o s events) name).table.neighbors) n) (fits (ports_after o events (s + 1) names) n) h in
-    subst (λ (i : ℕ). length (port_table o (port_past o i events)).neighbors ≤ n) (sym (add-zero s)) (holds_few o (port_past o s events) name n b.0)
+fits_at o events n s zero (name ∷ names) lt h = grind (arith, common_steps, and_parts, ℕ, add-zero, holds_few)
 fits_at o events n s (suc k) (name ∷ names) lt h =
     let b = and_parts (nat_le (length (port_after o (port_past o s events) name).table.neighbors) n) (fits (ports_after o events (s + 1) names) n) h in
     let place : s + 1 + k ≡ s + suc k = omega arith in
@@ -85,11 +84,7 @@ AreTaken o (now ∷ past) = IsTaken o now.event past × AreTaken o past
 
 pub allowed_taken : (o : Options) (i : ℕ) (events : List Event) → i < length o.names → AreAllowed o events → AreTaken o (port_past o i events)
 allowed_taken o i [] lt h = tt
-allowed_taken o i (event ∷ events) lt h =
-    let past = port_past o i events in (
-      event_told (port_table o past) (for_port i (whose event)) (status_after o past) (up_after past) (octets_for i event h.1) (fits_limit o i events event lt h.0),
-      allowed_taken o i events lt h.2,
-    )
+allowed_taken o i (event ∷ events) lt h = grind (arith, common_steps, event_told, octets_for, fits_limit, allowed_taken o i events lt h.2)
 
 all_told : (opened : ℕ) (call : Option Call) (calls : List Call) → IfSome call (IsTold (table_of opened calls)) → AreTold opened calls → AreTold opened (cons_option call calls)
 all_told opened None calls h t = t

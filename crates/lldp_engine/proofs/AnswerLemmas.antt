@@ -14,6 +14,7 @@ use Rattle.lldp_engine.specs.Port.Past.{mark_after}
 use Rattle.lldp_engine.specs.Standing.{Stands}
 use Rattle.lldp_engine.specs.Headline.{AnswersExactly, PromisedStep, IsEarlierPort}
 use Rattle.lldp_engine.proofs.HeadlineLemmas.{sends_exactly, promised}
+use Rattle.std.proofs.lemmas.Grind.{common_steps}
 
 -- ## Elements of a list
 
@@ -41,8 +42,7 @@ one_is o events s Shutdown others lt e h = ((omega arith, lt, tt, e), h)
 
 all_are : (o : Options) (events : List Event) (s : ℕ) (names : List (List ℕ)) → s + length names ≡ length o.names → AllByRecursion (IsOf o events s) (sent_from o events s names)
 all_are o events s [] l = tt
-all_are o events s (name ∷ names) l =
-    one_is o events s (mark_after o (port_past o s events)) _ (omega arith) refl (later_are o events s _ (all_are o events (s + 1) names (omega arith)))
+all_are o events s (name ∷ names) l = grind (arith, common_steps, one_is, later_are, all_are o events (s + 1) names (omega arith))
 
 -- ## Each mark of the definitions is among them
 
@@ -78,10 +78,8 @@ before_all o events s mark (x ∷ xs) h = (omega (arith, h.0.0), before_all o ev
 one_rises : (o : Options) (events : List Event) (s : ℕ) (mark : Mark) (others : List Sending) → AllByRecursion (IsOf o events (s + 1)) others → AllPairs IsEarlierPort others
     → AllPairs IsEarlierPort (sending s mark others)
 one_rises o events s Quiet others h rising = rising
-one_rises o events s Ordinary others h rising =
-    AllPairs-cons IsEarlierPort (s, Ordinary) others (All-from_recursion (IsEarlierPort (s, Ordinary)) others (before_all o events s Ordinary others h)) rising
-one_rises o events s Shutdown others h rising =
-    AllPairs-cons IsEarlierPort (s, Shutdown) others (All-from_recursion (IsEarlierPort (s, Shutdown)) others (before_all o events s Shutdown others h)) rising
+one_rises o events s Ordinary others h rising = grind (arith, common_steps, AllPairs-cons, All-from_recursion, before_all)
+one_rises o events s Shutdown others h rising = grind (arith, common_steps, AllPairs-cons, All-from_recursion, before_all)
 
 all_rise : (o : Options) (events : List Event) (s : ℕ) (names : List (List ℕ)) → s + length names ≡ length o.names → AllPairs IsEarlierPort (sent_from o events s names)
 all_rise o events s [] l = λ i j d lt within. absurd (omega (arith, within))
@@ -127,7 +125,4 @@ module _ (past : Past) (event : Event) (r : InRange past.options) where
 
 pub promised_step : (past : Past) (event : Event) (marks : List Sending) (agent : AgentState) → marks ≡ marks_of (with_event past event) → Stands (with_event past event) agent
     → PromisedStep past event marks agent
-promised_step past event marks agent e h = record {
-  answered = subst (AnswersExactly past event) (sym e) (answers_exactly past event h.in_range);
-  promised = promised (with_event past event) agent h;
-}
+promised_step past event marks agent e h = grind (arith, common_steps, answers_exactly, promised)

@@ -14,6 +14,7 @@ use Rattle.lldp_table.specs.declared.learned.Learned.TheVariants.{New, Refreshed
 use Rattle.lldp_engine.specs.Heard.{Heard, refused, leaves, tells}
 use Rattle.lldp_engine.specs.Counters.{wrapped, is_refused, is_error, discarded_tlvs, unrecognized_tlvs, is_dropped, all_aged_out, is_ordinary, is_shutdown, counters_of}
 use Rattle.lldp_engine.specs.Code.Counting.{none_counted, with_received, with_refused, with_tlvs, with_answer, with_aged_out, with_mark}
+use Rattle.std.proofs.lemmas.Grind.{common_steps}
 
 -- the counter counts on by n
 counts : (all n : ℕ) → wrapped (wrapped all + n) ≡ wrapped (n + all)
@@ -39,27 +40,23 @@ counted_none = refl
 module _ (heard : List Heard) (events : List TableEvent) (marks : List Mark) where
   pub counted_refused : with_refused (with_received (counters_of heard events marks)) ≡ counters_of (refused ∷ heard) events marks
   unfolding counters_of
-  counted_refused =
-      rw (sum_by-cons discarded_tlvs refused heard, sum_by-cons unrecognized_tlvs refused heard, counts_one (length heard), counts_one (length (filter is_refused heard)), counts_one (length (filter is_error heard)), ← counts_none (sum_by discarded_tlvs heard), ← counts_none (sum_by unrecognized_tlvs heard)) refl
+  counted_refused = grind (arith, common_steps, sum_by-cons, counts_one, filter, counts_none)
 
   pub counted_leaves : (msap : MsapId) → with_received (counters_of heard events marks) ≡ counters_of (leaves msap ∷ heard) (forgot msap ∷ events) marks
   unfolding counters_of
-  counted_leaves msap =
-      rw (sum_by-cons discarded_tlvs (leaves msap) heard, sum_by-cons unrecognized_tlvs (leaves msap) heard, counts_one (length heard), ← counts_none (sum_by discarded_tlvs heard), ← counts_none (sum_by unrecognized_tlvs heard), ← counts_none (all_aged_out events)) refl
+  counted_leaves msap = grind (arith, common_steps, sum_by-cons, counts_one, counts_none)
 
   -- one that was stored
   counted_stored : (info : LldpInfo) (answer : Learned) → is_dropped (learned info.msap info.ttl info.octets answer) ≡ false
       → with_tlvs (with_received (counters_of heard events marks)) info.discarded info.unrecognized ≡ counters_of (tells info ∷ heard) (learned info.msap info.ttl info.octets answer ∷ events) marks
   unfolding counters_of
-  counted_stored info answer d =
-      rw (sum_by-cons discarded_tlvs (tells info) heard, sum_by-cons unrecognized_tlvs (tells info) heard, d, counts_one (length heard), counts_if (nat_lt 0 info.discarded) (tells info) (filter is_error heard), counts (sum_by discarded_tlvs heard) info.discarded, counts (sum_by unrecognized_tlvs heard) info.unrecognized, ← counts_none (all_aged_out events)) refl
+  counted_stored info answer d = grind (arith, common_steps, sum_by-cons, counts_one, counts_if, filter, counts, counts_none)
 
   -- one that was dropped
   counted_dropped : (info : LldpInfo)
       → with_answer (with_tlvs (with_received (counters_of heard events marks)) info.discarded info.unrecognized) Dropped ≡ counters_of (tells info ∷ heard) (learned info.msap info.ttl info.octets Dropped ∷ events) marks
   unfolding counters_of
-  counted_dropped info =
-      rw (sum_by-cons discarded_tlvs (tells info) heard, sum_by-cons unrecognized_tlvs (tells info) heard, counts_one (length (filter is_dropped events)), counts_one (length heard), counts_if (nat_lt 0 info.discarded) (tells info) (filter is_error heard), counts (sum_by discarded_tlvs heard) info.discarded, counts (sum_by unrecognized_tlvs heard) info.unrecognized, ← counts_none (all_aged_out events)) refl
+  counted_dropped info = grind (arith, common_steps, sum_by-cons, counts_one, filter, counts_if, counts, counts_none)
 
   pub counted_tells : (info : LldpInfo) (answer : Learned)
       → with_answer (with_tlvs (with_received (counters_of heard events marks)) info.discarded info.unrecognized) answer ≡ counters_of (tells info ∷ heard) (learned info.msap info.ttl info.octets answer ∷ events) marks

@@ -14,11 +14,10 @@ use Rattle.lldp_engine.specs.declared.agent.options.Role.TheVariants.{Station, B
 use Rattle.lldp_engine.specs.Configuration.{Configuration, sent_ttl}
 use Rattle.lldp_engine.specs.Code.ShortText.{HasShortTexts}
 use Rattle.lldp_engine.specs.Frames.{unit, sent_msap, capabilities_of, management_body, management_tlvs, draft_of}
+use Rattle.std.proofs.lemmas.Grind.{common_steps}
 
 grown : (d : Draft) (u : TlvUnit) → length (spellings (all_tlvs (with_tlv d u))) ≡ length (spellings (all_tlvs d)) + length u.body + 2
-grown d u =
-    let whole : spellings (all_tlvs (with_tlv d u)) ≡ spellings (all_tlvs d) ++ (spelling u ++ []) = flat_map-append spelling (all_tlvs d) (u ∷ []) in
-    ap length whole ∙ length-append (spellings (all_tlvs d)) (spelling u ++ []) ∙ ap (λ l. length (spellings (all_tlvs d)) + length l) (append-nil (spelling u)) ∙ omega arith
+grown d u = grind (arith, common_steps, flat_map-append, length-append, append-nil)
 
 text_fits : (kind : ℕ) (text : List ℕ) → (kind ≡ 4) ⊎ (kind ≡ 5) ⊎ (kind ≡ 6) → length text ≤ 255 → is_well_formed (unit kind text) ≡ true
 unfolding is_well_formed
@@ -62,11 +61,7 @@ module _ (c : Configuration) (name : List ℕ) (some : 0 < length name) (short :
   begun ttl = record { msap = sent_msap c name; ttl = ttl; tlvs = [] }
 
   begun_length : (ttl : ℕ) → length (spellings (all_tlvs (begun ttl))) ≤ 31
-  begun_length ttl =
-      let a = spelling (unit 1 (4 ∷ c.mac)) in
-      let b = spelling (unit 2 (5 ∷ name)) in
-      let e = spelling (unit 3 (to_be_bytes w16 ttl)) in
-      omega (arith, length-append a (b ++ (e ++ [])), length-append b (e ++ []), length-append e [], short, mac)
+  begun_length ttl = grind (arith, common_steps, length-append)
 
   abbrev first : Draft
   first = with_tlv (begun (sent_ttl c)) (unit 4 name)
@@ -87,12 +82,7 @@ module _ (c : Configuration) (name : List ℕ) (some : 0 < length name) (short :
   lives = omega arith
 
   can_begin : (ttl : ℕ) → ttl < 2 ^ 16 → (us : List TlvUnit) → CanPutEach (begun ttl) us → CanBuild (record { msap = sent_msap c name; ttl = ttl; tlvs = us })
-  can_begin ttl fits us puts = record {
-    chassis = record { least = omega (arith, mac); greatest = omega (arith, mac) };
-    port = record { least = omega (arith, some); greatest = omega (arith, short) };
-    ttl = fits;
-    puts = puts;
-  }
+  can_begin ttl fits us puts = grind (arith, common_steps)
 
   module _ (h : HasShortTexts c) where
     second_length : length (spellings (all_tlvs second)) ≤ 305
@@ -109,23 +99,10 @@ module _ (c : Configuration) (name : List ℕ) (some : 0 < length name) (short :
 
     can_manage : (address : Option (List ℕ)) → IfSome address (λ a. length a ≡ 4) → CanPutEach fourth (management_tlvs address)
     can_manage None k = tt
-    can_manage (Some address) k =
-        (record { least = omega arith; greatest = omega arith; lives = lives; new = refl; short = omega (arith, twelve address k); well_formed = management_fits address k; room = omega (arith, fourth_length, twelve address k) }, tt)
+    can_manage (Some address) k = grind (arith, common_steps, lives, twelve, management_fits, fourth_length)
 
     can_describe : CanPutEach (begun (sent_ttl c)) (draft_of c name Ordinary).tlvs
-    can_describe = (
-      record { least = omega arith; greatest = omega arith; lives = lives; new = refl; short = omega (arith, short); well_formed = text_fits 4 name (inl refl) (omega (arith, short)); room = omega (arith, begun_length (sent_ttl c), short) },
-      (
-        record { least = omega arith; greatest = omega arith; lives = lives; new = refl; short = omega (arith, h.hostname); well_formed = text_fits 5 c.hostname (inr (inl refl)) h.hostname; room = omega (arith, first_length, h.hostname) },
-        (
-          record { least = omega arith; greatest = omega arith; lives = lives; new = refl; short = omega (arith, h.description); well_formed = text_fits 6 c.description (inr (inr refl)) h.description; room = omega (arith, second_length, h.description) },
-          (
-            record { least = omega arith; greatest = omega arith; lives = lives; new = refl; short = omega (arith, four c.role); well_formed = role_fits c.role; room = omega (arith, third_length, four c.role) },
-            can_manage c.management h.management,
-          ),
-        ),
-      ),
-    )
+    can_describe = grind (arith, common_steps, lives, text_fits, begun_length, first_length, second_length, four, role_fits, third_length, can_manage)
 
     pub can_tell : CanBuild (draft_of c name Ordinary)
     can_tell = can_begin (sent_ttl c) (omega arith) (draft_of c name Ordinary).tlvs can_describe

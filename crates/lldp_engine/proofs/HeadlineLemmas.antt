@@ -22,6 +22,7 @@ use Rattle.lldp_engine.proofs.AllowedLemmas.{port_table, allowed_taken, table_st
 use Rattle.lldp_engine.proofs.StandingLemmas.{up_is, settings_in_range}
 use Rattle.lldp_engine.proofs.RightLemmas.{follows_status}
 use Rattle.lldp_engine.proofs.ReaderLemmas.{port_reads, number_reads}
+use Rattle.std.proofs.lemmas.Grind.{common_steps}
 
 -- ## The fields of a port with a past
 
@@ -44,9 +45,7 @@ module _ (o : Options) (past : List Happened) (p : PortState) (h : p ≡ port_af
 
 pub table_reads : (past : Past) (agent : AgentState) (i : ℕ) (p : PortState) → i < length past.options.names → Stands past agent → p ≡ port_after past.options (past_of past i) p.name
     → TableStands past.options.max_neighbors (calls_after past.options (past_of past i)) p.table
-table_reads past agent i p lt h is =
-    subst (λ (t : Contents). TableStands past.options.max_neighbors (calls_after past.options (past_of past i)) t) (sym (table_is past.options (past_of past i) p is))
-    (table_stands past.options (past_of past i) h.in_range (allowed_taken past.options i past.events lt h.allowed))
+table_reads past agent i p lt h is = grind (arith, common_steps, table_is, table_stands, allowed_taken)
 
 -- ## The promise of a port
 

@@ -7,6 +7,7 @@ use Rattle.lldp_pdu.specs.WellFormed.{is_well_formed}
 use Rattle.lldp_pdu.specs.Capabilities.{caps_of, caps_fields}
 use Rattle.lldp_pdu.specs.ManagementAddress.{address_fields}
 use Rattle.lldp_engine.specs.KeptTlv.{HasAddress}
+use Rattle.std.proofs.lemmas.Grind.{common_steps}
 
 -- a text of at most 255 octets
 pub description_short : (body : List ℕ) → IsKeptTlv (record { kind = 4; body = body }) → length body ≤ 255
@@ -35,18 +36,4 @@ capabilities_are body h = rw (some_where _ (caps_fields body) h.well_formed) ref
 
 pub address_is : (body : List ℕ) → IsKeptTlv (record { kind = 8; body = body }) → HasAddress body
 unfolding is_well_formed
-address_is body h =
-    let m = get_or body 0 0 in
-    let o = get_or body (m + 6) 0 in
-    let fits = leb 2 m && leb m 32 && leb o 128 && eqb (length body) (m + o + 7) in
-    let all : fits ≡ true = some_where fits (address_fields body m) h.well_formed in
-    let parts = and_parts (leb 2 m && leb m 32 && leb o 128) (eqb (length body) (m + o + 7)) all in
-    let ends = and_parts (leb 2 m && leb m 32) (leb o 128) parts.0 in
-    let most : m ≤ 32 = leb-true m 32 (and_parts (leb 2 m) (leb m 32) ends.0).1 in
-    let few : o ≤ 128 = leb-true o 128 ends.1 in
-    let size : length body ≡ m + o + 7 = eqb-true (length body) (m + o + 7) parts.1 in
-    record {
-      address = rw all refl;
-      short = rw (length-take (m - 1) (drop 2 body)) (omega arith);
-      oid = rw (length-drop (m + 7) body) (omega arith);
-    }
+address_is body h = grind (arith, common_steps, leb, eqb, some_where, and_parts, leb-true, eqb-true, length-take, length-drop)

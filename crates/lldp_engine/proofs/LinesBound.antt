@@ -21,42 +21,26 @@ use Rattle.lldp_engine.specs.Lines.{lines_of, octets_of}
 use Rattle.lldp_engine.specs.declared.command.Show.{Show}
 use Rattle.lldp_engine.specs.declared.command.Show.TheVariants.{Neighbors, Statistics, Chassis, Configuration as Configured}
 use Rattle.lldp_engine.specs.declared.show.lines.TheConstants.{MOST_LINES}
+use Rattle.std.proofs.lemmas.Grind.{common_steps}
 
 -- of a neighbor: 4, and at most (1500 - 12) / 2
 few_of_neighbor : (name : List ℕ) (number : ℕ) (neighbor : Neighbor) → IsHeld neighbor → length (neighbor_lines name number neighbor) ≤ 748
-few_of_neighbor name number neighbor h =
-    let kept = kept_of neighbor.octets in
-    let short = kept_is_short neighbor h in
-    let count : length (map (kept_line name number) kept) ≡ length kept = length-map kept (kept_line name number) in
-    omega (arith, count, short, h.told.short)
+few_of_neighbor name number neighbor h = grind (arith, common_steps, kept_is_short, length-map)
 
 few_of_neighbors : (name : List ℕ) (number : ℕ) (neighbors : List Neighbor) → AllByRecursion IsHeld neighbors → length (numbered_lines name number neighbors) ≤ 748 * length neighbors
 few_of_neighbors name number [] h = omega arith
-few_of_neighbors name number (neighbor ∷ others) h =
-    let first = few_of_neighbor name number neighbor h.0 in
-    let rest = few_of_neighbors name (number + 1) others h.1 in
-    let sum = length-append (neighbor_lines name number neighbor) (numbered_lines name (number + 1) others) in
-    omega (arith, first, rest, sum)
+few_of_neighbors name number (neighbor ∷ others) h = grind (arith, common_steps, few_of_neighbor, length-append, few_of_neighbors name (number + 1) others h.1)
 
 few_of_port : (port : PortState) → IsSound port.table → length (port_lines port) ≤ 3 + 128 * 748
-few_of_port port h =
-    let all = few_of_neighbors port.name 1 port.table.neighbors h.held in
-    omega (arith, all, h.few, h.room, h.most)
+few_of_port port h = grind (arith, common_steps, few_of_neighbors)
 
 few_of_ports : (capacity : ℕ) (ports : List PortState) → AllByRecursion (IsSoundPort capacity) ports → length (neighbors_lines ports) ≤ (3 + 128 * 748) * length ports
 few_of_ports capacity [] h = omega arith
-few_of_ports capacity (port ∷ ports) h =
-    let first = few_of_port port h.0.table in
-    let rest = few_of_ports capacity ports h.1 in
-    let sum = length-append (port_lines port) (neighbors_lines ports) in
-    omega (arith, first, rest, sum)
+few_of_ports capacity (port ∷ ports) h = grind (arith, common_steps, few_of_port, length-append, few_of_ports capacity ports h.1)
 
 few_of_counters : (ports : List PortState) → length (statistics_lines ports) ≤ 9 * length ports
 few_of_counters [] = omega arith
-few_of_counters (port ∷ ports) =
-    let rest = few_of_counters ports in
-    let sum = length-append (counter_lines port) (statistics_lines ports) in
-    omega (arith, rest, sum)
+few_of_counters (port ∷ ports) = grind (arith, common_steps, length-append, few_of_counters ports)
 
 few_of_chassis : (c : Configuration) (management : Option (List ℕ)) → management ≡ c.management → length (chassis_lines c) ≤ 5
 few_of_chassis c None h = let e : length (management_lines c.management) ≡ 0 = ap (λ (m : Option (List ℕ)). length (management_lines m)) (sym h) in omega (arith, e)

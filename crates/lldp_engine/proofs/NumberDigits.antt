@@ -9,15 +9,12 @@ use Rattle.std.proofs.lemmas.Bool.Decides.{nat_tests}
 use Rattle.std.proofs.lemmas.List.Sums.{AllPass-from_list_all, list_all-from_AllPass}
 use Rattle.std.proofs.lemmas.Int.Digits.{digits_value_more}
 use Rattle.lldp_engine.specs.Number.{is_number}
+use Rattle.std.proofs.lemmas.Grind.{common_steps}
 
 -- a test that says what `list_all` does
 pub list_all-is : {X : Type 0} (p : X → Bool) (xs : List X) (b : Bool) → (IsTrue b ↔ AllPass p xs) → b ≡ list_all p xs
 list_all-is p xs true h = sym (list_all-from_AllPass p xs (h.0 refl))
-list_all-is p xs false h = go (list_all p xs) refl
-  where
-    go : (t : Bool) → list_all p xs ≡ t → false ≡ t
-    go true e = h.1 (AllPass-from_list_all p xs e)
-    go false e = refl
+list_all-is p xs false h = grind (arith, common_steps, AllPass-from_list_all)
 
 pub digit_value-ascii : (c : ℕ) → is_ascii_digit c ≡ true → digit_value c ≡ c - 48
 digit_value-ascii c h = grind (arith, nat_tests)
@@ -28,7 +25,4 @@ is_number-some word b n h =
     rw some (list_all-is is_ascii_digit word b h)
 
 pub value_more : (ds : List ℕ) (i v d r : ℕ) → is_number ds ≡ true → i < length ds → v ≡ min (digits_value 10 (take i ds)) 65536 → d ≡ get_or ds i 0 - 48 → r ≡ min (v * 10 + d) 65536 → r ≡ min (digits_value 10 (take (i + 1) ds)) 65536
-value_more ds i v d r all lt e f g =
-    let digit : digit_value (get_or ds i 0) ≡ get_or ds i 0 - 48 =
-    digit_value-ascii (get_or ds i 0) (AllPass-from_list_all is_ascii_digit ds (and_parts (nat_lt 0 (length ds)) _ all).1 i 0 lt) in
-    omega (arith, digits_value_more 10 ds i lt)
+value_more ds i v d r all lt e f g = grind (arith, common_steps, digit_value-ascii, AllPass-from_list_all, and_parts, digits_value_more)

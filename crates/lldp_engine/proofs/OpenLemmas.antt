@@ -21,6 +21,7 @@ use Rattle.lldp_engine.specs.Code.Counting.{none_counted}
 use Rattle.lldp_engine.specs.Code.PortStep.{opened_port}
 use Rattle.lldp_engine.proofs.CounterLemmas.{counted_none}
 use Rattle.lldp_engine.proofs.StandingLemmas.{settings_in_range}
+use Rattle.std.proofs.lemmas.Grind.{common_steps}
 
 no_events : (limit : ℕ) → events_of limit [] ≡ []
 unfolding events_of
@@ -28,23 +29,15 @@ no_events limit = refl
 
 port_opened : (o : Options) (name : List ℕ) → InRange o → opened_port o name ≡ port_after o [] name
 unfolding port_after
-port_opened o name r =
-    let table : newly_opened o.max_neighbors ≡ table_of o.max_neighbors [] = (stands_open o.max_neighbors (omega (arith, r.neighbors)) (omega (arith, r.neighbors))).is in
-    let machine : opened_machine (settings_of o) ≡ machine_of (settings_of o) [] = (stands_at_first (settings_of o) (settings_in_range o r)).is in
-    let counters : none_counted ≡ counters_of [] (events_of o.max_neighbors []) [] = sym counted_none ∙ ap (λ es. counters_of [] es []) (sym (no_events o.max_neighbors)) in
-    rw (table, machine, counters) refl
+port_opened o name r = grind (arith, common_steps, stands_open, stands_at_first, settings_in_range, counted_none, no_events)
 
 ports_opened : (o : Options) (i : ℕ) (names : List (List ℕ)) → InRange o → map (opened_port o) names ≡ ports_after o [] i names
 ports_opened o i [] r = refl
-ports_opened o i (name ∷ names) r =
-    let one = port_opened o name r in
-    let others = ports_opened o (i + 1) names r in
-    cc
+ports_opened o i (name ∷ names) r = grind (arith, common_steps, port_opened, ports_opened o (i + 1) names r)
 
 pub opened_stands : (o : Options) (agent : AgentState) → InRange o → agent.configuration ≡ configuration_at_opening o → agent.ports ≡ map (opened_port o) o.names → Stands (opened o) agent
 unfolding agent_of
-opened_stands o agent r c h =
-    record { in_range = r; allowed = tt; is = rw (← c, ← ports_opened o 0 o.names r, ← h) refl }
+opened_stands o agent r c h = grind (arith, common_steps, ports_opened)
 
 -- ## One name after another
 

@@ -12,6 +12,7 @@ use Rattle.lldp_engine.specs.Past.{Sending, sending}
 use Rattle.lldp_engine.specs.Port.Event.{PortEvent, nothing, one_port, each_port, for_port}
 use Rattle.lldp_engine.specs.Code.PortStep.{port_step, port_mark}
 use Rattle.lldp_engine.specs.Code.Step.{ports_step, marks_step}
+use Rattle.std.proofs.lemmas.Grind.{common_steps}
 
 -- what is true of an event and of nothing is true of what it is for a port
 pub own_or_nothing : (P : PortEvent → Type 0) (b : Bool) (event : PortEvent) → P event → P nothing → P (if b then event else nothing)
@@ -44,20 +45,14 @@ later_silent event n q s (p ∷ ps) lt = rw (mark_of_other event n q s p (omega 
 one_after : (event : PortEvent) (n s k q : ℕ) (ports : List PortState) (p : PortState) → q ≡ s + k → k < length ports → p ≡ get_or ports k p
     → set ports k (port_step event n p) ≡ ports_step (one_port q event) n s ports
 one_after event n s k q [] p h lt a = absurd (omega arith)
-one_after event n s zero q (x ∷ xs) p h lt a =
-    let here : s ≡ q = omega arith in
-    rw (here, own event q, later_same event n q (q + 1) xs (omega arith), a) refl
-one_after event n s (suc k) q (x ∷ xs) p h lt a =
-    rw (after_other event n q s x (omega arith), one_after event n (s + 1) k q xs p (omega arith) (omega arith) a) refl
+one_after event n s zero q (x ∷ xs) p h lt a = grind (arith, common_steps, own, later_same)
+one_after event n s (suc k) q (x ∷ xs) p h lt a = grind (arith, common_steps, after_other, one_after event n (s + 1) k q xs p (omega arith) (omega arith) a)
 
 one_mark : (event : PortEvent) (n s k q : ℕ) (ports : List PortState) (p : PortState) → q ≡ s + k → k < length ports → p ≡ get_or ports k p
     → sending q (port_mark event n p) [] ≡ marks_step (one_port q event) n s ports
 one_mark event n s k q [] p h lt a = absurd (omega arith)
-one_mark event n s zero q (x ∷ xs) p h lt a =
-    let here : s ≡ q = omega arith in
-    rw (here, own event q, later_silent event n q (q + 1) xs (omega arith), a) refl
-one_mark event n s (suc k) q (x ∷ xs) p h lt a =
-    rw (mark_of_other event n q s x (omega arith)) (one_mark event n (s + 1) k q xs p (omega arith) (omega arith) a)
+one_mark event n s zero q (x ∷ xs) p h lt a = grind (arith, common_steps, own, later_silent)
+one_mark event n s (suc k) q (x ∷ xs) p h lt a = grind (arith, common_steps, mark_of_other, one_mark event n (s + 1) k q xs p (omega arith) (omega arith) a)
 
 -- an event of port q changes that one alone
 pub one_port_after : (event : PortEvent) (n q : ℕ) (ports : List PortState) (p : PortState) → q < length ports → p ≡ get_or ports q p
@@ -95,9 +90,7 @@ next_mark : (event : PortEvent) (n s i k : ℕ) (ports : List PortState) (p : Po
     → marks_step (each_port event) n s (take i ports) ++ sending k (port_mark event n p) [] ≡ marks_step (each_port event) n s (take (suc i) ports)
 next_mark event n s i k [] p e lt h = absurd (omega arith)
 next_mark event n s zero k (x ∷ xs) p e lt h = let place : k ≡ s = omega arith in rw (place, h) refl
-next_mark event n s (suc i) k (x ∷ xs) p e lt h =
-    sym (sending-append s (port_mark event n x) (marks_step (each_port event) n (s + 1) (take i xs)) (sending k (port_mark event n p) []))
-    ∙ ap (sending s (port_mark event n x)) (next_mark event n (s + 1) i k xs p (omega arith) (omega arith) h)
+next_mark event n s (suc i) k (x ∷ xs) p e lt h = grind (arith, common_steps, sending-append, next_mark event n (s + 1) i k xs p (omega arith) (omega arith) h)
 
 -- one port more
 pub one_more : (event : PortEvent) (n i : ℕ) (ports : List PortState) (p q : PortState) (mark : Mark) → i < length ports → p ≡ get_or (so_far event n i ports) i p

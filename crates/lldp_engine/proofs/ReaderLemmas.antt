@@ -11,6 +11,7 @@ use Rattle.lldp_engine.specs.AgentState.{AgentState}
 use Rattle.lldp_engine.specs.Past.{Past, port_past, past_of, ports_after, agent_of}
 use Rattle.lldp_engine.specs.Port.Past.{Happened, port_after}
 use Rattle.lldp_engine.specs.Standing.{Stands}
+use Rattle.std.proofs.lemmas.Grind.{common_steps}
 
 pub ports_are : (past : Past) (agent : AgentState) → Stands past agent → agent.ports ≡ ports_after past.options past.events 0 past.options.names
 unfolding agent_of
@@ -32,9 +33,7 @@ port_at o events s zero (name ∷ names) p lt h =
     let n : p.name ≡ name = ap (λ (q : PortState). q.name) h ∙ name_after o (port_past o s events) name in
     subst (λ (k : ℕ). IsPortAfter o (port_past o k events) (Some name) p) (sym (add-zero s))
     (record { named = ap (λ (x : List ℕ). Some x) (sym n); is = h ∙ ap (port_after o (port_past o s events)) (sym n) })
-port_at o events s (suc i) (name ∷ names) p lt h =
-    let place : s + suc i ≡ s + 1 + i = omega arith in
-    rw place (port_at o events (s + 1) i names p (omega arith) h)
+port_at o events s (suc i) (name ∷ names) p lt h = grind (arith, common_steps, port_at o events (s + 1) i names p (omega arith) h)
 
 pub port_reads : (past : Past) (agent : AgentState) (i : ℕ) (p : PortState) → Stands past agent → i < length agent.ports → p ≡ get_or agent.ports i p → IsPortAfter past.options (past_of past i) (slice_get past.options.names i) p
 port_reads past agent i p h lt at =
@@ -45,10 +44,7 @@ port_reads past agent i p h lt at =
 
 names_are : (o : Options) (events : List Event) (i : ℕ) (names : List (List ℕ)) → map (λ (p : PortState). p.name) (ports_after o events i names) ≡ names
 names_are o events i [] = refl
-names_are o events i (name ∷ names) =
-    let one = name_after o (port_past o i events) name in
-    let others = names_are o events (i + 1) names in
-    cc
+names_are o events i (name ∷ names) = grind (arith, common_steps, name_after, names_are o events (i + 1) names)
 
 pub names_read : (past : Past) (agent : AgentState) → Stands past agent → map (λ (p : PortState). p.name) agent.ports ≡ past.options.names
 names_read past agent h = ap (map (λ (p : PortState). p.name)) (ports_are past agent h) ∙ names_are past.options past.events 0 past.options.names

@@ -24,6 +24,7 @@ use Rattle.lldp_engine.specs.Code.Step.{ports_step}
 use Rattle.lldp_engine.specs.Code.Taking.{FitsLimit, AllFit, CanTake}
 use Rattle.lldp_engine.proofs.HeardLemmas.{HasOctets, event_told}
 use Rattle.lldp_engine.proofs.PortsLemmas.{own_or_nothing}
+use Rattle.std.proofs.lemmas.Grind.{common_steps}
 
 abbrev pub AllSound : ℕ → List PortState → Type 0
 AllSound capacity ports = AllByRecursion (λ port. IsSoundPort capacity port) ports
@@ -43,9 +44,7 @@ ports_opened o [] r h = tt
 ports_opened o (name ∷ names) r h = let b = and_parts (is_port_name name) (list_all is_port_name names) h in (port_opened o name r b.0, ports_opened o names r b.1)
 
 pub opened_are_sound : (o : Options) (ports : List PortState) → InRange o → ports ≡ map (opened_port o) o.names → list_all is_port_name o.names ≡ true → length o.names ≤ 64 → AreSound o.max_neighbors ports
-opened_are_sound o ports r e named few =
-    let number : length (map (opened_port o) o.names) ≡ length o.names = simp length-map in
-    subst (AreSound o.max_neighbors) (sym e) (record { few = omega arith; sound = ports_opened o o.names r named })
+opened_are_sound o ports r e named few = grind (arith, common_steps, length-map, ports_opened)
 
 -- ## At an event
 
@@ -79,12 +78,7 @@ each_fits (one_port port event) i ports f = own_or_nothing (λ e. AllFit e ports
 each_fits (each_port event) i ports f = f
 
 port_sound : (capacity : ℕ) (event : PortEvent) (n : ℕ) (p : PortState) → HasOctets event → FitsLimit event p.table → IsSoundPort capacity p → IsSoundPort capacity (port_step event n p)
-port_sound capacity event n p h f s = record {
-  table = told_sound p.table (call_at event p.status p.machine.up) s.table (event_told p.table event p.status p.machine.up h f);
-  room = told_room p.table (call_at event p.status p.machine.up) ∙ s.room;
-  some = s.some;
-  short = s.short;
-}
+port_sound capacity event n p h f s = grind (arith, common_steps, told_sound, event_told, told_room)
 
 ports_sound : (capacity : ℕ) (event : Whose) (n i : ℕ) (ports : List PortState) → ((k : ℕ) → HasOctets (for_port k event)) → ((k : ℕ) → AllFit (for_port k event) ports) → AllSound capacity ports
     → AllSound capacity (ports_step event n i ports)
@@ -98,11 +92,7 @@ ports_number event n i (p ∷ ps) = omega (arith, ports_number event n (i + 1) p
 
 pub stay_sound : (capacity : ℕ) (event : Whose) (n : ℕ) (ports new : List PortState) → new ≡ ports_step event n 0 ports → ((k : ℕ) → HasOctets (for_port k event)) → CanTake event ports
     → AreSound capacity ports → AreSound capacity new
-stay_sound capacity event n ports new e h f s =
-    subst (AreSound capacity) (sym e) (record {
-      few = omega (arith, s.few, ports_number event n 0 ports);
-      sound = ports_sound capacity event n 0 ports h (λ k. each_fits event k ports f) s.sound;
-    })
+stay_sound capacity event n ports new e h f s = grind (arith, common_steps, ports_number, ports_sound, each_fits)
 
 -- ## What an agent allows fits its ports
 

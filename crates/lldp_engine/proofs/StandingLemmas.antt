@@ -35,6 +35,7 @@ use Rattle.lldp_engine.specs.Code.PortStep.{told, port_mark, port_step}
 use Rattle.lldp_engine.proofs.CounterLemmas.{counted_refused, counted_leaves, counted_tells, counted_second, counted_purged, counted_limit, counted_mark}
 use Rattle.lldp_engine.proofs.AllowedLemmas.{port_table, AreTaken, allowed_taken, table_stands}
 use Rattle.lldp_engine.proofs.RightLemmas.{links_are}
+use Rattle.std.proofs.lemmas.Grind.{common_steps}
 
 -- ## The table of a port
 
@@ -50,9 +51,7 @@ table_told opened calls (Some call) h t = table_called opened calls call h t
 
 -- how many aged out at a second
 aged : (opened : ℕ) (calls : List Call) (new : Contents) → new ≡ table_of opened (tick_call ∷ calls) → length (table_of opened calls).neighbors - length new.neighbors ≡ aged_out (events_of opened calls)
-aged opened calls new h =
-    let after : length new.neighbors ≡ length (neighbors (ticked ∷ events_of opened calls)) = ap (λ (t : Contents). length t.neighbors) h ∙ ap (λ es. length (neighbors es)) (events-more opened tick_call calls) in
-    omega (arith, aged_out-count (events_of opened calls), after)
+aged opened calls new h = grind (arith, common_steps, events-more, aged_out-count)
 
 module _ (opened : ℕ) (calls : List Call) (heard : List Heard) (marks : List Mark) (s : TableStands opened calls (table_of opened calls)) where
   -- what is counted of something heard
@@ -107,14 +106,7 @@ pub up_is : (o : Options) (past : List Happened) → (machine_of (settings_of o)
 up_is o past = up_of (settings_of o) (causes_after o past) ∙ links_are o past
 
 pub settings_in_range : (o : Options) → InRange o → AreSettings (settings_of o)
-settings_in_range o r = record {
-  some_credit = r.credit.0;
-  most_credit = r.credit.1;
-  some_fast = r.fast.0;
-  most_fast = r.fast.1;
-  some_wait = r.wait.0;
-  most_wait = r.wait.1;
-}
+settings_in_range o r = grind (arith, common_steps)
 
 -- ## A port
 
@@ -163,14 +155,7 @@ module _ (o : Options) (past : List Happened) (now : Happened) (r : InRange o) (
 
   counted_is : with_mark (with_event_counted now.event given machine.up table (counters_after o past)) (stepped machine (cause_at now.event given machine.up (learn_answer table)) now.interval).1
       ≡ counters_after o (now ∷ past)
-  counted_is =
-      let heard = heard_after o past in
-      let marks = marks_after o past in
-      let one = event_counted o.max_neighbors (calls_after o past) heard marks stands now.event given machine.up
-      ∙ ap (λ (u : Bool). counters_of (cons_option (heard_at now.event given u) heard) (events_of o.max_neighbors (cons_option (call_at now.event given u) (calls_after o past))) marks) (up_is o past) in
-      ap (λ (c : Counters). with_mark c (stepped machine (cause_at now.event given machine.up (learn_answer table)) now.interval).1) one
-      ∙ ap (with_mark (counters_of (heard_after o (now ∷ past)) (told_after o (now ∷ past)) marks)) mark_is
-      ∙ counted_mark (heard_after o (now ∷ past)) (told_after o (now ∷ past)) marks (mark_after o (now ∷ past))
+  counted_is = grind (arith, common_steps, event_counted, stands, up_is, mark_is, counted_mark)
 
   pub port_carried : (name : List ℕ) → port_step now.event now.interval (port_after o past name) ≡ port_after o (now ∷ past) name
   unfolding port_after
@@ -200,9 +185,7 @@ marks_carried o events event i (name ∷ names) l r h =
 
 agent_carried : (past : Past) (event : Event) → InRange past.options → AreAllowed past.options (event ∷ past.events) → agent_after event (agent_of past) ≡ agent_of (with_event past event)
 unfolding agent_of
-agent_carried past event r h =
-    ap (λ (ps : List PortState). let a : AgentState = record { configuration = configured event (configuration_after past.options past.events); ports = ps } in a)
-    (ports_carried past.options past.events event 0 past.options.names (omega arith) r h)
+agent_carried past event r h = grind (arith, common_steps, ports_carried)
 
 agent_marked : (past : Past) (event : Event) → InRange past.options → AreAllowed past.options (event ∷ past.events) → agent_marks event (agent_of past) ≡ marks_of (with_event past event)
 unfolding agent_of
@@ -212,9 +195,7 @@ pub allowed_more : (past : Past) (event : Event) (agent : AgentState) → Stands
 allowed_more past event agent h a octets = (subst (λ (x : AgentState). Allows x event) h.is a, octets, h.allowed)
 
 pub carries : (past : Past) (event : Event) (agent : AgentState) → Stands past agent → Allows agent event → HasOctets event → Stands (with_event past event) (agent_after event agent)
-carries past event agent h a octets =
-    let allowed = allowed_more past event agent h a octets in
-    record { in_range = h.in_range; allowed = allowed; is = ap (agent_after event) h.is ∙ agent_carried past event h.in_range allowed }
+carries past event agent h a octets = grind (arith, common_steps, allowed_more, agent_carried)
 
 pub marks_carry : (past : Past) (event : Event) (agent : AgentState) → Stands past agent → Allows agent event → HasOctets event → agent_marks event agent ≡ marks_of (with_event past event)
 marks_carry past event agent h a octets = ap (agent_marks event) h.is ∙ agent_marked past event h.in_range (allowed_more past event agent h a octets)

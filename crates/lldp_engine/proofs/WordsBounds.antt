@@ -7,13 +7,11 @@ use Rattle.std.proofs.lemmas.Bool.{cases_Bool, false_from_ne_true, false≢true}
 use Rattle.memchr.specs.Find.{IsFirstByte, Nowhere, Passes, is_byte}
 use Rattle.lldp_engine.specs.Words.{is_separator, is_quote, between, bare, words_from, words_of, AreWords, IsSpelling}
 use Rattle.lldp_engine.proofs.WordsGrammar.{words_spelled}
+use Rattle.std.proofs.lemmas.Grind.{common_steps}
 
 -- a word is no longer than its spelling
 length-spelling : (text word : List ℕ) → IsSpelling text word → length word ≤ length text
-length-spelling text word s = elim s [
-  | inl plain ↦ omega (arith, ap length plain.2)
-  | inr quoted ↦ omega (arith, ap length quoted.1, length-append word (34 ∷ []))
-]
+length-spelling text word s = grind (arith, common_steps, length-append)
 
 longer : (m n : ℕ) (words : List (List ℕ)) → m ≤ n → ByRecursion (λ w. length w ≤ m) words → ByRecursion (λ w. length w ≤ n) words
 longer m n [] h short = short
@@ -43,12 +41,7 @@ is_some-mapped w (Some words) = refl
 unquoted : (line : List ℕ) → ByRecursion (λ c. is_quote c ≡ false) line → (is_some (words_from between line) ≡ true) × ((w : List ℕ) → is_some (words_from (bare w) line) ≡ true)
 unfolding words_from
 unquoted [] h = (refl, λ w. refl)
-unquoted (c ∷ cs) h =
-    let more = unquoted cs h.1 in
-    elim (cases_Bool (is_separator c)) [
-      | inl e ↦ rw e (more.0, λ w. is_some-mapped w (words_from between cs) ∙ more.0)
-      | inr e ↦ rw (e, h.0) (more.1 (c ∷ []), λ w. more.1 (w ++ c ∷ []))
-    ]
+unquoted (c ∷ cs) h = grind (arith, common_steps, cases_Bool, is_some-mapped, unquoted cs h.1)
 
 no_quote : (line : List ℕ) → Nowhere (Passes (is_byte 34) line) 0 (length line) → ByRecursion (λ c. is_quote c ≡ false) line
 no_quote [] h = tt

@@ -7,6 +7,7 @@ use Rattle.std.proofs.lemmas.Bool.Decides.{nat_tests}
 use Rattle.std.proofs.lemmas.List.Elements.{All-nil, All-cons}
 use Rattle.lldp_engine.specs.Words.{is_separator, is_quote, is_bare, is_unquote, may_end_word, Place, between, bare, quoted, closed, words_from, words_of, AreWords}
 use Rattle.lldp_engine.proofs.WordsReading.{words_of-gap, bare_word, quoted_word, none_read}
+use Rattle.std.proofs.lemmas.Grind.{common_steps}
 
 -- which way a test went
 chosen : {A : Type 0} (b : Bool) (x y z : A) → (if b then x else y) ≡ z → ((b ≡ true) × (x ≡ z)) ⊎ ((b ≡ false) × (y ≡ z))
@@ -62,15 +63,11 @@ bare_front c cs ws s q i =
 -- one octet more of a word
 bare_more : (c : ℕ) (cs : List ℕ) (v : List ℕ) (ws : List (List ℕ)) → is_separator c ≡ false → is_quote c ≡ false → Spelled (bare (v ++ c ∷ [])) cs ws → Spelled (bare v) (c ∷ cs) ws
 unfolding Spelled
-bare_more c cs v ws s q i =
-    let octet : is_bare c ≡ true = rw (s, q) refl in
-    (c ∷ i.0, i.1, i.2, All-cons (λ c. is_bare c ≡ true) c i.0 octet i.3, ap (λ l. c ∷ l) i.4, i.5, i.6 ∙ ap (λ l. l ∷ i.2) (append_assoc v (c ∷ []) i.0), i.7)
+bare_more c cs v ws s q i = grind (arith, common_steps, All-cons, append_assoc)
 
 quoted_more : (c : ℕ) (cs : List ℕ) (v : List ℕ) (ws : List (List ℕ)) → is_quote c ≡ false → Spelled (quoted (v ++ c ∷ [])) cs ws → Spelled (quoted v) (c ∷ cs) ws
 unfolding Spelled
-quoted_more c cs v ws q i =
-    let octet : is_unquote c ≡ true = rw q refl in
-    (c ∷ i.0, i.1, i.2, All-cons (λ c. is_unquote c ≡ true) c i.0 octet i.3, ap (λ l. c ∷ l) i.4, i.5, i.6 ∙ ap (λ l. l ∷ i.2) (append_assoc v (c ∷ []) i.0), i.7)
+quoted_more c cs v ws q i = grind (arith, common_steps, All-cons, append_assoc)
 
 spelled_from_read : (line : List ℕ) (p : Place) (ws : List (List ℕ)) → words_from p line ≡ Some ws → Spelled p line ws
 unfolding words_from Spelled

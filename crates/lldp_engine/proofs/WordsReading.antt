@@ -10,6 +10,7 @@ use Rattle.std.proofs.lemmas.List.Elements.{recursion_from_All}
 use Rattle.lldp_engine.specs.declared.command.fault.CommandFault.{CommandFault}
 use Rattle.lldp_engine.specs.declared.command.fault.CommandFault.TheVariants.{Quote}
 use Rattle.lldp_engine.specs.Words.{is_separator, is_quote, is_bare, is_unquote, may_end_word, begins_bare, begins_gap, between, bare, quoted, closed, words_from, words_of}
+use Rattle.std.proofs.lemmas.Grind.{common_steps}
 
 -- separators in front of the words
 gap_read : (gap : List ℕ) (rest : List ℕ) → ByRecursion (λ c. is_separator c ≡ true) gap → words_from between (gap ++ rest) ≡ words_from between rest
@@ -39,17 +40,13 @@ not_is false h = refl
 bare_read : (word : List ℕ) (before : List ℕ) (rest : List ℕ) → ByRecursion (λ c. is_bare c ≡ true) word → words_from (bare before) (word ++ rest) ≡ words_from (bare (before ++ word)) rest
 unfolding words_from
 bare_read [] before rest h = simp append-nil
-bare_read (c ∷ word) before rest h =
-    let octet = bare_is (is_separator c) (is_quote c) h.0 in
-    rw (octet.0, octet.1) (bare_read word (before ++ c ∷ []) rest h.1 ∙ ap (λ w. words_from (bare w) rest) (append_assoc before (c ∷ []) word))
+bare_read (c ∷ word) before rest h = grind (arith, common_steps, bare_is, append_assoc, bare_read word (before ++ c ∷ []) rest h.1)
 
 -- octets of a quoted word
 quoted_read : (word : List ℕ) (before : List ℕ) (rest : List ℕ) → ByRecursion (λ c. is_unquote c ≡ true) word → words_from (quoted before) (word ++ rest) ≡ words_from (quoted (before ++ word)) rest
 unfolding words_from
 quoted_read [] before rest h = simp append-nil
-quoted_read (c ∷ word) before rest h =
-    let octet : is_quote c ≡ false = not_is (is_quote c) h.0 in
-    rw octet (quoted_read word (before ++ c ∷ []) rest h.1 ∙ ap (λ w. words_from (quoted w) rest) (append_assoc before (c ∷ []) word))
+quoted_read (c ∷ word) before rest h = grind (arith, common_steps, not_is, append_assoc, quoted_read word (before ++ c ∷ []) rest h.1)
 
 -- an unquoted word that ends
 bare_ends : (word rest : List ℕ) → may_end_word rest ≡ true → words_from (bare word) rest ≡ option_map (λ words. word ∷ words) (words_of rest)
@@ -120,12 +117,7 @@ pub bare_found : {R : Type 0} (word rest : R → List ℕ) (r : Result (Option R
     → AllPass is_bare w → text ≡ w ++ after → begins_bare after ≡ false
     → Ends word rest w after r → Answers word rest line r
 bare_found word rest r line gap text first more [] [] g e sep t quo b s n a = let none : first ∷ more ≡ [] = sym t.0 ∙ s in cc
-bare_found word rest r line gap text first more [] (c ∷ after) g e sep t quo b s n a =
-    let whole : c ∷ after ≡ first ∷ more = sym s ∙ t.0 in
-    let same : c ≡ first = cc in
-    let stops : is_separator c ≡ false = rw s at sep in
-    let octet : is_quote c ≡ false = not_quote c (λ h. quo (sym same ∙ h)) in
-    let stop = rw (stops, octet) at n in absurd (false≢true (sym stop))
+bare_found word rest r line gap text first more [] (c ∷ after) g e sep t quo b s n a = grind (arith, common_steps, not_quote, false≢true)
 bare_found word rest r line gap text first more (c ∷ w) after g e sep t quo b s n a =
     let octets = recursion_from_All (λ c. is_bare c ≡ true) (c ∷ w) b in
     let octet = bare_is (is_separator c) (is_quote c) octets.0 in
@@ -137,10 +129,7 @@ pub quoted_found : {R : Type 0} (word rest : R → List ℕ) (r : Result (Option
     → AllPass is_separator gap → line ≡ gap ++ text → IsFirstAndRest text first more → first ≡ 34
     → AllPass is_unquote w → more ≡ w ++ 34 ∷ after
     → Ends word rest w after r → Answers word rest line r
-quoted_found word rest r line gap text first more w after g e t quo b s a =
-    let octets = recursion_from_All (λ c. is_unquote c ≡ true) w b in
-    let whole : words_of line ≡ option_map (λ words. w ∷ words) (words_from closed after) = rw (e, words_of-gap gap text g, t.0, quo, s) (quote_begin (w ++ 34 ∷ after) ∙ quoted_read w [] (34 ∷ after) octets ∙ quote_end w after) in
-    answered word rest r line w after (λ h. whole ∙ ap (option_map (λ words. w ∷ words)) (closed_ends after h)) (λ h. whole ∙ ap (option_map (λ words. w ∷ words)) (closed_other after h)) a
+quoted_found word rest r line gap text first more w after g e t quo b s a = grind (arith, common_steps, recursion_from_All, words_of-gap, quote_begin, quoted_read, quote_end, answered, closed_ends, closed_other)
 
 -- a quote that is not closed
 pub quoted_open : (line gap text : List ℕ) (first : ℕ) (more : List ℕ) → AllPass is_separator gap → line ≡ gap ++ text → IsFirstAndRest text first more → first ≡ 34 → AllPass is_unquote more → words_of line ≡ None
@@ -162,5 +151,4 @@ bare_word (c ∷ w) rest n b h =
 
 -- a quoted word at the front
 pub quoted_word : (word rest : List ℕ) → AllPass is_unquote word → may_end_word rest ≡ true → words_of (34 ∷ word ++ 34 ∷ rest) ≡ option_map (λ words. word ∷ words) (words_of rest)
-quoted_word word rest b h =
-    quote_begin (word ++ 34 ∷ rest) ∙ quoted_read word [] (34 ∷ rest) (recursion_from_All (λ c. is_unquote c ≡ true) word b) ∙ quote_end word rest ∙ ap (option_map (λ words. word ∷ words)) (closed_ends rest h)
+quoted_word word rest b h = grind (arith, common_steps, quote_begin, quoted_read, recursion_from_All, quote_end, closed_ends)
