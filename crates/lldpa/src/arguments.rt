@@ -188,14 +188,38 @@ fn command<'a>(alloc: Global) -> Result<Command<'a>, AllocError>
         .override_usage(USAGE)
         .hide_possible_values(true)
         .after_help(MORE)
-        .arg(number(alloc, MAX_NEIGHBORS, u16::from(MOST_NEIGHBORS), "32", MAX_NEIGHBORS_HELP))?
+        .arg(number(
+            alloc,
+            MAX_NEIGHBORS,
+            MOST_NEIGHBORS as u16,
+            "32",
+            MAX_NEIGHBORS_HELP,
+        ))?
         .arg(text(alloc, MAC, "MAC", "02:00:00:00:00:01", MAC_HELP))?
         .arg(text(alloc, HOSTNAME, "TEXT", "localhost", HOSTNAME_HELP))?
         .arg(management(alloc))?
         .arg(role(alloc))?
-        .arg(number(alloc, TX_CREDIT_MAX, u16::from(MOST_CREDIT), "5", TX_CREDIT_MAX_HELP))?
-        .arg(number(alloc, TX_FAST_INIT, u16::from(MOST_FAST), "4", TX_FAST_INIT_HELP))?
-        .arg(number(alloc, REINIT_DELAY, u16::from(MOST_REINIT), "2", REINIT_DELAY_HELP))?
+        .arg(number(
+            alloc,
+            TX_CREDIT_MAX,
+            MOST_CREDIT as u16,
+            "5",
+            TX_CREDIT_MAX_HELP,
+        ))?
+        .arg(number(
+            alloc,
+            TX_FAST_INIT,
+            MOST_FAST as u16,
+            "4",
+            TX_FAST_INIT_HELP,
+        ))?
+        .arg(number(
+            alloc,
+            REINIT_DELAY,
+            MOST_REINIT as u16,
+            "2",
+            REINIT_DELAY_HELP,
+        ))?
         .arg(receive_only(alloc))?
         .arg(listen(alloc))?
         .arg(number(alloc, CONNECTIONS, 65535, "1", CONNECTIONS_HELP))?
