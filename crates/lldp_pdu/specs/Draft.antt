@@ -29,6 +29,7 @@ all_tlvs d =
     ∷ record { kind = time_to_live_type; body = to_be_bytes w16 d.ttl }
     ∷ d.tlvs
 
+-- the End Of LLDPDU (8.5.1)
 abbrev pub end_of_lldpdu : TlvUnit
 end_of_lldpdu = record { kind = end_of_lldpdu_type; body = [] }
 
@@ -36,6 +37,7 @@ end_of_lldpdu = record { kind = end_of_lldpdu_type; body = [] }
 abbrev pub lldpdu_octets : Draft → List ℕ
 lldpdu_octets d = spellings (all_tlvs d) ++ spelling end_of_lldpdu
 
+-- one TLV more, behind those that were put
 abbrev pub with_tlv : Draft → TlvUnit → Draft
 with_tlv d u = record { msap = d.msap; ttl = d.ttl; tlvs = d.tlvs ++ u ∷ [] }
 
@@ -51,6 +53,7 @@ put_checks d u =
     ∷ record { fails = nat_lt 1500 (length (lldpdu_octets (with_tlv d u))); fault = Full }
     ∷ []
 
+-- the first check that fails
 unfoldable pub put_fault : Draft → TlvUnit → Option BuildFault
 put_fault d u = first_fault (put_checks d u)
 

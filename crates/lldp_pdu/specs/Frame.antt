@@ -7,6 +7,7 @@ use Rattle.lldp_pdu.specs.Range.{is_between}
 abbrev pub nearest_bridge : List ℕ
 nearest_bridge = 0x01 ∷ 0x80 ∷ 0xc2 ∷ 0x00 ∷ 0x00 ∷ 0x0e ∷ []
 
+-- LLDP's EtherType, 88-cc
 abbrev pub lldp_ethertype : List ℕ
 lldp_ethertype = 0x88 ∷ 0xcc ∷ []
 

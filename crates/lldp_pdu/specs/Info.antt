@@ -16,6 +16,7 @@ pub record LldpInfo : Type 0 where
   pub discarded : ℕ
   pub unrecognized : ℕ
 
+-- what these octets tell, part by part
 abbrev pub info_of : List ℕ → LldpInfo
 info_of octets =
     record {

@@ -29,6 +29,7 @@ abbrev pub others_after : List TlvUnit → List TlvUnit → List TlvUnit
 others_after earlier [] = []
 others_after earlier (u ∷ us) = if is_kept earlier u then others_after (u ∷ earlier) us else u ∷ others_after (u ∷ earlier) us
 
+-- the kept TLVs are those of the later ones
 unfoldable pub kept_of : List ℕ → List TlvUnit
 kept_of octets = kept_after [] (later_tlvs octets)
 

@@ -6,6 +6,7 @@ use Rattle.lldp_pdu.specs.TlvType.{end_of_lldpdu_type}
 use Rattle.lldp_pdu.specs.Cut.{cut}
 use Rattle.lldp_pdu.specs.Msap.{MsapId}
 
+-- an End Of LLDPDU, by its type
 abbrev pub is_end : TlvUnit → Bool
 is_end u = u.kind == end_of_lldpdu_type
 
@@ -14,6 +15,7 @@ abbrev pub before_end : List TlvUnit → List TlvUnit
 before_end [] = []
 before_end (u ∷ us) = if is_end u then [] else u ∷ before_end us
 
+-- the TLVs that count: those before the first End Of LLDPDU
 abbrev pub extent_tlvs : List ℕ → List TlvUnit
 extent_tlvs octets = before_end (cut octets).tlvs
 

@@ -3,6 +3,7 @@ use Rattle.std.specs.Prelude.{◌≡◌, ℕ, ◌+◌, ◌-◌, ◌<◌, ◌≤�
 use Rattle.std.specs.Int.{w32, from_be_bytes, to_be_bytes}
 use Rattle.lldp_pdu.specs.Range.{is_between}
 
+-- a management address: its family and its octets, how the interface is numbered and its number, and an OID
 pub record Address : Type 0 where
   pub family : ℕ
   pub address : List ℕ

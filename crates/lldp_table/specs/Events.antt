@@ -31,10 +31,12 @@ pub record Neighbor : Type 0 where
 
 -- ## Last events, and ticks since
 
+-- a tick came
 abbrev pub is_tick : TableEvent → Bool
 is_tick ticked = true
 is_tick _ = false
 
+-- the table was purged
 abbrev pub is_purge : TableEvent → Bool
 is_purge purged = true
 is_purge _ = false

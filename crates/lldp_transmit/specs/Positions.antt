@@ -6,16 +6,19 @@ use Rattle.lldp_transmit.specs.Fronts.{count, after_first}
 use Rattle.lldp_transmit.specs.History.{Settings, Event, History}
 use Rattle.lldp_transmit.specs.Moments.{Moment, moment, moments, ticks, frames, is_allowed, is_up, spends}
 
--- how many starts, stops, signals and openings stand in a run
+-- how many starts stand in a run
 abbrev pub starts_in : List Moment → ℕ
 starts_in ms = count (λ m. m.start) ms
 
+-- how many stops
 abbrev pub stops_in : List Moment → ℕ
 stops_in ms = count (λ m. m.stop) ms
 
+-- how many signals
 abbrev pub signals_in : List Moment → ℕ
 signals_in ms = count (λ m. m.signal) ms
 
+-- how many openings of bursts
 abbrev pub openings_in : List Moment → ℕ
 openings_in ms = count (λ m. m.opening) ms
 

@@ -60,9 +60,10 @@ abbrev pub items_of_lines : Past → List (List ℕ) → List Item
 items_of_lines past [] = []
 items_of_lines past (line ∷ lines) = items_of past line ++ items_of_lines (after_all past (items_of past line)) lines
 
--- the text of an input, and the past after it
+-- the text of an input
 abbrev pub text : Past → List ℕ → List ℕ
 text past input = text_of_all past (items_of_lines past (lines_of input))
 
+-- the past after an input
 abbrev pub after_input : Past → List ℕ → Past
 after_input past input = after_all past (items_of_lines past (lines_of input))
