@@ -3,7 +3,7 @@ use Rattle.std.proofs.Common.{◌≡◌, ℕ, zero, suc, ◌+◌, ◌<◌, ◌�
 use Rattle.std.specs.List.{list_all}
 use Rattle.std.proofs.lemmas.Bool.{and_parts}
 use Rattle.std.proofs.lemmas.Bool.Decides.{nat_tests}
-use Rattle.lldp_table.specs.Contents.{newly_opened}
+use Rattle.lldp_table.specs.Code.Steps.{newly_opened}
 use Rattle.lldp_table.specs.Events.{events_of}
 use Rattle.lldp_table.specs.Standing.{table_of}
 use Rattle.lldp_table.proofs.StandingLemmas.{stands_open}

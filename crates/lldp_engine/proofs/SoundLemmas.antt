@@ -9,7 +9,8 @@ use Rattle.lldp_pdu.specs.Msap.{MsapId}
 use Rattle.lldp_table.specs.Events.{Call, learn, forget, purge, tick as tick_call, set_limit}
 use Rattle.lldp_table.specs.declared.learned.Learned.{Learned}
 use Rattle.lldp_table.specs.declared.learned.Learned.TheVariants.{New, Refreshed, Dropped}
-use Rattle.lldp_table.specs.Contents.{Contents, IsSound, learned_as, learn_answer, table_after}
+use Rattle.lldp_table.specs.Contents.{Contents, IsSound}
+use Rattle.lldp_table.specs.Code.Steps.{learned_as, learn_answer, table_after}
 use Rattle.lldp_table.specs.Standing.{IsTold, IsNewLimit}
 use Rattle.lldp_table.proofs.SoundLemmas.{sound_open, sound_after}
 use Rattle.lldp_engine.specs.Options.{Options, InRange, is_port_name}

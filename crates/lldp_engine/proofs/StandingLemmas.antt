@@ -4,7 +4,8 @@ use Rattle.std.specs.Prelude.{if◌then◌else◌, option_and_then, IfSome}
 use Rattle.std.specs.List.{cons_option}
 use Rattle.lldp_pdu.specs.Msap.{MsapId}
 use Rattle.lldp_table.specs.Events.{Call, learn, forget, purge, tick as tick_call, set_limit, learned, ticked, events_of, neighbors, aged_out, answer}
-use Rattle.lldp_table.specs.Contents.{Contents, table_after, after_tick, learn_answer}
+use Rattle.lldp_table.specs.Contents.{Contents}
+use Rattle.lldp_table.specs.Code.Steps.{table_after, after_tick, learn_answer}
 use Rattle.lldp_table.specs.Standing.{table_of, IsTold, Stands as TableStands}
 use Rattle.lldp_table.specs.declared.learned.Learned.{Learned}
 use Rattle.lldp_table.proofs.StandingLemmas.{carries as table_carries, events-more, learn_answers}

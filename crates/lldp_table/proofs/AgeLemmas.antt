@@ -7,7 +7,7 @@ use Rattle.std.proofs.lemmas.Bool.{cases_Bool, lt-ltb, ltb-true, ltb-false, le-l
 use Rattle.std.proofs.lemmas.List.Sorted.{IsPermutation-refl, IsPermutation-trans, IsPermutation-remove, IsPermutation-append_comm, length_permutation}
 use Rattle.std.proofs.lemmas.Map.Keys.{IsDistinct-head, IsDistinct-tail}
 use Rattle.lldp_table.specs.Events.{Neighbor}
-use Rattle.lldp_table.specs.Contents.{aged, after_tick}
+use Rattle.lldp_table.specs.Code.Steps.{aged, after_tick}
 use Rattle.lldp_table.specs.Code.Stored.{Stored}
 use Rattle.lldp_table.specs.Code.Queue.{Due, due, holds, slots_of, ticks_left, less_first, is_spent, IsRunning, IsQueued, IsTimed}
 use Rattle.lldp_table.specs.Code.Layout.{neighbor_of, neighbors_at, blank, contents_of, IsLaidOut}

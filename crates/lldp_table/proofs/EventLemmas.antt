@@ -12,7 +12,8 @@ use Rattle.lldp_pdu.specs.Msap.{MsapId}
 use Rattle.lldp_table.specs.Msap.{same_msap}
 use Rattle.lldp_table.proofs.MsapLemmas.{same_msap-refl, same_msap-true, same_msap-sym}
 use Rattle.lldp_table.specs.Events.{TableEvent, learned, forgot, purged, ticked, limit_set, Neighbor, live, live_after, ticks, since, decides_on, arrivals, neighbors, is_tick, is_stored, is_purge, most_left, too_many_left}
-use Rattle.lldp_table.specs.Contents.{aged, is_named, fresh, refreshed}
+use Rattle.lldp_table.specs.Contents.{is_named}
+use Rattle.lldp_table.specs.Code.Steps.{aged, fresh, refreshed}
 use Rattle.lldp_table.specs.declared.learned.Learned.{Learned}
 use Rattle.lldp_table.specs.declared.learned.Learned.TheVariants.{New, Refreshed, Dropped}
 use Rattle.std.proofs.lemmas.Grind.{common_steps}

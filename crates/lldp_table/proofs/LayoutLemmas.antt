@@ -8,7 +8,8 @@ use Rattle.std.proofs.lemmas.List.Folds.{list_any_at}
 use Rattle.lldp_pdu.specs.Msap.{MsapId}
 use Rattle.lldp_table.specs.Msap.{same_msap}
 use Rattle.lldp_table.specs.Events.{Neighbor}
-use Rattle.lldp_table.specs.Contents.{Contents, IsExtent, is_named, fresh, refreshed, learn_answer, learned_as, after_learn, after_forget, IsSound, IsHeld}
+use Rattle.lldp_table.specs.Contents.{Contents, IsExtent, is_named, IsSound, IsHeld}
+use Rattle.lldp_table.specs.Code.Steps.{fresh, refreshed, learn_answer, learned_as, after_learn, after_forget}
 use Rattle.lldp_table.specs.Code.Layout.{neighbor_of, neighbor_at, neighbors_at, msap_at, blank, with_next, IsOrder, contents_of, IsLaidOut}
 use Rattle.lldp_table.specs.Code.Stored.{Stored}
 use Rattle.lldp_table.specs.declared.learned.Learned.{Learned}

@@ -6,7 +6,8 @@ use Rattle.std.proofs.lemmas.List.{get_or_default, get_or-take, take_more}
 use Rattle.std.proofs.lemmas.List.Sorted.{IsPermutation-sym, IsPermutation-append_comm, length_permutation}
 use Rattle.lldp_pdu.specs.Msap.{MsapId}
 use Rattle.lldp_table.specs.Msap.{same_msap}
-use Rattle.lldp_table.specs.Contents.{Contents, IsExtent, is_named, fresh, after_learn, after_forget}
+use Rattle.lldp_table.specs.Contents.{Contents, IsExtent, is_named}
+use Rattle.lldp_table.specs.Code.Steps.{fresh, after_learn, after_forget}
 use Rattle.lldp_table.specs.Code.Layout.{neighbor_of, neighbors_at, msap_at, blank, with_next, contents_of, IsTable}
 use Rattle.lldp_table.specs.Code.Queue.{Due, holds, ticks_left, enter, leave, IsQueued, IsTimed}
 use Rattle.lldp_table.specs.Code.Stored.{Stored}

@@ -9,7 +9,8 @@ use Rattle.lldp_pdu.specs.Msap.{MsapId}
 use Rattle.lldp_table.specs.Msap.{same_msap}
 use Rattle.lldp_table.proofs.MsapLemmas.{same_msap-refl, same_msap-true}
 use Rattle.lldp_table.specs.Events.{aged_out, Call, tick, TableEvent, learned, ticked, Neighbor, live, live_after, ticks, since, decides_on, arrivals, neighbors, is_stored, events_of}
-use Rattle.lldp_table.specs.Contents.{Contents, aged}
+use Rattle.lldp_table.specs.Contents.{Contents}
+use Rattle.lldp_table.specs.Code.Steps.{aged}
 use Rattle.lldp_table.specs.Standing.{Stands}
 use Rattle.lldp_table.specs.Positions.{IsLastStored}
 use Rattle.std.proofs.lemmas.List.Sums.{sum_by-cons}

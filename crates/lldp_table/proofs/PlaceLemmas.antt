@@ -11,7 +11,8 @@ use Rattle.std.specs.List.Sorted.{IsPermutation}
 use Rattle.lldp_pdu.specs.Msap.{MsapId}
 use Rattle.lldp_table.specs.Msap.{same_msap}
 use Rattle.lldp_table.specs.Events.{Neighbor}
-use Rattle.lldp_table.specs.Contents.{is_named, fresh, refreshed, names_of}
+use Rattle.lldp_table.specs.Contents.{is_named, names_of}
+use Rattle.lldp_table.specs.Code.Steps.{fresh, refreshed}
 use Rattle.lldp_table.specs.Code.Layout.{IsOrder}
 use Rattle.lldp_table.proofs.MsapLemmas.{same_msap-true, same_msap-sym}
 use Rattle.std.proofs.lemmas.Grind.{common_steps}

@@ -9,7 +9,8 @@ use Rattle.lldp_pdu.specs.Msap.{MsapId}
 use Rattle.lldp_table.specs.Msap.{same_msap}
 use Rattle.lldp_table.proofs.MsapLemmas.{same_msap-laws, same_msap-true}
 use Rattle.lldp_table.specs.Events.{Neighbor, Call, learn, forget, purge, tick, set_limit}
-use Rattle.lldp_table.specs.Contents.{Contents, aged, is_named, fresh, refreshed, learn_answer, learned_as, after_learn, after_forget, after_purge, after_tick, after_set_limit, newly_opened, table_after, IsExtent, IsHeld, IsSound, names_of}
+use Rattle.lldp_table.specs.Contents.{Contents, is_named, IsExtent, IsHeld, IsSound, names_of}
+use Rattle.lldp_table.specs.Code.Steps.{aged, fresh, refreshed, learn_answer, learned_as, after_learn, after_forget, after_purge, after_tick, after_set_limit, newly_opened, table_after}
 use Rattle.lldp_table.specs.Standing.{IsNewLimit, IsTold}
 use Rattle.lldp_table.proofs.EventLemmas.{keep, filter_map-keep, by_new}
 use Rattle.lldp_table.proofs.PlaceLemmas.{all-push}

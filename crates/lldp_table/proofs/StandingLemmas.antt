@@ -3,7 +3,8 @@ use Rattle.std.proofs.Common.{◌≡◌, ℕ, ◌<◌, ◌≤◌, false, nat_lt,
 use Rattle.std.specs.List.{list_any}
 use Rattle.lldp_pdu.specs.Msap.{MsapId}
 use Rattle.lldp_table.specs.Events.{Call, learn, forget, purge, tick, set_limit, TableEvent, learned, Neighbor, live, neighbors, too_many_left, limit_after, answer, event_of, events_of}
-use Rattle.lldp_table.specs.Contents.{Contents, is_named, learn_answer, learned_as, newly_opened, table_after}
+use Rattle.lldp_table.specs.Contents.{Contents, is_named}
+use Rattle.lldp_table.specs.Code.Steps.{learn_answer, learned_as, newly_opened, table_after}
 use Rattle.lldp_table.specs.Standing.{Stands, IsTold, table_of}
 use Rattle.lldp_table.specs.declared.learned.Learned.{Learned}
 use Rattle.lldp_table.specs.declared.learned.Learned.TheVariants.{New, Refreshed, Dropped}

@@ -1,5 +1,7 @@
--- How the code lays a table out, keeps its times, and what a slot stores. Nothing here need be believed: each is proved
--- equal to the definitions beside this folder, and no public contract cites it.
+-- How the code lays a table out, keeps its times, and what a slot stores: nothing of it need be believed, each is proved
+-- equal to the definitions beside this folder. And what each call makes of what a table shows (Steps), by which callers
+-- compute.
+pub mod Steps
 pub mod Stored
 pub mod Queue
 pub mod Layout

@@ -1,14 +1,12 @@
--- What a table shows, and what each call makes of it.
-use Rattle.std.specs.Prelude.{◌≡◌, ℕ, ◌-◌, ◌<◌, ◌≤◌, Bool, not, if◌then◌else◌, nat_lt, max, List, [], ◌∷◌, ◌++◌, length, filter, map, filter_map, Option, Some, None}
+-- What a table shows, and what is true of every table.
+use Rattle.std.specs.Prelude.{◌≡◌, ℕ, ◌<◌, ◌≤◌, Bool, List, length, map, None}
 use Rattle.std.specs.List.{list_any, IsDistinct, AllByRecursion}
 use Rattle.lldp_pdu.specs.Tlv.{AreOctets}
 use Rattle.lldp_pdu.specs.Msap.{MsapId, IsIdentifier}
 use Rattle.lldp_pdu.specs.Lldpdu.{extent, ttl_of, msap_of}
 use Rattle.lldp_pdu.specs.Fault.{fault_of}
 use Rattle.lldp_table.specs.Msap.{same_msap}
-use Rattle.lldp_table.specs.Events.{Neighbor, Call, learn, forget, purge, tick, set_limit}
-use Rattle.lldp_table.specs.declared.learned.Learned.{Learned}
-use Rattle.lldp_table.specs.declared.learned.Learned.TheVariants.{New, Refreshed, Dropped}
+use Rattle.lldp_table.specs.Events.{Neighbor}
 use Rattle.lldp_table.specs.declared.limits.TheConstants.{MOST_NEIGHBORS, MOST_OCTETS}
 
 -- a table: the limit of opening, that in force, its neighbors in the order in which they were last new, and the ticks
@@ -19,8 +17,6 @@ pub record Contents : Type 0 where
   pub neighbors : List Neighbor
   pub too_many_left : ℕ
 
--- ## `learn`
-
 -- the neighbor has this name
 abbrev pub is_named : MsapId → Neighbor → Bool
 is_named name neighbor = same_msap name neighbor.msap
@@ -28,64 +24,6 @@ is_named name neighbor = same_msap name neighbor.msap
 -- a neighbor of this name is held
 abbrev pub holds_name : Contents → MsapId → Bool
 holds_name table name = list_any (is_named name) table.neighbors
-
--- what `learn` answers
-abbrev pub learn_answer : Contents → MsapId → Learned
-learn_answer table name = if holds_name table name then Refreshed else (if nat_lt (length table.neighbors) table.limit then New else Dropped)
-
--- a frame that has just come
-abbrev pub fresh : MsapId → ℕ → List ℕ → Neighbor
-fresh name ttl octets = record { msap = name; octets = octets; ttl = ttl; left = ttl }
-
--- the neighbor of this name has the new frame, each other one is as it was
-abbrev pub refreshed : MsapId → ℕ → List ℕ → Neighbor → Neighbor
-refreshed name ttl octets neighbor = if is_named name neighbor then fresh name ttl octets else neighbor
-
--- a new neighbor stands behind the others, a known one stays in its place, and for a dropped one the timer runs at least as long as its TTL
-abbrev pub learned_as : Learned → Contents → MsapId → ℕ → List ℕ → Contents
-learned_as New table name ttl octets = record { capacity = table.capacity; limit = table.limit; neighbors = table.neighbors ++ fresh name ttl octets ∷ []; too_many_left = table.too_many_left }
-learned_as Refreshed table name ttl octets = record { capacity = table.capacity; limit = table.limit; neighbors = map (refreshed name ttl octets) table.neighbors; too_many_left = table.too_many_left }
-learned_as Dropped table name ttl octets = record { capacity = table.capacity; limit = table.limit; neighbors = table.neighbors; too_many_left = max table.too_many_left ttl }
-
--- the table after a frame
-abbrev pub after_learn : Contents → MsapId → ℕ → List ℕ → Contents
-after_learn table name ttl octets = learned_as (learn_answer table name) table name ttl octets
-
--- ## The other calls
-
--- the neighbor of this name goes, and the others keep their order
-abbrev pub after_forget : Contents → MsapId → Contents
-after_forget table name = record { capacity = table.capacity; limit = table.limit; neighbors = filter (λ neighbor. not (is_named name neighbor)) table.neighbors; too_many_left = table.too_many_left }
-
--- no neighbor is left, and the timer stands
-abbrev pub after_purge : Contents → Contents
-after_purge table = record { capacity = table.capacity; limit = table.limit; neighbors = []; too_many_left = 0 }
-
--- a neighbor after a tick, if it has any left
-abbrev pub aged : Neighbor → Option Neighbor
-aged neighbor = if nat_lt 1 neighbor.left then Some (record { msap = neighbor.msap; octets = neighbor.octets; ttl = neighbor.ttl; left = neighbor.left - 1 }) else None
-
--- each neighbor has one tick less, and those that have none left go
-abbrev pub after_tick : Contents → Contents
-after_tick table = record { capacity = table.capacity; limit = table.limit; neighbors = filter_map aged table.neighbors; too_many_left = table.too_many_left - 1 }
-
--- another limit in force
-abbrev pub after_set_limit : Contents → ℕ → Contents
-after_set_limit table limit = record { capacity = table.capacity; limit = limit; neighbors = table.neighbors; too_many_left = table.too_many_left }
-
--- the table after a call
-abbrev pub table_after : Contents → Call → Contents
-table_after table (learn msap ttl octets) = after_learn table msap ttl octets
-table_after table (forget msap) = after_forget table msap
-table_after table purge = after_purge table
-table_after table tick = after_tick table
-table_after table (set_limit limit) = after_set_limit table limit
-
--- an empty table
-abbrev pub newly_opened : ℕ → Contents
-newly_opened limit = record { capacity = limit; limit = limit; neighbors = []; too_many_left = 0 }
-
--- ## What is true of every table
 
 -- what a learned frame told: at most 1,500 octets, which alone are a sound LLDPDU with this MSAP identifier and this TTL,
 -- not 0, and are whole its extent

@@ -8,7 +8,8 @@ ghost use Rattle.lldp_pdu.specs.Fault.{fault_of};
 ghost use Rattle.lldp_pdu.specs.Kept.{kept_of};
 ghost use Rattle.lldp_table.specs.declared.learned.Learned.TheVariants.{New, Refreshed, Dropped};
 ghost use Rattle.lldp_table.specs.Events.{Call, Neighbor, TableEvent, ticked, aged_out, answer, event_of, events_of, neighbors, too_many_left};
-ghost use Rattle.lldp_table.specs.Contents.{Contents, IsExtent, IsHeld, IsSound, learn_answer, newly_opened, table_after};
+ghost use Rattle.lldp_table.specs.Contents.{Contents, IsExtent, IsHeld, IsSound};
+ghost use Rattle.lldp_table.specs.Code.Steps.{learn_answer, newly_opened, table_after};
 ghost use Rattle.lldp_table.specs.Standing.{Stands, ForEachCalls, IsTold, AreTold, table_of};
 ghost use Rattle.lldp_table.specs.Positions.{IsLastStored, IsLive, HasRoom, IsNewBefore, WasDropped};
 

@@ -4,7 +4,7 @@ ghost use Rattle.std.specs.List.{list_any, filter_map, AllByRecursion, IsDistinc
 ghost use Rattle.lldp_pdu.specs.View.{msap_view};
 ghost use Rattle.lldp_table.specs.Code.Stored.{Stored, tag_of};
 ghost use Rattle.lldp_table.specs.Msap.{same_msap};
-ghost use Rattle.lldp_table.specs.Contents.{aged};
+ghost use Rattle.lldp_table.specs.Code.Steps.{aged};
 ghost use Rattle.lldp_table.specs.Code.Queue.{holds, ticks_left, IsTimed};
 ghost use Rattle.lldp_table.specs.Code.Layout.{blank, msap_at, octets_at, neighbors_at, with_next};
 

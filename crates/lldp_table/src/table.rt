@@ -2,7 +2,8 @@
 ghost use Rattle.std.specs.Prelude.{◌≡◌, ℕ, List, ◌≤◌, ◌<◌, ◌↔◌, ◌+◌, ◌*◌, [], ◌∷◌, length, map, IfOk, IsTrue, sum_by, slice_index, slice_get, Some, is_some};
 ghost use Rattle.lldp_pdu.specs.Kept.{kept_of};
 ghost use Rattle.lldp_pdu.specs.View.{msap_view};
-ghost use Rattle.lldp_table.specs.Contents.{IsExtent, IsHeld, IsSound, holds_name, learn_answer, after_learn, after_forget, after_purge, after_tick, after_set_limit, newly_opened};
+ghost use Rattle.lldp_table.specs.Contents.{IsExtent, IsHeld, IsSound, holds_name};
+ghost use Rattle.lldp_table.specs.Code.Steps.{learn_answer, after_learn, after_forget, after_purge, after_tick, after_set_limit, newly_opened};
 ghost use Rattle.lldp_table.specs.Events.{Call, learn, forget, purge, tick, set_limit, live, answer, aged_out, events_of};
 ghost use Rattle.lldp_table.specs.Standing.{Stands, ForEachCalls};
 

@@ -1,7 +1,8 @@
 -- One event, on a port's present data.
 use Rattle.std.specs.Prelude.{ℕ, List, Option, Some, None, option_and_then}
 use Rattle.lldp_table.specs.Events.{Call}
-use Rattle.lldp_table.specs.Contents.{Contents, learn_answer, table_after, newly_opened}
+use Rattle.lldp_table.specs.Contents.{Contents}
+use Rattle.lldp_table.specs.Code.Steps.{learn_answer, table_after, newly_opened}
 use Rattle.lldp_transmit.specs.declared.event.Cause.{Cause}
 use Rattle.lldp_transmit.specs.declared.event.Mark.{Mark}
 use Rattle.lldp_transmit.specs.Code.Machine.{stepped, opened as opened_machine}

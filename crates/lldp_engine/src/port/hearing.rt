@@ -1,6 +1,6 @@
 //! What a port hears (IEEE 802.1AB-2009, 9.2.7.7).
 ghost use Rattle.std.specs.Prelude.{◌≡◌, ◌≤◌, length, Some};
-ghost use Rattle.lldp_table.specs.Contents.{learn_answer, after_learn};
+ghost use Rattle.lldp_table.specs.Code.Steps.{learn_answer, after_learn};
 ghost use Rattle.lldp_engine.specs.Heard.{heard_of, heard_by};
 ghost use Rattle.lldp_engine.specs.Port.Effects.{cause_of_answer, cause_of_heard};
 ghost use Rattle.lldp_engine.specs.Code.Counting.{with_tlvs, with_answer};

@@ -1,6 +1,7 @@
 use Rattle.std.proofs.Common.{arith, ap, length, List}
 use Rattle.lldp_pdu.specs.Tlv.{TlvUnit}
-use Rattle.lldp_table.specs.Contents.{IsHeld, fresh}
+use Rattle.lldp_table.specs.Contents.{IsHeld}
+use Rattle.lldp_table.specs.Code.Steps.{fresh}
 use Rattle.lldp_table.proofs.ExtentLemmas.{kept_is_short}
 use Rattle.lldp_engine.proofs.port.Port.learn.Goals as goal
 

@@ -1,7 +1,8 @@
 use Rattle.std.proofs.Common.{sym, ap, ◌∙◌}
 use Rattle.lldp_pdu.specs.View.{msap_view}
 use Rattle.lldp_table.specs.Events.{forget}
-use Rattle.lldp_table.specs.Contents.{Contents, after_forget, holds_name}
+use Rattle.lldp_table.specs.Contents.{Contents, holds_name}
+use Rattle.lldp_table.specs.Code.Steps.{after_forget}
 use Rattle.lldp_table.proofs.StandingLemmas.{stands_after, held_is_live}
 use Rattle.lldp_table.proofs.LayoutLemmas.{found, not_found, forgotten_none, holds_named}
 use Rattle.lldp_table.proofs.LearnLemmas.{forgotten_after, forgotten_table}

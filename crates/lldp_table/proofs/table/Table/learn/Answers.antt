@@ -1,6 +1,7 @@
 use Rattle.std.proofs.Common.{sym, ap, ◌∙◌, arith}
 use Rattle.lldp_table.specs.Events.{learn}
-use Rattle.lldp_table.specs.Contents.{Contents, after_learn, learn_answer}
+use Rattle.lldp_table.specs.Contents.{Contents}
+use Rattle.lldp_table.specs.Code.Steps.{after_learn, learn_answer}
 use Rattle.lldp_table.proofs.ExtentLemmas.{info_is_extent}
 use Rattle.lldp_table.proofs.StandingLemmas.{stands_after, learn_answers}
 use Rattle.lldp_table.proofs.LayoutLemmas.{not_found, answer_refreshed, answer_new, answer_dropped, after_dropped}

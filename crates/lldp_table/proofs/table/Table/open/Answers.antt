@@ -1,5 +1,6 @@
 use Rattle.std.proofs.Common.{◌≡◌, [], sym, ap, subst, arith}
-use Rattle.lldp_table.specs.Contents.{Contents, newly_opened}
+use Rattle.lldp_table.specs.Contents.{Contents}
+use Rattle.lldp_table.specs.Code.Steps.{newly_opened}
 use Rattle.lldp_table.specs.Standing.{Stands}
 use Rattle.lldp_table.proofs.LearnLemmas.{open_table}
 use Rattle.lldp_table.proofs.StandingLemmas.{stands_open}

@@ -1,6 +1,6 @@
 use Rattle.std.proofs.Common.{ap}
 use Rattle.lldp_table.specs.Events.{purge}
-use Rattle.lldp_table.specs.Contents.{after_purge}
+use Rattle.lldp_table.specs.Code.Steps.{after_purge}
 use Rattle.lldp_table.proofs.StandingLemmas.{stands_after}
 use Rattle.lldp_table.proofs.LearnLemmas.{purged_table}
 use Rattle.lldp_table.proofs.table.Table.purge.Goals as goal

@@ -1,6 +1,7 @@
 use Rattle.std.proofs.Common.{ap}
 use Rattle.lldp_table.specs.Events.{set_limit}
-use Rattle.lldp_table.specs.Contents.{Contents, after_set_limit}
+use Rattle.lldp_table.specs.Contents.{Contents}
+use Rattle.lldp_table.specs.Code.Steps.{after_set_limit}
 use Rattle.lldp_table.proofs.StandingLemmas.{stands_after}
 use Rattle.lldp_table.proofs.table.Table.set_limit.Goals as goal
 
