@@ -112,8 +112,11 @@ lldpd_sees_none() {
 
 # Ends both of its processes so that none has the time to send a shutdown frame.
 kill_lldpd() {
+    # Stopped first, so that no process of it lives to take leave for the one that was killed.
     # shellcheck disable=SC2046
-    kill -KILL "$lldpd" $(cat "/proc/$lldpd/task/$lldpd/children")
+    set -- "$lldpd" $(cat "/proc/$lldpd/task/$lldpd/children")
+    kill -STOP "$@"
+    kill -KILL "$@"
     end_process "$lldpd"
     rm -f "$room/lldpd"
 }
