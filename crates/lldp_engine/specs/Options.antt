@@ -4,8 +4,8 @@ use Rattle.std.specs.List.{list_any, list_all}
 use Rattle.std.specs.Str.{bytes_eq}
 use Rattle.lldp_engine.specs.declared.agent.options.Options.{Options as CodeOptions}
 use Rattle.lldp_engine.specs.declared.agent.options.Role.{Role}
-use Rattle.lldp_engine.specs.declared.agent.open.OpenFault.{OpenFault}
-use Rattle.lldp_engine.specs.declared.agent.open.OpenFault.TheVariants.{Memory, NoPorts, TooManyPorts, PortName, SamePort, Text}
+use Rattle.lldp_engine.specs.declared.agent.open_fault.OpenFault.{OpenFault}
+use Rattle.lldp_engine.specs.declared.agent.open_fault.OpenFault.TheVariants.{Memory, NoPorts, TooManyPorts, PortName, SamePort, Text}
 
 -- what an agent is opened with: the names of its ports in order, its identity, its role, and the four numbers
 pub record Options : Type 0 where

@@ -19,17 +19,18 @@ ghost use Rattle.lldp_engine.specs.Headline.{PromisedStep};
 pub(crate) mod configuration;
 pub(crate) mod event;
 pub(crate) mod frame;
-pub(crate) mod names;
-pub(crate) mod open;
+pub(crate) mod open_fault;
 pub(crate) mod options;
+pub(crate) mod port_names;
 pub(crate) mod ports;
+pub(crate) mod text;
 
 use crate::agent::configuration::Configuration;
 use crate::agent::event::{Event, Setting};
-use crate::agent::names::is_text;
-use crate::agent::open::{OpenFault, fault_of};
+use crate::agent::open_fault::OpenFault;
 use crate::agent::options::{MOST_HOLD, MOST_INTERVAL, Options};
 use crate::agent::ports::{Marks, all_fit, open_ports, place_of, take_event};
+use crate::agent::text::is_text;
 use crate::port::Port;
 use crate::port::counters::Counters;
 use crate::port::status::Status;
@@ -67,7 +68,7 @@ impl<A: Allocator> Agent<A> {
         ensures opened { IfOk result (λ agent. Stands (opened (options_of options.now)) agent) }
         ensures refused { IfErr result (λ fault. IsRefusal (options_of options.now) fault) }
     {
-        if let Some(fault) = fault_of(options) {
+        if let Some(fault) = options.first_fault() {
             return Err(fault);
         }
         let ports = open_ports(alloc, options)?;

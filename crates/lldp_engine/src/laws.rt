@@ -14,7 +14,7 @@ ghost use Rattle.lldp_engine.specs.Headline.{Promised};
 
 /// An event that is allowed carries standing from each past to that past with the event, and its
 /// marks are those of that past.
-pub fn step_carries_standing()
+pub fn steps_carry_standing()
     ensures marks { (past : Past) (event : Happening) (agent : AgentState) → Stands past agent →
         Allows agent event → HasOctets event →
         agent_marks event agent ≡ marks_of (with_event past event) }
@@ -26,14 +26,14 @@ pub fn step_carries_standing()
 /// Each port's table holds the last stored frames that have not expired, and nothing else; and each
 /// port has sent exactly what was due while its credit window was open, by the right of its status,
 /// and no other choice has sent more sooner.
-pub fn every_standing_agent_is_promised()
+pub fn standing_agents_are_promised()
     ensures { (past : Past) (agent : AgentState) → Stands past agent → Promised past agent }
 {}
 
 /// Whatever a port has seen, by what its events were for its transmitting it has the right to
 /// transmit exactly where its status gives it, so that a status that gives the right gives it back;
 /// and its link is up exactly where its last link event says so.
-pub fn the_right_follows_the_status()
+pub fn rights_follow_statuses()
     ensures { (options : Opened) (past : List Happened) → FollowsStatus options past }
 {}
 

@@ -12,7 +12,7 @@ mod show;
 pub use agent::Agent;
 pub use agent::event::{Event, Setting};
 pub use agent::frame::Frame;
-pub use agent::open::OpenFault;
+pub use agent::open_fault::OpenFault;
 pub use agent::options::{
     MOST_CREDIT, MOST_FAST, MOST_HOLD, MOST_INTERVAL, MOST_NEIGHBORS, MOST_REINIT, Options, Role,
 };
@@ -23,8 +23,7 @@ pub use command::words::{Words, split, split_at_bare, words_are_spelled};
 pub use command::{Command, Show, complete_forms_take_no_word};
 pub use digits::{decode_digits, encode_digits};
 pub use laws::{
-    every_standing_agent_is_promised, last_events_decide, step_carries_standing,
-    the_right_follows_the_status,
+    last_events_decide, rights_follow_statuses, standing_agents_are_promised, steps_carry_standing,
 };
 pub use lldp_transmit::Mark;
 pub use port::counters::Counters;

@@ -14,7 +14,7 @@ pub record IsCut (octets : List ℕ) (c : Cut) : Type 0 where
   pub complete : AllByRecursion IsTlv c.tlvs
   pub ended : ¬ (BeginsTlv c.rest)
 
--- ---- the cut, computed from the front: each list of octets has this one and no other (the law `one_cut`)
+-- ---- the cut, computed from the front: each list of octets has this one and no other (the law `octets_have_one_cut`)
 
 -- the TLV at the front of the octets, and the octets after it
 abbrev pub first_tlv : List ℕ → Option (TlvUnit × List ℕ)

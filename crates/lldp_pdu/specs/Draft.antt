@@ -57,7 +57,7 @@ put_checks d u =
 unfoldable pub put_fault : Draft → TlvUnit → Option BuildFault
 put_fault d u = first_fault (put_checks d u)
 
--- what passes each of them (the law `put_succeeds`)
+-- what passes each of them (the law `checked_tlvs_are_put`)
 pub record CanPut (d : Draft) (u : TlvUnit) : Type 0 where
   pub least : port_description_type ≤ u.kind
   pub greatest : u.kind ≤ organizationally_specific_type

@@ -30,7 +30,7 @@ pub record IsSpelled (body : List ℕ) (a : Address) : Type 0 where
   pub address : IsAddress a
   pub octets : body ≡ address_spelling a
 
--- ---- by its places, which the law `management_address_is_spelled` proves equal
+-- ---- by its places, which the law `management_addresses_are_spelled` proves equal
 
 -- the fields, where m octets have family and address
 abbrev pub address_fields : List ℕ → ℕ → Address

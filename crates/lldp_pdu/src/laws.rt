@@ -13,14 +13,14 @@ ghost use Rattle.lldp_pdu.specs.ManagementAddress.{Address, address_of, IsSpelle
 ghost use Rattle.lldp_pdu.specs.Frame.{nearest_bridge, lldp_ethertype, lldpdu_of};
 
 /// Each list of octets has a cut, and no other.
-pub fn one_cut()
+pub fn octets_have_one_cut()
     ensures is_cut { (octets : List ℕ) → AreOctets octets → IsCut octets (cut octets) }
     ensures only { (octets : List ℕ) (c : Cut) → AreOctets octets → IsCut octets c →
         c ≡ cut octets }
 {}
 
 /// `Tlvs`, asked until it has no more, gives the TLVs of the cut, and is left with its rest.
-pub fn whole_cut()
+pub fn tlvs_give_the_cut()
     ensures tlvs { (octets left : List ℕ) (given : List Tlv) →
         YieldsThen GivesFirstTlv octets given None left → map tlv_view given ≡ (cut octets).tlvs }
     ensures rest { (octets left : List ℕ) (given : List Tlv) →
@@ -28,7 +28,7 @@ pub fn whole_cut()
 {}
 
 /// The extent of a sound LLDPDU with a TTL above 0 tells the same as the LLDPDU.
-pub fn extent_tells_the_same()
+pub fn extents_tell_the_same()
     ensures info { (octets : List ℕ) → AreOctets octets → fault_of octets ≡ None →
         0 < ttl_of octets → IsInfo (info_of octets) }
     ensures again { (octets : List ℕ) → AreOctets octets → fault_of octets ≡ None →
@@ -36,19 +36,19 @@ pub fn extent_tells_the_same()
 {}
 
 /// An LLDPDU begins with its extent.
-pub fn begins_with_extent()
+pub fn lldpdus_begin_with_extents()
     ensures { (octets : List ℕ) → AreOctets octets →
         (more : List ℕ) × (octets ≡ extent octets ++ more) }
 {}
 
 /// An LLDPDU of at most 1,500 octets behind the three fields of an LLDP frame is that frame's.
-pub fn frame_has_lldpdu()
+pub fn frames_hold_lldpdus()
     ensures { (source lldpdu : List ℕ) → length source ≡ 6 → length lldpdu ≤ 1500 →
         lldpdu_of (nearest_bridge ++ source ++ lldp_ethertype ++ lldpdu) ≡ Some lldpdu }
 {}
 
 /// A TLV is put exactly where it passes each check.
-pub fn put_succeeds()
+pub fn checked_tlvs_are_put()
     ensures { (draft : Draft) (tlv : TlvUnit) → CanPut draft tlv ↔ (put_fault draft tlv ≡ None) }
 {}
 
@@ -60,7 +60,7 @@ pub fn drafts_are_read_back()
 {}
 
 /// A body is a well-formed Management Address with these fields exactly where it is their spelling.
-pub fn management_address_is_spelled()
+pub fn management_addresses_are_spelled()
     ensures { (body : List ℕ) (address : Address) → AreOctets body →
         (address_of body ≡ Some address) ↔ IsSpelled body address }
 {}

@@ -25,8 +25,9 @@ pub use frame::frame_pdu;
 pub use info::Info;
 pub use kept::Kept;
 pub use laws::{
-    begins_with_extent, drafts_are_read_back, extent_tells_the_same, frame_has_lldpdu,
-    management_address_is_spelled, one_cut, put_succeeds, whole_cut,
+    checked_tlvs_are_put, drafts_are_read_back, extents_tell_the_same, frames_hold_lldpdus,
+    lldpdus_begin_with_extents, management_addresses_are_spelled, octets_have_one_cut,
+    tlvs_give_the_cut,
 };
 pub use msap::Msap;
 pub use spelling::append_tlv;

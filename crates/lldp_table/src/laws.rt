@@ -16,14 +16,14 @@ ghost use Rattle.lldp_table.specs.Positions.{IsLastStored, IsLive, HasRoom, IsNe
 use crate::limits::{MOST_NEIGHBORS, MOST_OCTETS};
 
 /// What a table that stands for a list of calls makes of one more stands for the list with it.
-pub fn carries_standing()
+pub fn calls_carry_standing()
     ensures { (table : Contents) (call : Call) → IsTold table call →
         ForEachCalls table (λ opened calls. Stands opened (call ∷ calls) (table_after table call)) }
 {}
 
 /// A table that stands for a list of calls is the one that they leave, an empty one where there was
 /// none; and it answers as the definitions do of the list.
-pub fn standing_tells_the_table()
+pub fn calls_tell_standing_tables()
     ensures opened { (opened : ℕ) → 0 < opened → opened ≤ MOST_NEIGHBORS →
         Stands opened [] (newly_opened opened) }
     ensures learned { (table : Contents) (name : MsapId) →
@@ -57,7 +57,7 @@ pub fn extents_can_be_stored()
 /// A table that stands for a list of calls holds for each name its last stored frame that has not
 /// expired, and nothing else, in the order in which the names were last new, and never more
 /// neighbors than the limit, nor 1,500 octets for each.
-pub fn holds_last_stored_frames()
+pub fn tables_hold_last_stored_frames()
     ensures held { (table : Contents) (neighbor : Neighbor) → ForEachCalls table (λ opened calls.
         Contains table.neighbors neighbor ↔ IsLastStored (events_of opened calls) neighbor) }
     ensures order { (table : Contents) → ForEachCalls table (λ opened calls.
@@ -67,7 +67,7 @@ pub fn holds_last_stored_frames()
 
 /// The same of the list of calls itself, and that there is a table for each list of calls that
 /// could be given.
-pub fn lists_leave_last_stored_frames()
+pub fn calls_leave_last_stored_frames()
     ensures held { (opened : ℕ) (calls : List Call) (neighbor : Neighbor) →
         Contains (neighbors (events_of opened calls)) neighbor
         ↔ IsLastStored (events_of opened calls) neighbor }
@@ -81,7 +81,7 @@ pub fn lists_leave_last_stored_frames()
 
 /// A frame is a refresh exactly where a neighbor of its name is live, new exactly where none is and
 /// fewer than the limit in force are live, and else it is dropped.
-pub fn answers_by_what_is_live()
+pub fn live_neighbors_decide_answers()
     ensures refreshed { (opened : ℕ) (calls : List Call) (name : MsapId) →
         (answer opened name (events_of opened calls) ≡ Refreshed)
         ↔ IsLive (events_of opened calls) name }
@@ -96,7 +96,7 @@ pub fn answers_by_what_is_live()
 
 /// What is left of the too-many timer is the most that any frame dropped since the last purge has
 /// left of its TTL.
-pub fn keeps_the_greatest_dropped()
+pub fn timers_keep_the_greatest_dropped()
     ensures one { (events : List TableEvent) → 0 < too_many_left events →
         WasDropped events (too_many_left events) }
     ensures most { (events : List TableEvent) (left : ℕ) → WasDropped events left →

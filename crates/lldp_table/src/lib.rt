@@ -5,7 +5,7 @@ mod entry;
 mod laws;
 mod learned;
 mod limits;
-mod places;
+mod order;
 mod queue;
 mod slot;
 mod table;
@@ -13,9 +13,9 @@ mod times;
 
 pub use entry::Entry;
 pub use laws::{
-    answers_by_what_is_live, calls_leave_sound_tables, carries_standing, extents_can_be_stored,
-    holds_last_stored_frames, keeps_the_greatest_dropped, lists_leave_last_stored_frames,
-    standing_tells_the_table,
+    calls_carry_standing, calls_leave_last_stored_frames, calls_leave_sound_tables,
+    calls_tell_standing_tables, extents_can_be_stored, live_neighbors_decide_answers,
+    tables_hold_last_stored_frames, timers_keep_the_greatest_dropped,
 };
 pub use learned::Learned;
 pub use limits::{MOST_NEIGHBORS, MOST_OCTETS};

@@ -10,7 +10,7 @@ ghost use Rattle.lldp_table.specs.Standing.{Stands, ForEachCalls};
 use crate::entry::Entry;
 use crate::learned::Learned;
 use crate::limits::{MOST_NEIGHBORS, MOST_OCTETS};
-use crate::places::{age_out, lefts_of, octets_of, place_of, write_next};
+use crate::order::{age_out, lefts_of, octets_of, place_of, write_next};
 use crate::queue::Queue;
 use crate::slot::{Slot, tag_of};
 use crate::times::Accesses;

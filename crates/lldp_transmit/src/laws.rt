@@ -13,13 +13,13 @@ ghost use Rattle.lldp_transmit.specs.declared.event.Cause.{Cause};
 ghost use Rattle.lldp_transmit.specs.declared.event.Mark.{Mark};
 
 /// A machine as it is opened stands for no events.
-pub fn opened_stands()
+pub fn opened_machines_stand()
     ensures { (s : Settings) → AreSettings s → Stands s [] (opened s) }
 {}
 
 /// A step carries standing from every history to that history and the event, and answers the mark
 /// of the event.
-pub fn step_carries()
+pub fn steps_carry_standing()
     ensures stands { (s : Settings) (past : History) (t : Machine) (e : Event) →
         Stands s past t → Stands s (e ∷ past) (stepped t e.cause e.interval).0 }
     ensures mark { (s : Settings) (past : History) (t : Machine) (e : Event) →
@@ -28,7 +28,7 @@ pub fn step_carries()
 
 /// Where nothing concerns a port, its machine needs no call: it stands for that event too, and no
 /// frame goes.
-pub fn nothing_changes()
+pub fn causeless_events_change_nothing()
     ensures stands { (s : Settings) (past : History) (t : Machine) (interval : ℕ) →
         Stands s past t → Stands s (event Cause.Nothing interval ∷ past) t }
     ensures quiet { (s : Settings) (past : History) (t : Machine) (interval : ℕ) →
@@ -51,7 +51,7 @@ pub fn frames_are_timely()
 
 /// Active, rested, start and stop, said of positions: an active port has a start with no stop and
 /// no lost link since; it has rested where each stop is long enough ago.
-pub fn activity_by_positions()
+pub fn positions_tell_activity()
     ensures active { (s : Settings) (h : History) →
         IsTrue (is_active (moments s h)) ↔ HasStarted (moments s h) }
     ensures rested { (s : Settings) (past : List Moment) →
@@ -65,7 +65,7 @@ pub fn activity_by_positions()
 
 /// Signals, bursts, distances and the end of the timer, said of positions: of the last signal and
 /// the last opening of a burst.
-pub fn signals_by_positions()
+pub fn positions_tell_signals()
     ensures signal { (s : Settings) (h : History) (e : Event) →
         IsTrue (moment s (moments s h) e).signal
         ↔ IsSignal s (moments s h) (moment s (moments s h) e) }
@@ -84,7 +84,7 @@ pub fn signals_by_positions()
 /// the start has had none, and is due where the port is active too; a window is open where, with
 /// one frame more, each run that ends now is within its bound; the credit is the least that any run
 /// leaves of its bound, and no other number is.
-pub fn sending_by_positions()
+pub fn positions_tell_sending()
     ensures waiting { (ms : List Moment) → IsTrue (is_waiting ms) ↔ HasWanted ms }
     ensures due { (s : Settings) (h : History) (e : Event) →
         IsTrue (due (moments s h) (moment s (moments s h) e))

@@ -14,8 +14,9 @@ mod tests;
 
 pub use event::{Cause, Mark};
 pub use laws::{
-    activity_by_positions, frames_are_timely, nothing_changes, opened_stands, sending_by_positions,
-    signals_by_positions, step_carries, windows_hold,
+    causeless_events_change_nothing, frames_are_timely, opened_machines_stand,
+    positions_tell_activity, positions_tell_sending, positions_tell_signals, steps_carry_standing,
+    windows_hold,
 };
 pub use limits::{MOST_CREDIT, MOST_FAST_INIT, MOST_REINIT};
 pub use machine::Transmit;

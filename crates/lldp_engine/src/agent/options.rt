@@ -1,6 +1,11 @@
 //! What an agent is opened with.
-ghost use Rattle.std.specs.Prelude.{IsTrue, ◌↔◌};
-ghost use Rattle.lldp_engine.specs.Options.{InRange, options_of};
+ghost use Rattle.std.specs.Prelude.{◌≡◌, ◌≤◌, ◌↔◌, IsTrue, IfNone, map, length};
+ghost use Rattle.std.specs.List.{list_all};
+ghost use Rattle.lldp_engine.specs.Options.{InRange, options_of, is_port_name, fault_of};
+
+use crate::agent::open_fault::OpenFault;
+use crate::agent::port_names::{all_port_names, has_same};
+use crate::agent::text::is_text;
 
 /// The most neighbors that a port may be opened for.
 pub const MOST_NEIGHBORS: u8 = 128;
@@ -60,5 +65,28 @@ impl<'a> Options<'a> {
             && (1..=MOST_CREDIT).contains(&self.credit_max)
             && (1..=MOST_FAST).contains(&self.fast_init)
             && (1..=MOST_REINIT).contains(&self.reinit)
+    }
+    /// The first check of the names and the hostname that fails, in the order of the faults'
+    /// numbers.
+    pub(crate) fn first_fault(&self) -> Option<OpenFault>
+        ensures fault { result ≡ fault_of (options_of self.now) }
+        ensures names { IfNone result (IsTrue (list_all is_port_name (map (λ n.
+            n.now) self.now.ports.now))) }
+        ensures few { IfNone result (length self.now.ports.now ≤ 64) }
+        ensures hostname { IfNone result (length self.now.hostname.now ≤ 255) }
+    {
+        if self.ports.is_empty() {
+            Some(OpenFault::NoPorts)
+        } else if self.ports.len() > 64 {
+            Some(OpenFault::TooManyPorts)
+        } else if !all_port_names(self.ports) {
+            Some(OpenFault::PortName)
+        } else if has_same(self.ports) {
+            Some(OpenFault::SamePort)
+        } else if !is_text(self.hostname.as_bytes()) {
+            Some(OpenFault::Text)
+        } else {
+            None
+        }
     }
 }

@@ -7,7 +7,7 @@ ghost use Rattle.lldp_engine.specs.Forms.{Form, word, port, number, text, status
 ghost use Rattle.lldp_engine.specs.Given.{Reads};
 
 use crate::agent::Agent;
-use crate::agent::names::is_text;
+use crate::agent::text::is_text;
 use crate::command::fault::CommandFault;
 use crate::command::number::number as number_in;
 use crate::command::words::Words;

@@ -3,8 +3,8 @@ ghost use Rattle.lldp_engine.specs.StatisticsLines.{counter_lines, statistics_li
 ghost use Rattle.lldp_engine.specs.Takes.{Takes};
 
 use crate::port::Port;
-use crate::show::keys::put_port_number;
 use crate::show::line_sink::LineSink;
+use crate::show::port_lines::put_port_number;
 use std::alloc::Allocator;
 
 /// The lines of a port: its nine counters.

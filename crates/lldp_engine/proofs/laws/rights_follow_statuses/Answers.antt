@@ -1,0 +1,5 @@
+use Rattle.lldp_engine.proofs.RightLemmas.{follows_status}
+use Rattle.lldp_engine.proofs.laws.rights_follow_statuses.Goals as goal
+
+pub returns : goal.returns
+returns c = follows_status

@@ -1,0 +1,5 @@
+use Rattle.lldp_engine.proofs.HeadlineLemmas.{promised}
+use Rattle.lldp_engine.proofs.laws.standing_agents_are_promised.Goals as goal
+
+pub returns : goal.returns
+returns c = promised

@@ -1,0 +1,31 @@
+//! Why an agent is not opened.
+
+use std::alloc::AllocError;
+
+/// Why an agent was not opened.
+#[derive(Clone, Copy, Debug, PartialEq, Eq)]
+pub enum OpenFault {
+    /// There was no memory for it.
+    Memory = 1,
+    /// No port was named.
+    NoPorts = 2,
+    /// More than 64 ports were named.
+    TooManyPorts = 3,
+    /// A port's name has not 1 to 15 letters, digits, `-`, `_`, `/` and `:`.
+    PortName = 4,
+    /// Two ports have the same name.
+    SamePort = 5,
+    /// The hostname has more than 255 octets, or one that is not printable.
+    Text = 6,
+}
+
+impl From<AllocError> for OpenFault {
+    ghost use Rattle.std.specs.Prelude.{◌≡◌};
+    ghost use Rattle.lldp_engine.specs.declared.agent.open_fault.OpenFault.TheVariants.{Memory};
+
+    ghost from_gives = { λ _ e. e ≡ Memory };
+
+    fn from(_error: AllocError) -> Self {
+        OpenFault::Memory
+    }
+}

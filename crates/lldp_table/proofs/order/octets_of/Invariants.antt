@@ -1,0 +1,11 @@
+-- The sum so far.
+use Rattle.std.proofs.Common.{◌≡◌, ◌≤◌, ◌*◌, length, take}
+use Rattle.std.specs.List.{sum_by}
+use Rattle.lldp_table.specs.Code.Layout.{octets_at}
+use Rattle.lldp_table.proofs.order.octets_of.Given as goal
+
+abbrev pub invariant-loop-slot : goal.invariant-loop-slot
+invariant-loop-slot l = record {
+  sum : l.octets ≡ sum_by (λ i. length (octets_at l.slots i)) (take l.slot-index l.order);
+  most : l.octets ≤ 1500 * l.slot-index;
+}

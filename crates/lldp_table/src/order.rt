@@ -1,0 +1,118 @@
+//! The order of a table's slots, those in use first: what is found, added, aged out and read by it.
+ghost use Rattle.std.specs.Prelude.{◌≡◌, ◌≤◌, ◌<◌, ◌+◌, ◌*◌, true, false, List, length, take, map, MatchOption, slice_index_or, sum_by, IsPermutation, nat_eq, vec_capacity};
+ghost use Rattle.std.specs.List.{list_any, filter_map, AllByRecursion, IsDistinct};
+ghost use Rattle.lldp_pdu.specs.View.{msap_view};
+ghost use Rattle.lldp_table.specs.Code.Stored.{Stored, tag_of};
+ghost use Rattle.lldp_table.specs.Msap.{same_msap};
+ghost use Rattle.lldp_table.specs.Code.Steps.{aged};
+ghost use Rattle.lldp_table.specs.Code.Queue.{holds, ticks_left, IsTimed};
+ghost use Rattle.lldp_table.specs.Code.Layout.{blank, msap_at, octets_at, neighbors_at, with_next};
+
+use crate::limits::{MOST_NEIGHBORS, MOST_OCTETS};
+use crate::queue::{Queue, place_in};
+use crate::slot::Slot;
+use crate::times::Accesses;
+use arrayvec::ArrayVec;
+use lldp_pdu::Msap;
+use std::alloc::Allocator;
+use std::sync::ledger::Ledger;
+
+/// The place of the slot whose frame has this MSAP identifier, whose tag is given.
+pub(crate) fn place_of(slots: &[Slot], order: &[u8], name: &Msap<'_>, tag: u32) -> Option<usize>
+    requires tag { tag ≡ tag_of (msap_view name.now) }
+    requires within { AllByRecursion (λ i. i < length slots.now) order.now }
+    ensures { MatchOption result
+        (list_any (same_msap (msap_view name.now)) (map (msap_at slots.now) order.now) ≡ false)
+        (λ at. (at < length order.now)
+        × (same_msap (msap_view name.now) (msap_at slots.now (slice_index_or order.now at 0))
+        ≡ true)) }
+{
+    for (at, slot) in order.iter().enumerate() {
+        if slots[*slot as usize].is_named(name, tag) {
+            return Some(at);
+        }
+    }
+    None
+}
+
+/// Writes one more slot where all that were written are in use. The room was made at opening.
+pub(crate) fn write_next<A: Allocator>(
+    slots: &mut Vec<Slot, A>,
+    order: &mut ArrayVec<u8, MOST_NEIGHBORS>,
+    used: usize,
+)
+    requires same { length order.old.items ≡ length slots.old.items }
+    requires fits { used ≤ length slots.old.items }
+    requires room { used < vec_capacity slots.old }
+    requires few { used < MOST_NEIGHBORS }
+    ensures slots { slots.new.items ≡ with_next used blank slots.old.items }
+    ensures order { order.new.items ≡ with_next used used order.old.items }
+    ensures room { vec_capacity slots.new ≡ vec_capacity slots.old }
+{
+    if slots.len() == used {
+        slots.push_reserved(Slot::blank());
+        order.push(used as u8);
+    }
+}
+
+/// A tick. Takes the slots whose neighbors expire out of the queue, and puts them behind the others
+/// in the order. Tells how many slots are still in use.
+#[inline(always)]
+pub(crate) fn age_out<L: Ledger>(
+    queue: &mut Queue,
+    order: &mut ArrayVec<u8, MOST_NEIGHBORS>,
+    used: usize,
+    accesses: &mut Accesses<L>,
+) -> usize
+    requires timed { IsTimed queue.old (take used order.old.items) }
+    requires distinct { IsDistinct nat_eq order.old.items }
+    requires used { used ≤ length order.old.items }
+    ensures neighbors { (slots : List Stored) →
+        neighbors_at slots (ticks_left queue.new) (take result order.new.items)
+        ≡ filter_map aged (neighbors_at slots (ticks_left queue.old) (take used order.old.items)) }
+    ensures timed { IsTimed queue.new (take result order.new.items) }
+    ensures moved { IsPermutation order.old.items order.new.items }
+    ensures fewer { result ≤ used }
+    ensures counted { accesses.new + result ≤ accesses.old + used + 2 }
+{
+    let mut kept = used;
+    let mut spent = queue.pass(accesses);
+    while spent {
+        let slot = queue.pop();
+        let at = place_in(&order[..kept], slot);
+        let gone = order.remove(at);
+        order.push(gone);
+        kept -= 1;
+        spent = queue.is_spent(accesses);
+    }
+    kept
+}
+
+/// The ticks left of the neighbors in these slots.
+pub(crate) fn lefts_of(queue: &Queue, order: &[u8]) -> ArrayVec<u16, MOST_NEIGHBORS>
+    requires few { length order.now ≤ MOST_NEIGHBORS }
+    requires within { AllByRecursion (λ i. i < MOST_NEIGHBORS) order.now }
+    requires queued { AllByRecursion (λ i. holds i queue.now ≡ true) order.now }
+    ensures { result.items ≡ map (ticks_left queue.now) order.now }
+{
+    let each = queue.lefts();
+    let mut lefts = ArrayVec::new();
+    for slot in order {
+        lefts.push(each[*slot as usize]);
+    }
+    lefts
+}
+
+/// How many octets these slots store.
+pub(crate) fn octets_of(slots: &[Slot], order: &[u8]) -> u32
+    requires within { AllByRecursion (λ i. i < length slots.now) order.now }
+    requires few { length order.now ≤ MOST_NEIGHBORS }
+    ensures sum { result ≡ sum_by (λ i. length (octets_at slots.now i)) order.now }
+    ensures most { result ≤ MOST_OCTETS * length order.now }
+{
+    let mut octets = 0;
+    for slot in order {
+        octets += slots[*slot as usize].octets().len() as u32;
+    }
+    octets
+}
