@@ -152,7 +152,8 @@ impl<A: Allocator> Agent<A> {
         ensures value { option_map (λ p. p.table) (slice_get self.now.ports port)
             ≡ Some result.now }
         ensures past { (past : Past) → Stands past self.now →
-            TableStands past.options.max_neighbors (calls_after past.options (past_of past port)) result.now }
+            TableStands past.options.max_neighbors
+            (calls_after past.options (past_of past port)) result.now }
     {
         self.ports[port as usize].table()
     }

@@ -153,7 +153,8 @@ impl<A: Allocator> Agent<A> {
 /// A complete form never takes a further word, wherever it stands among the forms: any other form
 /// decides what is said of the word.
 pub fn complete_forms_take_no_word()
-    ensures { (names : List (List ℕ)) (before after : List Form) (command : CommandSaid) (word : List ℕ) →
+    ensures { (names : List (List ℕ)) (before after : List Form) (command : CommandSaid)
+        (word : List ℕ) →
         going_on names (before ++ complete command ∷ after) word
         ≡ going_on names (before ++ after) word }
 {}

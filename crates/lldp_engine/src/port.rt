@@ -38,7 +38,13 @@ impl<A: Allocator> Model for Port<A> {
 
     ghost Value = { PortState };
 
-    ghost view = { λ p. record { name = p.name.items; status = p.status; table = p.table; machine = p.transmit; counters = p.counters } };
+    ghost view = { λ p. record {
+      name = p.name.items;
+      status = p.status;
+      table = p.table;
+      machine = p.transmit;
+      counters = p.counters;
+    } };
 }
 
 fn name_of(octets: &[u8]) -> ArrayVec<u8, 15>

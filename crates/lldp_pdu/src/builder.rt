@@ -58,7 +58,11 @@ impl Builder {
         requires chassis { IsIdentifier chassis.now }
         requires port { IsIdentifier port.now }
         ensures { result
-            ≡ record { msap = record { chassis = chassis.now; port = port.now }; ttl = ttl; tlvs = [] } }
+            ≡ record {
+              msap = record { chassis = chassis.now; port = port.now };
+              ttl = ttl;
+              tlvs = [];
+            } }
     {
         let mut octets = ArrayVec::new();
         append_tlv(&mut octets, CHASSIS_ID, chassis);

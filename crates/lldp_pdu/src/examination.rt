@@ -86,7 +86,8 @@ fn mandatory_tlvs(pdu: &[u8]) -> Result<Mandatory<'_>, PduFault>
 
 fn optional_tlvs(after: &[u8]) -> Result<Optional<'_>, PduFault>
     ensures repeated { result_err result
-        ≡ (if list_any is_mandatory (before_end (cut after.now).tlvs) then Some Repeated else None) }
+        ≡ (if list_any is_mandatory (before_end (cut after.now).tlvs)
+        then Some Repeated else None) }
     ensures ok { IfOk result (λ o. IsSurveyOf after.now o.octets.now o.discarded o.unrecognized) }
 {
     let mut tlvs = Tlvs::new(after);

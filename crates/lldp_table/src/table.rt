@@ -47,9 +47,11 @@ impl<A: Allocator> Model for Table<A> {
     ghost use Rattle.lldp_table.specs.Code.Queue.{ticks_left};
     ghost use Rattle.lldp_table.specs.Code.Layout.{contents_of, IsTable};
 
-    ghost view = { λ t. contents_of (vec_capacity t.slots) t.slots.items (ticks_left t.queue) t.order.items t.used t.limit t.too_many };
+    ghost view = { λ t. contents_of (vec_capacity t.slots) t.slots.items (ticks_left t.queue)
+        t.order.items t.used t.limit t.too_many };
 
-    ghost invariant = { λ t. IsTable (vec_capacity t.slots) t.slots.items t.queue t.order.items t.used t.limit t.too_many };
+    ghost invariant = { λ t. IsTable (vec_capacity t.slots) t.slots.items t.queue
+        t.order.items t.used t.limit t.too_many };
 }
 
 impl<A: Allocator> Table<A> {

@@ -304,7 +304,8 @@ fn role_of(name: &str) -> Role
 }
 
 fn management_of(matches: &ArgMatches<'_>) -> Result<Option<[u8; 4]>, AddressFault>
-    ensures asked { IfOk result (AsksManagement (first_value (found_of matches.now) (codes "management"))) }
+    ensures asked { IfOk result (AsksManagement
+        (first_value (found_of matches.now) (codes "management"))) }
     ensures refused { IfErr result (λ fault. (fault ≡ AddressFault.Management)
         × WritesNoIpv4 (first_value (found_of matches.now) (codes "management"))) }
 {

@@ -15,7 +15,8 @@ pub fn read_more<S: Source>(
     requires { held < length buffer.old }
     ensures kept { take held buffer.new ≡ take held buffer.old }
     ensures fits { IfOk result (λ n. held + n ≤ length buffer.new) }
-    ensures octets { ReadsMore (S.to_come source.old) (S.to_come source.new) (drop held buffer.new) result }
+    ensures octets { ReadsMore (S.to_come source.old) (S.to_come source.new)
+        (drop held buffer.new) result }
     ensures calls { S.calls source.new ≡ one_more (S.calls source.old) }
     ensures failures { S.failures source.new ≡ failures_after (S.failures source.old) result }
     ensures place { S.place source.new ≡ S.place source.old }

@@ -96,7 +96,8 @@ impl<W: Sink> Output<'_, W> {
     fn sent(&mut self, name: &[u8], frame: &[u8])
         requires name { length name.now ≤ 15 }
         requires frame { length frame.now ≤ 1514 }
-        ensures { Between W.taken W.failures W.place self.old self.new (Puts (sent_line name.now frame.now)) }
+        ensures { Between W.taken W.failures W.place self.old self.new
+            (Puts (sent_line name.now frame.now)) }
     {
         self.make_room(name.len() + 2 * frame.len() + 5);
         if self.answer.is_ok() {
@@ -113,7 +114,8 @@ impl<W: Sink> Output<'_, W> {
         requires { AllByRecursion (λ mark. IsPort agent.now mark.0
             × IsSent mark.1) marks.now.items }
         ensures { Between W.taken W.failures W.place self.old self.new
-            (Puts (flat_map (mark_line (names_of agent.now) agent.now.configuration) marks.now.items)) }
+            (Puts (flat_map (mark_line (names_of agent.now) agent.now.configuration)
+            marks.now.items)) }
     {
         let mut frame = Frame::new();
         for (port, mark) in marks.as_slice() {
@@ -137,7 +139,8 @@ impl<W: Sink> Output<'_, W> {
     /// Writes a line and its LF.
     pub fn write_line(&mut self, line: &[u8]) -> Result<(), DeviceFault>
         requires { length line.now ≤ 2048 }
-        ensures { Between W.taken W.failures W.place self.old self.new (Writes (ended line.now) result) }
+        ensures { Between W.taken W.failures W.place self.old self.new
+            (Writes (ended line.now) result) }
     {
         self.begin();
         self.line(line);
@@ -159,7 +162,8 @@ impl<W: Sink> Output<'_, W> {
         requires { AllByRecursion (λ mark. IsPort agent.now mark.0
             × IsSent mark.1) marks.now.items }
         ensures { Between W.taken W.failures W.place self.old self.new
-            (Writes (flat_map (mark_line (names_of agent.now) agent.now.configuration) marks.now.items) result) }
+            (Writes (flat_map (mark_line (names_of agent.now) agent.now.configuration)
+            marks.now.items) result) }
     {
         // Most events send nothing, and touch nothing here.
         if marks.is_empty() {
@@ -172,7 +176,8 @@ impl<W: Sink> Output<'_, W> {
 }
 
 impl<W: Sink> LineSink for Output<'_, W> {
-    ghost takes = { λ old new line. Between W.taken W.failures W.place old new (Puts (ended line)) };
+    ghost takes = { λ old new line.
+        Between W.taken W.failures W.place old new (Puts (ended line)) };
 
     /// Lends what waits, behind which the next line is written.
     fn begin_line(&mut self) -> Option<&mut Writer> {

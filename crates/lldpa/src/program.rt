@@ -53,7 +53,8 @@ pub fn run_program<S: AsStr, R: Read, W: Write, E: Write>(
     // Help or the version was asked for, or the words have no fault, and the trace was run with
     // their options.
     ensures answered { result ≢ REFUSED → HasAnswered (map S.text words.now)
-        (R.remaining reader.old) (R.remaining reader.new) (W.contents writer.old) (W.contents writer.new) result }
+        (R.remaining reader.old) (R.remaining reader.new)
+        (W.contents writer.old) (W.contents writer.new) result }
     // Refused, it has read nothing and written nothing.
     ensures silent { result ≡ REFUSED →
         Keeps (R.remaining reader.old) (R.remaining reader.new)
@@ -79,7 +80,8 @@ fn run_matches<R: Read, W: Write, E: Write>(
     ensures ran { result ≢ REFUSED →
         (options : Options) × Asks (rows_of (found_of matches.now)) options
         × (fault_of options ≡ None)
-        × RanAs (rows_of (found_of matches.now)) options (R.remaining reader.old) (R.remaining reader.new)
+        × RanAs (rows_of (found_of matches.now)) options
+        (R.remaining reader.old) (R.remaining reader.new)
         (W.contents writer.old) (W.contents writer.new) result }
     ensures silent { result ≡ REFUSED →
         Keeps (R.remaining reader.old) (R.remaining reader.new)
@@ -127,8 +129,8 @@ fn run_streams<R: Read, W: Write, E: Write>(
     faults: &mut E,
 ) -> u8
     ensures status { result ≤ FAILED }
-    ensures ran { RanStreams (R.remaining reader.old) (R.remaining reader.new) (W.contents writer.old) (W.contents writer.new)
-        agent.old agent.new result }
+    ensures ran { RanStreams (R.remaining reader.old) (R.remaining reader.new)
+        (W.contents writer.old) (W.contents writer.new) agent.old agent.new result }
 {
     let ran = run_devices(agent, reader, writer);
     if let Err(fault) = ran {
@@ -145,8 +147,8 @@ fn run_devices<R: Read, W: Write>(
     reader: &mut R,
     writer: &mut W,
 ) -> Result<(), RunFault>
-    ensures { HasRun (R.remaining reader.old) (R.remaining reader.new) (W.contents writer.old) (W.contents writer.new)
-        agent.old agent.new result }
+    ensures { HasRun (R.remaining reader.old) (R.remaining reader.new)
+        (W.contents writer.old) (W.contents writer.new) agent.old agent.new result }
 {
     let mut source = FromReader::new(reader);
     let mut sink = ToWriter::new(writer);

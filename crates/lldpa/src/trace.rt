@@ -158,7 +158,8 @@ pub fn run_trace<S: Source, W: Sink>(
 ) -> Result<(), RunFault>
     // What was read, what was written for it, and what the agent stands for then and keeps its
     // promise for.
-    ensures run { HasRun (S.to_come reader.old) (S.to_come reader.new) (W.taken writer.old) (W.taken writer.new) agent.old agent.new result }
+    ensures run { HasRun (S.to_come reader.old) (S.to_come reader.new)
+        (W.taken writer.old) (W.taken writer.new) agent.old agent.new result }
     // Over any devices, also those that tell nothing: the agent stands for its past and some more
     // events. Then each table holds the last stored frames that have not expired, and each port has
     // sent exactly what was due while its credit window was open; no run of events has more frames,

@@ -89,7 +89,11 @@ fn write_mandatory(frame: &mut Frame, configuration: &Configuration, name: &[u8]
     requires short { length name.now ≤ 15 }
     requires room { array_vec_len frame.old ≤ 14 }
     ensures value { frame.new.items ≡ frame.old.items
-        ++ spellings (all_tlvs (record { msap = sent_msap configuration.now name.now; ttl = ttl; tlvs = [] })) }
+        ++ spellings (all_tlvs (record {
+          msap = sent_msap configuration.now name.now;
+          ttl = ttl;
+          tlvs = [];
+        })) }
     ensures len { array_vec_len frame.new ≤ array_vec_len frame.old + 31 }
     ensures mac { length configuration.now.mac ≡ 6 }
 {
@@ -159,7 +163,8 @@ impl<A: Allocator> Agent<A> {
         requires sent { IsSent mark }
         ensures octets { frame.new.items
             ≡ frame_of self.now.configuration (name_of self.now port) mark }
-        ensures says { SaysBack (draft_of self.now.configuration (name_of self.now port) mark) frame.new.items }
+        ensures says { SaysBack (draft_of self.now.configuration (name_of self.now port) mark)
+            frame.new.items }
         ensures past { (past : Past) → Stands past self.now → (name : List ℕ) →
             slice_get past.options.names port ≡ Some name →
             frame.new.items ≡ frame_of (configuration_after past.options past.events) name mark }
@@ -174,7 +179,8 @@ impl<A: Allocator> Agent<A> {
         requires sent { IsSent mark }
         ensures octets { result.items
             ≡ frame_of self.now.configuration (name_of self.now port) mark }
-        ensures says { SaysBack (draft_of self.now.configuration (name_of self.now port) mark) result.items }
+        ensures says { SaysBack (draft_of self.now.configuration (name_of self.now port) mark)
+            result.items }
         ensures past { (past : Past) → Stands past self.now → (name : List ℕ) →
             slice_get past.options.names port ≡ Some name →
             result.items ≡ frame_of (configuration_after past.options past.events) name mark }

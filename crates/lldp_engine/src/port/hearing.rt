@@ -18,7 +18,8 @@ impl<A: Allocator> Port<A> {
         ensures after { self.new
             ≡ hears_if self.old (heard_by self.old.status self.old.machine.up octets.now) }
         ensures cause { result
-            ≡ cause_of_heard (learn_answer self.old.table) (heard_by self.old.status self.old.machine.up octets.now) }
+            ≡ cause_of_heard (learn_answer self.old.table)
+            (heard_by self.old.status self.old.machine.up octets.now) }
     {
         if !self.status.receives() {
             return Cause::Nothing;
@@ -61,7 +62,9 @@ impl<A: Allocator> Port<A> {
           status = self.old.status;
           table = after_learn self.old.table info.now.msap info.now.ttl info.now.octets;
           machine = self.old.machine;
-          counters = with_answer (with_tlvs self.old.counters info.now.discarded info.now.unrecognized) (learn_answer self.old.table info.now.msap);
+          counters = with_answer
+              (with_tlvs self.old.counters info.now.discarded info.now.unrecognized)
+              (learn_answer self.old.table info.now.msap);
         } }
         ensures cause { result ≡ cause_of_answer (learn_answer self.old.table info.now.msap) }
     {

@@ -67,7 +67,8 @@ pub(crate) fn put_configuration<A: Allocator, S: LineSink>(
     ports: &[Port<A>],
 )
     requires { length ports.now ≤ 64 }
-    ensures { Takes S.takes sink.old sink.new (configuration_lines (record { configuration = c.now; ports = ports.now })) }
+    ensures { Takes S.takes sink.old sink.new
+        (configuration_lines (record { configuration = c.now; ports = ports.now })) }
 {
     put_number(sink, b"configuration.tx-interval=", u32::from(c.interval));
     put_number(sink, b"configuration.tx-hold=", u32::from(c.hold));

@@ -68,7 +68,8 @@ fn write_network(line: &mut Writer, body: &[u8])
     requires fits { IsIdentifier body.now }
     requires room { length line.old + 1050 ≤ ROOM }
     ensures value { line.new ≡ line.old
-        ++ network_text (kind_of_address (slice_index body.now 1) (length (drop 2 body.now))) body.now }
+        ++ network_text (kind_of_address (slice_index body.now 1) (length (drop 2 body.now)))
+        body.now }
     ensures len { length line.new ≤ length line.old + 1050 }
 {
     let address = &body[2..];
