@@ -7,8 +7,10 @@ use Rattle.lldp_pdu.specs.declared.fields.Caps.{Caps}
 -- the names of the bits, the least first
 abbrev pub capability_names : List (List ℕ)
 capability_names =
-    codes "Other" ∷ codes "Repeater" ∷ codes "Bridge" ∷ codes "Wlan" ∷ codes "Router" ∷ codes "Tel" ∷ codes "Docsis" ∷ codes "Station"
-    ∷ codes "Cvlan" ∷ codes "Svlan" ∷ codes "Tpmr" ∷ codes "bit11" ∷ codes "bit12" ∷ codes "bit13" ∷ codes "bit14" ∷ codes "bit15" ∷ []
+    codes "Other" ∷ codes "Repeater" ∷ codes "Bridge" ∷ codes "Wlan"
+    ∷ codes "Router" ∷ codes "Tel" ∷ codes "Docsis" ∷ codes "Station"
+    ∷ codes "Cvlan" ∷ codes "Svlan" ∷ codes "Tpmr" ∷ codes "bit11"
+    ∷ codes "bit12" ∷ codes "bit13" ∷ codes "bit14" ∷ codes "bit15" ∷ []
 
 -- the name of a bit
 abbrev pub capability_name : ℕ → List ℕ

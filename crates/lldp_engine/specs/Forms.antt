@@ -30,12 +30,19 @@ forms capacity =
     ∷ word (codes "show") (word (codes "statistics") (complete (show Statistics)))
     ∷ word (codes "show") (word (codes "chassis") (complete (show Chassis)))
     ∷ word (codes "show") (word (codes "configuration") (complete (show Configuration)))
-    ∷ word (codes "configure") (word (codes "system") (word (codes "hostname") (text (λ t. complete (set (hostname t))))))
-    ∷ word (codes "configure") (word (codes "system") (word (codes "description") (text (λ t. complete (set (description t))))))
-    ∷ word (codes "configure") (word (codes "lldp") (word (codes "tx-interval") (number 1 3600 (λ n. complete (set (interval n))))))
-    ∷ word (codes "configure") (word (codes "lldp") (word (codes "tx-hold") (number 1 100 (λ n. complete (set (hold n))))))
-    ∷ word (codes "configure") (word (codes "lldp") (word (codes "max-neighbors") (number 1 capacity (λ n. complete (set (limit n))))))
-    ∷ word (codes "configure") (word (codes "ports") (port (λ p. word (codes "lldp") (word (codes "status") (status (λ s. complete (set (port_status p s))))))))
+    ∷ word (codes "configure")
+        (word (codes "system") (word (codes "hostname") (text (λ t. complete (set (hostname t))))))
+    ∷ word (codes "configure")
+        (word (codes "system") (word (codes "description") (text (λ t. complete (set (description t))))))
+    ∷ word (codes "configure")
+        (word (codes "lldp") (word (codes "tx-interval") (number 1 3600 (λ n. complete (set (interval n))))))
+    ∷ word (codes "configure")
+        (word (codes "lldp") (word (codes "tx-hold") (number 1 100 (λ n. complete (set (hold n))))))
+    ∷ word (codes "configure")
+        (word (codes "lldp") (word (codes "max-neighbors") (number 1 capacity (λ n. complete (set (limit n))))))
+    ∷ word (codes "configure")
+        (word (codes "ports")
+        (port (λ p. word (codes "lldp") (word (codes "status") (status (λ s. complete (set (port_status p s))))))))
     ∷ word (codes "update") (complete (set update))
     ∷ []
 
@@ -57,8 +64,8 @@ after_word names (number least greatest next) w = on_ok next (number_of w least 
 after_word names (text next) w = if is_text w then Ok (next w) else Err Text
 after_word names (status next) w = on_ok next (or_fault (status_of w) Unknown)
 
--- One form more: those that go on with the word are kept. Where none does, the first fault is told, but Extra is the weakest: it
--- yields to every other fault.
+-- One form more: those that go on with the word are kept. Where none does, the first fault is told, but Extra is the
+-- weakest: it yields to every other fault.
 abbrev pub and_form : Result Form CommandFault → Result (List Form) CommandFault → Result (List Form) CommandFault
 and_form (Ok next) (Ok others) = Ok (next ∷ others)
 and_form (Ok next) (Err fault) = Ok (next ∷ [])

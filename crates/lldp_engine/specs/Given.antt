@@ -33,13 +33,17 @@ command_said agent words = unless_in_use agent.ports (said_by agent words)
 abbrev pub command_given : AgentState → List ℕ → Result Command CommandFault
 command_given agent line = or_fault (words_of line) Quote >>= command_said agent
 
--- A part of a command was read: what the words say in the forms is what the words left say in the forms left, or this is
--- their fault.
-abbrev pub Reads : {A : Type 0} → List (List ℕ) → List Form → List (List ℕ) → Result A CommandFault → (A → List Form) → List (List ℕ) → Type 0
-Reads names left words (Ok a) then_left words_left = read_forms names (Ok left) words ≡ read_forms names (Ok (then_left a)) words_left
+-- A part of a command was read: what the words say in the forms is what the words left say in the forms left, or this
+-- is their fault.
+abbrev pub Reads : {A : Type 0} → List (List ℕ) → List Form → List (List ℕ) → Result A CommandFault → (A → List Form) →
+    List (List ℕ) → Type 0
+Reads names left words (Ok a) then_left words_left =
+    read_forms names (Ok left) words ≡ read_forms names (Ok (then_left a)) words_left
 Reads names left words (Err fault) then_left words_left = read_forms names (Ok left) words ≡ Err fault
 
 -- The words were read but for their end: they say this command if none is left, or this is their fault.
-abbrev pub Says : {A : Type 0} → AgentState → List (List ℕ) → Result A CommandFault → (A → Command) → List (List ℕ) → Type 0
-Says agent words (Ok a) command words_left = said_by agent words ≡ read_forms (names_of agent) (Ok (complete (command a) ∷ [])) words_left
+abbrev pub Says : {A : Type 0} → AgentState → List (List ℕ) → Result A CommandFault → (A → Command) → List (List ℕ) →
+    Type 0
+Says agent words (Ok a) command words_left =
+    said_by agent words ≡ read_forms (names_of agent) (Ok (complete (command a) ∷ [])) words_left
 Says agent words (Err fault) command words_left = said_by agent words ≡ Err fault

@@ -10,9 +10,11 @@ use Rattle.lldp_engine.specs.Past.{Past, Sending, with_event, happened, past_of,
 use Rattle.lldp_engine.specs.Port.Past.{settings_of, causes_after, caused_at}
 use Rattle.lldp_engine.specs.Port.Headline.{HoldsLastStored, HasSentExactly}
 
--- Each port's table holds the last stored frames, and each port has sent exactly what was due while the window was open.
+-- Each port's table holds the last stored frames, and each port has sent exactly what was due while the window was
+-- open.
 pub record Promised (past : Past) (agent : AgentState) : Type 0 where
-  pub tables : (i : ℕ) (port : PortState) → slice_get agent.ports i ≡ Some port → HoldsLastStored past.options (past_of past i) port.table
+  pub tables : (i : ℕ) (port : PortState) → slice_get agent.ports i ≡ Some port →
+      HoldsLastStored past.options (past_of past i) port.table
   pub sending : (i : ℕ) → i < length past.options.names → HasSentExactly past.options (past_of past i)
 
 -- the port of the first stands before that of the second

@@ -18,7 +18,9 @@ pub data Heard : Type 0 where
 
 -- what an LLDPDU says, by its first fault, its TTL and its parts
 unfoldable pub heard_of : List ℕ → Heard
-heard_of pdu = if is_some (fault_of pdu) then refused else (if ttl_of pdu == 0 then leaves (msap_of pdu) else tells (info_of pdu))
+heard_of pdu =
+    if is_some (fault_of pdu) then refused
+    else (if ttl_of pdu == 0 then leaves (msap_of pdu) else tells (info_of pdu))
 
 -- what a port hears from octets that come: an LLDP frame, while its status receives and its link is up
 abbrev pub heard_by : Status → Bool → List ℕ → Option Heard

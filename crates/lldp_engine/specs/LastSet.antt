@@ -1,5 +1,5 @@
--- What the last event that set something set, said of positions. A position of the events is a split of them: the events
--- after it (newest first), the event there, and the events before it.
+-- What the last event that set something set, said of positions. A position of the events is a split of them: the
+-- events after it (newest first), the event there, and the events before it.
 use Rattle.std.specs.Prelude.{◌≡◌, ◌⊎◌, ℕ, Bool, true, List, ◌∷◌, ◌++◌, codes}
 use Rattle.lldp_engine.specs.declared.port.status.Status.{Status as PortStatus}
 use Rattle.lldp_engine.specs.Options.{Options}
@@ -29,7 +29,13 @@ IsLastLink i events value = IsLastSet (link i) true events value
 abbrev pub without_commands : Options → Configuration → Configuration
 without_commands o c =
     let first = configuration_at_opening o in
-    record c { hostname = first.hostname; description = first.description; interval = first.interval; hold = first.hold; limit = first.limit }
+    record c {
+      hostname = first.hostname;
+      description = first.description;
+      interval = first.interval;
+      hold = first.hold;
+      limit = first.limit;
+    }
 
 -- The configuration: each part that a command sets by the last such command, and the others as they were opened.
 pub record IsLastConfiguration (o : Options) (events : List Event) (c : Configuration) : Type 0 where

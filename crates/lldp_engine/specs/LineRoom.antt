@@ -5,9 +5,10 @@ use Rattle.lldp_engine.specs.contracts.show.writer.Writer.{the_row as writer_row
 use Rattle.lldp_engine.specs.declared.show.writer.TheConstants.{LINE_ROOM}
 use Rattle.lldp_engine.specs.Text.{ended}
 
--- What is written into the lent writer is a line that the sink takes: at most 2,048 octets and an LF, behind what stands there.
--- A sink that lends none takes whatever line as it is.
-abbrev pub LendsRoom : (Sink : RattleType) → (Sink.Denot → Sink.Denot → List ℕ → Type 0) → MutBor Sink.Denot → Option (MutBor (List ℕ)) → Fml
+-- What is written into the lent writer is a line that the sink takes: at most 2,048 octets and an LF, behind what
+-- stands there. A sink that lends none takes whatever line as it is.
+abbrev pub LendsRoom : (Sink : RattleType) → (Sink.Denot → Sink.Denot → List ℕ → Type 0) → MutBor Sink.Denot →
+    Option (MutBor (List ℕ)) → Fml
 LendsRoom Sink takes sink lent =
     LendsSo Sink writer_row sink lent
     (λ new text. (writer : MutBor (List ℕ)) (line : List ℕ) → lent ≡ Some writer → text ≡ writer.now ++ ended line

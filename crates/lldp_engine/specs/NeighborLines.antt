@@ -31,12 +31,14 @@ kept_line name number tlv = neighbor_key name number ++ tlv_text tlv
 
 -- The lines of a neighbor: the first four, and one for each kept TLV.
 abbrev pub neighbor_lines : List ℕ → ℕ → Neighbor → List (List ℕ)
-neighbor_lines name number neighbor = identity_lines name number neighbor ++ map (kept_line name number) (kept_of neighbor.octets)
+neighbor_lines name number neighbor =
+    identity_lines name number neighbor ++ map (kept_line name number) (kept_of neighbor.octets)
 
 -- the lines of these neighbors, the first of which has this number
 abbrev pub numbered_lines : List ℕ → ℕ → List Neighbor → List (List ℕ)
 numbered_lines name number [] = []
-numbered_lines name number (neighbor ∷ others) = neighbor_lines name number neighbor ++ numbered_lines name (number + 1) others
+numbered_lines name number (neighbor ∷ others) =
+    neighbor_lines name number neighbor ++ numbered_lines name (number + 1) others
 
 -- a yes or a no, as shown
 abbrev pub yes_or_no : Bool → List ℕ
@@ -51,7 +53,8 @@ too_many_line name too_many = port_key name ++ (codes "too-many=" ++ yes_or_no t
 abbrev pub count_lines : PortState → List (List ℕ)
 count_lines port =
     (port_key port.name ++ (codes "neighbors=" ++ decimal (length port.table.neighbors)))
-    ∷ (port_key port.name ++ (codes "octets=" ++ decimal (sum_by (λ neighbor. length neighbor.octets) port.table.neighbors)))
+    ∷ (port_key port.name
+        ++ (codes "octets=" ++ decimal (sum_by (λ neighbor. length neighbor.octets) port.table.neighbors)))
     ∷ too_many_line port.name (nat_lt 0 port.table.too_many_left) ∷ []
 
 -- The lines of a port: the first three, and those of its neighbors in the order of the table, numbered from 1.

@@ -45,7 +45,9 @@ pub record InRange (o : Options) : Type 0 where
 
 -- a letter, a digit, `-`, `_`, `/` or `:`
 abbrev pub is_name_octet : ℕ → Bool
-is_name_octet c = (nat_le 97 c && nat_le c 122) || (nat_le 65 c && nat_le c 90) || (nat_le 47 c && nat_le c 58) || c == 45 || c == 95
+is_name_octet c =
+    (nat_le 97 c && nat_le c 122) || (nat_le 65 c && nat_le c 90) || (nat_le 47 c && nat_le c 58)
+    || c == 45 || c == 95
 
 -- a port's name has 1 to 15 of these octets
 abbrev pub is_port_name : List ℕ → Bool

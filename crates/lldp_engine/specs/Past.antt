@@ -1,5 +1,5 @@
--- What an agent has behind it, and what the definitions make of it: the configuration, the past of each port, the agent,
--- and what is sent.
+-- What an agent has behind it, and what the definitions make of it: the configuration, the past of each port, the
+-- agent, and what is sent.
 use Rattle.std.specs.Prelude.{ℕ, ◌+◌, List, [], ◌∷◌}
 use Rattle.lldp_transmit.specs.declared.event.Mark.{Mark}
 use Rattle.lldp_transmit.specs.declared.event.Mark.TheVariants.{Quiet, Ordinary, Shutdown}
@@ -30,7 +30,10 @@ configuration_after o (event ∷ events) = configured event (configuration_after
 
 -- what an event after these is for port i
 abbrev pub happened : Options → ℕ → Event → List Event → Happened
-happened o i event events = record { event = for_port i (whose event); interval = (configured event (configuration_after o events)).interval }
+happened o i event events = record {
+  event = for_port i (whose event);
+  interval = (configured event (configuration_after o events)).interval;
+}
 
 -- what has happened to port i
 abbrev pub port_past : Options → ℕ → List Event → List Happened
@@ -57,7 +60,8 @@ agent_of past =
 -- each event was allowed after those before it
 abbrev pub AreAllowed : Options → List Event → Type 0
 AreAllowed o [] = Unit {0}
-AreAllowed o (event ∷ events) = Allows (agent_of (record { options = o; events = events })) event × HasOctets event × AreAllowed o events
+AreAllowed o (event ∷ events) =
+    Allows (agent_of (record { options = o; events = events })) event × HasOctets event × AreAllowed o events
 
 -- ## What is sent
 

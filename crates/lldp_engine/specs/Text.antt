@@ -6,7 +6,10 @@ use Rattle.hex.specs.Hex.{encode_lower}
 -- An octet of escaped text: a backslash is written twice, one from the space to the tilde stands as it is, and
 -- every other is written as a backslash, `x` and two hexadecimal digits.
 abbrev pub escape : ℕ → List ℕ
-escape octet = if octet == 92 then codes "\\\\" else if nat_le 32 octet && nat_le octet 126 then octet ∷ [] else codes "\\x" ++ encode_lower (octet ∷ [])
+escape octet =
+    if octet == 92 then codes "\\\\"
+    else if nat_le 32 octet && nat_le octet 126 then octet ∷ []
+    else codes "\\x" ++ encode_lower (octet ∷ [])
 
 -- Escaped text.
 abbrev pub escaped : List ℕ → List ℕ

@@ -4,10 +4,14 @@ use Rattle.lldp_pdu.specs.declared.fields.Caps.{Caps}
 
 -- the available bits and the enabled bits, two octets each, most significant first
 abbrev pub caps_fields : List ℕ → Caps
-caps_fields body = record { available = 256 * slice_index body 0 + slice_index body 1; enabled = 256 * slice_index body 2 + slice_index body 3 }
+caps_fields body = record {
+  available = 256 * slice_index body 0 + slice_index body 1;
+  enabled = 256 * slice_index body 2 + slice_index body 3;
+}
 
 -- Four octets, and no bit is enabled that is not available.
 abbrev pub caps_of : List ℕ → Option Caps
 caps_of body =
-    if (length body == 4) && (bit_and (caps_fields body).enabled (caps_fields body).available == (caps_fields body).enabled)
+    if (length body == 4)
+        && (bit_and (caps_fields body).enabled (caps_fields body).available == (caps_fields body).enabled)
     then Some (caps_fields body) else None

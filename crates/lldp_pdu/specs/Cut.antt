@@ -22,7 +22,8 @@ first_tlv [] = None
 first_tlv (high ∷ []) = None
 first_tlv (high ∷ low ∷ octets) =
     let header = 256 * high + low in
-    if nat_lt (length octets) (header % 512) then None else Some (record { kind = header / 512; body = take (header % 512) octets }, drop (header % 512) octets)
+    if nat_lt (length octets) (header % 512) then None
+    else Some (record { kind = header / 512; body = take (header % 512) octets }, drop (header % 512) octets)
 
 -- the first TLV before the cut of the octets after it, or no TLV
 abbrev pub cut_after : Option (TlvUnit × List ℕ) → (List ℕ → Cut) → List ℕ → Cut

@@ -48,7 +48,11 @@ was_put kind us = list_any (λ u. u.kind == kind) us
 -- the checks on a TLV that is put, in their order
 abbrev pub put_checks : Draft → TlvUnit → List (Check BuildFault)
 put_checks d u =
-    record { fails = not (is_between port_description_type u.kind organizationally_specific_type) || (d.ttl == 0) || (is_single u.kind && was_put u.kind d.tlvs); fault = Kind }
+    record {
+      fails = not (is_between port_description_type u.kind organizationally_specific_type) || (d.ttl == 0)
+          || (is_single u.kind && was_put u.kind d.tlvs);
+      fault = Kind;
+    }
     ∷ record { fails = nat_lt 511 (length u.body) || not (is_well_formed u); fault = Body }
     ∷ record { fails = nat_lt 1500 (length (lldpdu_octets (with_tlv d u))); fault = Full }
     ∷ []

@@ -13,7 +13,9 @@ lldp_ethertype = 0x88 ∷ 0xcc ∷ []
 
 -- 14 to 1514 octets; the destination is nearest bridge, and the type, after a source of 6 octets, is LLDP's
 unfoldable pub is_lldp_frame : List ℕ → Bool
-is_lldp_frame frame = is_between 14 (length frame) 1514 && starts_with nat_eq frame nearest_bridge && starts_with nat_eq (drop 12 frame) lldp_ethertype
+is_lldp_frame frame =
+    is_between 14 (length frame) 1514 && starts_with nat_eq frame nearest_bridge
+    && starts_with nat_eq (drop 12 frame) lldp_ethertype
 
 -- the LLDPDU is all that follows the type
 abbrev pub lldpdu_of : List ℕ → Option (List ℕ)

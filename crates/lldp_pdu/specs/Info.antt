@@ -7,7 +7,8 @@ use Rattle.lldp_pdu.specs.Lldpdu.{extent, ttl_of, msap_of}
 use Rattle.lldp_pdu.specs.Fault.{fault_of}
 use Rattle.lldp_pdu.specs.Kept.{kept_of, discarded_of, count_unrecognized, IsKeptTlv}
 
--- its MSAP identifier, TTL, extent and kept TLVs, and how many TLVs were discarded and how many kept ones are unrecognized
+-- its MSAP identifier, TTL, extent and kept TLVs, and how many TLVs were discarded and how many kept ones are
+-- unrecognized
 pub record LldpInfo : Type 0 where
   pub msap : MsapId
   pub ttl : ℕ
@@ -28,8 +29,8 @@ info_of octets =
       unrecognized = count_unrecognized (kept_of octets);
     }
 
--- It lives, with an MSAP identifier and TLVs of their lengths and types. The three mandatory TLVs have at least 4 octets
--- each and every other TLV at least 2, which bounds the numbers of TLVs.
+-- It lives, with an MSAP identifier and TLVs of their lengths and types. The three mandatory TLVs have at least 4
+-- octets each and every other TLV at least 2, which bounds the numbers of TLVs.
 pub record IsInfo (info : LldpInfo) : Type 0 where
   pub lives : 0 < info.ttl
   pub chassis : IsIdentifier info.msap.chassis

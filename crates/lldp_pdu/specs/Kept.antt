@@ -15,7 +15,8 @@ is_single kind = is_between port_description_type kind system_capabilities_type
 abbrev pub has_well_formed : ℕ → List TlvUnit → Bool
 has_well_formed kind us = list_any (λ u. (u.kind == kind) && is_well_formed u) us
 
--- A TLV is kept where it is well formed and, for a type of which one counts, no earlier TLV is well formed and of its type.
+-- A TLV is kept where it is well formed and, for a type of which one counts, no earlier TLV is well formed and of its
+-- type.
 abbrev pub is_kept : List TlvUnit → TlvUnit → Bool
 is_kept earlier u = is_well_formed u && not (is_single u.kind && has_well_formed u.kind earlier)
 
@@ -27,7 +28,8 @@ kept_after earlier (u ∷ us) = if is_kept earlier u then u ∷ kept_after (u �
 -- those that are not
 abbrev pub others_after : List TlvUnit → List TlvUnit → List TlvUnit
 others_after earlier [] = []
-others_after earlier (u ∷ us) = if is_kept earlier u then others_after (u ∷ earlier) us else u ∷ others_after (u ∷ earlier) us
+others_after earlier (u ∷ us) =
+    if is_kept earlier u then others_after (u ∷ earlier) us else u ∷ others_after (u ∷ earlier) us
 
 -- the kept TLVs are those of the later ones
 unfoldable pub kept_of : List ℕ → List TlvUnit

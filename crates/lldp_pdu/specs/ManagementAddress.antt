@@ -16,7 +16,8 @@ pub record Address : Type 0 where
 -- m, the number of octets of family and address together; the family; the address; the interface numbering subtype;
 -- the interface number, four octets, most significant first; the number of octets of the OID; the OID
 abbrev pub address_spelling : Address → List ℕ
-address_spelling a = (length a.address + 1) ∷ a.family ∷ a.address ++ a.numbering ∷ to_be_bytes w32 a.interface ++ length a.oid ∷ a.oid
+address_spelling a =
+    (length a.address + 1) ∷ a.family ∷ a.address ++ a.numbering ∷ to_be_bytes w32 a.interface ++ length a.oid ∷ a.oid
 
 -- An address has 1 to 31 octets, an interface number fits in 32 bits, an OID has at most 128 octets.
 pub record IsAddress (a : Address) : Type 0 where

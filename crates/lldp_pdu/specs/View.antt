@@ -12,17 +12,24 @@ use Rattle.lldp_pdu.specs.Cut.{cut}
 abbrev pub tlv_view : Tlv → TlvUnit
 tlv_view t = record { kind = t.kind; body = t.body.now }
 
--- One call of `next` on these octets. It gives the first TLV of the cut, and what is left, the octets behind it, has the
--- others and the same rest; or the cut has no TLV, and the octets stay as they are.
+-- One call of `next` on these octets. It gives the first TLV of the cut, and what is left, the octets behind it, has
+-- the others and the same rest; or the cut has no TLV, and the octets stay as they are.
 abbrev pub GivesFirstTlv : List ℕ → Option Tlv → List ℕ → Type 0
 GivesFirstTlv octets given left =
     MatchOption given
     ((cut octets ≡ record { tlvs = []; rest = octets }) × (left ≡ octets))
-    (λ t. (cut octets ≡ record { tlvs = tlv_view t ∷ (cut left).tlvs; rest = (cut left).rest }) × (left ≡ drop (2 + length t.body.now) octets))
+    (λ t. (cut octets ≡ record { tlvs = tlv_view t ∷ (cut left).tlvs; rest = (cut left).rest })
+        × (left ≡ drop (2 + length t.body.now) octets))
 
 -- a management address likewise
 abbrev pub address_view : Mgmt → Address
-address_view a = record { family = a.family; address = a.address.now; numbering = a.numbering; interface = a.interface; oid = a.oid.now }
+address_view a = record {
+  family = a.family;
+  address = a.address.now;
+  numbering = a.numbering;
+  interface = a.interface;
+  oid = a.oid.now;
+}
 
 -- an MSAP identifier likewise
 abbrev pub msap_view : Msap → MsapId

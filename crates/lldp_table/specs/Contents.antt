@@ -25,8 +25,8 @@ is_named name neighbor = same_msap name neighbor.msap
 abbrev pub holds_name : Contents → MsapId → Bool
 holds_name table name = list_any (is_named name) table.neighbors
 
--- what a learned frame told: at most 1,500 octets, which alone are a sound LLDPDU with this MSAP identifier and this TTL,
--- not 0, and are whole its extent
+-- what a learned frame told: at most 1,500 octets, which alone are a sound LLDPDU with this MSAP identifier and this
+-- TTL, not 0, and are whole its extent
 pub record IsExtent (msap : MsapId) (ttl : ℕ) (octets : List ℕ) : Type 0 where
   pub short : length octets ≤ MOST_OCTETS
   pub lives : 0 < ttl

@@ -1,5 +1,5 @@
--- The calls that were made on a table, and what they leave live (IEEE 802.1AB-2009, 9.2.7.7). Each list is newest first,
--- so that what stands behind a call in its list is what came before it.
+-- The calls that were made on a table, and what they leave live (IEEE 802.1AB-2009, 9.2.7.7). Each list is newest
+-- first, so that what stands behind a call in its list is what came before it.
 use Rattle.std.specs.Prelude.{ℕ, suc, ◌-◌, Bool, true, false, not, ◌&&◌, if◌then◌else◌, nat_lt, max, List, [], ◌∷◌, ◌++◌, length, filter, find, filter_map, Option, Some, None, is_some, option_and_then, count_by, is_none}
 use Rattle.lldp_pdu.specs.Msap.{MsapId}
 use Rattle.lldp_table.specs.Msap.{same_msap}
@@ -67,7 +67,8 @@ decides_on name _ = false
 
 -- what is live of a name whose last deciding event is this one, n ticks ago
 abbrev pub live_after : ℕ → TableEvent → Option Neighbor
-live_after n (learned msap ttl octets answer) = if nat_lt n ttl then Some (record { msap = msap; octets = octets; ttl = ttl; left = ttl - n }) else None
+live_after n (learned msap ttl octets answer) =
+    if nat_lt n ttl then Some (record { msap = msap; octets = octets; ttl = ttl; left = ttl - n }) else None
 live_after n _ = None
 
 -- The neighbor of this name, if it is live: of the events that stored it, forgot it or purged the table the last one
@@ -100,7 +101,9 @@ limit_after opened (event ∷ past) = limit_after opened past
 -- What a `learn` of this name answers. A live name is refreshed, whether or not there is room. Another name is new
 -- where fewer neighbors than the limit in force are live, else its frame is dropped.
 abbrev pub answer : ℕ → MsapId → List TableEvent → Learned
-answer opened name past = if is_some (live name past) then Refreshed else (if nat_lt (length (neighbors past)) (limit_after opened past) then New else Dropped)
+answer opened name past =
+    if is_some (live name past) then Refreshed
+    else (if nat_lt (length (neighbors past)) (limit_after opened past) then New else Dropped)
 
 -- a call after these events
 abbrev pub event_of : ℕ → Call → List TableEvent → TableEvent

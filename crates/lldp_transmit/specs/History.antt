@@ -17,7 +17,12 @@ pub record Event : Type 0 where
 
 -- the settings of these four
 abbrev pub settings : ℕ → ℕ → ℕ → Bool → Settings
-settings credit_max fast_init reinit allowed = record { credit_max = credit_max; fast_init = fast_init; reinit = reinit; allowed = allowed }
+settings credit_max fast_init reinit allowed = record {
+  credit_max = credit_max;
+  fast_init = fast_init;
+  reinit = reinit;
+  allowed = allowed;
+}
 
 -- the event of these two
 abbrev pub event : Cause → ℕ → Event

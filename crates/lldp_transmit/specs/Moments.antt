@@ -1,6 +1,6 @@
--- When a port transmits (IEEE 802.1AB-2009, clause 9, with this project's choices of credit, signals, bursts and distance).
--- Each event of the history becomes a moment: the event, and what it was for the port. Each label is said by the
--- moments before it: by the last one of some kind, by the ticks since then, by the runs that end now.
+-- When a port transmits (IEEE 802.1AB-2009, clause 9, with this project's choices of credit, signals, bursts and
+-- distance). Each event of the history becomes a moment: the event, and what it was for the port. Each label is said by
+-- the moments before it: by the last one of some kind, by the ticks since then, by the runs that end now.
 use Rattle.std.specs.Prelude.{ℕ, ◌+◌, ◌-◌, Bool, true, false, not, ◌&&◌, ◌||◌, ◌==◌, nat_le, nat_lt, if◌then◌else◌, List, [], ◌∷◌}
 use Rattle.std.specs.List.{list_any, list_all}
 use Rattle.lldp_transmit.specs.declared.event.Cause.{Cause}
@@ -70,14 +70,16 @@ rested s past = not (list_any (λ m. m.stop) past) || nat_le s.reinit (1 + ticks
 abbrev pub spends : Moment → Bool
 spends m = m.signal && (is_neighbor m.cause || (is_tick m.cause && not m.start))
 
--- signals left in the burst (txFast): txFastInit less those from the last opening on; none without an opening since the start
+-- signals left in the burst (txFast): txFastInit less those from the last opening on; none without an opening since the
+-- start
 abbrev pub signals_left : Settings → List Moment → ℕ
 signals_left s ms =
     if list_any (λ m. m.opening) (since (λ m. m.start) ms)
     then s.fast_init - count spends (from_last (λ m. m.opening) ms)
     else 0
 
--- ticks from the newest moment, a signal, to the next: msgFastTx, that is 1, while signals are left, else its tx-interval
+-- ticks from the newest moment, a signal, to the next: msgFastTx, that is 1, while signals are left, else its
+-- tx-interval
 abbrev pub distance : Settings → List Moment → ℕ
 distance s [] = 0
 distance s (m ∷ past) = if nat_lt 0 (signals_left s (m ∷ past)) then 1 else m.interval
@@ -90,7 +92,9 @@ is_waiting ms = list_any (λ m. m.signal) (from_last (λ m. m.start) (since (λ 
 
 -- Start: a port starts at the first tick at which it may: allowed, with its link up, not active, rested.
 abbrev pub starts : Settings → List Moment → Moment → Bool
-starts s past m = is_tick m.cause && (is_allowed s (m ∷ past) && (is_up (m ∷ past) && (not (is_active past) && rested s past)))
+starts s past m =
+    is_tick m.cause
+    && (is_allowed s (m ∷ past) && (is_up (m ∷ past) && (not (is_active past) && rested s past)))
 
 -- Stop: it stops where the right to transmit is taken from it while it is active.
 abbrev pub stops : Settings → List Moment → Moment → Bool
@@ -127,7 +131,15 @@ open_at s past m = list_all (within s) (runs (record m { sent = true } ∷ past)
 
 -- the moment of an event before its labels are written
 abbrev pub unlabelled : Event → Moment
-unlabelled e = record { cause = e.cause; interval = e.interval; start = false; stop = false; signal = false; opening = false; sent = false }
+unlabelled e = record {
+  cause = e.cause;
+  interval = e.interval;
+  start = false;
+  stop = false;
+  signal = false;
+  opening = false;
+  sent = false;
+}
 
 -- The moment of the next event. Its labels are written in this order; each reads the moments before, and the labels
 -- written already. Sent: an ordinary frame goes exactly where one is due and the window open.

@@ -24,7 +24,8 @@ openings_in ms = count (λ m. m.opening) ms
 
 -- the link is up at each of these moments, which come after those before
 abbrev pub StaysUp : List Moment → List Moment → Type 0
-StaysUp after before = (newer older : List Moment) (m : Moment) → after ≡ newer ++ m ∷ older → IsTrue (is_up ((m ∷ older) ++ before))
+StaysUp after before =
+    (newer older : List Moment) (m : Moment) → after ≡ newer ++ m ∷ older → IsTrue (is_up ((m ∷ older) ++ before))
 
 -- Active: some start has no stop after it, and the link is up at each later position.
 abbrev pub HasStarted : List Moment → Type 0
@@ -34,25 +35,34 @@ HasStarted ms =
 
 -- Rested: each stop was at least reinitDelay ticks ago, one more tick counted.
 abbrev pub HasRested : Settings → List Moment → Type 0
-HasRested s past = (after before : List Moment) (m : Moment) → past ≡ after ++ m ∷ before → IsTrue m.stop → s.reinit ≤ 1 + ticks after
+HasRested s past =
+    (after before : List Moment) (m : Moment) → past ≡ after ++ m ∷ before → IsTrue m.stop →
+    s.reinit ≤ 1 + ticks after
 
--- Start: a tick, at which the port may transmit, its link is up, it was not active, and it has rested, this tick counted.
+-- Start: a tick, at which the port may transmit, its link is up, it was not active, and it has rested, this tick
+-- counted.
 abbrev pub IsStart : Settings → List Moment → Moment → Type 0
-IsStart s past m = (m.cause ≡ Tick) × IsTrue (is_allowed s (m ∷ past)) × IsTrue (is_up (m ∷ past)) × ¬ (HasStarted past) × HasRested s past
+IsStart s past m =
+    (m.cause ≡ Tick) × IsTrue (is_allowed s (m ∷ past)) × IsTrue (is_up (m ∷ past))
+    × ¬ (HasStarted past) × HasRested s past
 
 -- Stop: it was active, and may no longer transmit.
 abbrev pub IsStop : Settings → List Moment → Moment → Type 0
 IsStop s past m = HasStarted past × (is_allowed s (m ∷ past) ≡ false)
 
--- a burst was opened since the last start; n is txFastInit less the new neighbors' and timer's signals since its last opening
+-- a burst was opened since the last start; n is txFastInit less the new neighbors' and timer's signals since its last
+-- opening
 abbrev pub HasOpened : Settings → List Moment → ℕ → Type 0
 HasOpened s ms n =
     (after before : List Moment) × (m : Moment) × (ms ≡ after ++ m ∷ before)
-    × IsTrue m.opening × (openings_in after ≡ 0) × (starts_in (m ∷ after) ≡ 0) × (n ≡ s.fast_init - count spends (m ∷ after))
+    × IsTrue m.opening × (openings_in after ≡ 0) × (starts_in (m ∷ after) ≡ 0)
+    × (n ≡ s.fast_init - count spends (m ∷ after))
 
 -- no burst was opened since the last start: each opening has a start at it or after it
 abbrev pub NoneOpened : List Moment → Type 0
-NoneOpened ms = (after before : List Moment) (m : Moment) → ms ≡ after ++ m ∷ before → IsTrue m.opening → 1 ≤ starts_in (m ∷ after)
+NoneOpened ms =
+    (after before : List Moment) (m : Moment) → ms ≡ after ++ m ∷ before → IsTrue m.opening →
+    1 ≤ starts_in (m ∷ after)
 
 -- Burst: n signals are left, none where no burst was opened since the last start.
 abbrev pub AreLeft : Settings → List Moment → ℕ → Type 0
@@ -65,7 +75,8 @@ IsDistance s m before d = (n : ℕ) × AreLeft s (m ∷ before) n × (1 ≤ n �
 -- End of the timer: a tick, no start, that makes as many ticks since the last signal as the distance chosen there.
 abbrev pub IsTimerEnd : Settings → List Moment → Moment → Type 0
 IsTimerEnd s past m =
-    (m.cause ≡ Tick) × (m.start ≡ false) × (after before : List Moment) × (last : Moment) × (past ≡ after ++ last ∷ before)
+    (m.cause ≡ Tick) × (m.start ≡ false) × (after before : List Moment) × (last : Moment)
+    × (past ≡ after ++ last ∷ before)
     × IsTrue last.signal × (signals_in after ≡ 0) × IsDistance s last before (1 + ticks after)
 
 -- Signal: on an active port, a start, a local change, a new neighbor, or the end of the timer.
@@ -87,15 +98,20 @@ HasWanted ms =
 abbrev pub IsDue : List Moment → Moment → Type 0
 IsDue past m = HasStarted (m ∷ past) × HasWanted (record m { sent = false } ∷ past)
 
--- Open window: with one frame more now, each run that ends now has at most txCreditMax and the ticks after its first event.
+-- Open window: with one frame more now, each run that ends now has at most txCreditMax and the ticks after its first
+-- event.
 abbrev pub IsOpen : Settings → List Moment → Moment → Type 0
-IsOpen s past m = (run before : List Moment) → past ≡ run ++ before → frames run + 1 ≤ s.credit_max + ticks (after_first (m ∷ run))
+IsOpen s past m =
+    (run before : List Moment) → past ≡ run ++ before →
+    frames run + 1 ≤ s.credit_max + ticks (after_first (m ∷ run))
 
 -- Credit: no more than txCreditMax and than what each run that ends now leaves of its bound, and one of these.
 pub record IsLeastRoom (s : Settings) (ms : List Moment) (credit : ℕ) : Type 0 where
   pub most : credit ≤ s.credit_max
-  pub each : (run before : List Moment) → ms ≡ run ++ before → credit + frames run ≤ s.credit_max + ticks (after_first run)
-  pub one : (run before : List Moment) × (ms ≡ run ++ before) × (credit + frames run ≡ s.credit_max + ticks (after_first run))
+  pub each : (run before : List Moment) → ms ≡ run ++ before →
+      credit + frames run ≤ s.credit_max + ticks (after_first run)
+  pub one : (run before : List Moment) × (ms ≡ run ++ before)
+      × (credit + frames run ≡ s.credit_max + ticks (after_first run))
 
 -- Sent: at the next event a frame is due and its window open.
 abbrev pub IsDueAndOpen : Settings → History → Event → Type 0

@@ -14,12 +14,14 @@ with_marks [] ms = []
 with_marks (b ∷ bs) [] = []
 with_marks (b ∷ bs) (m ∷ ms) = record m { sent = b } ∷ with_marks bs ms
 
--- one mark for each moment, and true only where a frame is due and the window open, both read with the marks for the frames
+-- one mark for each moment, and true only where a frame is due and the window open, both read with the marks for the
+-- frames
 abbrev pub AreTimely : Settings → List Bool → List Moment → Type 0
 AreTimely s [] [] = Unit {0}
 AreTimely s [] (m ∷ ms) = ⊥
 AreTimely s (b ∷ bs) [] = ⊥
-AreTimely s (b ∷ bs) (m ∷ ms) = (IsTrue b → IsTrue (due (with_marks bs ms) m && open_at s (with_marks bs ms) m)) × AreTimely s bs ms
+AreTimely s (b ∷ bs) (m ∷ ms) =
+    (IsTrue b → IsTrue (due (with_marks bs ms) m && open_at s (with_marks bs ms) m)) × AreTimely s bs ms
 
 -- how many of the marks are true
 abbrev pub marked : List Bool → ℕ
@@ -31,12 +33,14 @@ marked marks = count (λ b. b) marks
 -- Bound on every run: it has at most txCreditMax ordinary frames, and one more for each tick after its first event.
 abbrev pub IsBounded : Settings → History → Type 0
 IsBounded s h =
-    (later run before : List Moment) → moments s h ≡ later ++ (run ++ before) → frames run ≤ s.credit_max + ticks (after_first run)
+    (later run before : List Moment) → moments s h ≡ later ++ (run ++ before) →
+    frames run ≤ s.credit_max + ticks (after_first run)
 
 -- Few stops: a run has at most one stop, and one more for each reinitDelay ticks in it.
 abbrev pub StopsRarely : Settings → History → Type 0
 StopsRarely s h =
-    (later run before : List Moment) → moments s h ≡ later ++ (run ++ before) → count (λ m. m.stop) run ≤ 1 + ticks run / s.reinit
+    (later run before : List Moment) → moments s h ≡ later ++ (run ++ before) →
+    count (λ m. m.stop) run ≤ 1 + ticks run / s.reinit
 
 -- Earliest service: no other choice of due and open moments has had more frames up to now.
 abbrev pub IsEarliest : Settings → History → Type 0
@@ -66,13 +70,15 @@ stops_with Shutdown run = 1 + count (λ m. m.stop) run
 stops_with Quiet run = count (λ m. m.stop) run
 stops_with Ordinary run = count (λ m. m.stop) run
 
--- with this answer each run that ends with the event has at most txCreditMax frames, and one more for each tick after its first event
+-- with this answer each run that ends with the event has at most txCreditMax frames, and one more for each tick after
+-- its first event
 abbrev pub IsBoundedWith : Settings → History → Event → Mark → Type 0
 IsBoundedWith s past e answer =
     (run before : List Moment) → moments s past ≡ run ++ before →
     frames_with answer run ≤ s.credit_max + ticks (after_first (moment s (moments s past) e ∷ run))
 
--- with this answer each run that ends with the event has at most one stop, and one more for each reinitDelay ticks in it
+-- with this answer each run that ends with the event has at most one stop, and one more for each reinitDelay ticks in
+-- it
 abbrev pub StopsRarelyWith : Settings → History → Event → Mark → Type 0
 StopsRarelyWith s past e answer =
     (run before : List Moment) → moments s past ≡ run ++ before →

@@ -38,7 +38,8 @@ pub record HasValue (a : Arg) : Type 0 where
 
 -- an argument with the name of an option is as the option asks
 pub record FitsOption (a : Arg) : Type 0 where
-  pub number : (greatest : ℕ) → greatest_of a.id.now ≡ Some greatest → a.value_parser ≡ Some (Signed (pos 1) (pos greatest))
+  pub number : (greatest : ℕ) → greatest_of a.id.now ≡ Some greatest →
+      a.value_parser ≡ Some (Signed (pos 1) (pos greatest))
   pub value : has_default a.id.now ≡ true → HasValue a
 
 -- the argument of this name, which excludes nothing and fits

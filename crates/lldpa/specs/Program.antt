@@ -16,7 +16,8 @@ pub record RanStreams (to_come left old new : Option (List ℕ)) (before after :
   pub done : status ≡ 0 → is_ok result ≡ true
 
 -- An agent opened with these options ran the trace that came: what was read, and what was written for it.
-pub record Ran (options : Options) (to_come left old new : Option (List ℕ)) (result : Result (Unit {0}) RunFault) : Type 0 where
+pub record Ran (options : Options) (to_come left old new : Option (List ℕ)) (result : Result (Unit {0}) RunFault) :
+    Type 0 where
   pub input : List ℕ
   pub consumed : Consumes to_come left input
   pub read : HasRead left input result
@@ -29,19 +30,21 @@ pub record RanBy (options : Options) (to_come left old new : Option (List ℕ)) 
   pub ran : Ran options to_come left old new result
   pub done : status ≡ 0 → is_ok result ≡ true
 
--- What became of reader and writer, by the text of `--listen`: where there is none, the trace of the reader was run; where there is one,
--- nothing was read and nothing written.
-abbrev pub RanBut : Option Text → Options → Option (List ℕ) → Option (List ℕ) → Option (List ℕ) → Option (List ℕ) → ℕ → Type 0
+-- What became of reader and writer, by the text of `--listen`: where there is none, the trace of the reader was run;
+-- where there is one, nothing was read and nothing written.
+abbrev pub RanBut : Option Text → Options → Option (List ℕ) → Option (List ℕ) → Option (List ℕ) → Option (List ℕ) → ℕ →
+    Type 0
 RanBut None options to_come left old new status = RanBy options to_come left old new status
 RanBut (Some port) options to_come left old new status = Keeps to_come left × Keeps old new
 
 -- the same by the words
-abbrev pub RanAs : List Row → Options → Option (List ℕ) → Option (List ℕ) → Option (List ℕ) → Option (List ℕ) → ℕ → Type 0
+abbrev pub RanAs : List Row → Options → Option (List ℕ) → Option (List ℕ) → Option (List ℕ) → Option (List ℕ) → ℕ →
+    Type 0
 RanAs rows options to_come left old new status =
     RanBut (one_of (codes "listen") rows) options to_come left old new status
 
--- The words have no fault by `clap`'s own specification; their options, of which each is the value of its words, have no fault
--- either; and the program did as they ask.
+-- The words have no fault by `clap`'s own specification; their options, of which each is the value of its words, have
+-- no fault either; and the program did as they ask.
 pub record HasRunWords (words : List Text) (to_come left old new : Option (List ℕ)) (status : ℕ) : Type 0 where
   pub rows : List Row
   pub parse : IsParse words rows

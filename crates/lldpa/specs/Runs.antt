@@ -18,15 +18,15 @@ pub record IsCutOff (whole part : List ℕ) : Type 0 where
   pub joined : whole ≡ part ++ rest
   pub missing : rest ≢ []
 
--- All items were done: their text was written, and the agent stands for the past after them and keeps the promise for it: tables hold
--- the last stored frames, and ports have sent exactly what was due.
+-- All items were done: their text was written, and the agent stands for the past after them and keeps the promise for
+-- it: tables hold the last stored frames, and ports have sent exactly what was due.
 pub record Done (past : Past) (items : List Item) (old new : Option (List ℕ)) (agent : AgentState) : Type 0 where
   pub written : Appends old new (text_of_all past items)
   pub stands : Stands (after_all past items) agent
   pub promised : Promised (after_all past items) agent
 
--- An item's output failed. The agent stands for the past after that item and keeps the promise for it. The text of the items before
--- it was written, and of its own text a part, but not all.
+-- An item's output failed. The agent stands for the past after that item and keeps the promise for it. The text of the
+-- items before it was written, and of its own text a part, but not all.
 pub record Failed (past : Past) (items : List Item) (old new : Option (List ℕ)) (agent : AgentState) : Type 0 where
   pub before : List Item
   pub item : Item
@@ -38,20 +38,22 @@ pub record Failed (past : Past) (items : List Item) (old new : Option (List ℕ)
   pub stands : Stands (after_all past (before ++ item ∷ [])) agent
   pub promised : Promised (after_all past (before ++ item ∷ [])) agent
 
--- The run stopped at an item whose output failed: one of a line whose LF was read, or, where nothing is left to come, one of the
--- last line.
+-- The run stopped at an item whose output failed: one of a line whose LF was read, or, where nothing is left to come,
+-- one of the last line.
 abbrev pub StoppedAt : Past → List ℕ → Option (List ℕ) → Option (List ℕ) → Option (List ℕ) → AgentState → Type 0
 StoppedAt past input left old new agent =
     Failed past (items_of_lines past (ended_lines input)) old new agent
     ⊎ (IsAtEnd left × Failed past (items_of_lines past (lines_of input)) old new agent)
 
--- What a run over this input did, by its answer. Ok: all lines were done. Read and InputTooLong: each line whose LF was read was
--- done. Write: it stopped at an item.
-abbrev pub Ends : {T : Type 0} → Past → List ℕ → Option (List ℕ) → Option (List ℕ) → Option (List ℕ) → AgentState → Result T RunFault → Type 0
+-- What a run over this input did, by its answer. Ok: all lines were done. Read and InputTooLong: each line whose LF was
+-- read was done. Write: it stopped at an item.
+abbrev pub Ends : {T : Type 0} → Past → List ℕ → Option (List ℕ) → Option (List ℕ) → Option (List ℕ) → AgentState →
+    Result T RunFault → Type 0
 Ends past input left old new agent (Ok done) = Done past (items_of_lines past (lines_of input)) old new agent
 Ends past input left old new agent (Err Read) = Done past (items_of_lines past (ended_lines input)) old new agent
 Ends past input left old new agent (Err Write) = StoppedAt past input left old new agent
-Ends past input left old new agent (Err InputTooLong) = Done past (items_of_lines past (ended_lines input)) old new agent
+Ends past input left old new agent (Err InputTooLong) =
+    Done past (items_of_lines past (ended_lines input)) old new agent
 
 -- what the answer tells of the octets that were read: Ok, that the end was reached; InputTooLong, how many they were
 abbrev pub HasRead : {T : Type 0} → Option (List ℕ) → List ℕ → Result T RunFault → Type 0
@@ -60,9 +62,10 @@ HasRead left input (Err Read) = Unit {0}
 HasRead left input (Err Write) = Unit {0}
 HasRead left input (Err InputTooLong) = 4294967295 ≤ length input
 
--- A run: the octets that it read, what its answer tells of them, and, for every past that the agent stood for, what it did. A source
--- had octets to come and has some left, a sink had taken octets and has taken more.
-pub record HasRun {T : Type 0} (to_come left old new : Option (List ℕ)) (before after : AgentState) (result : Result T RunFault) : Type 0 where
+-- A run: the octets that it read, what its answer tells of them, and, for every past that the agent stood for, what it
+-- did. A source had octets to come and has some left, a sink had taken octets and has taken more.
+pub record HasRun {T : Type 0} (to_come left old new : Option (List ℕ)) (before after : AgentState)
+    (result : Result T RunFault) : Type 0 where
   pub input : List ℕ
   pub consumed : Consumes to_come left input
   pub read : HasRead left input result
@@ -86,7 +89,7 @@ write_failures_after failures (Err InputTooLong) = failures
 abbrev pub followed : Past → List Event → Past
 followed past events = record { options = past.options; events = events ++ past.events }
 
--- The agent stands for the past and some more events, all of them allowed, as all are that an agent stands for, and keeps the promise:
--- tables hold the last stored frames, and ports have sent exactly what was due.
+-- The agent stands for the past and some more events, all of them allowed, as all are that an agent stands for, and
+-- keeps the promise: tables hold the last stored frames, and ports have sent exactly what was due.
 abbrev pub KeepsOn : Past → AgentState → Type 0
 KeepsOn past agent = (events : List Event) × Stands (followed past events) agent × Promised (followed past events) agent

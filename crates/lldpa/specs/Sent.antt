@@ -13,7 +13,9 @@ sent_line name frame = ended (codes "tx " ++ name ++ codes " " ++ encode_lower f
 
 -- the line of a port that sends, by the names of the ports and the configuration
 abbrev pub mark_line : List (List ℕ) → Configuration → Sending → List ℕ
-mark_line names configuration mark = let name = get_or names mark.0 [] in sent_line name (frame_of configuration name mark.1)
+mark_line names configuration mark =
+    let name = get_or names mark.0 [] in
+    sent_line name (frame_of configuration name mark.1)
 
 -- the lines of what was sent at the last event, the ports rising, each frame with the configuration after the event
 abbrev pub sent_text : Past → List ℕ

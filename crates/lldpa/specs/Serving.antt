@@ -16,7 +16,8 @@ pub record Served (before after : AgentState) (result : Result (Unit {0}) RunFau
 -- connections were served one after the other, the last one first
 abbrev pub AreServed : List (Result (Unit {0}) RunFault) → AgentState → AgentState → Type 0
 AreServed [] before after = after ≡ before
-AreServed (result ∷ earlier) before after = (between : AgentState) × AreServed earlier before between × Served between after result
+AreServed (result ∷ earlier) before after =
+    (between : AgentState) × AreServed earlier before between × Served between after result
 
 -- one for a run that ended with a fault
 abbrev pub faults_in : Result (Unit {0}) RunFault → ℕ

@@ -47,7 +47,8 @@ role_rule roles = record (text_rule (codes "role") (codes "station")) { parser =
 
 -- an option that takes no value
 abbrev pub receive_only_rule : Rule
-receive_only_rule = record (new_rule (codes "receive-only")) { long = Some (codes "receive-only"); action = Some SetTrue }
+receive_only_rule = record
+    (new_rule (codes "receive-only")) { long = Some (codes "receive-only"); action = Some SetTrue }
 
 -- a TCP port from 1 on
 abbrev pub listen_rule : Rule
@@ -60,7 +61,8 @@ listen_rule =
 
 -- the ports, any number of them
 abbrev pub ports_rule : Rule
-ports_rule = record (new_rule (codes "PORT")) { range = Some (record { start_inclusive = 0; end_inclusive = usize_max }) }
+ports_rule = record (new_rule (codes "PORT")) { range =
+    Some (record { start_inclusive = 0; end_inclusive = usize_max }) }
 
 -- with the option `--version`
 abbrev pub versioned : App → App
@@ -87,7 +89,8 @@ program roles =
 
 -- the role of a name
 abbrev pub role_named : Text → Role
-role_named name = if bytes_eq name (codes "bridge") then Bridge else if bytes_eq name (codes "router") then Router else Station
+role_named name = if bytes_eq name (codes "bridge") then Bridge else if bytes_eq name (codes "router") then Router
+    else Station
 
 -- no management address, or the one that the text writes
 abbrev pub AsksManagement : Option Text → Option (List ℕ) → Type 0
@@ -134,7 +137,8 @@ abbrev pub WritesNumber : Option Text → ℕ → Type 0
 WritesNumber None n = ⊥
 WritesNumber (Some text) n = ParsesUnsigned {E = Unit {0}} 16 10 text (Ok n)
 
--- By the texts of `--listen` and `--connections`: nothing where there is none to listen, else the port and how many connections.
+-- By the texts of `--listen` and `--connections`: nothing where there is none to listen, else the port and how many
+-- connections.
 abbrev pub AsksListening : Option Text → Option Text → Option Listening → Type 0
 AsksListening None connections listening = listening ≡ None
 AsksListening (Some port) connections None = ⊥

@@ -1,5 +1,5 @@
 //! One line of a trace, and what it asks for.
-ghost use Rattle.std.specs.Prelude.{◌≡◌, ◌≤◌, length, ℕ, List, ◌∷◌, IfOk, IfErr, IfSome, ◌*◌, ◌%◌, ◌++◌};
+ghost use Rattle.std.specs.Prelude.{◌≡◌, ◌≤◌, length, ℕ, List, ◌∷◌, IfOk, IfErr, IfSome, MatchOption, ◌≢◌, ◌*◌, ◌%◌, ◌++◌};
 ghost use Rattle.std.specs.List.{AllByRecursion};
 ghost use Rattle.hex.specs.Hex.{decode_of};
 ghost use Rattle.lldp_engine.specs.AgentState.{AgentState, IsPort};
@@ -162,15 +162,17 @@ fn read_order<'l>(agent: &Agent, first: &[u8], words: Words<'l>) -> Result<Work<
     }
 }
 
-/// What follows this front.
+/// What follows this front, if the text begins with it.
 fn behind<'l>(text: &'l [u8], front: &[u8]) -> Option<&'l [u8]>
-    ensures { IfSome result (λ rest. text.now ≡ front.now ++ rest.now) }
+    ensures { MatchOption result
+        ((rest : List ℕ) → text.now ≢ front.now ++ rest)
+        (λ rest. text.now ≡ front.now ++ rest.now) }
 {
     text.strip_prefix(front)
 }
 
 /// The port and the digits of `rx PORT HEX` as it is mostly written, with one space between words
-/// and no quotes. None of every other line.
+/// and no quotes. A line that gives None is read word by word, so it may be any.
 fn plain_frame<'l>(agent: &Agent, line: &'l [u8]) -> Option<(u8, &'l [u8])>
     requires { length line.now ≤ 4096 }
     ensures reads { IfSome result (λ x. (octets : List ℕ) → decode_of x.1.now ≡ Ok octets →

@@ -17,7 +17,17 @@ use Rattle.lldp_engine.specs.Port.Effects.{heard_at}
 
 -- nothing was counted
 abbrev pub none_counted : Counters
-none_counted = record { sent = 0; shutdowns = 0; received = 0; discarded = 0; errors = 0; tlvs_discarded = 0; unrecognized = 0; ageouts = 0; drops = 0 }
+none_counted = record {
+  sent = 0;
+  shutdowns = 0;
+  received = 0;
+  discarded = 0;
+  errors = 0;
+  tlvs_discarded = 0;
+  unrecognized = 0;
+  ageouts = 0;
+  drops = 0;
+}
 
 -- an LLDP frame came
 abbrev pub with_received : Counters → Counters
@@ -57,9 +67,11 @@ abbrev pub with_heard : (MsapId → Learned) → Counters → Option Heard → C
 with_heard answer c None = c
 with_heard answer c (Some refused) = with_refused (with_received c)
 with_heard answer c (Some (leaves msap)) = with_received c
-with_heard answer c (Some (tells info)) = with_answer (with_tlvs (with_received c) info.discarded info.unrecognized) (answer info.msap)
+with_heard answer c (Some (tells info)) =
+    with_answer (with_tlvs (with_received c) info.discarded info.unrecognized) (answer info.msap)
 
 -- a second, or what was heard by another event, is counted
 abbrev pub with_event_counted : PortEvent → Status → Bool → Contents → Counters → Counters
-with_event_counted tick status up table c = with_aged_out c (length table.neighbors - length (after_tick table).neighbors)
+with_event_counted tick status up table c =
+    with_aged_out c (length table.neighbors - length (after_tick table).neighbors)
 with_event_counted event status up table c = with_heard (learn_answer table) c (heard_at event status up)

@@ -12,4 +12,5 @@ after_line (suc before) false kept line = record { before = before; came = false
 
 -- a line came, at most 2,048 octets and an LF
 abbrev pub KeepsOne : OneLine → OneLine → List ℕ → Type 0
-KeepsOne old new line = (new ≡ after_line old.before old.came old.line line) × (length old.line ≤ LINE_ROOM → length new.line ≤ LINE_ROOM)
+KeepsOne old new line =
+    (new ≡ after_line old.before old.came old.line line) × (length old.line ≤ LINE_ROOM → length new.line ≤ LINE_ROOM)

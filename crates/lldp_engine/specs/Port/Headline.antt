@@ -28,22 +28,27 @@ pub record HoldsLastStored (o : Options) (past : List Happened) (table : Content
 -- no run of events that ends there would hold more than txCreditMax and the ticks after its first event. It sends a
 -- shutdown frame exactly where it was active and may no longer transmit.
 pub record SendsExactly (o : Options) (now : Happened) (earlier : List Happened) : Type 0 where
-  pub ordinary : (mark_after o (now ∷ earlier) ≡ Ordinary) ↔ IsDueAndOpen (settings_of o) (causes_after o earlier) (caused_at o now earlier)
-  pub shutdown : (mark_after o (now ∷ earlier) ≡ Shutdown) ↔ StopsAt (settings_of o) (causes_after o earlier) (caused_at o now earlier)
+  pub ordinary : (mark_after o (now ∷ earlier) ≡ Ordinary)
+      ↔ IsDueAndOpen (settings_of o) (causes_after o earlier) (caused_at o now earlier)
+  pub shutdown : (mark_after o (now ∷ earlier) ≡ Shutdown)
+      ↔ StopsAt (settings_of o) (causes_after o earlier) (caused_at o now earlier)
 
 -- After this past, by what its events were for its transmitting, a port has the right to transmit exactly where its
 -- status gives it, and its link is up exactly where its last link event says so.
 pub record FollowsStatus (o : Options) (past : List Happened) : Type 0 where
-  pub right : is_allowed (settings_of o) (moments (settings_of o) (causes_after o past)) ≡ transmits (status_after o past)
+  pub right : is_allowed (settings_of o) (moments (settings_of o) (causes_after o past))
+      ≡ transmits (status_after o past)
   pub link : is_up (moments (settings_of o) (causes_after o past)) ≡ up_after past
 
--- A port did so at each event so far, and its right to transmit has been that of its status. No run of events holds more
--- ordinary frames than txCreditMax and the ticks after its first event, nor more stops than one and one for each
+-- A port did so at each event so far, and its right to transmit has been that of its status. No run of events holds
+-- more ordinary frames than txCreditMax and the ticks after its first event, nor more stops than one and one for each
 -- reinitDelay ticks in it; and up to no event has another choice of due positions that keeps these windows had more
 -- frames.
 pub record HasSentExactly (o : Options) (past : List Happened) : Type 0 where
-  pub exactly : (later earlier : List Happened) (now : Happened) → past ≡ later ++ now ∷ earlier → SendsExactly o now earlier
+  pub exactly : (later earlier : List Happened) (now : Happened) → past ≡ later ++ now ∷ earlier →
+      SendsExactly o now earlier
   pub follows : (later earlier : List Happened) → past ≡ later ++ earlier → FollowsStatus o earlier
   pub bounded : IsBounded (settings_of o) (causes_after o past)
   pub few_stops : StopsRarely (settings_of o) (causes_after o past)
-  pub earliest : (later earlier : List Happened) → past ≡ later ++ earlier → IsEarliest (settings_of o) (causes_after o earlier)
+  pub earliest : (later earlier : List Happened) → past ≡ later ++ earlier →
+      IsEarliest (settings_of o) (causes_after o earlier)

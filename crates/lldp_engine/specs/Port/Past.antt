@@ -54,7 +54,8 @@ settings_of o = settings o.credit_max o.fast_init o.reinit (transmits (status_at
 -- what an event is for its transmitting, with the tx-interval in force after the event
 abbrev pub caused_at : Options → Happened → List Happened → Caused
 caused_at o now past =
-    caused (cause_at now.event (status_after o past) (up_after past) (λ name. answer o.max_neighbors name (told_after o past))) now.interval
+    caused (cause_at now.event (status_after o past) (up_after past)
+        (λ name. answer o.max_neighbors name (told_after o past))) now.interval
 
 -- what each event was for its transmitting
 abbrev pub causes_after : Options → List Happened → History

@@ -29,7 +29,8 @@ pub record IsDraft (d : Draft) : Type 0 where
   pub tlvs : AllByRecursion IsKeptTlv d.tlvs
   pub kept : AllKept [] d.tlvs
 
--- the octets spell a draft that leaves room for the End Of LLDPDU, and the flags and the bit tell its types and whether it lives
+-- the octets spell a draft that leaves room for the End Of LLDPDU, and the flags and the bit tell its types and whether
+-- it lives
 pub record Builds (octets : List ℕ) (met : List Bool) (lives : Bool) : Type 0 where
   pub spelled : octets ≡ spellings (all_tlvs (draft_of octets))
   pub draft : IsDraft (draft_of octets)

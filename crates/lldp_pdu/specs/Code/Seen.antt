@@ -1,4 +1,5 @@
--- The flags by which the code remembers which single TLVs it has met: one for each type from Port Description to System Capabilities.
+-- The flags by which the code remembers which single TLVs it has met: one for each type from Port Description to System
+-- Capabilities.
 use Rattle.std.specs.Prelude.{◌≡◌, ℕ, ◌-◌, ◌≤◌, Bool, true, false, not, ◌&&◌, List, [], ◌∷◌, length, slice_index_or, slice_set, if◌then◌else◌}
 use Rattle.lldp_pdu.specs.Tlv.{TlvUnit}
 use Rattle.lldp_pdu.specs.TlvType.{port_description_type, system_capabilities_type}
@@ -11,7 +12,8 @@ none_seen = false ∷ false ∷ false ∷ false ∷ []
 -- the types that are met, of those with a flag, are the ones whose flag is set
 pub record Flags (seen : List Bool) (is_met : ℕ → Bool) : Type 0 where
   pub four : length seen ≡ 4
-  pub set : (kind : ℕ) → port_description_type ≤ kind → kind ≤ system_capabilities_type → slice_index_or seen (kind - port_description_type) false ≡ is_met kind
+  pub set : (kind : ℕ) → port_description_type ≤ kind → kind ≤ system_capabilities_type →
+      slice_index_or seen (kind - port_description_type) false ≡ is_met kind
 
 -- the type has a flag, and it is set
 unfoldable pub has_flag : List Bool → ℕ → Bool
@@ -32,4 +34,5 @@ seen_after seen u = if is_well_formed u then with_flag seen u.kind else seen
 -- the TLVs that are kept from here on
 abbrev pub kept_seen : List Bool → List TlvUnit → List TlvUnit
 kept_seen seen [] = []
-kept_seen seen (u ∷ us) = if is_kept_seen seen u then u ∷ kept_seen (seen_after seen u) us else kept_seen (seen_after seen u) us
+kept_seen seen (u ∷ us) =
+    if is_kept_seen seen u then u ∷ kept_seen (seen_after seen u) us else kept_seen (seen_after seen u) us

@@ -24,7 +24,8 @@ pub record OpensWith (octets : List ℕ) (msap : MsapId) (ttl : ℕ) (after : Li
     rest = (cut after).rest;
   }
   pub behind : (n : ℕ) × (after ≡ drop n octets)
-  pub fault : fault_of octets ≡ (if nat_lt 0 ttl && list_any is_mandatory (later_tlvs octets) then Some Repeated else None)
+  pub fault : fault_of octets
+      ≡ (if nat_lt 0 ttl && list_any is_mandatory (later_tlvs octets) then Some Repeated else None)
 
 -- how many of the TLVs are not kept from here on
 abbrev pub count_lost : List Bool → List TlvUnit → ℕ

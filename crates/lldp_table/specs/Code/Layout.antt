@@ -43,10 +43,16 @@ pub record IsOrder (size : ℕ) (order : List ℕ) : Type 0 where
 
 -- what a table shows
 abbrev pub contents_of : ℕ → List Stored → (ℕ → ℕ) → List ℕ → ℕ → ℕ → ℕ → Contents
-contents_of capacity slots left order used limit too_many = record { capacity = capacity; limit = limit; neighbors = neighbors_at slots left (take used order); too_many_left = too_many }
+contents_of capacity slots left order used limit too_many = record {
+  capacity = capacity;
+  limit = limit;
+  neighbors = neighbors_at slots left (take used order);
+  too_many_left = too_many;
+}
 
 -- what is true of a table's parts, whatever keeps its times
-pub record IsLaidOut (capacity : ℕ) (slots : List Stored) (left : ℕ → ℕ) (order : List ℕ) (used limit too_many : ℕ) : Type 0 where
+pub record IsLaidOut (capacity : ℕ) (slots : List Stored) (left : ℕ → ℕ) (order : List ℕ) (used limit too_many : ℕ) :
+    Type 0 where
   pub indices : IsOrder (length slots) order
   pub written : length slots ≤ capacity
   pub fits : used ≤ length slots
@@ -54,6 +60,7 @@ pub record IsLaidOut (capacity : ℕ) (slots : List Stored) (left : ℕ → ℕ)
   pub sound : IsSound (contents_of capacity slots left order used limit too_many)
 
 -- what is true of a table's parts
-pub record IsTable (capacity : ℕ) (slots : List Stored) (queue : List Due) (order : List ℕ) (used limit too_many : ℕ) : Type 0 where
+pub record IsTable (capacity : ℕ) (slots : List Stored) (queue : List Due) (order : List ℕ) (used limit too_many : ℕ) :
+    Type 0 where
   pub laid : IsLaidOut capacity slots (ticks_left queue) order used limit too_many
   pub timed : IsTimed queue (take used order)

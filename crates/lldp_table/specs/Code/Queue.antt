@@ -1,5 +1,5 @@
--- A queue of differences: the slots in use in the order in which their neighbors expire, each with the difference of its
--- ticks left to those of the slot before it.
+-- A queue of differences: the slots in use in the order in which their neighbors expire, each with the difference of
+-- its ticks left to those of the slot before it.
 use Rattle.std.specs.Prelude.{◌≡◌, ℕ, ◌+◌, ◌-◌, ◌<◌, ◌^◌, Bool, false, if◌then◌else◌, ◌==◌, nat_le, nat_eq, List, [], ◌∷◌, length, map, slice_index}
 use Rattle.std.specs.List.{list_any, sum_by, AllByRecursion, IsDistinct}
 use Rattle.lldp_table.specs.declared.limits.TheConstants.{MOST_NEIGHBORS}
@@ -40,7 +40,8 @@ put slot left queue = due slot left ∷ less_first left queue
 -- the queue with a slot that has so many ticks left, behind those that expire no later
 abbrev pub enter : ℕ → ℕ → List Due → List Due
 enter slot left [] = put slot left []
-enter slot left (e ∷ queue) = if nat_le e.gap left then e ∷ enter slot (left - e.gap) queue else put slot left (e ∷ queue)
+enter slot left (e ∷ queue) =
+    if nat_le e.gap left then e ∷ enter slot (left - e.gap) queue else put slot left (e ∷ queue)
 
 -- the queue without a slot, whose difference goes to the slot behind it
 abbrev pub leave : ℕ → List Due → List Due

@@ -8,7 +8,8 @@ use Rattle.lldp_table.specs.declared.learned.Learned.TheVariants.{New, Refreshed
 
 -- what `learn` answers
 abbrev pub learn_answer : Contents → MsapId → Learned
-learn_answer table name = if holds_name table name then Refreshed else (if nat_lt (length table.neighbors) table.limit then New else Dropped)
+learn_answer table name =
+    if holds_name table name then Refreshed else (if nat_lt (length table.neighbors) table.limit then New else Dropped)
 
 -- a frame that has just come
 abbrev pub fresh : MsapId → ℕ → List ℕ → Neighbor
@@ -18,11 +19,15 @@ fresh name ttl octets = record { msap = name; octets = octets; ttl = ttl; left =
 abbrev pub refreshed : MsapId → ℕ → List ℕ → Neighbor → Neighbor
 refreshed name ttl octets neighbor = if is_named name neighbor then fresh name ttl octets else neighbor
 
--- a new neighbor stands behind the others, a known one stays in its place, and for a dropped one the timer runs at least as long as its TTL
+-- a new neighbor stands behind the others, a known one stays in its place, and for a dropped one the timer runs at
+-- least as long as its TTL
 abbrev pub learned_as : Learned → Contents → MsapId → ℕ → List ℕ → Contents
-learned_as New table name ttl octets = record { capacity = table.capacity; limit = table.limit; neighbors = table.neighbors ++ fresh name ttl octets ∷ []; too_many_left = table.too_many_left }
-learned_as Refreshed table name ttl octets = record { capacity = table.capacity; limit = table.limit; neighbors = map (refreshed name ttl octets) table.neighbors; too_many_left = table.too_many_left }
-learned_as Dropped table name ttl octets = record { capacity = table.capacity; limit = table.limit; neighbors = table.neighbors; too_many_left = max table.too_many_left ttl }
+learned_as New table name ttl octets =
+    record table { neighbors = table.neighbors ++ fresh name ttl octets ∷ [] }
+learned_as Refreshed table name ttl octets =
+    record table { neighbors = map (refreshed name ttl octets) table.neighbors }
+learned_as Dropped table name ttl octets =
+    record table { too_many_left = max table.too_many_left ttl }
 
 -- the table after a frame
 abbrev pub after_learn : Contents → MsapId → ℕ → List ℕ → Contents
@@ -32,23 +37,26 @@ after_learn table name ttl octets = learned_as (learn_answer table name) table n
 
 -- the neighbor of this name goes, and the others keep their order
 abbrev pub after_forget : Contents → MsapId → Contents
-after_forget table name = record { capacity = table.capacity; limit = table.limit; neighbors = filter (λ neighbor. not (is_named name neighbor)) table.neighbors; too_many_left = table.too_many_left }
+after_forget table name =
+    record table { neighbors = filter (λ neighbor. not (is_named name neighbor)) table.neighbors }
 
 -- no neighbor is left, and the timer stands
 abbrev pub after_purge : Contents → Contents
-after_purge table = record { capacity = table.capacity; limit = table.limit; neighbors = []; too_many_left = 0 }
+after_purge table = record table { neighbors = []; too_many_left = 0 }
 
 -- a neighbor after a tick, if it has any left
 abbrev pub aged : Neighbor → Option Neighbor
-aged neighbor = if nat_lt 1 neighbor.left then Some (record { msap = neighbor.msap; octets = neighbor.octets; ttl = neighbor.ttl; left = neighbor.left - 1 }) else None
+aged neighbor =
+    if nat_lt 1 neighbor.left then Some (record neighbor { left = neighbor.left - 1 }) else None
 
 -- each neighbor has one tick less, and those that have none left go
 abbrev pub after_tick : Contents → Contents
-after_tick table = record { capacity = table.capacity; limit = table.limit; neighbors = filter_map aged table.neighbors; too_many_left = table.too_many_left - 1 }
+after_tick table =
+    record table { neighbors = filter_map aged table.neighbors; too_many_left = table.too_many_left - 1 }
 
 -- another limit in force
 abbrev pub after_set_limit : Contents → ℕ → Contents
-after_set_limit table limit = record { capacity = table.capacity; limit = limit; neighbors = table.neighbors; too_many_left = table.too_many_left }
+after_set_limit table limit = record table { limit = limit }
 
 -- the table after a call
 abbrev pub table_after : Contents → Call → Contents

@@ -16,13 +16,14 @@ WrittenBy (Ok done) text old new = Appends old new text
 WrittenBy (Err fault) text old new = IsWritten (IsCutOff text) old new
 
 -- text went on its way behind what waited: some octets were taken, and the rest waits
-pub record GoesOut (old : Option (List ℕ)) (waited : List ℕ) (new : Option (List ℕ)) (waits : List ℕ) (text : List ℕ) : Type 0 where
+pub record GoesOut (old : Option (List ℕ)) (waited : List ℕ) (new : Option (List ℕ)) (waits : List ℕ) (text : List ℕ) :
+    Type 0 where
   pub sent : List ℕ
   pub in_order : waited ++ text ≡ sent ++ waits
   pub taken : Appends old new sent
 
--- What an output tells: what its sink took, how many writes failed and where to, the reference that it was lent, what waits, and the
--- answer so far.
+-- What an output tells: what its sink took, how many writes failed and where to, the reference that it was lent, what
+-- waits, and the answer so far.
 pub record Output : Type 0 where
   pub taken : Option (List ℕ)
   pub failures : ℕ
