@@ -37,24 +37,6 @@ extent_front left next u e k = ap (λ (c : Cut). before_end c.tlvs) e ∙ rw k r
 unknown_front : (seen : List Bool) (u : TlvUnit) (us : List TlvUnit) (n : ℕ) → cond (is_kept_seen seen u) (cond (leb 9 u.kind) 1 0) 0 ≡ n → count_unrecognized (kept_seen seen (u ∷ us)) ≡ n + count_unrecognized (kept_seen (seen_after seen u) us)
 unknown_front seen u us n e = grind (arith, common_steps)
 
-pub goes_on : (after left next : List ℕ) (seen later : List Bool) (len lost unknown more lose know : ℕ) (u : TlvUnit) → Surveys after left seen len lost unknown → cut left ≡ with_front u next
-    → is_end u ≡ false → is_mandatory u ≡ false → later ≡ seen_after seen u → more ≡ len + (2 + length u.body) → lose ≡ lost + cond (is_kept_seen seen u) 0 1 → know ≡ unknown + cond (is_kept_seen seen u) (cond (leb 9 u.kind) 1 0) 0
-    → Surveys after next later more lose know
-goes_on after left next seen later len lost unknown more lose know u s e k m f p q r =
-    let front = extent_front left next u e k in
-    let us = extent_left next in
-    let lens : length (spellings (extent_left left)) ≡ 2 + length u.body + length (spellings us) = rw front (omega (arith, length-append (spelling u) (spellings us))) in
-    let losts : count_lost seen (extent_left left) ≡ cond (is_kept_seen seen u) 0 1 + count_lost later us = rw (front, f) refl in
-    let unknowns : count_unrecognized (kept_seen seen (extent_left left)) ≡ cond (is_kept_seen seen u) (cond (leb 9 u.kind) 1 0) 0 + count_unrecognized (kept_seen later us) = rw (front, f) (unknown_front seen u us _ refl) in
-    record {
-      length_is = omega (arith, s.length_is, lens);
-      lost_are = omega (arith, s.lost_are, losts);
-      unknown_are = omega (arith, s.unknown_are, unknowns);
-      repeats = sym (ap (list_any is_mandatory) front ∙ rw m refl) ∙ s.repeats;
-      ends = sym (ap (λ (c : Cut). list_any is_end c.tlvs) e ∙ rw k refl) ∙ s.ends;
-      rest = sym (ap (λ (c : Cut). c.rest) e) ∙ s.rest;
-    }
-
 -- ---- bounds
 
 all_of_front : (us : List TlvUnit) → (more : List TlvUnit) × (us ≡ before_end us ++ more)
