@@ -1,8 +1,7 @@
 -- The counters of a list are those of the list before, counted on.
 use Rattle.std.proofs.Common.{◌≡◌, ℕ, ◌+◌, Bool, true, false, List, [], ◌∷◌, length, filter, refl, arith, suc}
-use Rattle.std.specs.Prelude.{nat_lt, if◌then◌else◌}
+use Rattle.std.specs.Prelude.{if◌then◌else◌}
 use Rattle.std.specs.Int.{from_bool}
-use Rattle.std.specs.List.{sum_by}
 use Rattle.std.proofs.lemmas.List.Sums.{sum_by-cons}
 use Rattle.lldp_pdu.specs.Msap.{MsapId}
 use Rattle.lldp_pdu.specs.Info.{LldpInfo}
@@ -12,7 +11,7 @@ use Rattle.lldp_transmit.specs.declared.event.Mark.TheVariants.{Quiet, Ordinary,
 use Rattle.lldp_table.specs.declared.learned.Learned.{Learned}
 use Rattle.lldp_table.specs.declared.learned.Learned.TheVariants.{New, Refreshed, Dropped}
 use Rattle.lldp_engine.specs.Heard.{Heard, refused, leaves, tells}
-use Rattle.lldp_engine.specs.Counters.{wrapped, is_refused, is_error, discarded_tlvs, unrecognized_tlvs, is_dropped, all_aged_out, is_ordinary, is_shutdown, counters_of}
+use Rattle.lldp_engine.specs.Counters.{wrapped, is_dropped, all_aged_out, is_ordinary, is_shutdown, counters_of}
 use Rattle.lldp_engine.specs.Code.Counting.{none_counted, with_received, with_refused, with_tlvs, with_answer, with_aged_out, with_mark}
 use Rattle.std.proofs.lemmas.Grind.{common_steps}
 

@@ -1,13 +1,12 @@
 -- What a frame says can be built.
-use Rattle.std.proofs.Common.{true, ◌≡◌, ℕ, ◌+◌, ◌^◌, ◌<◌, ◌≤◌, ◌⊎◌, inl, inr, List, [], ◌∷◌, ◌++◌, length, Option, Some, None, refl, ap, ◌∙◌, arith, append-nil}
+use Rattle.std.proofs.Common.{true, ◌≡◌, ℕ, ◌+◌, ◌^◌, ◌<◌, ◌≤◌, ◌⊎◌, inl, inr, List, [], ◌∷◌, length, Option, Some, None, refl, arith, append-nil}
 use Rattle.std.specs.Prelude.{IfSome}
 use Rattle.std.proofs.lemmas.Bool.{le-leb}
 use Rattle.std.proofs.lemmas.List.{length-append}
 use Rattle.std.proofs.lemmas.List.Concat.{flat_map-append}
-use Rattle.std.specs.Int.{w16, to_be_bytes}
 use Rattle.lldp_pdu.specs.WellFormed.{is_well_formed}
-use Rattle.lldp_pdu.specs.Tlv.{TlvUnit, spelling, spellings}
-use Rattle.lldp_pdu.specs.Draft.{Draft, CanPut, CanPutEach, CanBuild, with_tlv, all_tlvs}
+use Rattle.lldp_pdu.specs.Tlv.{TlvUnit, spellings}
+use Rattle.lldp_pdu.specs.Draft.{Draft, CanPutEach, CanBuild, with_tlv, all_tlvs}
 use Rattle.lldp_transmit.specs.declared.event.Mark.TheVariants.{Ordinary}
 use Rattle.lldp_engine.specs.declared.agent.options.Role.{Role}
 use Rattle.lldp_engine.specs.declared.agent.options.Role.TheVariants.{Station, Bridge, Router}

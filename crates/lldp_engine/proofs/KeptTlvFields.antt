@@ -1,11 +1,10 @@
 -- What is known of the bodies of kept TLVs.
-use Rattle.std.proofs.Common.{◌≡◌, ℕ, ◌+◌, ◌-◌, ◌≤◌, Bool, true, false, cond, ◌&&◌, leb, eqb, List, length, get_or, drop, Some, None, is_some, refl, arith}
+use Rattle.std.proofs.Common.{◌≡◌, ℕ, ◌≤◌, Bool, true, false, cond, leb, eqb, List, length, Some, None, is_some, refl, arith}
 use Rattle.std.proofs.lemmas.Bool.{and_parts, leb-true, eqb-true}
 use Rattle.std.proofs.lemmas.List.{length-drop, length-take}
 use Rattle.lldp_pdu.specs.Kept.{IsKeptTlv}
 use Rattle.lldp_pdu.specs.WellFormed.{is_well_formed}
 use Rattle.lldp_pdu.specs.Capabilities.{caps_of, caps_fields}
-use Rattle.lldp_pdu.specs.ManagementAddress.{address_fields}
 use Rattle.lldp_engine.specs.KeptTlv.{HasAddress}
 use Rattle.std.proofs.lemmas.Grind.{common_steps}
 

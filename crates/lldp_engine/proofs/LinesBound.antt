@@ -6,15 +6,14 @@ use Rattle.std.specs.List.{AllByRecursion}
 use Rattle.std.proofs.lemmas.List.{length-append, length-map}
 use Rattle.std.proofs.lemmas.Option.{slice_get_within}
 use Rattle.arrayvec.specs.ArrayVec.{ArrayVec}
-use Rattle.lldp_pdu.specs.Kept.{kept_of}
 use Rattle.lldp_table.specs.Events.{Neighbor}
 use Rattle.lldp_table.specs.Contents.{IsHeld, IsSound}
 use Rattle.lldp_table.proofs.ExtentLemmas.{kept_is_short}
 use Rattle.lldp_engine.specs.Configuration.{Configuration}
 use Rattle.lldp_engine.specs.AgentState.{PortState, AgentState}
 use Rattle.lldp_engine.specs.Sound.{IsSoundPort, AreSound}
-use Rattle.lldp_engine.specs.NeighborLines.{kept_line, neighbor_lines, numbered_lines, port_lines, neighbors_lines}
-use Rattle.lldp_engine.specs.StatisticsLines.{counter_lines, statistics_lines}
+use Rattle.lldp_engine.specs.NeighborLines.{neighbor_lines, numbered_lines, port_lines, neighbors_lines}
+use Rattle.lldp_engine.specs.StatisticsLines.{statistics_lines}
 use Rattle.lldp_engine.specs.ChassisLines.{management_lines, chassis_lines}
 use Rattle.lldp_engine.specs.ConfigurationLines.{status_line, configuration_lines}
 use Rattle.lldp_engine.specs.Lines.{lines_of, octets_of}

@@ -1,23 +1,17 @@
 -- An agent that was just opened stands for the options and no events.
-use Rattle.std.proofs.Common.{◌≡◌, ℕ, zero, suc, ◌+◌, ◌<◌, ◌≤◌, true, List, [], ◌∷◌, ◌++◌, length, get_or, take, drop, map, Bor, refl, ap, sym, ◌∙◌, arith}
+use Rattle.std.proofs.Common.{◌≡◌, ℕ, zero, suc, ◌+◌, ◌<◌, ◌≤◌, true, List, [], ◌∷◌, ◌++◌, length, get_or, take, drop, map, Bor, refl, ap, arith}
 use Rattle.std.specs.List.{list_all}
 use Rattle.std.proofs.lemmas.Bool.{and_parts}
 use Rattle.std.proofs.lemmas.Bool.Decides.{nat_tests}
-use Rattle.lldp_table.specs.Code.Steps.{newly_opened}
 use Rattle.lldp_table.specs.Events.{events_of}
-use Rattle.lldp_table.specs.Standing.{table_of}
 use Rattle.lldp_table.proofs.StandingLemmas.{stands_open}
 use Rattle.lldp_engine.specs.Options.{Options, InRange, is_port_name}
-use Rattle.lldp_transmit.specs.Code.Machine.{opened as opened_machine}
-use Rattle.lldp_transmit.specs.Standing.{machine_of}
 use Rattle.lldp_transmit.proofs.Standing.{stands_at_first}
 use Rattle.lldp_engine.specs.Configuration.{configuration_at_opening}
-use Rattle.lldp_engine.specs.Counters.{counters_of}
 use Rattle.lldp_engine.specs.AgentState.{AgentState, PortState}
 use Rattle.lldp_engine.specs.Past.{opened, ports_after, agent_of}
-use Rattle.lldp_engine.specs.Port.Past.{settings_of, port_after}
+use Rattle.lldp_engine.specs.Port.Past.{port_after}
 use Rattle.lldp_engine.specs.Standing.{Stands}
-use Rattle.lldp_engine.specs.Code.Counting.{none_counted}
 use Rattle.lldp_engine.specs.Code.PortStep.{opened_port}
 use Rattle.lldp_engine.proofs.CounterLemmas.{counted_none}
 use Rattle.lldp_engine.proofs.StandingLemmas.{settings_in_range}

@@ -1,5 +1,5 @@
 -- The ports of an agent stay sound.
-use Rattle.std.proofs.Common.{◌≡◌, ℕ, ◌+◌, ◌≤◌, true, List, [], ◌∷◌, length, map, Option, Some, None, refl, sym, ◌∙◌, subst, arith}
+use Rattle.std.proofs.Common.{◌≡◌, ℕ, ◌+◌, ◌≤◌, true, List, [], ◌∷◌, length, map, Option, Some, None, refl, arith}
 use Rattle.std.specs.Prelude.{◌==◌, IfSome, nat_le}
 use Rattle.std.specs.List.{AllByRecursion, list_all}
 use Rattle.std.proofs.lemmas.List.{length-map}
@@ -17,7 +17,6 @@ use Rattle.lldp_engine.specs.Options.{Options, InRange, is_port_name}
 use Rattle.lldp_engine.specs.Event as agent
 use Rattle.lldp_engine.specs.Event.{Event}
 use Rattle.lldp_engine.specs.Port.Event.{PortEvent, Whose, one_port, each_port, whose, for_port}
-use Rattle.lldp_engine.specs.Port.Effects.{call_at}
 use Rattle.lldp_engine.specs.AgentState.{AgentState, PortState, Allows, fits}
 use Rattle.lldp_engine.specs.Sound.{IsSoundPort, AreSound}
 use Rattle.lldp_engine.specs.Code.PortStep.{opened_port, told, port_step}

@@ -3,7 +3,7 @@ use Rattle.std.proofs.Common.{◌≡◌, ℕ, ◌+◌, ◌-◌, Bool, true, fals
 use Rattle.std.specs.Prelude.{if◌then◌else◌, option_and_then, IfSome}
 use Rattle.std.specs.List.{cons_option}
 use Rattle.lldp_pdu.specs.Msap.{MsapId}
-use Rattle.lldp_table.specs.Events.{Call, learn, forget, purge, tick as tick_call, set_limit, learned, ticked, events_of, neighbors, aged_out, answer}
+use Rattle.lldp_table.specs.Events.{Call, learn, forget, purge, tick as tick_call, set_limit, learned, events_of, aged_out, answer}
 use Rattle.lldp_table.specs.Contents.{Contents}
 use Rattle.lldp_table.specs.Code.Steps.{table_after, after_tick, learn_answer}
 use Rattle.lldp_table.specs.Standing.{table_of, IsTold, Stands as TableStands}
@@ -30,7 +30,7 @@ use Rattle.lldp_engine.specs.Standing.{Stands}
 use Rattle.lldp_engine.specs.Code.Step.{ports_step, marks_step, agent_after, agent_marks}
 use Rattle.lldp_engine.specs.Port.Event.{PortEvent, tick, frame, status, limit, whose}
 use Rattle.lldp_engine.specs.Port.Effects.{call_of, heard_at, call_at, cause_at, cause_of_answer, cause_of_heard, status_then}
-use Rattle.lldp_engine.specs.Port.Past.{Happened, status_after, up_after, heard_after, calls_after, told_after, settings_of, caused_at, causes_after, mark_after, marks_after, counters_after, port_after}
+use Rattle.lldp_engine.specs.Port.Past.{Happened, status_after, up_after, calls_after, told_after, settings_of, caused_at, causes_after, mark_after, counters_after, port_after}
 use Rattle.lldp_engine.specs.Code.Counting.{with_heard, with_aged_out, with_event_counted, with_mark}
 use Rattle.lldp_engine.specs.Code.PortStep.{told, port_mark, port_step}
 use Rattle.lldp_engine.proofs.CounterLemmas.{counted_refused, counted_leaves, counted_tells, counted_second, counted_purged, counted_limit, counted_mark}

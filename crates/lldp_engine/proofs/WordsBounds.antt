@@ -1,11 +1,11 @@
 -- No word is longer than its line, and a line without quotes has words.
-use Rattle.std.proofs.Common.{◌≡◌, ℕ, ◌+◌, ◌≤◌, true, false, List, [], ◌∷◌, ◌++◌, length, Option, Some, None, is_some, refl, sym, ap, ◌∙◌, arith, suc, inl, inr, length-append}
+use Rattle.std.proofs.Common.{◌≡◌, ℕ, ◌+◌, ◌≤◌, true, false, List, [], ◌∷◌, ◌++◌, length, Option, Some, None, is_some, refl, sym, ap, arith, suc, length-append}
 use Rattle.std.specs.Prelude.{unwrap_or}
 use Rattle.std.specs.Option.{option_map}
 use Rattle.std.specs.List.{AllByRecursion as ByRecursion}
 use Rattle.std.proofs.lemmas.Bool.{cases_Bool, false_from_ne_true, false≢true}
 use Rattle.memchr.specs.Find.{IsFirstByte, Nowhere, Passes, is_byte}
-use Rattle.lldp_engine.specs.Words.{is_separator, is_quote, between, bare, words_from, words_of, AreWords, IsSpelling}
+use Rattle.lldp_engine.specs.Words.{is_quote, between, bare, words_from, words_of, AreWords, IsSpelling}
 use Rattle.lldp_engine.proofs.WordsGrammar.{words_spelled}
 use Rattle.std.proofs.lemmas.Grind.{common_steps}
 

@@ -41,7 +41,7 @@ capabilities_of Router = 0x00 ∷ 0x10 ∷ 0x00 ∷ 0x10 ∷ []
 abbrev pub sent_tlvs : Configuration → List ℕ → List TlvUnit
 sent_tlvs c name =
     unit 4 name ∷ unit 5 c.hostname ∷ unit 6 c.description ∷ unit 7 (capabilities_of c.role)
-        ∷ management_tlvs c.management
+    ∷ management_tlvs c.management
 
 -- What a frame of a port says: an ordinary one the whole configuration, a shutdown one that the port leaves. A quiet
 -- port has none.

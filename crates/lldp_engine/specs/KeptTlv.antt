@@ -21,7 +21,7 @@ management_tlv_text body = codes "chassis.mgmt=" ++ management_text (address_fie
 abbrev pub organizational_text : List ℕ → List ℕ
 organizational_text body =
     codes "org." ++ encode_lower (take 3 body) ++ codes "." ++ decimal (slice_index body 3) ++ codes "="
-        ++ encode_lower (drop 4 body)
+    ++ encode_lower (drop 4 body)
 
 -- a TLV of a reserved type
 abbrev pub unknown_text : TlvUnit → List ℕ

@@ -54,7 +54,7 @@ abbrev pub count_lines : PortState → List (List ℕ)
 count_lines port =
     (port_key port.name ++ (codes "neighbors=" ++ decimal (length port.table.neighbors)))
     ∷ (port_key port.name
-        ++ (codes "octets=" ++ decimal (sum_by (λ neighbor. length neighbor.octets) port.table.neighbors)))
+    ++ (codes "octets=" ++ decimal (sum_by (λ neighbor. length neighbor.octets) port.table.neighbors)))
     ∷ too_many_line port.name (nat_lt 0 port.table.too_many_left) ∷ []
 
 -- The lines of a port: the first three, and those of its neighbors in the order of the table, numbered from 1.

@@ -13,5 +13,5 @@ caps_fields body = record {
 abbrev pub caps_of : List ℕ → Option Caps
 caps_of body =
     if (length body == 4)
-        && (bit_and (caps_fields body).enabled (caps_fields body).available == (caps_fields body).enabled)
+    && (bit_and (caps_fields body).enabled (caps_fields body).available == (caps_fields body).enabled)
     then Some (caps_fields body) else None

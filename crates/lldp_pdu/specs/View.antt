@@ -19,7 +19,7 @@ GivesFirstTlv octets given left =
     MatchOption given
     ((cut octets ≡ record { tlvs = []; rest = octets }) × (left ≡ octets))
     (λ t. (cut octets ≡ record { tlvs = tlv_view t ∷ (cut left).tlvs; rest = (cut left).rest })
-        × (left ≡ drop (2 + length t.body.now) octets))
+    × (left ≡ drop (2 + length t.body.now) octets))
 
 -- a management address likewise
 abbrev pub address_view : Mgmt → Address

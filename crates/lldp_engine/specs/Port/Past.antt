@@ -55,7 +55,7 @@ settings_of o = settings o.credit_max o.fast_init o.reinit (transmits (status_at
 abbrev pub caused_at : Options → Happened → List Happened → Caused
 caused_at o now past =
     caused (cause_at now.event (status_after o past) (up_after past)
-        (λ name. answer o.max_neighbors name (told_after o past))) now.interval
+    (λ name. answer o.max_neighbors name (told_after o past))) now.interval
 
 -- what each event was for its transmitting
 abbrev pub causes_after : Options → List Happened → History

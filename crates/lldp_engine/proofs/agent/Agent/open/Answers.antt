@@ -1,4 +1,4 @@
-use Rattle.std.proofs.Common.{◌≡◌, length, sym, arith}
+use Rattle.std.proofs.Common.{◌≡◌, length, arith}
 use Rattle.std.proofs.lemmas.List.{length-map}
 use Rattle.lldp_engine.specs.Options.{options_of}
 use Rattle.lldp_engine.proofs.OpenLemmas.{opened_stands}
