@@ -61,8 +61,8 @@ listen_rule =
 
 -- the ports, any number of them
 abbrev pub ports_rule : Rule
-ports_rule = record (new_rule (codes "PORT")) { range =
-    Some (record { start_inclusive = 0; end_inclusive = usize_max }) }
+ports_rule =
+    record (new_rule (codes "PORT")) { range = Some (record { start_inclusive = 0; end_inclusive = usize_max }) }
 
 -- with the option `--version`
 abbrev pub versioned : App → App
