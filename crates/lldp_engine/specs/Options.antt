@@ -7,7 +7,8 @@ use Rattle.lldp_engine.specs.declared.agent.options.Role.{Role}
 use Rattle.lldp_engine.specs.declared.agent.open_fault.OpenFault.{OpenFault}
 use Rattle.lldp_engine.specs.declared.agent.open_fault.OpenFault.TheVariants.{Memory, NoPorts, TooManyPorts, PortName, SamePort, Text}
 
--- what an agent is opened with: the names of its ports in order, its identity, its role, and the four numbers
+-- what an agent is opened with: the names of its ports in order, its identity, its role, the four numbers, and whether
+-- its ports only receive at first
 pub record Options : Type 0 where
   pub names : List (List ℕ)
   pub mac : List ℕ

@@ -35,6 +35,6 @@ unfoldable pub cut_within : ℕ → List ℕ → Cut
 cut_within zero octets = record { tlvs = []; rest = octets }
 cut_within (suc n) octets = cut_after (first_tlv octets) (cut_within n) octets
 
--- the cut: a list has fewer TLVs than octets
+-- the cut: a list has no more TLVs than octets
 unfoldable pub cut : List ℕ → Cut
 cut octets = cut_within (length octets) octets

@@ -48,7 +48,8 @@ pub record IsHeld (neighbor : Neighbor) : Type 0 where
 abbrev pub names_of : List Neighbor → List MsapId
 names_of neighbors = map (λ neighbor. neighbor.msap) neighbors
 
--- room for 1 to 128 neighbors, a limit from 1 to that, no more neighbors than the limit, and no two of one name
+-- room for 1 to 128 neighbors, a limit from 1 to that, no more neighbors than the limit, each as a table holds it, and
+-- no two of one name
 pub record IsSound (table : Contents) : Type 0 where
   pub most : table.capacity ≤ MOST_NEIGHBORS
   pub room : table.limit ≤ table.capacity

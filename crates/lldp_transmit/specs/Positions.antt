@@ -50,8 +50,8 @@ IsStart s past m =
 abbrev pub IsStop : Settings → List Moment → Moment → Type 0
 IsStop s past m = HasStarted past × (is_allowed s (m ∷ past) ≡ false)
 
--- a burst was opened since the last start; n is txFastInit less the new neighbors' and timer's signals since its last
--- opening
+-- a burst was opened since the last start; n is txFastInit less the new neighbors' and timer's signals from the last
+-- opening on
 abbrev pub HasOpened : Settings → List Moment → ℕ → Type 0
 HasOpened s ms n =
     (after before : List Moment) × (m : Moment) × (ms ≡ after ++ m ∷ before)
