@@ -1,7 +1,8 @@
 #!/usr/bin/env python3
 """Looks up what the pages name, without a network: links and their anchors, files in backticks, calls in backticks, lines
-of sources in blocks that say `rust` or `antt`, and that no module of a crate lacks its row in docs/ARCHITECTURE.md, nor
-any file of definitions its row in docs/DEFINITIONS.md. No line of text is over 120 columns long.
+of sources in blocks that say `rust` or `antt`, on pages about proofs each clause, definition and lemma in backticks, and
+that no module of a crate lacks its row in docs/ARCHITECTURE.md, nor any file of definitions its row in
+docs/DEFINITIONS.md. No line of text is over 120 columns long.
 
     tools/check-links.py
 
@@ -18,6 +19,10 @@ SOURCE = "\n".join(path.read_text() for path in TOP.glob("crates/*/src/**/*.rt")
 DEFINITIONS = "\n".join(path.read_text() for path in TOP.glob("crates/*/specs/**/*.antt"))
 FUNCTIONS = set(re.findall(r"\b(?:fn|const|type|struct|enum|trait) (\w+)", SOURCE))
 FUNCTIONS |= set(re.findall(r"^    (\w+)(?:\(|,| \{)", SOURCE, re.M))  # the cases of enums
+PROOFS = "\n".join(path.read_text() for path in TOP.glob("crates/*/proofs/**/*.antt"))
+FILES = {name for path in TOP.rglob("*") if not {"out", ".git"} & set(path.relative_to(TOP).parts) for name in (path.stem, path.name)}
+NAMES = FILES | {name for text in (SOURCE, DEFINITIONS, PROOFS) for name in re.findall(r"\w+(?:-\w+)*", text)} | set(CRATES)
+ABOUT_PROOFS = ("CLAIMS.md", "DEFINITIONS.md", "PROOFS.md", "ARCHITECTURE.md", "GLOSSARY.md", "STANDARD.md")
 FOLDERS_OF_A_CRATE = ("specs", "proofs", "src", "must-fail")
 
 
@@ -77,6 +82,11 @@ def calls(text):
     return [(owner, call) for owner, call in found if call != "default"]
 
 
+def names(text):
+    """Names in backticks: of a clause, a definition, a lemma, a call or a file."""
+    return re.findall(r"`([A-Za-z]\w*(?:-\w+)*)`", text)
+
+
 def excerpts(text):
     """The lines that a page shows of the sources, in blocks that say their language."""
     for block in re.findall(r"^```(?:rust|antt)\n(.*?)^```$", text, re.M | re.S):
@@ -107,6 +117,9 @@ def check_page(checks, page):
     for owner, call in calls(text):
         known = owner in FUNCTIONS and call in FUNCTIONS or owner not in SOURCE
         checks.see(name, f"{owner}::{call}", None if known else "no such call")
+    if page.name in ABOUT_PROOFS:
+        for word in names(text):
+            checks.see(name, word, None if word in NAMES else "no such name in the sources")
     for line in excerpts(page.read_text()):
         checks.see(name, line, None if line in SOURCE or line in DEFINITIONS else "no such line in the sources")
 
