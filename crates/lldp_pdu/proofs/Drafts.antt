@@ -2,7 +2,7 @@
 use Rattle.std.proofs.Common.{◌≡◌, ℕ, ◌+◌, ◌^◌, ◌<◌, ◌≤◌, Bool, true, false, cond, not, ◌&&◌, ◌||◌, ltb, leb, eqb, List, [], ◌∷◌, ◌++◌, length, drop, Option, Some, None, refl, sym, ap, subst, ◌∙◌, append_assoc, arith}
 use Rattle.std.specs.List.{list_any, AllByRecursion}
 use Rattle.std.specs.Int.{w16, to_be_bytes}
-use Rattle.std.proofs.lemmas.Bool.{le-leb, le-ltb, and_parts, leb-true, eqb-false, ne_eqb, and_right, or_right, lt-leb, ltb-false, true≢false}
+use Rattle.std.proofs.lemmas.Bool.{le-leb, le-ltb, and_parts, leb-true, eqb-false, eq-eqb, ne_eqb, and_right, or_right, lt-leb, lt-ltb, ltb-false, true≢false}
 use Rattle.std.proofs.lemmas.List.{length-append, append-nil, flat_map_more}
 use Rattle.std.proofs.lemmas.List.Folds.{list_any-append}
 use Rattle.std.proofs.Math.Bool.{or-false}
@@ -103,6 +103,13 @@ can_put d u h = grind (arith, common_steps, put_fault_is, ne_eqb, le-ltb, put_le
 -- the length of the LLDPDU with one more TLV, by the builder's octets
 pub long : (d : Draft) (u : TlvUnit) (octets : List ℕ) (met : List Bool) (lives : Bool) → draft_of octets ≡ d → Builds octets met lives → length (lldpdu_octets (with_tlv d u)) ≡ length octets + length u.body + 4
 long d u octets met lives v b = put_length d u ∙ ap (λ (n : ℕ). n + length u.body + 4) (sym (ap length (b.spelled ∙ ap (λ (d : Draft). spellings (all_tlvs d)) v)))
+
+-- the bit says whether the TTL is 0
+pub tells_shutdown : (d : Draft) (octets : List ℕ) (met : List Bool) (lives : Bool) → Builds octets met lives → draft_of octets ≡ d → not lives ≡ eqb d.ttl 0
+tells_shutdown d octets met lives b v = ap not b.lives_is ∙ zero (draft_of octets).ttl ∙ ap (λ (d : Draft). eqb d.ttl 0) v
+  where
+    zero : (n : ℕ) → not (ltb 0 n) ≡ eqb n 0
+    zero n = grind (arith, common_steps, ne_eqb, eq-eqb, lt-ltb, le-ltb)
 
 -- ---- one more TLV
 

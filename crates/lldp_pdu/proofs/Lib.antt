@@ -7,3 +7,5 @@ pub mod Whole
 pub mod Drafts
 pub mod Addresses
 pub mod Framing
+pub mod FrameForms
+pub mod Vectors

@@ -9,10 +9,12 @@ pub mod Check
 pub mod Msap
 pub mod Lldpdu
 pub mod Fault
+pub mod FaultNumber
 pub mod Kept
 pub mod Info
 pub mod View
 pub mod Examined
 pub mod Frame
+pub mod FrameForm
 pub mod Draft
 pub mod Code

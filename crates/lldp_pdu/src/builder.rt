@@ -1,5 +1,7 @@
 //! A builder of LLDPDUs.
-ghost use Rattle.std.specs.Prelude.{◌≡◌, [], None, OnOk, OnErr};
+ghost use Rattle.std.specs.Prelude.{◌≡◌, ◌+◌, ◌≤◌, ◌++◌, [], None, OnOk, OnErr};
+ghost use Rattle.arrayvec.specs.ArrayVec.{array_vec_len};
+ghost use Rattle.lldp_pdu.specs.Tlv.{spelling};
 ghost use Rattle.std.specs.Result.{result_err};
 ghost use Rattle.lldp_pdu.specs.TlvType.{port_description_type, organizationally_specific_type};
 ghost use Rattle.lldp_pdu.specs.Range.{is_between};
@@ -7,7 +9,7 @@ ghost use Rattle.lldp_pdu.specs.Fault.{fault_of};
 ghost use Rattle.lldp_pdu.specs.Lldpdu.{msap_of, ttl_of};
 ghost use Rattle.lldp_pdu.specs.Info.{info_of};
 ghost use Rattle.lldp_pdu.specs.View.{tlv_view};
-ghost use Rattle.lldp_pdu.specs.Draft.{with_tlv, put_fault, lldpdu_octets, told_by};
+ghost use Rattle.lldp_pdu.specs.Draft.{end_of_lldpdu, with_tlv, put_fault, lldpdu_octets, told_by};
 
 use crate::bodies::is_well_formed;
 use crate::fault::BuildFault;
@@ -47,8 +49,16 @@ fn is_optional_type(kind: u8) -> bool
     (PORT_DESCRIPTION..=ORGANIZATIONALLY_SPECIFIC).contains(&kind)
 }
 
+/// Appends the End Of LLDPDU (IEEE 802.1AB-2009, 8.5.1).
+fn append_end(octets: &mut ArrayVec<u8, 1500>)
+    requires { array_vec_len octets.old + 2 ≤ 1500 }
+    ensures { octets.new.items ≡ octets.old.items ++ spelling end_of_lldpdu }
+{
+    append_tlv(octets, END_OF_LLDPDU, &[]);
+}
+
 impl Builder {
-    ghost use Rattle.std.specs.Prelude.{◌≡◌, ◌<◌, ◌≤◌, [], length, None, OnOk, OnErr};
+    ghost use Rattle.std.specs.Prelude.{◌≡◌, ◌==◌, ◌<◌, ◌≤◌, [], length, None, OnOk, OnErr};
     ghost use Rattle.lldp_pdu.specs.Msap.{IsIdentifier};
 
     /// Begins one with the mandatory TLVs: the bodies of the Chassis ID and the Port ID, of 2 to
@@ -75,6 +85,14 @@ impl Builder {
         }
     }
 
+    /// Whether the TTL is 0.
+    #[tactic(auto, using(crate::proofs::Drafts::tells_shutdown))]
+    fn is_shutdown(&self) -> bool
+        ensures { result ≡ (self.now.ttl == 0) }
+    {
+        !self.lives
+    }
+
     /// Why a TLV can't be put next.
     fn refusal(&self, tlv: &Tlv<'_>) -> Option<BuildFault>
         ensures { result ≡ put_fault self.now (tlv_view tlv.now) }
@@ -82,7 +100,7 @@ impl Builder {
         if !is_optional_type(tlv.kind) {
             return Some(BuildFault::Kind);
         }
-        if !self.lives {
+        if self.is_shutdown() {
             return Some(BuildFault::Kind);
         }
         if self.met.has(tlv.kind) {
@@ -130,7 +148,7 @@ impl Builder {
         ensures told { info_of result.items ≡ told_by self }
     {
         let mut octets = self.octets;
-        append_tlv(&mut octets, END_OF_LLDPDU, &[]);
+        append_end(&mut octets);
         octets
     }
 }

@@ -84,6 +84,13 @@ fn mandatory_tlvs(pdu: &[u8]) -> Result<Mandatory<'_>, PduFault>
     })
 }
 
+/// A TLV that is not complete is one that is discarded; those before it stay.
+fn incomplete_tlvs(rest: &[u8]) -> usize
+    ensures { result ≡ (if nat_lt 0 (length rest.now) then 1 else 0) }
+{
+    usize::from(!rest.is_empty())
+}
+
 fn optional_tlvs(after: &[u8]) -> Result<Optional<'_>, PduFault>
     ensures repeated { result_err result
         ≡ (if list_any is_mandatory (before_end (cut after.now).tlvs)
@@ -113,17 +120,9 @@ fn optional_tlvs(after: &[u8]) -> Result<Optional<'_>, PduFault>
             unrecognized += 1;
         }
     }
-    if tlvs.rest().is_empty() {
-        return Ok(Optional {
-            octets: &after[..len],
-            discarded,
-            unrecognized,
-        });
-    }
-    // A TLV that is not complete is one more that is discarded; those before it stay.
     Ok(Optional {
         octets: &after[..len],
-        discarded: discarded + 1,
+        discarded: discarded + incomplete_tlvs(tlvs.rest()),
         unrecognized,
     })
 }

@@ -1,4 +1,6 @@
 //! Why an LLDPDU, or a TLV of one that is built, is refused.
+ghost use Rattle.std.specs.Prelude.{◌≡◌};
+ghost use Rattle.lldp_pdu.specs.FaultNumber.{pdu_fault_number, build_fault_number};
 
 /// The first check that an LLDPDU fails.
 #[derive(Clone, Copy, Debug, PartialEq, Eq)]
@@ -21,6 +23,15 @@ pub enum PduFault {
     Repeated = 8,
 }
 
+impl PduFault {
+    /// Its number, 1 to 8: the faults in the order in which they are first checked for.
+    pub fn number(self) -> u8
+        ensures { result ≡ pdu_fault_number self }
+    {
+        self as u8
+    }
+}
+
 /// The first check that a TLV fails when it is put.
 #[derive(Clone, Copy, Debug, PartialEq, Eq)]
 pub enum BuildFault {
@@ -30,4 +41,13 @@ pub enum BuildFault {
     Kind = 2,
     /// The body is not well formed.
     Body = 3,
+}
+
+impl BuildFault {
+    /// Its number, 1 to 3.
+    pub fn number(self) -> u8
+        ensures { result ≡ build_fault_number self }
+    {
+        self as u8
+    }
 }

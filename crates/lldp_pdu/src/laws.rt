@@ -11,6 +11,9 @@ ghost use Rattle.lldp_pdu.specs.Info.{info_of, IsInfo, TellsItself};
 ghost use Rattle.lldp_pdu.specs.Draft.{Draft, CanPut, CanBuild, IsReadBack, put_fault, lldpdu_octets};
 ghost use Rattle.lldp_pdu.specs.ManagementAddress.{Address, address_of, IsSpelled};
 ghost use Rattle.lldp_pdu.specs.Frame.{nearest_bridge, lldp_ethertype, lldpdu_of};
+ghost use Rattle.lldp_pdu.specs.FrameForm.{HasForm};
+ghost use Rattle.lldp_pdu.specs.declared.tlv_type.TheConstants as code;
+ghost use Rattle.lldp_pdu.specs.TlvType as standard;
 
 /// Each list of octets has a cut, and no other.
 pub fn octets_have_one_cut()
@@ -47,6 +50,11 @@ pub fn frames_hold_lldpdus()
         lldpdu_of (nearest_bridge ++ source ++ lldp_ethertype ++ lldpdu) ≡ Some lldpdu }
 {}
 
+/// A frame has an LLDPDU exactly where it has the form of an LLDP frame, and then that of the form.
+pub fn lldp_frames_have_their_form()
+    ensures { (frame lldpdu : List ℕ) → (lldpdu_of frame ≡ Some lldpdu) ↔ HasForm frame lldpdu }
+{}
+
 /// A TLV is put exactly where it passes each check.
 pub fn checked_tlvs_are_put()
     ensures { (draft : Draft) (tlv : TlvUnit) → CanPut draft tlv ↔ (put_fault draft tlv ≡ None) }
@@ -63,4 +71,20 @@ pub fn drafts_are_read_back()
 pub fn management_addresses_are_spelled()
     ensures { (body : List ℕ) (address : Address) → AreOctets body →
         (address_of body ≡ Some address) ↔ IsSpelled body address }
+{}
+
+/// The constants of `tlv_type` are the types of the standard's table.
+pub fn tlv_types_are_the_standards()
+    ensures end { code.END_OF_LLDPDU ≡ standard.end_of_lldpdu_type }
+    ensures chassis_id { code.CHASSIS_ID ≡ standard.chassis_id_type }
+    ensures port_id { code.PORT_ID ≡ standard.port_id_type }
+    ensures time_to_live { code.TIME_TO_LIVE ≡ standard.time_to_live_type }
+    ensures port_description { code.PORT_DESCRIPTION ≡ standard.port_description_type }
+    ensures system_name { code.SYSTEM_NAME ≡ standard.system_name_type }
+    ensures system_description { code.SYSTEM_DESCRIPTION ≡ standard.system_description_type }
+    ensures system_capabilities { code.SYSTEM_CAPABILITIES ≡ standard.system_capabilities_type }
+    ensures management_address { code.MANAGEMENT_ADDRESS ≡ standard.management_address_type }
+    ensures reserved { code.FIRST_RESERVED ≡ standard.first_reserved_type }
+    ensures specific { code.ORGANIZATIONALLY_SPECIFIC
+        ≡ standard.organizationally_specific_type }
 {}

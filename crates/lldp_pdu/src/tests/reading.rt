@@ -83,17 +83,17 @@ fn faults(rt: HostRuntime) {
 
 #[test]
 fn numbers_of_the_faults(rt: HostRuntime) {
-    assert_eq!(rt; PduFault::Truncated as u8, 1);
-    assert_eq!(rt; PduFault::NoChassis as u8, 2);
-    assert_eq!(rt; PduFault::ChassisLength as u8, 3);
-    assert_eq!(rt; PduFault::NoPort as u8, 4);
-    assert_eq!(rt; PduFault::PortLength as u8, 5);
-    assert_eq!(rt; PduFault::NoTtl as u8, 6);
-    assert_eq!(rt; PduFault::TtlLength as u8, 7);
-    assert_eq!(rt; PduFault::Repeated as u8, 8);
-    assert_eq!(rt; BuildFault::Full as u8, 1);
-    assert_eq!(rt; BuildFault::Kind as u8, 2);
-    assert_eq!(rt; BuildFault::Body as u8, 3);
+    assert_eq!(rt; PduFault::Truncated.number(), 1);
+    assert_eq!(rt; PduFault::NoChassis.number(), 2);
+    assert_eq!(rt; PduFault::ChassisLength.number(), 3);
+    assert_eq!(rt; PduFault::NoPort.number(), 4);
+    assert_eq!(rt; PduFault::PortLength.number(), 5);
+    assert_eq!(rt; PduFault::NoTtl.number(), 6);
+    assert_eq!(rt; PduFault::TtlLength.number(), 7);
+    assert_eq!(rt; PduFault::Repeated.number(), 8);
+    assert_eq!(rt; BuildFault::Full.number(), 1);
+    assert_eq!(rt; BuildFault::Kind.number(), 2);
+    assert_eq!(rt; BuildFault::Body.number(), 3);
 }
 
 #[test]

@@ -1,6 +1,6 @@
-use Rattle.std.proofs.Common.{◌≡◌, ◌+◌, cond, ltb, eqb, length, true, false, sym, ap, ◌∙◌, arith, ℕ}
+use Rattle.std.proofs.Common.{◌≡◌, ◌+◌, ◌≤◌, cond, ltb, length, ap, ◌∙◌, arith, ℕ}
 use Rattle.std.proofs.lemmas.List.{length-take}
-use Rattle.std.proofs.lemmas.Bool.{eq-eqb, ne_eqb, eqb-true, eqb-false, lt-ltb, le-ltb}
+use Rattle.std.proofs.lemmas.Bool.{eq-eqb, ne_eqb}
 use Rattle.lldp_pdu.specs.View.{tlv_view}
 use Rattle.lldp_pdu.proofs.Surveying.{bounds, one_more, survey_at_end, survey_at_rest}
 use Rattle.lldp_pdu.proofs.examination.optional_tlvs.Goals as goal
@@ -30,36 +30,21 @@ overflow_add-unrecognized c =
     let b = bounds c.args.after.now c.loop-tlv.tlvs c.loop-tlv.seen.types c.loop-tlv.len c.loop-tlv.discarded c.loop-tlv.unrecognized (λ i. omega (arith, c.type_inv.after i)) c.loop-tlv.invariant in
     omega (arith, b.unknown)
 
-pub slice_bounds-result-end-then-is_empty : goal.slice_bounds-result-end-then-is_empty
-slice_bounds-result-end-then-is_empty c =
-    let b = bounds c.args.after.now c.loop-tlv.tlvs c.loop-tlv.seen.types c.loop-tlv.len c.loop-tlv.discarded c.loop-tlv.unrecognized (λ i. omega (arith, c.type_inv.after i)) c.loop-tlv.invariant in
-    omega (arith, length-take c.loop-tlv.len c.args.after.now, b.len)
-
--- with no octets left none is counted, else one
-none_left : (n m k : ℕ) → n ≡ m → eqb n 0 ≡ true → k ≡ k + cond (ltb 0 m) 1 0
-none_left n m k e h = rw (le-ltb 0 m (omega (arith, e, eqb-true n 0 h))) (omega arith)
-
-some_left : (n m k : ℕ) → n ≡ m → eqb n 0 ≡ false → k + 1 ≡ k + cond (ltb 0 m) 1 0
-some_left n m k e h = grind (arith, common_steps, lt-ltb, eqb-false, ℕ)
-
-pub returns-then-is_empty-clause-ok : goal.returns-then-is_empty-clause-ok
-returns-then-is_empty-clause-ok c =
-    let same : length c.rest.result.now ≡ length c.loop-tlv.tlvs = ap length (c.rest.ensures ∙ c.in_default.ensures.steps.1) in
-    survey_at_rest c.args.after.now c.loop-tlv.tlvs c.loop-tlv.seen.types c.loop-tlv.len c.loop-tlv.discarded c.loop-tlv.unrecognized c.loop-tlv.discarded (λ i. omega (arith, c.type_inv.after i)) c.loop-tlv.invariant c.in_default.ensures.steps.0
-    (none_left (length c.rest.result.now) (length c.loop-tlv.tlvs) c.loop-tlv.discarded same (sym c.if-is_empty.ensures))
-
 pub slice_bounds-result-end-2 : goal.slice_bounds-result-end-2
 slice_bounds-result-end-2 c =
     let b = bounds c.args.after.now c.loop-tlv.tlvs c.loop-tlv.seen.types c.loop-tlv.len c.loop-tlv.discarded c.loop-tlv.unrecognized (λ i. omega (arith, c.type_inv.after i)) c.loop-tlv.invariant in
     omega (arith, length-take c.loop-tlv.len c.args.after.now, b.len)
 
+at_most_one : (n k : ℕ) → k ≡ cond (ltb 0 n) 1 0 → k ≤ 1
+at_most_one n k h = grind (arith, common_steps)
+
 pub overflow_add-result : goal.overflow_add-result
 overflow_add-result c =
     let b = bounds c.args.after.now c.loop-tlv.tlvs c.loop-tlv.seen.types c.loop-tlv.len c.loop-tlv.discarded c.loop-tlv.unrecognized (λ i. omega (arith, c.type_inv.after i)) c.loop-tlv.invariant in
-    omega (arith, b.lost)
+    omega (arith, b.lost, at_most_one (length c.rest.result.now) c.incomplete_tlvs.result c.incomplete_tlvs.ensures)
 
 pub returns-clause-ok : goal.returns-clause-ok
 returns-clause-ok c =
     let same : length c.rest.result.now ≡ length c.loop-tlv.tlvs = ap length (c.rest.ensures ∙ c.in_default.ensures.steps.1) in
-    survey_at_rest c.args.after.now c.loop-tlv.tlvs c.loop-tlv.seen.types c.loop-tlv.len c.loop-tlv.discarded c.loop-tlv.unrecognized (c.loop-tlv.discarded + 1) (λ i. omega (arith, c.type_inv.after i)) c.loop-tlv.invariant c.in_default.ensures.steps.0
-    (some_left (length c.rest.result.now) (length c.loop-tlv.tlvs) c.loop-tlv.discarded same (sym c.if-is_empty.ensures))
+    survey_at_rest c.args.after.now c.loop-tlv.tlvs c.loop-tlv.seen.types c.loop-tlv.len c.loop-tlv.discarded c.loop-tlv.unrecognized (c.loop-tlv.discarded + c.incomplete_tlvs.result) (λ i. omega (arith, c.type_inv.after i)) c.loop-tlv.invariant c.in_default.ensures.steps.0
+    (ap (λ (n : ℕ). c.loop-tlv.discarded + n) (c.incomplete_tlvs.ensures ∙ ap (λ (n : ℕ). cond (ltb 0 n) 1 0) same))

@@ -5,10 +5,10 @@ use Rattle.lldp_pdu.specs.Code.BuilderView.{IsDraft}
 use Rattle.lldp_pdu.proofs.Drafts.{finished}
 use Rattle.lldp_pdu.proofs.builder.Builder.finish.Goals as goal
 
-all : (c : goal.After-append_tlv) → IsReadBack c.args.self c.append_tlv.new.octets.items
+all : (c : goal.After-append_end) → IsReadBack c.args.self c.append_end.new.octets.items
 all c =
-    finished c.args.self c.append_tlv.new.octets.items (subst IsDraft c.self.view_is c.self.invariant.draft)
-    (c.append_tlv.ensures.value ∙ ap (λ (x : List ℕ). x ++ spelling end_of_lldpdu) (c.self.invariant.spelled ∙ ap (λ (d : Draft). spellings (all_tlvs d)) c.self.view_is))
+    finished c.args.self c.append_end.new.octets.items (subst IsDraft c.self.view_is c.self.invariant.draft)
+    (c.append_end.ensures ∙ ap (λ (x : List ℕ). x ++ spelling end_of_lldpdu) (c.self.invariant.spelled ∙ ap (λ (d : Draft). spellings (all_tlvs d)) c.self.view_is))
 
 pub returns-clause-sound : goal.returns-clause-sound
 returns-clause-sound c = (all c).sound
