@@ -1,6 +1,7 @@
 pub mod Activity
 pub mod Answered
 pub mod Carrying
+pub mod Causes
 pub mod Counters
 pub mod Earliest
 pub mod Examples

@@ -52,7 +52,7 @@ marked_on : (s : Settings) (past : List Moment) (t : Machine) (c : Cause) (n : �
 marked_on s past t c n m u l k = cc
 
 -- An active port may transmit.
-allowed_if_active : (s : Settings) (h : History) → is_active (moments s h) ≡ true → is_allowed s (moments s h) ≡ true
+pub allowed_if_active : (s : Settings) (h : History) → is_active (moments s h) ≡ true → is_allowed s (moments s h) ≡ true
 unfolding moment
 allowed_if_active s [] a = cc
 allowed_if_active s (e ∷ h) a = grind (arith, common_steps, is_active-cons)

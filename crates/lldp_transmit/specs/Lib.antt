@@ -1,3 +1,4 @@
+pub mod Causes
 pub mod Code
 pub mod Fronts
 pub mod History

@@ -3,17 +3,16 @@ use Rattle.std.specs.Prelude.{◌≡◌, ◌≤◌}
 use Rattle.lldp_transmit.specs.History.{Settings, History}
 use Rattle.lldp_transmit.specs.Code.Machine.{Machine}
 use Rattle.lldp_transmit.specs.Moments.{moments, is_active, is_allowed, is_up, is_waiting, signals_left}
-use Rattle.lldp_transmit.specs.declared.limits.TheConstants.{MOST_CREDIT, MOST_FAST_INIT, MOST_REINIT}
 use Rattle.lldp_transmit.specs.Remaining.{credit_left, until_start, until_signal}
 
 -- the ranges of what a port is opened with: txCreditMax 1 to 10, txFastInit 1 to 8, reinitDelay 1 to 10
 pub record AreSettings (s : Settings) : Type 0 where
   pub some_credit : 1 ≤ s.credit_max
-  pub most_credit : s.credit_max ≤ MOST_CREDIT
+  pub most_credit : s.credit_max ≤ 10
   pub some_fast : 1 ≤ s.fast_init
-  pub most_fast : s.fast_init ≤ MOST_FAST_INIT
+  pub most_fast : s.fast_init ≤ 8
   pub some_wait : 1 ≤ s.reinit
-  pub most_wait : s.reinit ≤ MOST_REINIT
+  pub most_wait : s.reinit ≤ 10
 
 -- the machine that these events leave, by the definitions alone
 unfoldable pub machine_of : Settings → History → Machine

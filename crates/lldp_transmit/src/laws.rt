@@ -1,11 +1,13 @@
 //! Laws over the definitions alone, for whoever composes with the machine or wants to believe the
 //! definitions.
 
-ghost use Rattle.std.specs.Prelude.{◌≡◌, ◌↔◌, IsTrue, ℕ, List, [], ◌∷◌, map};
-ghost use Rattle.lldp_transmit.specs.History.{Settings, Event, History, event};
-ghost use Rattle.lldp_transmit.specs.Moments.{Moment, moment, moments, mark_at, is_active, is_waiting, rested, signals_left, distance, timer_ends, due, open_at};
+ghost use Rattle.std.specs.Prelude.{◌≡◌, ◌≤◌, ◌↔◌, Bool, IsTrue, ℕ, List, [], ◌∷◌, map};
+ghost use Rattle.lldp_transmit.specs.History.{Settings, Event, History, settings, event};
+ghost use Rattle.lldp_transmit.specs.Moments.{Moment, moment, moments, mark_at, is_active, is_allowed, is_up, is_waiting, rested, signals_left, distance, timer_ends, due, open_at};
 ghost use Rattle.lldp_transmit.specs.Remaining.{credit_left};
 ghost use Rattle.lldp_transmit.specs.Positions.{HasStarted, HasRested, IsStart, IsStop, IsTimerEnd, IsSignal, IsOpening, AreLeft, IsDistance, HasWanted, IsDue, IsOpen, IsLeastRoom};
+ghost use Rattle.lldp_transmit.specs.Causes.{MayTransmit, IsLinked, CanSend, CanStop};
+ghost use Rattle.lldp_transmit.specs.declared.limits.TheConstants.{MOST_CREDIT, MOST_FAST_INIT, MOST_REINIT};
 ghost use Rattle.lldp_transmit.specs.Code.Machine.{Machine, opened, stepped};
 ghost use Rattle.lldp_transmit.specs.Standing.{AreSettings, Stands};
 ghost use Rattle.lldp_transmit.specs.Windows.{AreTimely, WindowsHold};
@@ -99,4 +101,40 @@ pub fn positions_tell_sending()
         IsTrue (moment s (moments s h) e).sent
         ↔ (IsDue (moments s h) (moment s (moments s h) e)
         × IsOpen s (moments s h) (moment s (moments s h) e)) }
+{}
+
+/// Whether a port may transmit, and whether its link is up, by the causes in its history: each
+/// `Stop` has an `Allow` after it, each `Down` an `Up`.
+pub fn causes_tell_allowed_and_up()
+    ensures allowed { (s : Settings) (h : History) →
+        IsTrue (is_allowed s (moments s h)) ↔ MayTransmit s h }
+    ensures up { (s : Settings) (h : History) → IsTrue (is_up (moments s h)) ↔ IsLinked h }
+{}
+
+/// Ordinary frames go at ticks, local changes and new neighbors alone, on a port that is active,
+/// may transmit and has its link up.
+pub fn ordinary_frames_go_on_active_ports()
+    ensures { (s : Settings) (past : History) (e : Event) → AreSettings s →
+        mark_at s (e ∷ past) ≡ Mark.Ordinary → CanSend s e past }
+{}
+
+/// Shutdown frames go where a port that was active is told to stop, and nowhere else.
+pub fn shutdown_frames_go_at_stops()
+    ensures { (s : Settings) (past : History) (e : Event) →
+        (mark_at s (e ∷ past) ≡ Mark.Shutdown) ↔ CanStop s e past }
+{}
+
+/// The moments of a history are its events in their order, each with the tx-interval given with it.
+pub fn moments_keep_their_events()
+    ensures { (s : Settings) (h : History) →
+        map (λ m. event m.cause m.interval) (moments s h) ≡ h }
+{}
+
+/// The constants are the greatest numbers that a port can be opened with.
+pub fn constants_are_the_greatest_settings()
+    ensures allowed { (allowed : Bool) →
+        AreSettings (settings MOST_CREDIT MOST_FAST_INIT MOST_REINIT allowed) }
+    ensures credit { (s : Settings) → AreSettings s → s.credit_max ≤ MOST_CREDIT }
+    ensures fast_init { (s : Settings) → AreSettings s → s.fast_init ≤ MOST_FAST_INIT }
+    ensures reinit { (s : Settings) → AreSettings s → s.reinit ≤ MOST_REINIT }
 {}

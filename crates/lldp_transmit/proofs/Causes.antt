@@ -1,0 +1,215 @@
+-- What is given and taken by causes, and which causes have frames.
+use Rattle.std.specs.Prelude.{◌≡◌, ℕ, ◌⊎◌, ◌↔◌, Bool, true, false, cond, not, ◌&&◌, ◌||◌, IsTrue, List, [], ◌∷◌, ◌++◌, map}
+use Rattle.std.proofs.Common.{refl, ap, sym, ◌∙◌, inl, inr, arith}
+use Rattle.lldp_transmit.specs.declared.event.Cause.{Cause}
+use Rattle.lldp_transmit.specs.declared.event.Cause.TheVariants.{Tick, Change, Neighbor, Stop, Allow, Down, Up, Nothing}
+use Rattle.lldp_transmit.specs.declared.event.Mark.{Mark}
+use Rattle.lldp_transmit.specs.declared.event.Mark.TheVariants.{Quiet, Ordinary, Shutdown}
+use Rattle.lldp_transmit.specs.History.{Settings, Event, History, event, is_tick, is_down}
+use Rattle.lldp_transmit.specs.Moments.{moment, moments, mark_at, allowed_after, up_after, is_allowed, is_up, is_active, rested}
+use Rattle.lldp_transmit.specs.Code.Machine.{Machine, stepped}
+use Rattle.lldp_transmit.specs.Standing.{AreSettings, machine_of}
+use Rattle.lldp_transmit.proofs.Activity.{active_reads, stop_reads}
+use Rattle.lldp_transmit.proofs.Counters.{is_active-cons}
+use Rattle.lldp_transmit.proofs.Sending.{sent_reads}
+use Rattle.lldp_transmit.proofs.Standing.{allowed_if_active, exact, marks, stands_left}
+use Rattle.std.proofs.lemmas.Grind.{common_steps}
+use Rattle.lldp_transmit.specs.Causes.{HasCause, IsGiven, MayTransmit, IsLinked, CanSend, CanStop}
+
+-- ---- given and taken
+
+-- what a cause does to it: it gives, or takes, or neither
+abbrev Reads : (Cause → Bool → Bool) → Cause → Cause → Cause → Type 0
+Reads f gives takes c =
+    ((c ≡ gives) × ((b : Bool) → f c b ≡ true))
+    ⊎ (((c ≡ takes) × ((b : Bool) → f c b ≡ false)) ⊎ (¬ (c ≡ gives) × ¬ (c ≡ takes) × ((b : Bool) → f c b ≡ b)))
+
+reads_allowed : (c : Cause) → Reads allowed_after Allow Stop c
+reads_allowed Allow = inl (refl, λ b. refl)
+reads_allowed Stop = inr (inl (refl, λ b. refl))
+reads_allowed _ = inr (inr (λ p. cc p, λ p. cc p, λ b. refl))
+
+reads_up : (c : Cause) → Reads up_after Up Down c
+reads_up Up = inl (refl, λ b. refl)
+reads_up Down = inr (inl (refl, λ b. refl))
+reads_up _ = inr (inr (λ p. cc p, λ p. cc p, λ b. refl))
+
+nowhere : {X : Type 0} (after before : List X) (x : X) → [] ≡ after ++ x ∷ before → ⊥
+nowhere [] before x p = cc p
+nowhere (y ∷ after) before x p = cc p
+
+-- whether it is there after some events
+abbrev held : (Cause → Bool → Bool) → Bool → History → Bool
+held f b [] = b
+held f b (e ∷ h) = f e.cause (held f b h)
+
+head : {x y : Event} {xs ys : History} → x ∷ xs ≡ y ∷ ys → x ≡ y
+head q = cc
+
+tail : {x y : Event} {xs ys : History} → x ∷ xs ≡ y ∷ ys → xs ≡ ys
+tail q = cc
+
+true_unless : (b : Bool) → (b ≡ false → ⊥) → b ≡ true
+true_unless true n = refl
+true_unless false n = absurd (n refl)
+
+here : (c : Cause) (e : Event) (h : History) → e.cause ≡ c → HasCause c (e ∷ h)
+here c e h q = ([], h, e.interval, ap (λ (c : Cause). event c e.interval ∷ h) q)
+
+later : (c : Cause) (e : Event) (h : History) → HasCause c h → HasCause c (e ∷ h)
+later c e h g = (e ∷ g.0, g.1, g.2, ap (λ (l : History). e ∷ l) g.3)
+
+-- the newest event has another cause, so an earlier one has this
+earlier : (c : Cause) (e : Event) (h : History) → ¬ (e.cause ≡ c) → HasCause c (e ∷ h) → HasCause c h
+earlier c e h n ([], before, i, q) = absurd (n (ap (λ (e : Event). e.cause) (head q)))
+earlier c e h n (x ∷ after, before, i, q) = (after, before, i, tail q)
+
+module _ (f : Cause → Bool → Bool) (gives takes : Cause) (reads : (c : Cause) → Reads f gives takes c) (apart : gives ≡ takes → ⊥) (b : Bool) where
+  is_given : (h : History) → held f b h ≡ true → IsGiven gives takes b h
+  is_given [] p =
+      record {
+        since = λ after before n q. absurd (nowhere after before (event takes n) q);
+        once = λ q. absurd (both b p q);
+      }
+    where
+      both : (b : Bool) → b ≡ true → b ≡ false → ⊥
+      both true p q = cc q
+      both false p q = cc p
+  is_given (e ∷ h) p = go (reads e.cause) (is_given h)
+    where
+      since_given : e.cause ≡ gives → (after before : History) (n : ℕ) → e ∷ h ≡ after ++ event takes n ∷ before → HasCause gives after
+      since_given c [] before n q = absurd (apart (sym c ∙ ap (λ (e : Event). e.cause) (head q)))
+      since_given c (x ∷ after) before n q = here gives x after (ap (λ (e : Event). e.cause) (sym (head q)) ∙ c)
+
+      since_before : ¬ (e.cause ≡ takes) → IsGiven gives takes b h → (after before : History) (n : ℕ) → e ∷ h ≡ after ++ event takes n ∷ before → HasCause gives after
+      since_before t r [] before n q = absurd (t (ap (λ (e : Event). e.cause) (head q)))
+      since_before t r (x ∷ after) before n q = later gives x after (r.since after before n (tail q))
+
+      go : Reads f gives takes e.cause → (held f b h ≡ true → IsGiven gives takes b h) → IsGiven gives takes b (e ∷ h)
+      go (inl (c, y)) i = record { since = since_given c; once = λ q. here gives e h c }
+      go (inr (inl (c, y))) i = absurd (false_true (sym (y (held f b h)) ∙ p))
+        where
+          false_true : false ≡ true → ⊥
+          false_true q = cc q
+      go (inr (inr (g, t, y))) i =
+          let r = i (sym (y (held f b h)) ∙ p) in
+          record { since = since_before t r; once = λ q. later gives e h (r.once q) }
+
+  is_held : (h : History) → IsGiven gives takes b h → held f b h ≡ true
+  is_held [] g = true_unless b (λ q. let w = g.once q in nowhere w.0 w.1 (event gives w.2) w.3)
+  is_held (e ∷ h) g = go (reads e.cause) (is_held h)
+    where
+      go : Reads f gives takes e.cause → (IsGiven gives takes b h → held f b h ≡ true) → f e.cause (held f b h) ≡ true
+      go (inl (c, y)) i = y (held f b h)
+      go (inr (inl (c, y))) i =
+          let w = g.since [] h e.interval (ap (λ (c : Cause). event c e.interval ∷ h) c) in
+          absurd (nowhere w.0 w.1 (event gives w.2) w.3)
+      go (inr (inr (n, t, y))) i =
+          y (held f b h) ∙ i (record {
+            since = λ after before k q. earlier gives e after n (g.since (e ∷ after) before k (ap (λ (l : History). e ∷ l) q));
+            once = λ q. earlier gives e h n (g.once q);
+          })
+
+-- ---- the right to transmit, and the link
+
+allowed_held : (s : Settings) (h : History) → is_allowed s (moments s h) ≡ held allowed_after s.allowed h
+unfolding moment
+allowed_held s [] = refl
+allowed_held s (e ∷ h) = ap (allowed_after e.cause) (allowed_held s h)
+
+up_held : (s : Settings) (h : History) → is_up (moments s h) ≡ held up_after true h
+unfolding moment
+up_held s [] = refl
+up_held s (e ∷ h) = ap (up_after e.cause) (up_held s h)
+
+allow_is_no_stop : Allow ≡ Stop → ⊥
+allow_is_no_stop q = cc q
+
+up_is_no_down : Up ≡ Down → ⊥
+up_is_no_down q = cc q
+
+pub allowed_reads : (s : Settings) (h : History) → IsTrue (is_allowed s (moments s h)) ↔ MayTransmit s h
+allowed_reads s h = (
+  λ a. is_given allowed_after Allow Stop reads_allowed allow_is_no_stop s.allowed h (sym (allowed_held s h) ∙ a),
+  λ g. allowed_held s h ∙ is_held allowed_after Allow Stop reads_allowed allow_is_no_stop s.allowed h g,
+)
+
+pub up_reads : (s : Settings) (h : History) → IsTrue (is_up (moments s h)) ↔ IsLinked h
+up_reads s h = (
+  λ a. is_given up_after Up Down reads_up up_is_no_down true h (sym (up_held s h) ∙ a),
+  λ g. up_held s h ∙ is_held up_after Up Down reads_up up_is_no_down true h g,
+)
+
+-- ---- frames
+
+stop_quiet : (b : Bool) (t u : Machine) → (cond {A = Machine × Mark} b (t, Shutdown) (u, Quiet)).1 ≡ Ordinary → ⊥
+stop_quiet true t u q = cc q
+stop_quiet false t u q = cc q
+
+-- a step answers an ordinary frame at these causes alone
+ordinary_cause : (t : Machine) (c : Cause) (n : ℕ) → (stepped t c n).1 ≡ Ordinary → (c ≡ Tick) ⊎ ((c ≡ Change) ⊎ (c ≡ Neighbor))
+ordinary_cause t Tick n q = inl refl
+ordinary_cause t Change n q = inr (inl refl)
+ordinary_cause t Neighbor n q = inr (inr refl)
+ordinary_cause t Stop n q = absurd (stop_quiet t.active _ _ q)
+ordinary_cause t Allow n q = cc q
+ordinary_cause t Down n q = cc q
+ordinary_cause t Up n q = cc q
+ordinary_cause t Nothing n q = cc q
+
+-- at a start the link is up, and later a lost link would have ended it
+up_at : (c : Cause) (x l u r : Bool) → (not ((x && not l) || is_down c) && ((is_tick c && (l && (up_after c u && (not x && r)))) || x)) ≡ true → (x ≡ true → u ≡ true) → up_after c u ≡ true
+up_at Up x l u r e i = refl
+up_at Down x l u r e i = grind (arith, common_steps)
+up_at Tick x l u r e i = grind (arith, common_steps)
+up_at _ x l u r e i = grind (arith, common_steps)
+
+-- An active port has its link up.
+up_if_active : (s : Settings) (h : History) → is_active (moments s h) ≡ true → is_up (moments s h) ≡ true
+unfolding moment
+up_if_active s [] a = refl
+up_if_active s (e ∷ h) a =
+    let past = moments s h in
+    let m = moment s past e in
+    up_at e.cause (is_active past) (is_allowed s (m ∷ past)) (is_up past) (rested s past) (sym (is_active-cons m past) ∙ a) (up_if_active s h)
+
+pub ordinary_reads : (s : Settings) (past : History) (e : Event) → AreSettings s → mark_at s (e ∷ past) ≡ Ordinary → CanSend s e past
+ordinary_reads s past e r q =
+    let due = ((sent_reads s past e r.some_credit).0 ((exact s (moments s past) e (mark_at s (e ∷ past)) refl).0.0 q)).0 in
+    let active = (active_reads s (e ∷ past)).1 due.0 in
+    record {
+      cause = ordinary_cause (machine_of s past) e.cause e.interval (marks s past (machine_of s past) e (stands_left s past r) ∙ q);
+      active = due.0;
+      allowed = (allowed_reads s (e ∷ past)).0 (allowed_if_active s (e ∷ past) active);
+      up = (up_reads s (e ∷ past)).0 (up_if_active s (e ∷ past) active);
+    }
+
+taken : (c : Cause) (b : Bool) → b ≡ true → allowed_after c b ≡ false → c ≡ Stop
+taken Stop b p q = refl
+taken Allow b p q = cc q
+taken _ b p q = cc (p, q)
+
+pub shutdown_reads : (s : Settings) (past : History) (e : Event) → (mark_at s (e ∷ past) ≡ Shutdown) ↔ CanStop s e past
+unfolding moment
+shutdown_reads s past e = (forth, back)
+  where
+    read : (mark_at s (e ∷ past) ≡ Shutdown) ↔ IsTrue (moment s (moments s past) e).stop
+    read = (exact s (moments s past) e (mark_at s (e ∷ past)) refl).1
+
+    forth : mark_at s (e ∷ past) ≡ Shutdown → CanStop s e past
+    forth q =
+        let stop = (stop_reads s past e).0 (read.0 q) in
+        record {
+          cause = taken e.cause (is_allowed s (moments s past)) (allowed_if_active s past ((active_reads s past).1 stop.0)) stop.1;
+          active = stop.0;
+        }
+
+    back : CanStop s e past → mark_at s (e ∷ past) ≡ Shutdown
+    back k = read.1 ((stop_reads s past e).1 (k.active, ap (λ (c : Cause). allowed_after c (is_allowed s (moments s past))) k.cause))
+
+-- ---- the events
+
+pub events_kept : (s : Settings) (h : History) → map (λ m. event m.cause m.interval) (moments s h) ≡ h
+unfolding moment
+events_kept s [] = refl
+events_kept s (e ∷ h) = ap (λ (l : History). e ∷ l) (events_kept s h)

@@ -1,0 +1,38 @@
+-- When a port may transmit and whether its link is up, and where frames go, said of the causes in its history alone.
+use Rattle.std.specs.Prelude.{◌≡◌, ℕ, ◌⊎◌, Bool, true, false, ◌∷◌, ◌++◌}
+use Rattle.lldp_transmit.specs.declared.event.Cause.{Cause}
+use Rattle.lldp_transmit.specs.declared.event.Cause.TheVariants.{Tick, Change, Neighbor, Stop, Allow, Down, Up}
+use Rattle.lldp_transmit.specs.History.{Settings, Event, History, event}
+use Rattle.lldp_transmit.specs.Moments.{moments}
+use Rattle.lldp_transmit.specs.Positions.{HasStarted}
+
+-- some event has this cause
+abbrev pub HasCause : Cause → History → Type 0
+HasCause cause h = (after before : History) × (interval : ℕ) × (h ≡ after ++ event cause interval ∷ before)
+
+-- what one cause gives and another takes away is there: each that takes has one that gives after it, and where it was
+-- not there at first, some event has given it
+pub record IsGiven (gives takes : Cause) (at_first : Bool) (h : History) : Type 0 where
+  pub since : (after before : History) (interval : ℕ) → h ≡ after ++ event takes interval ∷ before → HasCause gives after
+  pub once : at_first ≡ false → HasCause gives h
+
+-- Allowed: each Stop has an Allow after it, and a port that was opened without the right has had an Allow.
+abbrev pub MayTransmit : Settings → History → Type 0
+MayTransmit s h = IsGiven Allow Stop s.allowed h
+
+-- Up: each Down has an Up after it.
+abbrev pub IsLinked : History → Type 0
+IsLinked h = IsGiven Up Down true h
+
+-- the newest event can have an ordinary frame: it is a tick, a local change or a new neighbor, on a port that is
+-- active, may transmit and has its link up
+pub record CanSend (s : Settings) (e : Event) (past : History) : Type 0 where
+  pub cause : (e.cause ≡ Tick) ⊎ ((e.cause ≡ Change) ⊎ (e.cause ≡ Neighbor))
+  pub active : HasStarted (moments s (e ∷ past))
+  pub allowed : MayTransmit s (e ∷ past)
+  pub up : IsLinked (e ∷ past)
+
+-- the newest event can have a shutdown frame: it is a Stop, on a port that was active
+pub record CanStop (s : Settings) (e : Event) (past : History) : Type 0 where
+  pub cause : e.cause ≡ Stop
+  pub active : HasStarted (moments s past)
