@@ -27,7 +27,7 @@ contains_more x y xs h = (suc h.0, omega (arith, h.1), h.2)
 -- ## Each mark is one of the definitions
 
 -- the port is not before this place, exists, and sends this
-abbrev IsOf : Options → List Event → ℕ → Sending → Type 0
+abbrev pub IsOf : Options → List Event → ℕ → Sending → Type 0
 IsOf o events s x = (s ≤ x.0) × (x.0 < length o.names) × IsSent x.1 × (mark_after o (port_past o x.0 events) ≡ x.1)
 
 later_are : (o : Options) (events : List Event) (s : ℕ) (xs : List Sending) → AllByRecursion (IsOf o events (s + 1)) xs → AllByRecursion (IsOf o events s) xs
@@ -40,7 +40,7 @@ one_is o events s Quiet others lt e h = h
 one_is o events s Ordinary others lt e h = ((omega arith, lt, tt, e), h)
 one_is o events s Shutdown others lt e h = ((omega arith, lt, tt, e), h)
 
-all_are : (o : Options) (events : List Event) (s : ℕ) (names : List (List ℕ)) → s + length names ≡ length o.names → AllByRecursion (IsOf o events s) (sent_from o events s names)
+pub all_are : (o : Options) (events : List Event) (s : ℕ) (names : List (List ℕ)) → s + length names ≡ length o.names → AllByRecursion (IsOf o events s) (sent_from o events s names)
 all_are o events s [] l = tt
 all_are o events s (name ∷ names) l = grind (arith, common_steps, one_is, later_are, all_are o events (s + 1) names (omega arith))
 
@@ -56,7 +56,7 @@ other_is_there s Quiet others x h = h
 other_is_there s Ordinary others x h = contains_more (s, Ordinary) x others h
 other_is_there s Shutdown others x h = contains_more (s, Shutdown) x others h
 
-is_there : (o : Options) (events : List Event) (s d : ℕ) (names : List (List ℕ)) (mark : Mark) → d < length names → IsSent mark → mark_after o (port_past o (s + d) events) ≡ mark
+pub is_there : (o : Options) (events : List Event) (s d : ℕ) (names : List (List ℕ)) (mark : Mark) → d < length names → IsSent mark → mark_after o (port_past o (s + d) events) ≡ mark
     → Contains (sent_from o events s names) (s + d, mark)
 is_there o events s d [] mark lt sent e = absurd (omega arith)
 is_there o events s zero (name ∷ names) mark lt sent e =

@@ -13,6 +13,12 @@ pub mod Past
 pub mod Standing
 pub mod LastSet
 pub mod Headline
+pub mod PortAt
+pub mod Older
+pub mod Deaf
+pub mod CauseOf
+pub mod Others
+pub mod Tally
 pub mod Answer
 pub mod Fault
 pub mod Words
@@ -36,3 +42,12 @@ pub mod Takes
 pub mod LineRoom
 pub mod Lines
 pub mod Code
+pub mod FixedTexts
+pub mod FixedOctets
+pub mod FixedNumbers
+pub mod FixedValues
+pub mod Opening
+pub mod InUse
+pub mod Sayings
+pub mod Numbering
+pub mod Alike

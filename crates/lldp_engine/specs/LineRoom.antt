@@ -2,7 +2,6 @@
 use Rattle.std.specs.Prelude.{◌≡◌, ℕ, ◌+◌, ◌≤◌, List, ◌++◌, length, Option, Some, None}
 use Rattle.std.specs.Borrow.{Fml, RattleType, MutBor, LendsSo}
 use Rattle.lldp_engine.specs.contracts.show.writer.Writer.{the_row as writer_row}
-use Rattle.lldp_engine.specs.declared.show.writer.TheConstants.{LINE_ROOM}
 use Rattle.lldp_engine.specs.Text.{ended}
 
 -- What is written into the lent writer is a line that the sink takes: at most 2,048 octets and an LF, behind what
@@ -12,5 +11,5 @@ abbrev pub LendsRoom : (Sink : RattleType) → (Sink.Denot → Sink.Denot → Li
 LendsRoom Sink takes sink lent =
     LendsSo Sink writer_row sink lent
     (λ new text. (writer : MutBor (List ℕ)) (line : List ℕ) → lent ≡ Some writer → text ≡ writer.now ++ ended line
-    → length text ≤ length writer.now + LINE_ROOM → takes sink.now new line)
+    → length text ≤ length writer.now + 2049 → takes sink.now new line)
     (λ new. (line : List ℕ) → lent ≡ None → takes sink.now new line)

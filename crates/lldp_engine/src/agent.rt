@@ -34,7 +34,7 @@ use crate::agent::text::is_text;
 use crate::port::Port;
 use crate::port::counters::Counters;
 use crate::port::status::Status;
-use lldp_table::Table;
+use lldp_table::{Room, Table};
 use std::alloc::{Allocator, Global};
 use std::marker::Model;
 
@@ -42,7 +42,7 @@ use std::marker::Model;
 #[derive(Drop)]
 pub struct Agent<A: Allocator = Global> {
     configuration: Configuration,
-    ports: Vec<Port<A>, A>,
+    ports: Room<Port<A>, A>,
 }
 
 impl<A: Allocator> Model for Agent<A> {
@@ -112,7 +112,7 @@ impl<A: Allocator> Agent<A> {
         ensures past { (past : Past) → Stands past self.now →
             slice_get past.options.names port ≡ Some result.now }
     {
-        self.ports[port as usize].name()
+        self.ports.at(port as usize).name()
     }
 
     /// The place of the port of that name, from 0.
@@ -132,7 +132,7 @@ impl<A: Allocator> Agent<A> {
         ensures past { (past : Past) → Stands past self.now →
             result ≡ status_after past.options (past_of past port) }
     {
-        self.ports[port as usize].status()
+        self.ports.at(port as usize).status()
     }
 
     /// Whether the link of a port is up.
@@ -143,19 +143,19 @@ impl<A: Allocator> Agent<A> {
         ensures past { (past : Past) → Stands past self.now →
             result ≡ up_after (past_of past port) }
     {
-        self.ports[port as usize].is_up()
+        self.ports.at(port as usize).is_up()
     }
 
     /// The neighbors of a port.
     pub fn table(&self, port: u8) -> &Table<A>
         requires { IsPort self.now port }
         ensures value { option_map (λ p. p.table) (slice_get self.now.ports port)
-            ≡ Some result.now }
+            ≡ Some result.now.shown }
         ensures past { (past : Past) → Stands past self.now →
             TableStands past.options.max_neighbors
-            (calls_after past.options (past_of past port)) result.now }
+            (calls_after past.options (past_of past port)) result.now.shown }
     {
-        self.ports[port as usize].table()
+        self.ports.at(port as usize).table()
     }
 
     /// The counters of a port.
@@ -166,7 +166,7 @@ impl<A: Allocator> Agent<A> {
         ensures past { (past : Past) → Stands past self.now →
             result.now ≡ counters_after past.options (past_of past port) }
     {
-        self.ports[port as usize].counters()
+        self.ports.at(port as usize).counters()
     }
 
     /// Whether it accepts an event: its port exists, its value is in the range, its text has at

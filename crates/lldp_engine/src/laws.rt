@@ -12,6 +12,13 @@ ghost use Rattle.lldp_engine.specs.Code.Step.{agent_after, agent_marks};
 ghost use Rattle.lldp_engine.specs.LastSet.{IsLastStatus, IsLastLink, IsLastConfiguration};
 ghost use Rattle.lldp_engine.specs.Headline.{Promised};
 
+pub mod counting;
+pub mod deafness;
+pub mod local_changes;
+pub mod sending;
+pub mod tables;
+pub mod whose;
+
 /// An event that is allowed carries standing from each past to that past with the event, and its
 /// marks are those of that past.
 pub fn steps_carry_standing()

@@ -3,10 +3,15 @@
 #![tactic(auto)]
 
 mod agent;
+mod alike;
 mod command;
 mod digits;
+mod fixed;
+mod in_use;
 mod laws;
+mod opening;
 mod port;
+mod sayings;
 mod show;
 
 pub use agent::Agent;
@@ -17,17 +22,37 @@ pub use agent::options::{
     MOST_CREDIT, MOST_FAST, MOST_HOLD, MOST_INTERVAL, MOST_NEIGHBORS, MOST_REINIT, Options, Role,
 };
 pub use agent::ports::Marks;
+pub use alike::neighbors_are_never_shown_alike;
 pub use command::fault::CommandFault;
 pub use command::number::number;
 pub use command::words::{Words, split, split_at_bare, words_are_spelled};
 pub use command::{Command, Show, complete_forms_take_no_word};
 pub use digits::{decode_digits, encode_digits};
+pub use fixed::{
+    counters_are_shown_behind_their_keys, octets_play_fixed_parts, ranges_end_at_fixed_numbers,
+    roles_are_shown_as_sent, texts_have_fixed_octets, values_have_fixed_octets,
+};
+pub use in_use::limits_below_what_ports_hold_are_in_use;
+pub use laws::counting::{ports_count_each_lldpdu_once, ports_count_what_they_sent};
+pub use laws::deafness::deaf_ports_stay_as_they_were;
+pub use laws::local_changes::{
+    new_neighbors_are_one_more, settings_are_local_changes,
+    statuses_links_and_frames_are_no_changes,
+};
+pub use laws::sending::{ports_opened_to_receive_only_are_silent, ports_send_by_their_status};
+pub use laws::tables::{lldpdus_speak_of_one_neighbor, ports_that_cannot_receive_hold_none};
+pub use laws::whose::{
+    events_of_one_port_leave_the_others, links_and_updates_leave_tables,
+    ports_have_the_configured_limit, ticks_come_to_each_port,
+};
 pub use laws::{
     last_events_decide, rights_follow_statuses, standing_agents_are_promised, steps_carry_standing,
 };
 pub use lldp_transmit::Mark;
+pub use opening::openings_tell_first_faults;
 pub use port::counters::Counters;
 pub use port::status::Status;
+pub use sayings::{forms_say_their_commands, neighbors_are_numbered_from_1};
 pub use show::line_sink::LineSink;
 pub use show::lines::MOST_LINES;
 pub use show::writer::{LINE_ROOM, Line, ROOM, Writer};

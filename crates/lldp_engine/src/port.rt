@@ -41,7 +41,7 @@ impl<A: Allocator> Model for Port<A> {
     ghost view = { λ p. record {
       name = p.name.items;
       status = p.status;
-      table = p.table;
+      table = p.table.shown;
       machine = p.transmit;
       counters = p.counters;
     } };
@@ -99,7 +99,7 @@ impl<A: Allocator> Port<A> {
     }
 
     pub(crate) fn table(&self) -> &Table<A>
-        ensures { result.now ≡ self.now.table }
+        ensures { result.now.shown ≡ self.now.table }
     {
         &self.table
     }

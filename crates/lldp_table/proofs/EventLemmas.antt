@@ -148,7 +148,7 @@ refreshes : (name other : MsapId) (ttl : ℕ) (octets : List ℕ) (o : Option Ne
 refreshes name other ttl octets None s h = cond-false (same_msap name other) (Some (fresh name ttl octets)) None (false_from_ne_true (same_msap name other) (λ e. false≢true (s e)))
 refreshes name other ttl octets (Some x) s h = refreshes_one (same_msap name other) (is_named name x) x (fresh name ttl octets) (ap (same_msap name) (h x refl))
 
-live-stored : (name other : MsapId) (ttl : ℕ) (octets : List ℕ) (answer : Learned) (past : List TableEvent) → 0 < ttl → is_stored answer ≡ true → live other (learned name ttl octets answer ∷ past) ≡ cond (same_msap name other) (Some (fresh name ttl octets)) (live other past)
+pub live-stored : (name other : MsapId) (ttl : ℕ) (octets : List ℕ) (answer : Learned) (past : List TableEvent) → 0 < ttl → is_stored answer ≡ true → live other (learned name ttl octets answer ∷ past) ≡ cond (same_msap name other) (Some (fresh name ttl octets)) (live other past)
 live-stored name other ttl octets answer past t stored = grind (arith, common_steps, live-other, live_at_once)
 
 pub neighbors-refreshed : (name : MsapId) (ttl : ℕ) (octets : List ℕ) (past : List TableEvent) → 0 < ttl → is_some (live name past) ≡ true → neighbors (learned name ttl octets Refreshed ∷ past) ≡ map (refreshed name ttl octets) (neighbors past)

@@ -1,7 +1,7 @@
 -- What a write to one slot, and a move of one index, make of the neighbors.
 use Rattle.std.proofs.Common.{◌≡◌, ℕ, suc, ◌+◌, ◌-◌, ◌<◌, ◌≤◌, ◌||◌, Bool, true, false, cond, nat_lt, nat_eq, List, [], ◌∷◌, ◌++◌, length, take, set, get_or, Some, refl, ap, ◌∙◌, sym, subst, arith, map, max, length-set, length-append, length-take-le}
 use Rattle.std.specs.List.{list_any, remove, slice_get, AllByRecursion}
-use Rattle.std.proofs.lemmas.Bool.{cases_Bool, lt-ltb, le-ltb, eqb-true, eqb-false}
+use Rattle.std.proofs.lemmas.Bool.{cases_Bool, ltb-true, ltb-false, lt-ltb, le-ltb, eqb-true, eqb-false}
 use Rattle.std.proofs.lemmas.Option.{slice_get-get_or}
 use Rattle.std.proofs.lemmas.List.{get_or_default, get_or-map, get_or-take, take_more, length-map, map-append, get_or-set_same, get_or-set_other, get_or_append_left, take-append-le}
 use Rattle.std.proofs.lemmas.List.Folds.{list_any_at}
@@ -63,6 +63,17 @@ module _ {capacity : ℕ} {slots : List Stored} {left : ℕ → ℕ} {order : Li
 
   pub count : length held ≡ used
   count = length-map (take used order) (neighbor_at slots left) ∙ length-take-le used order fits
+
+  -- what a table with these parts tells of its room
+  module _ (table : Contents) (is : shown ≡ table) (room : Bool) (told : room ≡ nat_lt (length table.neighbors) table.limit) where
+    test_is : room ≡ nat_lt used limit
+    test_is = told ∙ ap (λ (t : Contents). nat_lt (length t.neighbors) t.limit) (sym is) ∙ ap (λ n. nat_lt n limit) count
+
+    pub has_room : room ≡ true → used < limit
+    has_room e = ltb-true used limit (sym test_is ∙ e)
+
+    pub has_none : room ≡ false → limit ≤ used
+    has_none e = ltb-false used limit (sym test_is ∙ e)
 
   -- the neighbor at a place
   pub place : (at : ℕ) (d : Neighbor) → at < used → get_or held at d ≡ neighbor_at slots left (get_or order at 0)

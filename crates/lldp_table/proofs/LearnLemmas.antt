@@ -159,8 +159,8 @@ module _ {capacity : ℕ} {slots : List Stored} {queue : List Due} {order : List
 
   -- ## A purge
 
-  pub purged_table : (queue' : List Due) → queue' ≡ [] → IsTable capacity slots queue' order 0 limit 0
-  purged_table queue' q = rw q (record { laid = laid_purged h.laid (ticks_left []); timed = timed_none })
+  pub purged_table : (queue' : List Due) (used' limit' too_many' : ℕ) → queue' ≡ [] → used' ≡ 0 → limit' ≡ limit → too_many' ≡ 0 → IsTable capacity slots queue' order used' limit' too_many'
+  purged_table queue' used' limit' too_many' q u l t = rw (q, u, l, t) (record { laid = laid_purged h.laid (ticks_left []); timed = timed_none })
 
 -- ## A table that was just opened
 

@@ -4,9 +4,11 @@ pub mod ExtentLemmas
 pub mod StandingLemmas
 pub mod SoundLemmas
 pub mod LiveLemmas
+pub mod CallLemmas
 pub mod OrderLemmas
 pub mod ListLemmas
 pub mod Rows
+pub mod TagLemmas
 pub mod PlaceLemmas
 pub mod LayoutLemmas
 pub mod TimedLemmas
@@ -15,3 +17,5 @@ pub mod LearnLemmas
 pub mod QueueLemmas
 pub mod QueueOrderLemmas
 pub mod DueLemmas
+pub mod RoomLemmas
+pub mod CountedLemmas

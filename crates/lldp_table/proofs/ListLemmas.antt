@@ -1,6 +1,6 @@
 -- What every list of calls leaves.
 use Rattle.std.proofs.Common.{◌≡◌, ℕ, ◌<◌, ◌≤◌, Bool, true, false, nat_lt, List, [], ◌∷◌, length, Option, Some, None, refl, ap, ◌∙◌, sym, subst, is_some, ◌↔◌}
-use Rattle.std.proofs.lemmas.Bool.{ltb-true, lt-ltb, false_from_ne_true, false≢true}
+use Rattle.std.proofs.lemmas.Bool.{ltb-true, ltb-false, lt-ltb, le-ltb, false_from_ne_true, false≢true}
 use Rattle.lldp_pdu.specs.Msap.{MsapId}
 use Rattle.lldp_table.specs.declared.learned.Learned.TheVariants.{New, Refreshed, Dropped}
 use Rattle.lldp_table.specs.Events.{Call, TableEvent, Neighbor, live, neighbors, limit_after, answer, events_of}
@@ -59,6 +59,12 @@ module _ (opened : ℕ) (calls : List Call) (name : MsapId) where
   unheld : held ≡ false → ¬ (IsLive past name)
   unheld e l = false≢true (sym e ∙ last_is_live name past l)
 
+  not_less : room ≡ false → limit_after opened past ≤ length (neighbors past)
+  not_less e = ltb-false (length (neighbors past)) (limit_after opened past) e
+
+  no_room : limit_after opened past ≤ length (neighbors past) → room ≡ false
+  no_room l = le-ltb (length (neighbors past)) (limit_after opened past) l
+
   pub refreshed_is : (answer opened name past ≡ Refreshed) ↔ IsLive past name
   refreshed_is = (λ h. live_is_last name past (by_refreshed held room h), λ l. ap (λ b. answer_by b room) (last_is_live name past l))
 
@@ -72,4 +78,11 @@ module _ (opened : ℕ) (calls : List Call) (name : MsapId) where
   dropped_is = (
     λ h. let p = by_dropped held room h in (unheld p.0, λ l. false≢true (sym p.1 ∙ lt-ltb (length (neighbors past)) (limit_after opened past) l)),
     λ p. ap (λ b. answer_by b room) (not_live name past p.0) ∙ ap (λ b. answer_by false b) (false_from_ne_true room (λ e. p.1 (ltb-true (length (neighbors past)) (limit_after opened past) e))),
+  )
+
+  -- the same by the number of neighbors
+  pub dropped_where_full : (answer opened name past ≡ Dropped) ↔ ((¬ (IsLive past name)) × (limit_after opened past ≤ length (neighbors past)))
+  dropped_where_full = (
+    λ h. let p = by_dropped held room h in (unheld p.0, not_less p.1),
+    λ p. ap (λ b. answer_by b room) (not_live name past p.0) ∙ ap (λ b. answer_by false b) (no_room p.1),
   )

@@ -1,57 +1,150 @@
 -- Worked rows, computed from the definitions alone. Calls are written newest first.
-use Rattle.std.proofs.Common.{◌≡◌, ℕ, List, [], ◌∷◌, refl, map}
+use Rattle.std.proofs.Common.{◌≡◌, ℕ, List, [], ◌∷◌, Option, Some, None, refl}
+use Rattle.std.specs.List.{filter_map}
 use Rattle.lldp_pdu.specs.Msap.{MsapId}
-use Rattle.lldp_table.specs.Events.{Call, learn, forget, purge, tick, Neighbor, live, answer, neighbors, events_of, too_many_left}
+use Rattle.lldp_table.specs.Events.{Call, learn, forget, purge, tick, set_limit, TableEvent, learned, Neighbor, live, neighbors, events_of, aged_out, too_many_left}
+use Rattle.lldp_table.specs.Contents.{Contents}
+use Rattle.lldp_table.specs.Standing.{table_of}
+use Rattle.lldp_table.specs.declared.learned.Learned.{Learned}
 use Rattle.lldp_table.specs.declared.learned.Learned.TheVariants.{New, Refreshed, Dropped}
 
--- port n of one chassis
-abbrev eth : ℕ → MsapId
-eth n = record { chassis = 4 ∷ []; port = 5 ∷ n ∷ [] }
+-- the Chassis ID with the MAC 00:11:22:33:44:55 and the Port ID with the interface name `eth` and this octet
+abbrev name : ℕ → MsapId
+name port = record { chassis = 4 ∷ 0x00 ∷ 0x11 ∷ 0x22 ∷ 0x33 ∷ 0x44 ∷ 0x55 ∷ []; port = 5 ∷ 0x65 ∷ 0x74 ∷ 0x68 ∷ port ∷ [] }
+
+-- the extent of its LLDPDU with this TTL
+abbrev extent : ℕ → ℕ → List ℕ
+extent port ttl = 0x02 ∷ 0x07 ∷ 0x04 ∷ 0x00 ∷ 0x11 ∷ 0x22 ∷ 0x33 ∷ 0x44 ∷ 0x55 ∷ 0x04 ∷ 0x05 ∷ 0x05 ∷ 0x65 ∷ 0x74 ∷ 0x68 ∷ port ∷ 0x06 ∷ 0x02 ∷ 0x00 ∷ ttl ∷ []
 
 abbrev frame : ℕ → ℕ → Call
-frame n ttl = learn (eth n) ttl (n ∷ [])
+frame port ttl = learn (name port) ttl (extent port ttl)
 
--- port, TTL and ticks left of each neighbor
-abbrev shown : List Neighbor → List (List ℕ × ℕ × ℕ)
-shown xs = map (λ (x : Neighbor). (x.msap.port, x.ttl, x.left)) xs
+-- a neighbor of this port and TTL, with so many ticks left
+abbrev held : ℕ → ℕ → ℕ → Neighbor
+held port ttl left = record { msap = name port; octets = extent port ttl; ttl = ttl; left = left }
 
--- a TTL of 1 is gone after one tick
-gone_in_time : neighbors (events_of 32 (tick ∷ frame 0 1 ∷ [])) ≡ []
-unfolding neighbors live events_of
-gone_in_time = refl
+-- a table that was opened for two neighbors
+abbrev table : ℕ → ℕ → List Neighbor → Contents
+table limit timer held = record { capacity = 2; limit = limit; neighbors = held; too_many_left = timer }
 
-held_before : shown (neighbors (events_of 32 (frame 0 1 ∷ []))) ≡ ((5 ∷ 0 ∷ []), 1, 1) ∷ []
-unfolding neighbors live events_of
-held_before = refl
+-- what frames were answered
+abbrev answer_of : TableEvent → Option Learned
+answer_of (learned msap ttl octets answer) = Some answer
+answer_of _ = None
 
--- a refreshed neighbor keeps its place, also where the table is full, and no dropped frame takes one
-full : shown (neighbors (events_of 2 (tick ∷ frame 0 120 ∷ frame 3 5 ∷ frame 2 9 ∷ frame 1 120 ∷ frame 0 60 ∷ []))) ≡ ((5 ∷ 0 ∷ []), 120, 119) ∷ ((5 ∷ 1 ∷ []), 120, 119) ∷ []
-unfolding neighbors live events_of
-full = refl
+abbrev answers : List TableEvent → List Learned
+answers events = filter_map answer_of events
 
--- the too-many timer is that of the greatest TTL that is left
-timer : too_many_left (events_of 2 (tick ∷ frame 0 120 ∷ frame 3 5 ∷ frame 2 9 ∷ frame 1 120 ∷ frame 0 60 ∷ [])) ≡ 8
+-- ## Ageing
+
+new_is_held : table_of 2 (frame 0x30 1 ∷ []) ≡ table 2 0 (held 0x30 1 1 ∷ [])
 unfolding neighbors live events_of too_many_left
-timer = refl
+new_is_held = refl
 
--- a neighbor that aged out and comes again is new, and last
-again : shown (neighbors (events_of 3 (frame 0 120 ∷ tick ∷ frame 0 1 ∷ frame 3 5 ∷ frame 0 120 ∷ []))) ≡ ((5 ∷ 3 ∷ []), 5, 4) ∷ ((5 ∷ 0 ∷ []), 120, 120) ∷ []
-unfolding neighbors live events_of
-again = refl
+ttl_of_one_ends_at_the_next_tick : table_of 2 (tick ∷ frame 0x30 1 ∷ []) ≡ table 2 0 []
+unfolding neighbors live events_of too_many_left
+ttl_of_one_ends_at_the_next_tick = refl
 
--- what is answered where a table is full, after a purge, and of a name that was forgotten
-answers : answer 1 (eth 1) (events_of 1 (frame 0 120 ∷ [])) ≡ Dropped
-unfolding neighbors live events_of
-answers = refl
+ttl_of_two_lasts_one_tick : table_of 2 (tick ∷ frame 0x30 2 ∷ []) ≡ table 2 0 (held 0x30 2 1 ∷ [])
+unfolding neighbors live events_of too_many_left
+ttl_of_two_lasts_one_tick = refl
 
-answers_after_purge : answer 1 (eth 1) (events_of 1 (purge ∷ frame 0 120 ∷ [])) ≡ New
+one_of_three_ages_out : aged_out (events_of 3 (frame 0x32 9 ∷ frame 0x31 120 ∷ frame 0x30 1 ∷ [])) ≡ 1
 unfolding neighbors live events_of
-answers_after_purge = refl
+one_of_three_ages_out = refl
 
-answers_refresh : answer 1 (eth 0) (events_of 1 (frame 1 7 ∷ frame 0 120 ∷ [])) ≡ Refreshed
-unfolding neighbors live events_of
-answers_refresh = refl
+a_refresh_begins_anew : table_of 2 (tick ∷ frame 0x30 7 ∷ tick ∷ frame 0x30 3 ∷ []) ≡ table 2 0 (held 0x30 7 6 ∷ [])
+unfolding neighbors live events_of too_many_left
+a_refresh_begins_anew = refl
 
-after_forget : neighbors (events_of 1 (forget (eth 0) ∷ frame 0 120 ∷ [])) ≡ []
+a_refresh_may_shorten : table_of 2 (tick ∷ frame 0x30 1 ∷ frame 0x30 120 ∷ []) ≡ table 2 0 []
+unfolding neighbors live events_of too_many_left
+a_refresh_may_shorten = refl
+
+-- ## Order
+
+a_refresh_keeps_its_place : table_of 2 (frame 0x30 9 ∷ frame 0x31 120 ∷ frame 0x30 60 ∷ []) ≡ table 2 0 (held 0x30 9 9 ∷ held 0x31 120 120 ∷ [])
+unfolding neighbors live events_of too_many_left
+a_refresh_keeps_its_place = refl
+
+who_aged_out_comes_last : table_of 2 (frame 0x30 120 ∷ tick ∷ frame 0x31 5 ∷ frame 0x30 1 ∷ []) ≡ table 2 0 (held 0x31 5 4 ∷ held 0x30 120 120 ∷ [])
+unfolding neighbors live events_of too_many_left
+who_aged_out_comes_last = refl
+
+who_left_comes_last : table_of 2 (frame 0x30 120 ∷ forget (name 0x30) ∷ frame 0x31 5 ∷ frame 0x30 60 ∷ []) ≡ table 2 0 (held 0x31 5 5 ∷ held 0x30 120 120 ∷ [])
+unfolding neighbors live events_of too_many_left
+who_left_comes_last = refl
+
+-- ## Names
+
+-- the same port of another chassis is another neighbor
+another_chassis : answers (events_of 2 (learn (record { chassis = 7 ∷ 0x61 ∷ []; port = 7 ∷ 0x31 ∷ [] }) 9 [] ∷ learn (record { chassis = 7 ∷ 0x62 ∷ []; port = 7 ∷ 0x31 ∷ [] }) 9 [] ∷ [])) ≡ New ∷ New ∷ []
 unfolding neighbors live events_of
-after_forget = refl
+another_chassis = refl
+
+-- so is the same name by another subtype
+another_subtype : answers (events_of 2 (learn (record { chassis = 7 ∷ 0x61 ∷ []; port = 7 ∷ 0x31 ∷ [] }) 9 [] ∷ learn (record { chassis = 7 ∷ 0x61 ∷ []; port = 5 ∷ 0x31 ∷ [] }) 9 [] ∷ [])) ≡ New ∷ New ∷ []
+unfolding neighbors live events_of
+another_subtype = refl
+
+who_leaves_goes_alone : table_of 2 (forget (name 0x30) ∷ frame 0x31 9 ∷ frame 0x30 9 ∷ []) ≡ table 2 0 (held 0x31 9 9 ∷ [])
+unfolding neighbors live events_of too_many_left
+who_leaves_goes_alone = refl
+
+-- ## A full table
+
+-- a new neighbor is ignored, a refresh is taken, and the timer is that of the greatest TTL left
+full_table : table_of 2 (tick ∷ frame 0x30 120 ∷ frame 0x33 5 ∷ frame 0x32 9 ∷ frame 0x31 120 ∷ frame 0x30 60 ∷ []) ≡ table 2 8 (held 0x30 120 119 ∷ held 0x31 120 119 ∷ [])
+unfolding neighbors live events_of too_many_left
+full_table = refl
+
+full_table_answers : answers (events_of 2 (frame 0x30 120 ∷ frame 0x33 5 ∷ frame 0x32 9 ∷ frame 0x31 120 ∷ frame 0x30 60 ∷ [])) ≡ Refreshed ∷ Dropped ∷ Dropped ∷ New ∷ New ∷ []
+unfolding neighbors live events_of
+full_table_answers = refl
+
+the_timer_ends : table_of 2 (tick ∷ tick ∷ frame 0x32 2 ∷ frame 0x31 120 ∷ frame 0x30 60 ∷ []) ≡ table 2 0 (held 0x30 60 58 ∷ held 0x31 120 118 ∷ [])
+unfolding neighbors live events_of too_many_left
+the_timer_ends = refl
+
+-- also a frame whose name was held before
+who_is_dropped_is_not_held : table_of 2 (frame 0x30 9 ∷ frame 0x32 60 ∷ tick ∷ frame 0x31 60 ∷ frame 0x30 1 ∷ []) ≡ table 2 9 (held 0x31 60 59 ∷ held 0x32 60 60 ∷ [])
+unfolding neighbors live events_of too_many_left
+who_is_dropped_is_not_held = refl
+
+room_again : answers (events_of 2 (frame 0x32 9 ∷ tick ∷ frame 0x31 1 ∷ frame 0x30 60 ∷ [])) ≡ New ∷ New ∷ New ∷ []
+unfolding neighbors live events_of
+room_again = refl
+
+-- ## Limit and purge, while the timer runs
+
+-- two are held, one was dropped, and a tick came; then one leaves
+abbrev crowded : List Call
+crowded = forget (name 0x31) ∷ tick ∷ frame 0x32 9 ∷ frame 0x31 120 ∷ frame 0x30 60 ∷ []
+
+the_timer_outlasts_a_leave : table_of 2 crowded ≡ table 2 8 (held 0x30 60 59 ∷ [])
+unfolding neighbors live events_of too_many_left
+the_timer_outlasts_a_leave = refl
+
+a_lower_limit_leaves_all_else : table_of 2 (set_limit 1 ∷ crowded) ≡ table 1 8 (held 0x30 60 59 ∷ [])
+unfolding neighbors live events_of too_many_left
+a_lower_limit_leaves_all_else = refl
+
+a_lower_limit_is_read : table_of 2 (frame 0x33 20 ∷ set_limit 1 ∷ crowded) ≡ table 1 20 (held 0x30 60 59 ∷ [])
+unfolding neighbors live events_of too_many_left
+a_lower_limit_is_read = refl
+
+a_higher_limit_is_read : table_of 2 (frame 0x33 5 ∷ set_limit 2 ∷ frame 0x34 5 ∷ set_limit 1 ∷ crowded) ≡ table 2 8 (held 0x30 60 59 ∷ held 0x33 5 5 ∷ [])
+unfolding neighbors live events_of too_many_left
+a_higher_limit_is_read = refl
+
+a_purge_ends_the_timer : table_of 2 (purge ∷ set_limit 1 ∷ crowded) ≡ table 1 0 []
+unfolding neighbors live events_of too_many_left
+a_purge_ends_the_timer = refl
+
+a_purge_leaves_the_limit : table_of 2 (tick ∷ frame 0x34 7 ∷ frame 0x33 5 ∷ purge ∷ set_limit 1 ∷ crowded) ≡ table 1 6 (held 0x33 5 4 ∷ [])
+unfolding neighbors live events_of too_many_left
+a_purge_leaves_the_limit = refl
+
+all_answers : answers (events_of 2 (frame 0x34 7 ∷ frame 0x33 5 ∷ purge ∷ set_limit 1 ∷ crowded)) ≡ Dropped ∷ New ∷ Dropped ∷ New ∷ New ∷ []
+unfolding neighbors live events_of
+all_answers = refl

@@ -5,3 +5,5 @@ pub mod Steps
 pub mod Stored
 pub mod Queue
 pub mod Layout
+pub mod Room
+pub mod Lent

@@ -1,14 +1,16 @@
 //! Laws of the definitions, for every list of calls.
-ghost use Rattle.std.specs.Prelude.{◌≡◌, ℕ, ◌+◌, ◌*◌, ◌<◌, ◌≤◌, ◌↔◌, List, [], ◌∷◌, length, None};
-ghost use Rattle.std.specs.List.{Contains, AllPairs};
+ghost use Rattle.std.specs.Prelude.{◌≡◌, ℕ, false, ◌+◌, ◌-◌, ◌*◌, ◌^◌, ◌<◌, ◌≤◌, ◌↔◌, ◌⊎◌, max, List, [], ◌∷◌, ◌++◌, length, None};
+ghost use Rattle.std.specs.List.{Contains, AllPairs, AllByRecursion};
 ghost use Rattle.lldp_pdu.specs.Tlv.{AreOctets};
 ghost use Rattle.lldp_pdu.specs.Msap.{MsapId};
 ghost use Rattle.lldp_pdu.specs.Lldpdu.{extent, ttl_of, msap_of};
 ghost use Rattle.lldp_pdu.specs.Fault.{fault_of};
 ghost use Rattle.lldp_pdu.specs.Kept.{kept_of};
 ghost use Rattle.lldp_table.specs.declared.learned.Learned.TheVariants.{New, Refreshed, Dropped};
-ghost use Rattle.lldp_table.specs.Events.{Call, Neighbor, TableEvent, ticked, aged_out, answer, event_of, events_of, neighbors, too_many_left};
+ghost use Rattle.lldp_table.specs.Changes.{a_tick_before, told_by, sets_limit};
+ghost use Rattle.lldp_table.specs.Events.{Call, learn, forget, purge, tick, set_limit, Neighbor, TableEvent, ticked, aged_out, answer, event_of, events_of, neighbors, too_many_left};
 ghost use Rattle.lldp_table.specs.Contents.{Contents, IsExtent, IsHeld, IsSound};
+ghost use Rattle.lldp_table.specs.Code.Stored.{tag_of};
 ghost use Rattle.lldp_table.specs.Code.Steps.{learn_answer, newly_opened, table_after};
 ghost use Rattle.lldp_table.specs.Standing.{Stands, ForEachCalls, IsTold, AreTold, table_of};
 ghost use Rattle.lldp_table.specs.Positions.{IsLastStored, IsLive, HasRoom, IsNewBefore, WasDropped};
@@ -106,4 +108,81 @@ pub fn timers_keep_the_greatest_dropped()
         WasDropped (events_of opened calls) table.too_many_left) }
     ensures most_held { (table : Contents) (left : ℕ) → ForEachCalls table (λ opened calls.
         WasDropped (events_of opened calls) left → left ≤ table.too_many_left) }
+{}
+
+/// A name that takes leave, by a TTL of 0, goes and no other does; nothing else changes.
+pub fn forgotten_names_go_alone()
+    ensures held { (opened : ℕ) (calls : List Call) (name : MsapId) (neighbor : Neighbor) →
+        Contains (table_of opened (forget name ∷ calls)).neighbors neighbor
+        ↔ (Contains (table_of opened calls).neighbors neighbor × (¬ (neighbor.msap ≡ name))) }
+    ensures others { (opened : ℕ) (calls : List Call) (name : MsapId) →
+        record (table_of opened (forget name ∷ calls)) { neighbors = (table_of opened calls).neighbors }
+        ≡ table_of opened calls }
+{}
+
+/// At a tick exactly those neighbors go that had one tick left. The others, and the too-many timer,
+/// have one tick less, and the limit stays.
+pub fn ticks_take_expired_neighbors_alone()
+    ensures held { (opened : ℕ) (calls : List Call) (neighbor : Neighbor) →
+        Contains (table_of opened (tick ∷ calls)).neighbors neighbor
+        ↔ ((0 < neighbor.left)
+        × Contains (table_of opened calls).neighbors (a_tick_before neighbor)) }
+    ensures timer { (opened : ℕ) (calls : List Call) →
+        (table_of opened (tick ∷ calls)).too_many_left ≡ (table_of opened calls).too_many_left - 1 }
+    ensures limit { (opened : ℕ) (calls : List Call) →
+        (table_of opened (tick ∷ calls)).limit ≡ (table_of opened calls).limit }
+{}
+
+/// A stored frame is held with all of its TTL left, in place of what its name had; nothing else
+/// changes.
+pub fn stored_frames_replace_their_name_alone()
+    ensures held { (opened : ℕ) (calls : List Call) (name : MsapId) (ttl : ℕ) (octets : List ℕ)
+        (neighbor : Neighbor) → 0 < ttl → ¬ (answer opened name (events_of opened calls) ≡ Dropped) →
+        Contains (table_of opened (learn name ttl octets ∷ calls)).neighbors neighbor
+        ↔ ((neighbor ≡ told_by name ttl octets)
+        ⊎ (Contains (table_of opened calls).neighbors neighbor × (¬ (neighbor.msap ≡ name)))) }
+    ensures others { (opened : ℕ) (calls : List Call) (name : MsapId) (ttl : ℕ) (octets : List ℕ) →
+        ¬ (answer opened name (events_of opened calls) ≡ Dropped) →
+        record (table_of opened (learn name ttl octets ∷ calls)) { neighbors = (table_of opened calls).neighbors }
+        ≡ table_of opened calls }
+{}
+
+/// A dropped frame has the too-many timer run at least as long as its TTL; nothing else changes.
+pub fn dropped_frames_change_the_timer_alone()
+    ensures { (opened : ℕ) (calls : List Call) (name : MsapId) (ttl : ℕ) (octets : List ℕ) →
+        answer opened name (events_of opened calls) ≡ Dropped →
+        table_of opened (learn name ttl octets ∷ calls)
+        ≡ record (table_of opened calls) { too_many_left = max (table_of opened calls).too_many_left ttl } }
+{}
+
+/// A purge leaves no neighbor and ends the too-many timer, and the limit stays.
+pub fn purges_end_timers_too()
+    ensures { (opened : ℕ) (calls : List Call) → table_of opened (purge ∷ calls)
+        ≡ record (table_of opened calls) { neighbors = []; too_many_left = 0 } }
+{}
+
+/// A limit is in force from the call that sets it until another one does, the limit of opening
+/// until the first: a frame of a name that is not live is dropped exactly where as many neighbors
+/// are held. Setting it changes nothing else.
+pub fn limits_last_until_the_next()
+    ensures set { (opened limit : ℕ) (later calls : List Call) →
+        AllByRecursion (λ call. sets_limit call ≡ false) later →
+        (table_of opened (later ++ set_limit limit ∷ calls)).limit ≡ limit }
+    ensures opened { (opened : ℕ) (calls : List Call) →
+        AllByRecursion (λ call. sets_limit call ≡ false) calls →
+        (table_of opened calls).limit ≡ opened }
+    ensures dropped { (opened : ℕ) (calls : List Call) (name : MsapId) →
+        (answer opened name (events_of opened calls) ≡ Dropped)
+        ↔ ((¬ (IsLive (events_of opened calls) name))
+        × ((table_of opened calls).limit ≤ length (table_of opened calls).neighbors)) }
+    ensures others { (opened limit : ℕ) (calls : List Call) →
+        table_of opened (set_limit limit ∷ calls) ≡ record (table_of opened calls) { limit = limit } }
+{}
+
+/// Two names whose octets, those of the chassis ID before those of the port ID, differ in one place
+/// have different tags.
+pub fn names_one_octet_apart_have_tags_apart()
+    ensures { (one other : MsapId) (front back : List ℕ) (a b : ℕ) →
+        one.chassis ++ one.port ≡ front ++ a ∷ back → other.chassis ++ other.port ≡ front ++ b ∷ back →
+        a < 2 ^ 8 → b < 2 ^ 8 → tag_of one ≡ tag_of other → a ≡ b }
 {}

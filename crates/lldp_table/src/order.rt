@@ -1,5 +1,5 @@
 //! The order of a table's slots, those in use first: what is found, added, aged out and read by it.
-ghost use Rattle.std.specs.Prelude.{◌≡◌, ◌≤◌, ◌<◌, ◌+◌, ◌*◌, true, false, List, length, take, map, MatchOption, slice_index_or, sum_by, IsPermutation, nat_eq, vec_capacity};
+ghost use Rattle.std.specs.Prelude.{◌≡◌, ◌≤◌, ◌<◌, ◌+◌, ◌*◌, true, false, List, length, take, map, MatchOption, slice_index_or, sum_by, IsPermutation, nat_eq};
 ghost use Rattle.std.specs.List.{list_any, filter_map, AllByRecursion, IsDistinct};
 ghost use Rattle.lldp_pdu.specs.View.{msap_view};
 ghost use Rattle.lldp_table.specs.Code.Stored.{Stored, tag_of};
@@ -10,12 +10,11 @@ ghost use Rattle.lldp_table.specs.Code.Layout.{blank, msap_at, octets_at, neighb
 
 use crate::limits::{MOST_NEIGHBORS, MOST_OCTETS};
 use crate::queue::{Queue, place_in};
+use crate::room::Room;
 use crate::slot::Slot;
-use crate::times::Accesses;
 use arrayvec::ArrayVec;
 use lldp_pdu::Msap;
 use std::alloc::Allocator;
-use std::sync::ledger::Ledger;
 
 /// The place of the slot whose frame has this MSAP identifier, whose tag is given.
 pub(crate) fn place_of(slots: &[Slot], order: &[u8], name: &Msap<'_>, tag: u32) -> Option<usize>
@@ -37,20 +36,20 @@ pub(crate) fn place_of(slots: &[Slot], order: &[u8], name: &Msap<'_>, tag: u32) 
 
 /// Writes one more slot where all that were written are in use. The room was made at opening.
 pub(crate) fn write_next<A: Allocator>(
-    slots: &mut Vec<Slot, A>,
+    slots: &mut Room<Slot, A>,
     order: &mut ArrayVec<u8, MOST_NEIGHBORS>,
     used: usize,
 )
     requires same { length order.old.items ≡ length slots.old.items }
     requires fits { used ≤ length slots.old.items }
-    requires room { used < vec_capacity slots.old }
+    requires room { used < slots.old.capacity }
     requires few { used < MOST_NEIGHBORS }
     ensures slots { slots.new.items ≡ with_next used blank slots.old.items }
     ensures order { order.new.items ≡ with_next used used order.old.items }
-    ensures room { vec_capacity slots.new ≡ vec_capacity slots.old }
+    ensures room { slots.new.capacity ≡ slots.old.capacity }
 {
     if slots.len() == used {
-        slots.push_reserved(Slot::blank());
+        slots.push(Slot::blank());
         order.push(used as u8);
     }
 }
@@ -58,32 +57,31 @@ pub(crate) fn write_next<A: Allocator>(
 /// A tick. Takes the slots whose neighbors expire out of the queue, and puts them behind the others
 /// in the order. Tells how many slots are still in use.
 #[inline(always)]
-pub(crate) fn age_out<L: Ledger>(
+pub(crate) fn age_out(
     queue: &mut Queue,
     order: &mut ArrayVec<u8, MOST_NEIGHBORS>,
     used: usize,
-    accesses: &mut Accesses<L>,
 ) -> usize
-    requires timed { IsTimed queue.old (take used order.old.items) }
+    requires timed { IsTimed queue.old.shown (take used order.old.items) }
     requires distinct { IsDistinct nat_eq order.old.items }
     requires used { used ≤ length order.old.items }
     ensures neighbors { (slots : List Stored) →
-        neighbors_at slots (ticks_left queue.new) (take result order.new.items)
-        ≡ filter_map aged (neighbors_at slots (ticks_left queue.old) (take used order.old.items)) }
-    ensures timed { IsTimed queue.new (take result order.new.items) }
+        neighbors_at slots (ticks_left queue.new.shown) (take result order.new.items)
+        ≡ filter_map aged (neighbors_at slots (ticks_left queue.old.shown) (take used order.old.items)) }
+    ensures timed { IsTimed queue.new.shown (take result order.new.items) }
     ensures moved { IsPermutation order.old.items order.new.items }
     ensures fewer { result ≤ used }
-    ensures counted { accesses.new + result ≤ accesses.old + used + 2 }
+    ensures counted { queue.new.accesses + result ≤ queue.old.accesses + used + 2 }
 {
     let mut kept = used;
-    let mut spent = queue.pass(accesses);
+    let mut spent = queue.pass();
     while spent {
         let slot = queue.pop();
         let at = place_in(&order[..kept], slot);
         let gone = order.remove(at);
         order.push(gone);
         kept -= 1;
-        spent = queue.is_spent(accesses);
+        spent = queue.is_spent();
     }
     kept
 }
@@ -92,8 +90,8 @@ pub(crate) fn age_out<L: Ledger>(
 pub(crate) fn lefts_of(queue: &Queue, order: &[u8]) -> ArrayVec<u16, MOST_NEIGHBORS>
     requires few { length order.now ≤ MOST_NEIGHBORS }
     requires within { AllByRecursion (λ i. i < MOST_NEIGHBORS) order.now }
-    requires queued { AllByRecursion (λ i. holds i queue.now ≡ true) order.now }
-    ensures { result.items ≡ map (ticks_left queue.now) order.now }
+    requires queued { AllByRecursion (λ i. holds i queue.now.shown ≡ true) order.now }
+    ensures { result.items ≡ map (ticks_left queue.now.shown) order.now }
 {
     let each = queue.lefts();
     let mut lefts = ArrayVec::new();

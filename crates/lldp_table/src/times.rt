@@ -1,100 +1,83 @@
-//! The stored times. A time is reached by a get or a set, which are counted, or by a look, which
-//! changes nothing.
+//! The stored times. A time is reached by a get or a set, which are counted; or all at once, to be
+//! shown, which through a shared reference cannot be counted.
 ghost use Rattle.std.specs.Prelude.{◌≡◌, ℕ, ◌+◌, ◌<◌, length, slice_index, slice_set};
+ghost use Rattle.std.specs.List.{AllByRecursion};
+ghost use Rattle.lldp_table.specs.Code.Queue.{dues, ticks_left, IsQueue};
 
+use crate::count::Count;
 use crate::limits::MOST_NEIGHBORS;
 use std::marker::Model;
-use std::sync::ledger::{Blank, Book, Ledger, Share};
 
-/// How many gets and sets of stored times were made. It takes no bytes, and nothing but a get and a
-/// set changes it.
-#[derive(Drop)]
-pub struct Accesses<L: Ledger> {
-    book: Book<L>,
-    share: Share<L>,
-}
-
-impl<L: Ledger> Model for Accesses<L> {
-    ghost use Rattle.std.specs.Prelude.{ℕ, ◌<◌};
-
-    ghost Value = { ℕ };
-
-    ghost view = { λ a. a.book.total };
-
-    ghost invariant = { λ a. 0 < a.share.parts };
-}
-
-impl<L: Ledger> Accesses<L> {
-    /// None so far.
-    pub fn open(blank: Blank) -> Accesses<L>
-        requires name { blank.name ≡ L.name }
-        requires parts { blank.parts ≡ L.parts }
-        requires some { 0 < L.parts }
-        ensures { result ≡ 0 }
-    {
-        let (book, share) = blank.open();
-        Accesses { book, share }
-    }
-
-    fn add(&mut self)
-        ensures { self.new ≡ self.old + 1 }
-    {
-        self.book.add(&mut self.share, 1);
-    }
-}
-
-/// The stored time of each slot.
+/// The stored time of each slot, and how many gets and sets of them were made.
 #[derive(Drop)]
 pub(crate) struct Times {
     each: [u16; MOST_NEIGHBORS],
+    count: Count,
 }
 
 impl Model for Times {
     ghost use Rattle.std.specs.Prelude.{◌≡◌, ℕ, List, length};
     ghost use Rattle.lldp_table.specs.declared.limits.TheConstants.{MOST_NEIGHBORS};
+    ghost use Rattle.lldp_table.specs.Counted.{Counted};
 
-    ghost Value = { List ℕ };
+    ghost Value = { Counted (List ℕ) };
 
-    ghost view = { λ t. t.each };
+    ghost view = { λ t. record { shown = t.each; accesses = t.count.number } };
 
     ghost invariant = { λ t. length t.each ≡ MOST_NEIGHBORS };
 }
 
 impl Times {
     pub(crate) fn new() -> Times
-        ensures { length result ≡ MOST_NEIGHBORS }
+        ensures { length result.shown ≡ MOST_NEIGHBORS }
     {
         Times {
             each: [0; MOST_NEIGHBORS],
+            count: Count::new(),
         }
     }
 
     /// Gets the time of a slot.
-    pub(crate) fn get<L: Ledger>(&mut self, slot: u8, accesses: &mut Accesses<L>) -> u16
+    pub(crate) fn get(&mut self, slot: u8) -> u16
         requires { slot < MOST_NEIGHBORS }
-        ensures value { result ≡ slice_index self.old slot }
-        ensures same { self.new ≡ self.old }
-        ensures counted { accesses.new ≡ accesses.old + 1 }
+        ensures value { result ≡ slice_index self.old.shown slot }
+        ensures same { self.new.shown ≡ self.old.shown }
+        ensures counted { self.new.accesses ≡ self.old.accesses + 1 }
     {
-        accesses.add();
+        self.count.add();
         self.each[slot as usize]
     }
 
     /// Sets the time of a slot.
-    pub(crate) fn set<L: Ledger>(&mut self, slot: u8, time: u16, accesses: &mut Accesses<L>)
+    pub(crate) fn set(&mut self, slot: u8, time: u16)
         requires { slot < MOST_NEIGHBORS }
-        ensures value { self.new ≡ slice_set self.old slot time }
-        ensures counted { accesses.new ≡ accesses.old + 1 }
+        ensures value { self.new.shown ≡ slice_set self.old.shown slot time }
+        ensures counted { self.new.accesses ≡ self.old.accesses + 1 }
     {
-        accesses.add();
+        self.count.add();
         self.each[slot as usize] = time;
     }
 
-    /// Looks at the time of a slot.
-    pub(crate) fn look(&self, slot: u8) -> u16
+    /// Looks at the time of a slot, uncounted.
+    fn look(&self, slot: u8) -> u16
         requires { slot < MOST_NEIGHBORS }
-        ensures { result ≡ slice_index self.now slot }
+        ensures { result ≡ slice_index self.now.shown slot }
     {
         self.each[slot as usize]
     }
+}
+
+/// The ticks left of each slot, for whoever shows them. This alone looks at times uncounted.
+pub(crate) fn lefts_in(slots: &[u8], times: &Times) -> [u16; MOST_NEIGHBORS]
+    requires { IsQueue times.now.shown slots.now }
+    ensures { AllByRecursion (λ i. slice_index result i
+        ≡ ticks_left (dues times.now.shown slots.now) i) slots.now }
+{
+    let mut lefts = [0; MOST_NEIGHBORS];
+    let mut left = 0;
+    for slot in slots {
+        left += times.look(*slot);
+        lefts[*slot as usize] = left;
+    }
+    lefts
 }

@@ -1,4 +1,6 @@
 //! Why an agent is not opened.
+ghost use Rattle.std.specs.Prelude.{◌≡◌};
+ghost use Rattle.lldp_engine.specs.FixedNumbers.{number_of_refusal};
 
 use std::alloc::AllocError;
 
@@ -17,6 +19,15 @@ pub enum OpenFault {
     SamePort = 5,
     /// The hostname has more than 255 octets, or one that is not printable.
     Text = 6,
+}
+
+impl OpenFault {
+    /// The number of the fault, 1 to 6.
+    pub fn number(self) -> u8
+        ensures { result ≡ number_of_refusal self }
+    {
+        self as u8
+    }
 }
 
 impl From<AllocError> for OpenFault {

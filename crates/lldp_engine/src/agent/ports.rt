@@ -15,6 +15,7 @@ use crate::agent::options::Options;
 use crate::port::Port;
 use crate::port::event::{PortEvent, Whose};
 use arrayvec::ArrayVec;
+use lldp_table::Room;
 use lldp_transmit::Mark;
 use std::alloc::{AllocError, Allocator};
 
@@ -25,15 +26,15 @@ pub type Marks = ArrayVec<(u8, Mark), 64>;
 pub(crate) fn open_ports<A: Allocator + Clone>(
     alloc: A,
     options: &Options<'_>,
-) -> Result<Vec<Port<A>, A>, AllocError>
+) -> Result<Room<Port<A>, A>, AllocError>
     requires names { IsTrue (list_all is_port_name (options_of options.now).names) }
     requires range { InRange (options_of options.now) }
     ensures { IfOk result (λ ports. ports.items
         ≡ map (opened_port (options_of options.now)) (options_of options.now).names) }
 {
-    let mut ports = Vec::with_capacity(alloc.clone()?, options.ports.len())?;
+    let mut ports = Room::open(alloc.clone()?, options.ports.len())?;
     for name in options.ports {
-        ports.push(Port::open(alloc.clone()?, name.as_bytes(), options)?)?;
+        ports.push(Port::open(alloc.clone()?, name.as_bytes(), options)?);
     }
     Ok(ports)
 }

@@ -1,6 +1,7 @@
 //! Why a command is refused.
 ghost use Rattle.std.specs.Prelude.{◌≡◌, ◌≤◌, length};
 ghost use Rattle.lldp_engine.specs.Fault.{text_of};
+ghost use Rattle.lldp_engine.specs.FixedNumbers.{number_of_fault};
 
 /// Why a command is refused. Of several faults of a line the first in reading order is told: a bad
 /// quote anywhere, then the first word from the left that no form has, then a word too many, then a
@@ -26,6 +27,13 @@ pub enum CommandFault {
 }
 
 impl CommandFault {
+    /// The number of the fault, 1 to 8.
+    pub fn number(self) -> u8
+        ensures { result ≡ number_of_fault self }
+    {
+        self as u8
+    }
+
     /// The line that tells the fault, without its end.
     pub fn text(self) -> &'static [u8]
         ensures text { result.now ≡ text_of self }

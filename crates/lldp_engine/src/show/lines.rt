@@ -28,7 +28,7 @@ impl<A: Allocator> Agent<A> {
     /// neighbor's lines.
     pub fn show_lines<S: LineSink>(&self, show: &Show, sink: &mut S)
         ensures value { Takes S.takes sink.old sink.new (lines_of show.now self.now) }
-        ensures few { length (lines_of show.now self.now) ≤ MOST_LINES }
+        ensures few { length (lines_of show.now self.now) ≤ 6127808 }
         ensures past { (past : Past) → Stands past self.now →
             Takes S.takes sink.old sink.new (lines_of show.now (agent_of past)) }
     {
@@ -47,7 +47,7 @@ impl<A: Allocator> Agent<A> {
     /// `show_lines`.
     pub fn show_line(&self, show: &Show, i: u32) -> Option<Line>
         ensures line { option_map octets_of result ≡ slice_get (lines_of show.now self.now) i }
-        ensures few { IsSome result → i < MOST_LINES }
+        ensures few { IsSome result → i < 6127808 }
         ensures past { (past : Past) → Stands past self.now →
             option_map octets_of result ≡ slice_get (lines_of show.now (agent_of past)) i }
     {

@@ -255,6 +255,7 @@ fn numbers_and_texts_of_faults(rt: HostRuntime) {
         (CommandFault::InUse, 8, b"error: too many held"),
     ] {
         assert_eq!(rt; fault as u8, number);
+        assert_eq!(rt; fault.number(), number);
         assert_eq!(rt; fault.text(), text);
     }
 }

@@ -1,4 +1,5 @@
 //! Opening, and what is read of an agent.
+use super::whole_shows::NAMES;
 use super::{
     counters, find_port, held, is_up, open, open_with, options, port_name, sending, status,
 };
@@ -38,6 +39,7 @@ fn faults(rt: HostRuntime) -> Result<(), Fail> {
         (OpenFault::Text, 6),
     ] {
         assert_eq!(rt; fault as u8, number);
+        assert_eq!(rt; fault.number(), number);
     }
     Ok(())
 }
@@ -84,5 +86,17 @@ fn readers(rt: HostRuntime) -> Result<(), Fail> {
     assert_eq!(rt; agent.table(1).limit(), 3);
     let agent = open_with(&rt, rt.alloc(), &sending(&["eth0"]))?;
     assert_eq!(rt; status(&rt, &agent, 0), Status::RxAndTx);
+    Ok(())
+}
+
+/// No opening is refused where there is memory: every number of ports, with every limit.
+#[test]
+fn every_size(rt: HostRuntime) -> Result<(), Fail> {
+    for ports in 1..65 {
+        for limit in 1..129 {
+            let agent = open(&rt, rt.alloc(), &NAMES[..ports], limit)?;
+            assert_eq!(rt; usize::from(agent.ports()), ports);
+        }
+    }
     Ok(())
 }

@@ -46,11 +46,14 @@ struct Compared<'a> {
 }
 
 impl Compared<'_> {
-    /// Compares the line that was written last, where there is one.
+    /// Compares the line that was written last, where there is one, and looks for its line feed.
     fn compare(&mut self) {
-        let Some((_, line)) = self.line.as_slice().split_last() else {
+        let Some((end, line)) = self.line.as_slice().split_last() else {
             return;
         };
+        if *end != b'\n' {
+            self.different = self.different.saturating_add(1);
+        }
         let number = self.lines.saturating_sub(1);
         if number.checked_rem(self.step) == Some(0) {
             let again = shown(self.agent, self.show, number);

@@ -4,23 +4,23 @@ use Rattle.lldp_table.proofs.DueLemmas.{entered, holds-dues, queue_entered}
 use Rattle.lldp_table.proofs.queue.enter_into.Goals as goal
 
 pub returns-clause-after : goal.returns-clause-after
-returns-clause-after g c =
-    let times = c.args.times.now in
+returns-clause-after c =
+    let times = c.args.times.now.shown in
     let slots = c.args.slots.now.items in
     let at = c.place_for-at.result.0 in
     let rest = c.place_for-at.result.1 in
     let place = rw c.as_slice.ensures.value at c.place_for-at.ensures in
-    let less = rw c.as_slice-2.ensures.value at c.lessen.ensures in
+    let less = rw (c.as_slice-2.ensures.value, c.place_for-at.ensures.same) at c.lessen.ensures in
     let new : list_any (nat_eq c.args.slot) slots ≡ false = sym (holds-dues times c.args.slot slots) ∙ c.requires.new in
     rw (c.insert.ensures.items, c.set.ensures.value)
-    (entered times c.lessen.new.times slots at c.args.slot rest place.within less.all c.requires.within new less.after ∙ sym (place.place c.args.slot))
+    (entered times c.lessen.new.times.shown slots at c.args.slot rest place.within less.all c.requires.within new less.after ∙ sym (place.place c.args.slot))
 
 pub returns-clause-queue : goal.returns-clause-queue
-returns-clause-queue g c =
-    let times = c.args.times.now in
+returns-clause-queue c =
+    let times = c.args.times.now.shown in
     let slots = c.args.slots.now.items in
-    let less = rw c.as_slice-2.ensures.value at c.lessen.ensures in
+    let less = rw (c.as_slice-2.ensures.value, c.place_for-at.ensures.same) at c.lessen.ensures in
     let new : list_any (nat_eq c.args.slot) slots ≡ false = sym (holds-dues times c.args.slot slots) ∙ c.requires.new in
-    queue_entered times slots c.requires.queue c.set.new.self c.insert.new.self.items
-    (ap length c.set.ensures.value ∙ length-set c.lessen.new.times c.args.slot c.place_for-at.result.1 ∙ less.all)
-    c.args.slot c.args.left c.requires.within c.ranges.left.fits new (returns-clause-after g c)
+    queue_entered times slots c.requires.queue c.set.new.self.shown c.insert.new.self.items
+    (ap length c.set.ensures.value ∙ length-set c.lessen.new.times.shown c.args.slot c.place_for-at.result.1 ∙ less.all)
+    c.args.slot c.args.left c.requires.within c.ranges.left.fits new (returns-clause-after c)

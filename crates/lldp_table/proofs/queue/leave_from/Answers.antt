@@ -4,14 +4,14 @@ use Rattle.lldp_table.proofs.queue.leave_from.Goals as goal
 use Rattle.std.proofs.lemmas.Grind.{common_steps}
 
 pub place_in-at-requires : goal.place_in-at-requires
-place_in-at-requires g c = rw c.as_slice.ensures.value (sym (holds-dues c.args.times.now c.args.slot c.args.slots.now.items) ∙ c.requires.there)
+place_in-at-requires c = rw c.as_slice.ensures.value (sym (holds-dues c.args.times.now.shown c.args.slot c.args.slots.now.items) ∙ c.requires.there)
 
 pub raise-requires-clause-fits : goal.raise-requires-clause-fits
-raise-requires-clause-fits g c = grind (arith, common_steps, two_fit)
+raise-requires-clause-fits c = grind (arith, common_steps, two_fit)
 
 pub returns-clause-after : goal.returns-clause-after
-returns-clause-after g c = grind (arith, common_steps, left_at)
+returns-clause-after c = grind (arith, common_steps, left_at)
 
 pub returns-clause-queue : goal.returns-clause-queue
-returns-clause-queue g c =
-    queue_left c.args.times.now c.args.slots.now.items c.requires.queue c.raise.new.times c.remove.new.self.items c.raise.ensures.all c.args.slot c.requires.there (returns-clause-after g c)
+returns-clause-queue c =
+    queue_left c.args.times.now.shown c.args.slots.now.items c.requires.queue c.raise.new.times.shown c.remove.new.self.items c.raise.ensures.all c.args.slot c.requires.there (returns-clause-after c)

@@ -7,7 +7,7 @@ use Rattle.lldp_engine.proofs.agent.Agent.is_up.Goals as goal
 
 pub returns-clause-past : goal.returns-clause-past
 returns-clause-past g c = λ past h.
-    let p = c.index.result.now in
+    let p = c.at.result.now in
     let same = ap (λ (a : AgentState). a.ports) c.self.view_is in
-    let r = port_reads past c.args.self.now c.args.port p h c.requires (c.index.ensures ∙ ap (λ (ps : List PortState). get_or ps c.args.port p) same) in
+    let r = port_reads past c.args.self.now c.args.port p h c.requires (c.at.ensures ∙ ap (λ (ps : List PortState). get_or ps c.args.port p) same) in
     c.is_up.ensures ∙ links_read past.options (past_of past c.args.port) p r.is

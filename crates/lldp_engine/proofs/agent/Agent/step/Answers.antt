@@ -1,7 +1,7 @@
 use Rattle.std.proofs.Common.{◌≡◌, ◌<◌, ℕ, length, ap, sym, ◌∙◌, subst, arith}
-use Rattle.std.specs.Vec.{with_items}
 use Rattle.std.specs.List.{AllByRecursion}
-use Rattle.std.proofs.lemmas.List.{with_items_is}
+use Rattle.lldp_table.specs.Code.Room.{with_items}
+use Rattle.lldp_table.proofs.RoomLemmas.{with_items_is}
 use Rattle.lldp_transmit.specs.declared.event.Mark.{Mark}
 use Rattle.lldp_engine.specs.EventView.{event_of}
 use Rattle.lldp_engine.specs.AgentState.{AgentState, Allows}
@@ -31,7 +31,8 @@ take_event-requires-clause-can g c =
 pub returns-clause-after : goal.returns-clause-after
 returns-clause-after g c =
     let e = event_of c.args.event in
-    let is : (with_items c.self.inside.ports c.take_event.new.ports).items ≡ c.take_event.new.ports = with_items_is c.self.inside.ports c.take_event.new.ports (omega arith) in
+    let same_length = ap length c.as_mut_slice.ensures.value in
+    let is : (with_items c.self.inside.ports c.take_event.new.ports).items ≡ c.take_event.new.ports = with_items_is c.self.inside.ports c.take_event.new.ports (omega (arith, same_length)) in
     subst (λ (a : AgentState). (let b : AgentState = record { configuration = c.take.new.self; ports = (with_items c.self.inside.ports c.take_event.new.ports).items } in b) ≡ agent_after e a) c.self.view_is
     (steps_to _ e c.take.new.self c.interval-interval.result c.as_mut_slice.result.now _ c.take.ensures c.interval-interval.ensures c.as_mut_slice.ensures.value (is ∙ rw c.whose.ensures.value at c.take_event.ensures.after))
 
@@ -46,7 +47,8 @@ returns-clause-sent g c =
     let e = event_of c.args.event in
     let ports = c.as_mut_slice.result.now in
     let n = c.interval-interval.result in
-    let is : (with_items c.self.inside.ports c.take_event.new.ports).items ≡ c.take_event.new.ports = with_items_is c.self.inside.ports c.take_event.new.ports (omega arith) in
+    let same_length = ap length c.as_mut_slice.ensures.value in
+    let is : (with_items c.self.inside.ports c.take_event.new.ports).items ≡ c.take_event.new.ports = with_items_is c.self.inside.ports c.take_event.new.ports (omega (arith, same_length)) in
     let number = ports_number (whose e) n 0 ports in
     let new : length (with_items c.self.inside.ports c.take_event.new.ports).items ≡ length ports = ap length (is ∙ rw c.whose.ensures.value at c.take_event.ensures.after) ∙ number in
     subst (λ (m : ℕ). AllByRecursion (λ (x : ℕ × Mark). (x.0 < m) × IsSent x.1) c.take_event.result.items) (sym new)
@@ -67,7 +69,8 @@ pub invariant_of-self : goal.invariant_of-self
 invariant_of-self g c =
     let e = event_of c.args.event in
     let allowed = subst (λ (a : AgentState). Allows a e) (sym c.self.view_is) c.requires in
-    let is : (with_items c.self.inside.ports c.take_event.new.ports).items ≡ c.take_event.new.ports = with_items_is c.self.inside.ports c.take_event.new.ports (omega arith) in
+    let same_length = ap length c.as_mut_slice.ensures.value in
+    let is : (with_items c.self.inside.ports c.take_event.new.ports).items ≡ c.take_event.new.ports = with_items_is c.self.inside.ports c.take_event.new.ports (omega (arith, same_length)) in
     let room : c.self.inside.configuration.capacity ≡ c.take.new.self.capacity = sym (configured-capacity e c.self.inside.configuration) ∙ ap (λ x. x.capacity) (sym c.take.ensures) in
     subst (λ (k : ℕ). AreSound k (with_items c.self.inside.ports c.take_event.new.ports).items) room
     (stay_sound c.self.inside.configuration.capacity (whose e) c.interval-interval.result c.self.inside.ports.items _ (is ∙ (rw c.whose.ensures.value at c.take_event.ensures.after) ∙ ap (ports_step (whose e) c.interval-interval.result 0) c.as_mut_slice.ensures.value)

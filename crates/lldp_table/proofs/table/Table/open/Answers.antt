@@ -8,12 +8,12 @@ use Rattle.lldp_table.proofs.table.Table.open.Goals as goal
 
 pub invariant_of-result : goal.invariant_of-result
 invariant_of-result g c =
-    let room = c.in_ok-with_capacity.ensures in
-    open_table c.in_ok-with_capacity.field-0.cap c.in_ok-with_capacity.field-0.items c.new-2.result c.new.result.items c.args.limit (omega (arith, room.exact)) room.items c.new-2.ensures c.new.ensures c.requires.least c.requires.most
+    let room = c.in_ok-open.ensures in
+    open_table c.in_ok-open.field-0.capacity c.in_ok-open.field-0.items c.new-2.result.shown c.new.result.items c.args.limit (omega (arith, room.capacity)) room.items c.new-2.ensures c.new.ensures c.requires.least c.requires.most
 
 pub returns-clause-empty : goal.returns-clause-empty
 returns-clause-empty g c =
-    let exact : c.in_ok-with_capacity.field-0.cap ≡ c.args.limit = omega (arith, c.in_ok-with_capacity.ensures.exact) in
+    let exact : c.in_ok-open.field-0.capacity ≡ c.args.limit = omega (arith, c.in_ok-open.ensures.capacity) in
     ap (λ n. record (newly_opened c.args.limit) { capacity = n }) exact
 
 pub returns-clause-stands : goal.returns-clause-stands

@@ -1,0 +1,179 @@
+-- A limit is in use where a port holds more, and nothing else is told so.
+use Rattle.std.proofs.Common.{◌≡◌, ℕ, suc, ◌<◌, ◌≤◌, ◌&&◌, Bool, true, false, List, [], ◌∷◌, length, Option, Some, None, Result, Ok, Err, refl, ap, ◌∙◌, subst, arith}
+use Rattle.std.specs.Prelude.{nat_le, if◌then◌else◌}
+use Rattle.std.specs.Bool.{Decides}
+use Rattle.std.specs.List.{All, Any}
+use Rattle.std.specs.Str.{bytes_eq}
+use Rattle.std.proofs.lemmas.Bool.{both_ways, leb-true, leb-false, le-leb, lt-leb}
+use Rattle.std.proofs.lemmas.Bool.Decides.{Decides-by_and}
+use Rattle.std.proofs.lemmas.List.Folds.{list_all_at}
+use Rattle.lldp_engine.specs.declared.command.fault.CommandFault.{CommandFault}
+use Rattle.lldp_engine.specs.declared.command.fault.CommandFault.TheVariants.{Unknown, NoSuchPort, Number, Range, Text, Extra, Quote, InUse}
+use Rattle.lldp_engine.specs.Options.{is_text}
+use Rattle.lldp_engine.specs.Number.{is_number, number_of}
+use Rattle.lldp_engine.specs.Place.{place_of}
+use Rattle.lldp_engine.specs.Event.{hostname, description, interval, hold, limit, status as set_status, update}
+use Rattle.lldp_engine.specs.AgentState.{AgentState, PortState, AllowsSetting, names_of, fits}
+use Rattle.lldp_engine.specs.Answer.{or_fault, on_ok, ◌>>=◌}
+use Rattle.lldp_engine.specs.Command.{Command, show, set}
+use Rattle.lldp_engine.specs.Forms.{Form, complete, word, port, number, text, status, status_of, after_word, and_form, going_on, completed, read_forms, forms}
+use Rattle.lldp_engine.specs.Given.{said_by, unless_in_use, command_said, command_given}
+use Rattle.lldp_engine.specs.Words.{words_of}
+use Rattle.lldp_engine.specs.InUse.{HoldsMore, HoldAtMost, WouldLimitBelow}
+
+-- ## The forms never tell it
+
+-- it is not told
+abbrev is_other : {A : Type 0} → Result A CommandFault → Bool
+is_other (Ok a) = true
+is_other (Err Unknown) = true
+is_other (Err NoSuchPort) = true
+is_other (Err Number) = true
+is_other (Err Range) = true
+is_other (Err Text) = true
+is_other (Err Extra) = true
+is_other (Err Quote) = true
+is_other (Err InUse) = false
+
+made_other : {A B : Type 0} (f : A → B) (r : Result A CommandFault) → is_other r ≡ true → is_other (on_ok f r) ≡ true
+made_other f (Ok a) h = refl
+made_other f (Err Unknown) h = refl
+made_other f (Err NoSuchPort) h = refl
+made_other f (Err Number) h = refl
+made_other f (Err Range) h = refl
+made_other f (Err Text) h = refl
+made_other f (Err Extra) h = refl
+made_other f (Err Quote) h = refl
+made_other f (Err InUse) h = h
+
+if_other : {A : Type 0} (b : Bool) (r s : Result A CommandFault) → is_other r ≡ true → is_other s ≡ true → is_other (if b then r else s) ≡ true
+if_other true r s h i = h
+if_other false r s h i = i
+
+place_other : {A : Type 0} (o : Option A) → is_other (or_fault o NoSuchPort) ≡ true
+place_other (Some a) = refl
+place_other None = refl
+
+status_other : {A : Type 0} (o : Option A) → is_other (or_fault o Unknown) ≡ true
+status_other (Some a) = refl
+status_other None = refl
+
+number_other : (w : List ℕ) (least greatest : ℕ) → is_other (number_of w least greatest) ≡ true
+number_other w least greatest = if_other (is_number w) _ (Err Number) (if_other _ (Ok _) (Err Range) refl refl) refl
+
+word_other : (names : List (List ℕ)) (form : Form) (w : List ℕ) → is_other (after_word names form w) ≡ true
+word_other names (complete command) w = refl
+word_other names (word expected next) w = if_other (bytes_eq w expected) (Ok next) (Err Unknown) refl refl
+word_other names (port next) w = made_other next (or_fault (place_of names w) NoSuchPort) (place_other (place_of names w))
+word_other names (number least greatest next) w = made_other next (number_of w least greatest) (number_other w least greatest)
+word_other names (text next) w = if_other (is_text w) (Ok (next w)) (Err Text) refl refl
+word_other names (status next) w = made_other next (or_fault (status_of w) Unknown) (status_other (status_of w))
+
+form_other : (one : Result Form CommandFault) (others : Result (List Form) CommandFault) → is_other one ≡ true → is_other others ≡ true → is_other (and_form one others) ≡ true
+form_other (Ok next) (Ok others) h i = refl
+form_other (Ok next) (Err fault) h i = refl
+form_other (Err fault) (Ok others) h i = refl
+form_other (Err Extra) (Err other) h i = i
+form_other (Err Unknown) (Err other) h i = refl
+form_other (Err NoSuchPort) (Err other) h i = refl
+form_other (Err Number) (Err other) h i = refl
+form_other (Err Range) (Err other) h i = refl
+form_other (Err Text) (Err other) h i = refl
+form_other (Err Quote) (Err other) h i = refl
+form_other (Err InUse) (Err other) h i = h
+
+forms_other : (names : List (List ℕ)) (left : List Form) (w : List ℕ) → is_other (going_on names left w) ≡ true
+forms_other names [] w = refl
+forms_other names (form ∷ others) w = form_other (after_word names form w) (going_on names others w) (word_other names form w) (forms_other names others w)
+
+end_other : (left : List Form) → is_other (completed left) ≡ true
+end_other [] = refl
+end_other (complete command ∷ others) = refl
+end_other (word expected next ∷ others) = end_other others
+end_other (port next ∷ others) = end_other others
+end_other (number least greatest next ∷ others) = end_other others
+end_other (text next ∷ others) = end_other others
+end_other (status next ∷ others) = end_other others
+
+words_other : (names : List (List ℕ)) (left : Result (List Form) CommandFault) (words : List (List ℕ)) → is_other left ≡ true → is_other (read_forms names left words) ≡ true
+words_other names (Err Unknown) words h = refl
+words_other names (Err NoSuchPort) words h = refl
+words_other names (Err Number) words h = refl
+words_other names (Err Range) words h = refl
+words_other names (Err Text) words h = refl
+words_other names (Err Extra) words h = refl
+words_other names (Err Quote) words h = refl
+words_other names (Err InUse) words h = h
+words_other names (Ok left) [] h = end_other left
+words_other names (Ok left) (w ∷ words) h = words_other names (going_on names left w) words (forms_other names left w)
+
+not_said : (agent : AgentState) (words : List (List ℕ)) → said_by agent words ≡ Err InUse → ⊥
+not_said agent words e =
+    both_ways (is_other {A = Command} (Err InUse)) refl
+    (subst (λ (r : Result Command CommandFault). is_other r ≡ true) e
+    (words_other (names_of agent) (Ok (forms agent.configuration.capacity)) words refl))
+
+-- ## What ports hold
+
+holds_decided : (most : ℕ) (here : PortState) → Decides (nat_le (length here.table.neighbors) most) (length here.table.neighbors ≤ most)
+holds_decided most here = (leb-true (length here.table.neighbors) most, le-leb (length here.table.neighbors) most)
+
+held_decided : (ports : List PortState) (most : ℕ) → Decides (fits ports most) (All (λ here. length here.table.neighbors ≤ most) ports)
+held_decided ports most =
+    Decides-by_and (λ here. nat_le (length here.table.neighbors) most) (λ here. length here.table.neighbors ≤ most) (λ ps. fits ps most) (holds_decided most) refl (λ _ _. refl) ports
+
+one_holds : (here : PortState) (ports : List PortState) (most : ℕ) (b : Bool) → nat_le (length here.table.neighbors) most ≡ b → (b && fits ports most) ≡ false → (fits ports most ≡ false → Any (λ p. most < length p.table.neighbors) ports)
+    → Any (λ p. most < length p.table.neighbors) (here ∷ ports)
+one_holds here ports most false e h rest = (0, here, omega arith, refl, leb-false (length here.table.neighbors) most e)
+one_holds here ports most true e h rest = let found = rest h in (suc found.0, found.1, (let lt = found.2 in omega arith), found.3, found.4)
+
+some_holds : (ports : List PortState) (most : ℕ) → fits ports most ≡ false → Any (λ p. most < length p.table.neighbors) ports
+some_holds [] most h = cc
+some_holds (here ∷ ports) most h = one_holds here ports most (nat_le (length here.table.neighbors) most) refl h (some_holds ports most)
+
+not_all_hold : (ports : List PortState) (most : ℕ) → Any (λ p. most < length p.table.neighbors) ports → fits ports most ≡ false
+not_all_hold ports most h =
+    list_all_at (λ here. nat_le (length here.table.neighbors) most) ports h.0 h.1 h.2
+    (ap (λ p. nat_le (length p.table.neighbors) most) h.3 ∙ lt-leb (length h.1.table.neighbors) most h.4)
+
+-- ## In use
+
+limit_in_use : (agent : AgentState) (most : ℕ) (b : Bool) → fits agent.ports most ≡ b → (if b then Ok (set (limit most)) else Err InUse) ≡ Err InUse → HoldsMore agent most
+limit_in_use agent most true e h = cc
+limit_in_use agent most false e h = some_holds agent.ports most e
+
+said_in_use : (agent : AgentState) (words : List (List ℕ)) (said : Result Command CommandFault) → said_by agent words ≡ said → unless_in_use agent.ports said ≡ Err InUse
+    → (most : ℕ) × (said_by agent words ≡ Ok (set (limit most))) × HoldsMore agent most
+said_in_use agent words (Ok (set (limit n))) e h = (n, e, limit_in_use agent n (fits agent.ports n) refl h)
+said_in_use agent words (Ok (set (hostname t))) e h = cc
+said_in_use agent words (Ok (set (description t))) e h = cc
+said_in_use agent words (Ok (set (interval n))) e h = cc
+said_in_use agent words (Ok (set (hold n))) e h = cc
+said_in_use agent words (Ok (set (set_status p s))) e h = cc
+said_in_use agent words (Ok (set update)) e h = cc
+said_in_use agent words (Ok (show what)) e h = cc
+said_in_use agent words (Err fault) e h = absurd (not_said agent words (e ∙ h))
+
+given_in_use : (agent : AgentState) (line : List ℕ) (split : Option (List (List ℕ))) → words_of line ≡ split → (or_fault split Quote >>= command_said agent) ≡ Err InUse → WouldLimitBelow agent line
+given_in_use agent line None e h = cc
+given_in_use agent line (Some words) e h =
+    let found = said_in_use agent words (said_by agent words) refl h in (words, found.0, e, found.1, found.2)
+
+pub in_use : (agent : AgentState) (line : List ℕ) → command_given agent line ≡ Err InUse → WouldLimitBelow agent line
+in_use agent line h = given_in_use agent line (words_of line) refl h
+
+in_use_at : (agent : AgentState) (most : ℕ) → fits agent.ports most ≡ false → unless_in_use agent.ports (Ok (set (limit most))) ≡ Err InUse
+in_use_at agent most e = rw e refl
+
+pub would_be : (agent : AgentState) (line : List ℕ) → WouldLimitBelow agent line → command_given agent line ≡ Err InUse
+would_be agent line h =
+    ap (λ (w : Option (List (List ℕ))). or_fault w Quote >>= command_said agent) h.2
+    ∙ ap (unless_in_use agent.ports) h.3 ∙ in_use_at agent h.1 (not_all_hold agent.ports h.1 h.4)
+
+-- ## What is allowed
+
+pub allows_limit : (agent : AgentState) (most : ℕ) → AllowsSetting agent (limit most) → (1 ≤ most) × (most ≤ agent.configuration.capacity) × HoldAtMost agent most
+allows_limit agent most h = (h.least, h.most, (held_decided agent.ports most).0 h.held)
+
+pub limit_allowed : (agent : AgentState) (most : ℕ) → (1 ≤ most) × (most ≤ agent.configuration.capacity) × HoldAtMost agent most → AllowsSetting agent (limit most)
+limit_allowed agent most h = record { least = h.0; most = h.1; held = (held_decided agent.ports most).1 h.2 }

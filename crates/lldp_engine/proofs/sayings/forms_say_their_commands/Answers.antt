@@ -1,0 +1,52 @@
+use Rattle.std.proofs.Common.{refl}
+use Rattle.lldp_engine.specs.Options.{is_text}
+use Rattle.lldp_engine.specs.Number.{number_of}
+use Rattle.lldp_engine.specs.Place.{place_of}
+use Rattle.lldp_engine.specs.AgentState.{names_of}
+use Rattle.lldp_engine.specs.Command.{set}
+use Rattle.lldp_engine.specs.Event.{hostname, description, interval, hold, limit}
+use Rattle.lldp_engine.specs.Words.{words_from}
+use Rattle.lldp_engine.proofs.SayingLemmas.{text_said, made_said, status_said}
+use Rattle.lldp_engine.proofs.sayings.forms_say_their_commands.Goals as goal
+
+pub returns-clause-said : goal.returns-clause-said
+returns-clause-said c = λ agent word other. record {
+  neighbors = refl;
+  statistics = refl;
+  chassis = refl;
+  configuration = refl;
+  hostname = text_said (names_of agent) (is_text word) (set (hostname word));
+  description = text_said (names_of agent) (is_text word) (set (description word));
+  interval = made_said (names_of agent) (number_of word 1 3600) (λ n. set (interval n));
+  hold = made_said (names_of agent) (number_of word 1 100) (λ n. set (hold n));
+  limit = made_said (names_of agent) (number_of word 1 agent.configuration.capacity) (λ n. set (limit n));
+  status = status_said (names_of agent) (place_of (names_of agent) word) other;
+  update = refl;
+  extra = refl;
+  missing = refl;
+  none = refl;
+}
+
+pub returns-clause-read : goal.returns-clause-read
+returns-clause-read c = record {
+  below = refl;
+  least = refl;
+  greatest = refl;
+  above = refl;
+  zeros = refl;
+  letter = refl;
+  rx_and_tx = refl;
+  rx_only = refl;
+  tx_only = refl;
+  disabled = refl;
+}
+
+pub returns-clause-split : goal.returns-clause-split
+unfolding words_from
+returns-clause-split c = record {
+  words = refl;
+  others = refl;
+  inside = refl;
+  unclosed = refl;
+  behind = refl;
+}

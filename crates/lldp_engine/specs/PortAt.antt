@@ -1,0 +1,35 @@
+-- A port of the agent that the definitions give of a past, by its number, and what an event leaves as it was.
+use Rattle.std.specs.Prelude.{◌≡◌, ℕ, List, Option, slice_get}
+use Rattle.std.specs.List.{Contains}
+use Rattle.std.specs.Option.{option_map}
+use Rattle.lldp_table.specs.Events.{Neighbor}
+use Rattle.lldp_table.specs.Contents.{Contents}
+use Rattle.lldp_transmit.specs.declared.event.Mark.{Mark}
+use Rattle.lldp_engine.specs.AgentState.{PortState}
+use Rattle.lldp_engine.specs.Event.{Event}
+use Rattle.lldp_engine.specs.Past.{Past, with_event, agent_of, marks_of}
+
+-- port i, if there is one
+abbrev pub port_at : Past → ℕ → Option PortState
+port_at past i = slice_get (agent_of past).ports i
+
+-- its table
+abbrev pub table_at : Past → ℕ → Option Contents
+table_at past i = option_map (λ port. port.table) (port_at past i)
+
+-- its neighbors
+abbrev pub neighbors_at : Past → ℕ → Option (List Neighbor)
+neighbors_at past i = option_map (λ port. port.table.neighbors) (port_at past i)
+
+-- At the last event port i sends this.
+abbrev pub Sends : Past → ℕ → Mark → Type 0
+Sends past i mark = Contains (marks_of past) (i, mark)
+
+-- The event leaves port i as it was, its status, its table, its transmitting and its counters, and it sends nothing.
+pub record LeavesPort (past : Past) (event : Event) (i : ℕ) : Type 0 where
+  pub as_it_was : port_at (with_event past event) i ≡ port_at past i
+  pub silent : (mark : Mark) → ¬ (Sends (with_event past event) i mark)
+
+-- The event leaves the table of each port as it was.
+abbrev pub LeavesTables : Past → Event → Type 0
+LeavesTables past event = (i : ℕ) → table_at (with_event past event) i ≡ table_at past i

@@ -1,0 +1,40 @@
+//! Laws of what is counted.
+ghost use Rattle.std.specs.Prelude.{◌≡◌, ℕ, ◌<◌, ◌%◌, ◌^◌, List, Some, None};
+ghost use Rattle.lldp_pdu.specs.declared.fault.PduFault.{PduFault as PduRefused};
+ghost use Rattle.lldp_pdu.specs.Frame.{lldpdu_of};
+ghost use Rattle.lldp_pdu.specs.Fault.{fault_of};
+ghost use Rattle.lldp_pdu.specs.Lldpdu.{ttl_of};
+ghost use Rattle.lldp_pdu.specs.Kept.{discarded_of};
+ghost use Rattle.lldp_transmit.specs.declared.event.Mark.TheVariants.{Ordinary, Shutdown};
+ghost use Rattle.lldp_engine.specs.AgentState.{PortState};
+ghost use Rattle.lldp_engine.specs.Past.{Past};
+ghost use Rattle.lldp_engine.specs.PortAt.{port_at};
+ghost use Rattle.lldp_engine.specs.Deaf.{Hears};
+ghost use Rattle.lldp_engine.specs.Tally.{HasSent, Adds, unknown_tlvs};
+
+/// `sent` is the number of events at which a port sent an ordinary frame, and `shutdowns` that of
+/// those at which it sent a shutdown frame, modulo 2^32.
+pub fn ports_count_what_they_sent()
+    ensures sent { (past : Past) (i : ℕ) (port : PortState) → port_at past i ≡ Some port →
+        (n : ℕ) × HasSent past i Ordinary n × (port.counters.sent ≡ n % 2 ^ 32) }
+    ensures shutdowns { (past : Past) (i : ℕ) (port : PortState) → port_at past i ≡ Some port →
+        (n : ℕ) × HasSent past i Shutdown n × (port.counters.shutdowns ≡ n % 2 ^ 32) }
+{}
+
+/// An LLDPDU that a port hears is counted once. With a fault it is discarded and an error, with
+/// discarded TLVs an error alone. Without a fault, and with a TTL above 0, its discarded TLVs and
+/// those of its kept TLVs that are unrecognized are added.
+pub fn ports_count_each_lldpdu_once()
+    ensures refused { (past : Past) (i : ℕ) (octets pdu : List ℕ) (fault : PduRefused) →
+        Hears past i → lldpdu_of octets ≡ Some pdu → fault_of pdu ≡ Some fault →
+        Adds past i octets 1 1 0 0 }
+    ensures leaves { (past : Past) (i : ℕ) (octets pdu : List ℕ) → Hears past i →
+        lldpdu_of octets ≡ Some pdu → fault_of pdu ≡ None → ttl_of pdu ≡ 0 →
+        Adds past i octets 0 0 0 0 }
+    ensures whole { (past : Past) (i : ℕ) (octets pdu : List ℕ) → Hears past i →
+        lldpdu_of octets ≡ Some pdu → fault_of pdu ≡ None → 0 < ttl_of pdu →
+        discarded_of pdu ≡ 0 → Adds past i octets 0 0 0 (unknown_tlvs pdu) }
+    ensures faulty_tlvs { (past : Past) (i : ℕ) (octets pdu : List ℕ) → Hears past i →
+        lldpdu_of octets ≡ Some pdu → fault_of pdu ≡ None → 0 < ttl_of pdu →
+        0 < discarded_of pdu → Adds past i octets 0 1 (discarded_of pdu) (unknown_tlvs pdu) }
+{}

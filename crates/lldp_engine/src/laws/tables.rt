@@ -1,0 +1,40 @@
+//! Laws of what takes a neighbor away.
+ghost use Rattle.std.specs.Prelude.{◌≡◌, ℕ, List, [], Some, None, IfSome};
+ghost use Rattle.std.specs.Option.{option_map};
+ghost use Rattle.lldp_pdu.specs.declared.fault.PduFault.{PduFault as PduRefused};
+ghost use Rattle.lldp_pdu.specs.Frame.{lldpdu_of};
+ghost use Rattle.lldp_pdu.specs.Fault.{fault_of};
+ghost use Rattle.lldp_pdu.specs.Lldpdu.{ttl_of, msap_of};
+ghost use Rattle.lldp_engine.specs.declared.port.status.Status.TheVariants.{RxAndTx, RxOnly, TxOnly, Disabled};
+ghost use Rattle.lldp_engine.specs.Event.{frame, set, status};
+ghost use Rattle.lldp_engine.specs.Past.{Past, with_event};
+ghost use Rattle.lldp_engine.specs.PortAt.{table_at, neighbors_at, LeavesTables};
+ghost use Rattle.lldp_engine.specs.Deaf.{HasStatus, Hears};
+ghost use Rattle.lldp_engine.specs.Others.{others_than};
+
+/// An LLDPDU speaks of the neighbor of its own name alone: all others of its port stay, in their
+/// order. With a TTL of 0 and no fault, on a port that hears, its own is gone; with a fault the
+/// table stays as it was.
+pub fn lldpdus_speak_of_one_neighbor()
+    ensures others { (past : Past) (i : ℕ) (octets pdu : List ℕ) → lldpdu_of octets ≡ Some pdu →
+        option_map (others_than (msap_of pdu)) (neighbors_at (with_event past (frame i octets)) i)
+        ≡ option_map (others_than (msap_of pdu)) (neighbors_at past i) }
+    ensures own { (past : Past) (i : ℕ) (octets pdu : List ℕ) → Hears past i →
+        lldpdu_of octets ≡ Some pdu → fault_of pdu ≡ None → ttl_of pdu ≡ 0 →
+        neighbors_at (with_event past (frame i octets)) i
+        ≡ option_map (others_than (msap_of pdu)) (neighbors_at past i) }
+    ensures refused { (past : Past) (i : ℕ) (octets pdu : List ℕ) (fault : PduRefused) →
+        lldpdu_of octets ≡ Some pdu → fault_of pdu ≡ Some fault →
+        table_at (with_event past (frame i octets)) i ≡ table_at past i }
+{}
+
+/// A status that receives, RxAndTx or RxOnly, leaves every table as it was; a port whose status is
+/// TxOnly or Disabled holds no neighbor.
+pub fn ports_that_cannot_receive_hold_none()
+    ensures rx_and_tx { (past : Past) (port : ℕ) → LeavesTables past (set (status port RxAndTx)) }
+    ensures rx_only { (past : Past) (port : ℕ) → LeavesTables past (set (status port RxOnly)) }
+    ensures tx_only { (past : Past) (i : ℕ) → HasStatus past i TxOnly →
+        IfSome (neighbors_at past i) (λ held. held ≡ []) }
+    ensures disabled { (past : Past) (i : ℕ) → HasStatus past i Disabled →
+        IfSome (neighbors_at past i) (λ held. held ≡ []) }
+{}

@@ -1,0 +1,52 @@
+//! Laws of whose an event is.
+ghost use Rattle.std.specs.Prelude.{◌≡◌, ◌≢◌, ℕ, Bool, List, All};
+ghost use Rattle.std.specs.Option.{option_map};
+ghost use Rattle.lldp_engine.specs.declared.port.status.Status.{Status as PortStatus};
+ghost use Rattle.lldp_engine.specs.Options.{InRange};
+ghost use Rattle.lldp_engine.specs.Event.{tick, frame, link, set, hostname, description, interval, hold, limit, status, update};
+ghost use Rattle.lldp_engine.specs.Past.{Past, with_event, agent_of};
+ghost use Rattle.lldp_engine.specs.PortAt.{neighbors_at, LeavesPort, LeavesTables};
+ghost use Rattle.lldp_engine.specs.Older.{one_tick_older};
+
+/// A frame, a link event and a status command are of one port: every other port stays as it was and
+/// sends nothing.
+pub fn events_of_one_port_leave_the_others()
+    ensures frame { (past : Past) (port other : ℕ) (octets : List ℕ) → InRange past.options →
+        other ≢ port → LeavesPort past (frame port octets) other }
+    ensures link { (past : Past) (port other : ℕ) (up : Bool) → InRange past.options →
+        other ≢ port → LeavesPort past (link port up) other }
+    ensures status { (past : Past) (port other : ℕ) (given : PortStatus) → InRange past.options →
+        other ≢ port → LeavesPort past (set (status port given)) other }
+{}
+
+/// A tick comes to each port: each of its neighbors has one tick less left, and those that had one
+/// left are gone.
+pub fn ticks_come_to_each_port()
+    ensures { (past : Past) (i : ℕ) →
+        neighbors_at (with_event past tick) i
+        ≡ option_map one_tick_older (neighbors_at past i) }
+{}
+
+/// Tables are changed by ticks, frames, limits and statuses alone, and a limit takes no neighbor
+/// away.
+pub fn links_and_updates_leave_tables()
+    ensures link { (past : Past) (port : ℕ) (up : Bool) → LeavesTables past (link port up) }
+    ensures update { (past : Past) → LeavesTables past (set update) }
+    ensures hostname { (past : Past) (text : List ℕ) → LeavesTables past (set (hostname text)) }
+    ensures description { (past : Past) (text : List ℕ) →
+        LeavesTables past (set (description text)) }
+    ensures interval { (past : Past) (seconds : ℕ) → LeavesTables past (set (interval seconds)) }
+    ensures hold { (past : Past) (times : ℕ) → LeavesTables past (set (hold times)) }
+    ensures limit { (past : Past) (i neighbors : ℕ) →
+        neighbors_at (with_event past (set (limit neighbors))) i ≡ neighbors_at past i }
+{}
+
+/// The limit of each port's table is the one that is configured, whatever came before, and its room
+/// is what the options gave.
+pub fn ports_have_the_configured_limit()
+    ensures limit { (past : Past) →
+        All (λ port. port.table.limit ≡ (agent_of past).configuration.limit)
+        (agent_of past).ports }
+    ensures room { (past : Past) →
+        All (λ port. port.table.capacity ≡ past.options.max_neighbors) (agent_of past).ports }
+{}

@@ -1,0 +1,5 @@
+use Rattle.lldp_table.proofs.CallLemmas.{learn_dropped}
+use Rattle.lldp_table.proofs.laws.dropped_frames_change_the_timer_alone.Goals as goal
+
+pub returns : goal.returns
+returns c = learn_dropped

@@ -1,0 +1,5 @@
+use Rattle.lldp_table.proofs.TagLemmas.{same_octet}
+use Rattle.lldp_table.proofs.laws.names_one_octet_apart_have_tags_apart.Goals as goal
+
+pub returns : goal.returns
+returns c = same_octet

@@ -1,0 +1,6 @@
+-- What something shows, and how often a stored time was read or written in it.
+use Rattle.std.specs.Prelude.{ℕ}
+
+pub record Counted (X : Type 0) : Type 0 where
+  pub shown : X
+  pub accesses : ℕ

@@ -1,0 +1,30 @@
+//! A count that clauses alone see.
+ghost use Rattle.std.specs.Prelude.{◌≡◌, ℕ, ◌+◌};
+ghost use Rattle.std.specs.Borrow.{ftrue};
+
+use std::marker::Model;
+
+/// A count that takes no bytes, and that nothing but `add` changes.
+#[derive(Drop)]
+pub(crate) struct Count {
+    ghost number: { ℕ },
+}
+
+impl Model for Count {
+    ghost also_owns = { λ _. ftrue };
+}
+
+impl Count {
+    /// A count that begins at some number. At which is not said, so that nobody can begin anew and
+    /// know that less was counted.
+    pub(crate) fn new() -> Count
+        ensures { result ≡ result }
+    {
+        Count {}
+    }
+
+    /// One more.
+    pub(crate) fn add(&mut self)
+        ensures { self.new.number ≡ self.old.number + 1 }
+    {}
+}

@@ -1,0 +1,198 @@
+#!/usr/bin/env python3
+"""Sees by the sources alone what types and contracts leave to reading.
+
+Memory: one type has the storage that is taken at opening, `Room`. So below the program no other module
+names a type that takes memory, no other type has a field with an allocator, only opening calls are
+handed one, and they hand it to opening calls alone. `Global` comes from the runtime, and only the
+modules that read the words of the command line are handed it.
+
+Accesses: `Times` counts each get and set of a stored time. So its numbers are reached by `get`, `set`
+and `look` alone; and `look`, which is not counted, is reached from `Table::lefts`, which no tick calls.
+A proof by hand could say of a count what it likes, so there is none but the two of `Count`.
+
+    tools/check-memory.py
+
+Each file of tools/memory-edits is a body that breaks a rule: with it, some rule must be seen broken.
+The last line is `N passed, M failed`.
+"""
+from __future__ import annotations
+
+import pathlib
+import re
+import sys
+
+TOP = pathlib.Path(__file__).resolve().parent.parent
+CRATES = TOP / "crates"
+EDITS = TOP / "tools" / "memory-edits"
+BELOW_THE_PROGRAM = ("lldp_pdu", "lldp_table", "lldp_transmit", "lldp_engine")
+ROOM = "lldp_table/src/room.rt"
+MOST_LINES_OF_ROOM = 100
+ROOM_TAKES = "Vec::with_capacity(alloc, capacity)?"
+TAKES_MEMORY = r"\b(?:Vec|VecDeque|Box|String|Rc|Arc|HashMap|BTreeMap|vec!|format!|dyn)\b"
+ALLOCATOR = r": (?:&(?:'\w+ )?)?(?:mut )?(?:A|Global|impl Allocator)\b"
+HOLDS_A_ROOM = r"\b(?:Room<\w+(?:<A>)?, A>|Table<A>|Port<A>)"
+OPENING_CALLS = ("open", "open_ports")
+HANDED_ON = (
+    r"\balloc: A\b",
+    r"\b(?:Room|Table|Port|Agent)::open\(alloc(?:\.clone\(\)\?)?[,)]",
+    r"\bopen_ports\(alloc[,)]",
+    r"\bstd::alloc\b",
+)
+READ_THE_WORDS = ("lldpa/src/main.rt", "lldpa/src/program.rt", "lldpa/src/arguments.rt")
+WALKS = ("count/Count/add/Proof.antt", "count/Count/new/Proof.antt")
+# What may be reached how often, and from which module of lldp_table alone.
+REACHED = (
+    (r"\bself\.each\b", 3, "times.rt"),
+    (r"\bself\.each\[slot as usize\]", 3, "times.rt"),
+    (r"\bTimes \{", 4, "times.rt"),
+    (r"\.look\(", 1, "times.rt"),
+    (r"\blefts_in\(", 1, "queue.rt"),
+    (r"\bqueue\.lefts\(", 1, "order.rt"),
+    (r"\blefts_of\(", 1, "table.rt"),
+    (r"\bself\.(?:lefts|entry)\(", 1, "table.rt"),
+    (r"\bCount::new\(", 1, "times.rt"),
+    (r"\bTimes::new\(", 1, "queue.rt"),
+    (r"\bQueue::new\(", 1, "table.rt"),
+)
+
+
+def without_comments(text: str) -> str:
+    """The code alone."""
+    return re.sub(r"//.*", "", text)
+
+
+class Sources:
+    """The sources of all crates, tests left out, by their names below `crates`."""
+
+    def __init__(self) -> None:
+        self.texts: dict[str, str] = {}
+        self.broken: list[str] = []
+        self.rules = 0
+        for path in sorted(CRATES.glob("*/src/**/*.rt")):
+            name = str(path.relative_to(CRATES))
+            if "/tests" not in name:
+                self.texts[name] = path.read_text()
+
+    def code(self, *crates: str) -> dict[str, str]:
+        """The code of some crates."""
+        texts = self.texts.items()
+        return {name: without_comments(text) for name, text in texts if name.startswith(crates)}
+
+    def see(self, is_so: bool, fault: str) -> None:
+        """Counts a rule, and keeps what breaks it."""
+        self.rules += 1
+        if not is_so:
+            self.broken.append(fault)
+
+
+def functions_handed(code: str) -> list[str]:
+    """The functions that are handed an allocator, by name."""
+    heads = re.findall(r"\bfn (\w+)(?:<[^(]*>)?\(([^{;]*?)\)", code)
+    return [name for name, taken in heads if re.search(ALLOCATOR, taken)]
+
+
+def fields(code: str) -> list[str]:
+    """The fields of structs and enums, a line for each."""
+    bodies = re.findall(r"\b(?:struct|enum) \w+[^{;]*\{(.*?)\n\}", code, re.S)
+    return [line.strip() for body in bodies for line in body.splitlines()]
+
+
+def see_room(sources: Sources) -> None:
+    """One module takes memory, once, and it is short enough to be read."""
+    text = sources.texts[ROOM]
+    code = re.sub(r"\bstd::alloc\b", "", without_comments(text))
+    lines = text.count("\n")
+    asked = code.count("alloc")
+    sources.see(lines <= MOST_LINES_OF_ROOM, f"{ROOM}: {lines} lines")
+    sources.see(asked == 2, f"{ROOM}: names its allocator {asked} times, and not twice")
+    sources.see(ROOM_TAKES in code, f"{ROOM}: takes something else")
+    for name, other in sources.code(*BELOW_THE_PROGRAM).items():
+        takes = re.search(TAKES_MEMORY, other) is not None
+        sources.see(name == ROOM or not takes, f"{name}: names a type that takes memory")
+
+
+def see_fields(sources: Sources) -> None:
+    """Only `Room` has a field with an allocator; other types have rooms, or what has them."""
+    for name, code in sources.code(*BELOW_THE_PROGRAM).items():
+        for field in fields(code):
+            rest = re.sub(HOLDS_A_ROOM, "", field)
+            is_held = re.search(r"\b(?:A|Global)\b", rest) is not None
+            sources.see(name == ROOM or not is_held, f"{name}: has an allocator: {field}")
+
+
+def see_handed(sources: Sources) -> None:
+    """Only opening calls are handed an allocator, and are handed it on."""
+    for name, code in sources.code(*BELOW_THE_PROGRAM).items():
+        for function in functions_handed(code):
+            is_opening = function in OPENING_CALLS
+            sources.see(is_opening, f"{name}: {function} is handed an allocator")
+        rest = re.sub("|".join(HANDED_ON), "", code)
+        goes_on = re.search(r"\balloc(?:ator)?\b", rest) is not None
+        sources.see(name == ROOM or not goes_on, f"{name}: an allocator goes elsewhere")
+
+
+def see_global(sources: Sources) -> None:
+    """`Global` is named as a type alone, and handed to those that read the words."""
+    for name, code in sources.code("").items():
+        rest = re.sub(r"^use .*?;", "", code, flags=re.M | re.S)
+        rest = re.sub(r": Global\b[,)]|<A: Allocator = Global>", "", rest)
+        is_made = re.search(r"\bGlobal\b", rest) is not None
+        sources.see(not is_made, f"{name}: makes a Global of its own")
+    for name, code in sources.code("lldpa").items():
+        is_handed = re.search(r": Global\b|\bHostRuntime\b|\.alloc\(\)", code) is not None
+        sources.see(name in READ_THE_WORDS or not is_handed, f"{name}: is handed an allocator")
+
+
+def see_reached(sources: Sources) -> None:
+    """Stored times are reached by what is counted, or from `Table::lefts`."""
+    code = sources.code("lldp_table")
+    for pattern, times, module in REACHED:
+        calls = {name: len(re.findall(rf"(?<!fn ){pattern}", text)) for name, text in code.items()}
+        found = {name: count for name, count in calls.items() if count > 0}
+        is_so = found == {f"lldp_table/src/{module}": times}
+        sources.see(is_so, f"{pattern} is reached from {found}")
+
+
+def see_all(sources: Sources) -> None:
+    """All rules that the sources have to keep."""
+    see_room(sources)
+    see_fields(sources)
+    see_handed(sources)
+    see_global(sources)
+    see_reached(sources)
+
+
+def see_walks(sources: Sources) -> None:
+    """No proof is written by hand but those of `Count`."""
+    for path in sorted(CRATES.glob("*/proofs/**/Proof.antt")):
+        name = str(path.relative_to(CRATES))
+        sources.see(name in [f"lldp_table/proofs/{walk}" for walk in WALKS], f"{name}: by hand")
+
+
+def edited(path: pathlib.Path) -> Sources:
+    """The sources with an edit, which is written as those of must-fail are."""
+    sources = Sources()
+    lines = [line.split(": ", 1) for line in path.read_text().splitlines()]
+    (_, name), (_, old), (_, new) = lines
+    assert sources.texts[name].count(old) == 1, f"{path.name}: {old}"
+    sources.texts[name] = sources.texts[name].replace(old, new)
+    return sources
+
+
+def main() -> int:
+    """Looks at all, and then at each edit."""
+    sources = Sources()
+    see_all(sources)
+    see_walks(sources)
+    for path in sorted(EDITS.glob("*.edit")):
+        wrong = edited(path)
+        see_all(wrong)
+        sources.see(len(wrong.broken) > 0, f"tools/memory-edits/{path.name}: not seen")
+    for fault in sources.broken:
+        print(fault)
+    print(f"{sources.rules - len(sources.broken)} passed, {len(sources.broken)} failed")
+    return 1 if sources.broken else 0
+
+
+if __name__ == "__main__":
+    sys.exit(main())
