@@ -13,6 +13,7 @@ pub mod KeepsOnLemmas
 pub mod ServeLemmas
 mod AddressLemmas
 mod Examples
+mod Transcripts
 mod ArgumentLemmas
 pub mod ProgramLemmas
 mod UsageLemmas

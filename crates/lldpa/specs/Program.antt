@@ -1,5 +1,5 @@
 -- What a run of the program over its streams leaves.
-use Rattle.std.specs.Prelude.{◌≡◌, ◌⊎◌, ℕ, true, List, Option, Some, None, Result, is_ok, codes}
+use Rattle.std.specs.Prelude.{◌≡◌, ◌<◌, ◌≤◌, ◌⊎◌, ℕ, true, List, Option, Some, None, Result, is_ok, codes}
 use Rattle.std.specs.Io.KnownBytes.{Consumes, Keeps}
 use Rattle.clap.specs.Walk.{Row, Text, one_of}
 use Rattle.lldp_engine.specs.AgentState.{AgentState}
@@ -14,6 +14,10 @@ pub record RanStreams (to_come left old new : Option (List ℕ)) (before after :
   pub result : Result (Unit {0}) RunFault
   pub run : HasRun to_come left old new before after result
   pub done : status ≡ 0 → is_ok result ≡ true
+
+-- a read failed, or a write or a flush did, or there were as many reads as a run makes at most
+abbrev pub FailedBy : ℕ → ℕ → ℕ → Type 0
+FailedBy reads writes calls = 0 < reads ⊎ (0 < writes ⊎ 4294967295 ≤ calls)
 
 -- An agent opened with these options ran the trace that came: what was read, and what was written for it.
 pub record Ran (options : Options) (to_come left old new : Option (List ℕ)) (result : Result (Unit {0}) RunFault) :

@@ -1,5 +1,6 @@
 -- What serving connections leaves.
 use Rattle.std.specs.Prelude.{◌≡◌, ◌<◌, ℕ, ◌+◌, List, [], ◌∷◌, length, Option, Result, Ok, Err}
+use Rattle.lldpa.specs.Doors.{Call, accepted, refused, ran, Visit, logged}
 use Rattle.lldp_engine.specs.AgentState.{AgentState}
 use Rattle.lldpa.specs.Runs.{HasRun}
 use Rattle.lldpa.specs.declared.trace.RunFault.{RunFault}
@@ -39,3 +40,35 @@ pub record HasServed (connections : ℕ) (before after : AgentState) (result : R
   pub results : List (Result (Unit {0}) RunFault)
   pub served : AreServed results before after
   pub told : Tells connections results result
+
+-- the answers of these runs
+abbrev pub results_of : {C : Type 0} → List (Visit C) → List (Result (Unit {0}) RunFault)
+results_of [] = []
+results_of (visit ∷ earlier) = visit.result ∷ results_of earlier
+
+-- Each connection was accepted and then run over once, before the next was accepted: the last call first.
+abbrev pub calls_of : {C : Type 0} → List (Visit C) → List (Call C)
+calls_of [] = []
+calls_of (visit ∷ earlier) = ran visit ∷ accepted visit.connection ∷ calls_of earlier
+
+-- the same with the refusal that an answer Err tells of, behind all of them
+abbrev pub calls_with : {C : Type 0} → List (Visit C) → Result ℕ ServeFault → List (Call C)
+calls_with visits (Ok faulty) = calls_of visits
+calls_with visits (Err fault) = refused ∷ calls_of visits
+
+-- a trace was run over each connection, the agent going from one to the next as it is
+abbrev pub AreRun : {C : Type 0} → (C → Option (List ℕ)) → (C → Option (List ℕ)) → List (Visit C) → AgentState → AgentState →
+    Type 0
+AreRun to_come taken [] before after = after ≡ before
+AreRun to_come taken (visit ∷ earlier) before after =
+    (between : AgentState) × AreRun to_come taken earlier before between
+    × HasRun (to_come visit.connection) visit.left (taken visit.connection) visit.new between after visit.result
+
+-- A door was asked for so many connections: all that it was asked is that each was accepted and run over once, and the
+-- answer tells how many of the runs ended with a fault, or that it accepted no more.
+pub record HasAsked {C : Type 0} (to_come taken : C → Option (List ℕ)) (old new : Option (List (Call C)))
+    (connections : ℕ) (before after : AgentState) (result : Result ℕ ServeFault) : Type 0 where
+  pub visits : List (Visit C)
+  pub runs : AreRun to_come taken visits before after
+  pub asked : new ≡ logged (calls_with visits result) old
+  pub told : Tells connections (results_of visits) result

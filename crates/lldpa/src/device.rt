@@ -1,7 +1,7 @@
 //! Devices that a trace is read from and written to, and the adapters that make them of std's
 //! readers and writers.
 ghost use Rattle.std.specs.Prelude.{◌≡◌, ◌<◌, ◌≤◌, ℕ, List, Option, length, IfOk};
-ghost use Rattle.std.specs.Io.KnownBytes.{ReadConsumes, WriteAppends};
+ghost use Rattle.std.specs.Io.KnownBytes.{ReadConsumes, WriteAppends, Keeps};
 ghost use Rattle.std.specs.Borrow.{GName};
 ghost use Rattle.lldpa.specs.Devices.{one_more, failures_after};
 
@@ -53,6 +53,15 @@ pub trait Sink {
         ensures octets { WriteAppends (taken self.old) (taken self.new) result octets.now }
         ensures failures { failures self.new ≡ failures_after (failures self.old) result }
         ensures place { place self.new ≡ place self.old };
+}
+
+/// What takes octets and can be told to pass them on.
+pub trait Flush: Sink {
+    /// Passes on what was taken. A flush that fails counts as a failed write.
+    fn flush(&mut self) -> Result<(), DeviceFault>
+        ensures octets { Keeps (Self.taken self.old) (Self.taken self.new) }
+        ensures failures { Self.failures self.new ≡ failures_after (Self.failures self.old) result }
+        ensures place { Self.place self.new ≡ Self.place self.old };
 }
 
 /// A source of any reader, which it is lent.
@@ -139,6 +148,18 @@ impl<W: Write> Sink for ToWriter<'_, W> {
         match self.writer.write(octets) {
             Ok(n) if n > 0 => Ok(n),
             _ => {
+                self.failures = self.failures.saturating_add(1);
+                Err(DeviceFault::Failed)
+            }
+        }
+    }
+}
+
+impl<W: Write> Flush for ToWriter<'_, W> {
+    fn flush(&mut self) -> Result<(), DeviceFault> {
+        match self.writer.flush() {
+            Ok(()) => Ok(()),
+            Err(_) => {
                 self.failures = self.failures.saturating_add(1);
                 Err(DeviceFault::Failed)
             }

@@ -5,6 +5,7 @@ pub mod addresses;
 pub mod arguments;
 pub mod buffer;
 pub mod device;
+pub mod door;
 pub mod help;
 pub mod line;
 pub mod output;

@@ -1,24 +1,23 @@
 //! The program, over words and streams that are handed in.
-ghost use Rattle.std.specs.Prelude.{◌≡◌, ◌≢◌, ◌≤◌, ◌↔◌, None, Ok, is_ok, map, if◌then◌else◌};
+ghost use Rattle.std.specs.Prelude.{◌≡◌, ◌≢◌, ◌≤◌, ◌↔◌, None, Ok, map, if◌then◌else◌};
 ghost use Rattle.std.specs.Io.KnownBytes.{Keeps};
 ghost use Rattle.clap.specs.Values.{kind_of};
 ghost use Rattle.clap.specs.Words.{found_of, rows_of};
 ghost use Rattle.lldp_engine.specs.Options.{Options, fault_of};
 ghost use Rattle.lldpa.specs.Arguments.{GivesOptions};
-ghost use Rattle.lldpa.specs.Program.{HasAnswered, RanAs, RanStreams};
-ghost use Rattle.lldpa.specs.Runs.{HasRun};
+ghost use Rattle.lldpa.specs.Program.{FailedBy, HasAnswered, RanAs, RanStreams};
 ghost use Rattle.lldpa.specs.Usage.{Asks};
 
 use crate::arguments::{AddressFault, Listening, listening_of, options_of, parse};
-use crate::device::{FromReader, ToWriter};
+use crate::device::{Flush, FromReader, Source, ToWriter};
 use crate::serve::{ServeFault, serve};
-use crate::trace::{RunFault, run_trace};
+use crate::trace::run_trace;
 use clap::error::ErrorKind;
 use clap::{ArgMatches, Error};
 use lldp_engine::{Agent, OpenFault};
 use std::alloc::Global;
 use std::convert::AsStr;
-use std::io::{self, Read, Write};
+use std::io::{Read, Write};
 use std::net::{Ipv4Addr, Net, TcpListener, TcpStream};
 
 /// All went well.
@@ -118,7 +117,7 @@ fn answer_words<W: Write, E: Write>(error: &Error, writer: &mut W, faults: &mut 
     if write!(writer, "{error}").is_err() {
         return write_fault(faults, b"lldpa: write failed\n", FAILED);
     }
-    finish(writer.flush(), faults)
+    finish(writer.flush().is_ok(), faults)
 }
 
 /// Runs the trace that comes from the reader, and flushes the writer also where the run failed.
@@ -132,27 +131,40 @@ fn run_streams<R: Read, W: Write, E: Write>(
     ensures ran { RanStreams (R.remaining reader.old) (R.remaining reader.new)
         (W.contents writer.old) (W.contents writer.new) agent.old agent.new result }
 {
-    let ran = run_devices(agent, reader, writer);
-    if let Err(fault) = ran {
-        let _ = writer.flush();
-        let _ = writeln!(faults, "{fault}");
-        return FAILED;
-    }
-    finish(writer.flush(), faults)
-}
-
-/// Runs the trace that comes from the reader.
-fn run_devices<R: Read, W: Write>(
-    agent: &mut Agent,
-    reader: &mut R,
-    writer: &mut W,
-) -> Result<(), RunFault>
-    ensures { HasRun (R.remaining reader.old) (R.remaining reader.new)
-        (W.contents writer.old) (W.contents writer.new) agent.old agent.new result }
-{
     let mut source = FromReader::new(reader);
     let mut sink = ToWriter::new(writer);
-    run_trace(agent, &mut source, &mut sink)
+    run_devices(agent, &mut source, &mut sink, faults)
+}
+
+/// Runs the trace that comes from a source, and flushes the sink also where the run failed.
+fn run_devices<S: Source, W: Flush, E: Write>(
+    agent: &mut Agent,
+    source: &mut S,
+    sink: &mut W,
+    faults: &mut E,
+) -> u8
+    ensures status { result ≤ FAILED }
+    ensures ran { RanStreams (S.to_come source.old) (S.to_come source.new)
+        (W.taken sink.old) (W.taken sink.new) agent.old agent.new result }
+    // Status 0 says that no read, write or flush failed, and status 1 that one did or that the
+    // trace was too long.
+    ensures done { result ≡ DONE → (S.failures source.new ≡ S.failures source.old)
+        × (W.failures sink.new ≡ W.failures sink.old) }
+    ensures failed { result ≡ FAILED → S.failures source.old ≡ 0 → W.failures sink.old ≡ 0 →
+        S.calls source.old ≡ 0 →
+        FailedBy (S.failures source.new) (W.failures sink.new) (S.calls source.new) }
+    ensures places { (S.place source.new ≡ S.place source.old)
+        × (W.place sink.new ≡ W.place sink.old) }
+{
+    let ran = run_trace(agent, source, sink);
+    let flushed = sink.flush();
+    match ran {
+        Ok(()) => finish(flushed.is_ok(), faults),
+        Err(fault) => {
+            let _ = writeln!(faults, "{fault}");
+            FAILED
+        }
+    }
 }
 
 /// Runs the traces that come over connections to a port of this host.
@@ -172,13 +184,13 @@ fn run_sockets<E: Write>(
 }
 
 /// The status behind a flush at the end, of which a fault is told.
-fn finish<E: Write>(flushed: io::Result<()>, faults: &mut E) -> u8
-    ensures { result ≡ (if is_ok flushed then DONE else FAILED) }
+fn finish<E: Write>(flushed: bool, faults: &mut E) -> u8
+    ensures { result ≡ (if flushed then DONE else FAILED) }
 {
-    match flushed {
-        Ok(()) => DONE,
-        Err(_) => write_fault(faults, b"lldpa: write failed\n", FAILED),
+    if flushed {
+        return DONE;
     }
+    write_fault(faults, b"lldpa: write failed\n", FAILED)
 }
 
 /// The status behind the connections, of which a fault is told.

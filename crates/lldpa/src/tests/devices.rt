@@ -67,7 +67,7 @@ pub enum Burn {
 }
 
 /// Takes pieces of this size, and fails once after so many octets, or where it is flushed. What is
-/// written after that shows.
+/// written after that shows. It counts how often it is flushed.
 #[derive(Drop)]
 pub struct Fuse {
     octets: [u8; 4096],
@@ -75,6 +75,7 @@ pub struct Fuse {
     piece: usize,
     burns_at: usize,
     burn: Burn,
+    flushes: usize,
     ghost within: { len ≤ 4096 },
 }
 
@@ -86,6 +87,7 @@ impl Fuse {
             piece,
             burns_at,
             burn,
+            flushes: 0,
         }
     }
 
@@ -97,6 +99,11 @@ impl Fuse {
     /// What it took.
     pub fn taken(&self) -> &[u8] {
         &self.octets[..self.len]
+    }
+
+    /// How often it was flushed.
+    pub fn flushes(&self) -> usize {
+        self.flushes
     }
 }
 
@@ -119,6 +126,7 @@ impl Write for Fuse {
     }
 
     fn flush(&mut self) -> Result<()> {
+        self.flushes = self.flushes.saturating_add(1);
         if self.burn == Burn::AtFlush {
             return Err(Error::from(ErrorKind::Other));
         }

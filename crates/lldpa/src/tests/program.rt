@@ -2,6 +2,7 @@
 use super::devices::{Burn, Drip, Fuse, Network};
 use super::runs::{INPUT, OUTPUT};
 use crate::program::run_program;
+use crate::trace::RunFault;
 use std::net::{Net, TcpListener, TcpStream};
 use std::process::Abort;
 use std::test::Fail;
@@ -19,7 +20,7 @@ const FAR: usize = usize::MAX;
 const OFFLINE: Network<'static> = Network { listener: None };
 
 /// Runs the program with words, given with spaces between them, and compares its status and what it
-/// tells.
+/// tells, which is taken an octet at a time.
 pub fn expect_status(
     rt: &(impl Abort + AllocGlobal),
     net: &impl Net<Listener = TcpListener, Stream = TcpStream>,
@@ -29,13 +30,14 @@ pub fn expect_status(
     wanted: (u8, &str),
 ) -> Result<(), Fail> {
     let words: Vec<&str> = words.split_whitespace().collect(rt.alloc())?;
-    let mut faults = Fuse::endless();
+    let mut faults = Fuse::new(1, FAR, Burn::Error);
     let status = run_program(net, rt.alloc(), &words, reader, writer, &mut faults);
     assert_eq!(rt; status, wanted.0);
     assert_eq!(rt; faults.taken(), wanted.1.as_bytes());
     Ok(())
 }
 
+/// Whatever became of the run, what was written is flushed once.
 #[test]
 fn streams_that_fail(rt: HostRuntime) -> Result<(), Fail> {
     let words = "lldpa --receive-only eth0";
@@ -53,6 +55,7 @@ fn streams_that_fail(rt: HostRuntime) -> Result<(), Fail> {
         let mut writer = Fuse::new(FAR, burns_at, burn);
         expect_status(&rt, &OFFLINE, words, &mut reader, &mut writer, (1, told))?;
         assert_eq!(rt; writer.taken(), &OUTPUT[..taken]);
+        assert_eq!(rt; writer.flushes(), 1);
     }
     Ok(())
 }
@@ -90,5 +93,13 @@ fn no_words_and_no_listen(rt: HostRuntime) -> Result<(), Fail> {
         expect_status(&rt, &OFFLINE, words, &mut reader, &mut writer, wanted)?;
         assert_eq!(rt; writer.taken(), written.as_bytes());
     }
+    Ok(())
+}
+
+/// No trace of so many reads can be run in a test.
+#[test]
+fn text_of_input_too_long(rt: HostRuntime) -> Result<(), Fail> {
+    let told = format!(in rt.alloc(); "{}", RunFault::InputTooLong)?;
+    assert_eq!(rt; told.as_str(), "lldpa: input too long");
     Ok(())
 }

@@ -1,0 +1,234 @@
+#!/usr/bin/env python3
+"""Writes the transcripts of examples/ as theorems over the definitions alone, which the check of lldpa computes: from
+the words of the program to the options that they ask for, and from the octets of the input to those of the output.
+
+    python3 tools/transcripts.py [--check]
+
+With --check nothing is written, and the status is 1 where the file is not what the examples give. A transcript of more
+than MOST_TICKS ticks is left out: of each moment the definitions ask for all before it.
+"""
+import pathlib
+import re
+import sys
+
+from examples import transcripts
+
+FILE = pathlib.Path(__file__).resolve().parent.parent / "crates/lldpa/proofs/Transcripts.antt"
+MOST_TICKS = 60
+
+HEAD = """\
+-- The transcripts of examples/, computed from the definitions alone. tools/transcripts.py writes this file.
+use Rattle.std.proofs.Common.{◌≡◌, ℕ, List, [], ◌∷◌, ◌++◌, true, false, Some, None, refl, ap, ◌∙◌, codes, Bor, arith}
+use Rattle.std.specs.Fmt.{digits}
+use Rattle.hex.specs.Hex.{encode_with, decode_pairs}
+use Rattle.clap.specs.Walk.{Text}
+use Rattle.clap.specs.Simple.{matches_of}
+use Rattle.clap.proofs.OnLiterals.{clap_on_literals}
+use Rattle.lldp_pdu.specs.Cut.{cut_within, cut}
+use Rattle.lldp_pdu.specs.Frame.{is_lldp_frame}
+use Rattle.lldp_pdu.specs.Lldpdu.{extent, ended_incomplete, ttl_of, msap_of, later_tlvs}
+use Rattle.lldp_pdu.specs.Fault.{fault_of}
+use Rattle.lldp_pdu.specs.WellFormed.{is_well_formed}
+use Rattle.lldp_pdu.specs.Kept.{kept_of, discarded_of}
+use Rattle.lldp_table.specs.Events.{live, neighbors, events_of, too_many_left}
+use Rattle.lldp_transmit.specs.Moments.{moment}
+use Rattle.lldp_transmit.specs.Standing.{machine_of}
+use Rattle.lldp_engine.specs.declared.agent.options.Role.TheVariants.{Station, Bridge, Router}
+use Rattle.lldp_engine.specs.Options.{Options, fault_of as opening_fault}
+use Rattle.lldp_engine.specs.Heard.{heard_of}
+use Rattle.lldp_engine.specs.Counters.{counters_of}
+use Rattle.lldp_engine.specs.Port.Past.{port_after}
+use Rattle.lldp_engine.specs.Past.{Past, opened, agent_of}
+use Rattle.lldp_engine.specs.Frames.{frame_of}
+use Rattle.lldp_engine.specs.Words.{words_from}
+use Rattle.lldpa.specs.Forms.{tick_form, frame_form, link_form, form_of, work_given}
+use Rattle.lldpa.specs.Lines.{lines_of}
+use Rattle.lldpa.specs.Items.{items_of, items_of_lines, after_all, text_of_all, text}
+use Rattle.lldpa.specs.Usage.{Asks, program}
+use Rattle.lldpa.proofs.ItemLemmas.{text_of_all-append}
+
+-- the text of each line, each read after all before it
+abbrev texts_of : Past → List (List ℕ) → List (List ℕ)
+texts_of past [] = []
+texts_of past (line ∷ lines) =
+    text_of_all past (items_of past line) ∷ texts_of (after_all past (items_of past line)) lines
+
+-- the text of each line of an input
+abbrev texts : Past → List ℕ → List (List ℕ)
+texts past input = texts_of past (lines_of input)
+
+-- texts, one behind another
+abbrev in_order : List (List ℕ) → List ℕ
+in_order [] = []
+in_order (line ∷ lines) = line ++ in_order lines
+
+joined_lines : (past : Past) (lines : List (List ℕ)) → text_of_all past (items_of_lines past lines) ≡ in_order (texts_of past lines)
+joined_lines past [] = refl
+joined_lines past (line ∷ lines) =
+    text_of_all-append past (items_of past line) (items_of_lines (after_all past (items_of past line)) lines)
+    ∙ ap (λ t. text_of_all past (items_of past line) ++ t) (joined_lines (after_all past (items_of past line)) lines)
+
+-- the text of an input is the texts of its lines in order
+text_in_order : (past : Past) (input : List ℕ) → text past input ≡ in_order (texts past input)
+text_in_order past input = joined_lines past (lines_of input)
+
+-- The words ask for options without a fault, and an agent opened with them writes these texts, one for each line.
+record Writes (words : List Text) (input : List ℕ) (lines : List (List ℕ)) : Type 0 where
+  options : Options
+  asked : (roles : Bor (List (Bor Text))) → Asks (matches_of (program roles) words) options
+  sound : opening_fault options ≡ None
+  written : texts (opened options) input ≡ lines
+
+-- one port, eth0, and all else as the program has it by default
+abbrev usual : Options
+usual =
+    record {
+      names = codes "eth0" ∷ [];
+      mac = 2 ∷ 0 ∷ 0 ∷ 0 ∷ 0 ∷ 1 ∷ [];
+      hostname = codes "localhost";
+      management = None;
+      role = Station;
+      max_neighbors = 32;
+      credit_max = 5;
+      fast_init = 4;
+      reinit = 2;
+      receive_only = false;
+    }
+"""
+
+# each definition that opens by name alone
+OPENED = """digits encode_with decode_pairs
+    cut_within cut is_lldp_frame extent ended_incomplete ttl_of msap_of later_tlvs fault_of is_well_formed
+    kept_of discarded_of live neighbors events_of too_many_left moment machine_of heard_of counters_of port_after agent_of
+    frame_of words_from tick_form frame_form link_form form_of work_given"""
+
+NUMBERS = {"max-neighbors": "max_neighbors", "tx-credit-max": "credit_max", "tx-fast-init": "fast_init",
+           "reinit-delay": "reinit"}
+
+
+def octets(values):
+    return "".join(f"{value} ∷ " for value in values) + "[]"
+
+
+def codes(line):
+    """A line as antt has it: its printable octets and LF in quotes, each other octet by itself."""
+    parts = []
+    for part in re.findall(rb"[ -~\n]+|[^ -~\n]+", line):
+        quoted = part.decode("latin-1").replace("\\", "\\\\").replace('"', '\\"').replace("\n", "\\n")
+        parts.append(f'codes "{quoted}"' if re.match(rb"[ -~\n]", part) else f"({octets(part)})")
+    return " ++ ".join(parts)
+
+
+def joined(lines):
+    return "\n    ++ ".join(map(codes, lines)) or "[]"
+
+
+def written_by(lines):
+    """What a line writes; several lines stand below one another."""
+    return f"({joined(lines)})" if len(lines) > 1 else joined(lines)
+
+
+def options(words):
+    """The options of some words, as what differs from the usual ones, and the management address among them."""
+    names, fields, management, words = [], [], None, iter(words)
+    for word in words:
+        name, equals, value = word.removeprefix("--").partition("=")
+        if not word.startswith("--"):
+            names.append(word.encode())
+            continue
+        if name == "receive-only":
+            fields.append("receive_only = true")
+            continue
+        value = value if equals else next(words)
+        if name == "management":
+            management = value.split(".")
+        fields.append({
+            "mac": lambda: f"mac = {octets(bytes.fromhex(value.replace(':', '')))}",
+            "hostname": lambda: f"hostname = {codes(value.encode())}",
+            "management": lambda: f"management = Some ({octets(management)})",
+            "role": lambda: f"role = {value.capitalize()}",
+        }.get(name, lambda: f"{NUMBERS[name]} = {int(value)}")())
+    if names != [b"eth0"]:
+        fields.append(f"names = {listed(names)}")
+    return f"record usual {{ {'; '.join(fields)} }}" if fields else "usual", management
+
+
+def listed(texts):
+    """Texts as a list."""
+    return "".join(codes(text) + " ∷ " for text in texts) + "[]"
+
+
+def asked(name, words):
+    """A theorem that the words ask for their options: all is computed but for the digits of a management address."""
+    given, management = options(words)
+    dotted = "refl"
+    if management:
+        fields = "".join(f"{name} = {value}; " for name, value in zip("abcd", management))
+        fit = ", ".join(["omega arith"] * 4)
+        dotted = f"({octets(management)}, refl, record {{ {fields}fit = ({fit}); value = refl; spelled = refl }})"
+    only = "--receive-only" in words
+    return f"""
+{name} : (roles : Bor (List (Bor Text)))
+    → Asks (matches_of (program roles) {list_of_words(words)})
+    {given if given == "usual" else f"({given})"}
+unfolding clap_on_literals decode_pairs digits
+{name} roles =
+    record {{
+      names = refl;
+      mac = record {{ long = refl; colons = refl; digits = refl }};
+      hostname = refl;
+      management = {dotted};
+      role = refl;
+      max_neighbors = refl;
+      credit_max = refl;
+      fast_init = refl;
+      reinit = refl;
+      receives = λ e. {"refl" if only else "cc"};
+      sends = λ e. {"cc" if only else "refl"};
+    }}
+"""
+
+
+def list_of_words(words):
+    """The program's name and its words as antt has them."""
+    return f"({listed([b'lldpa', *(word.encode() for word in words)])})"
+
+
+def theorem(name, words, trace, steps, asks):
+    """A transcript as a theorem and its proof, of words that ask for their options by a theorem before it."""
+    if isinstance(steps, str):
+        sys.exit(f"{name}: {steps}")
+    lines = re.findall(rb"[^\n]*\n|[^\n]+", trace)
+    texts = "".join(written_by(written) + "\n    ∷ " for _, written in steps)
+    return f"""
+{name} : Writes
+    {list_of_words(words)}
+    ({joined(lines)})
+    ({texts}[])
+unfolding {OPENED}
+{name} = record {{ options = {options(words)[0]}; asked = {asks}; sound = refl; written = refl }}
+"""
+
+
+def theorems(shown):
+    """The theorems of some transcripts, each list of words before the first transcript that has it."""
+    names = {}
+    for name, words, trace, steps in shown:
+        name = name.replace("-", "_")
+        if tuple(words) not in names:
+            names[tuple(words)] = f"words_of_{name}"
+            yield asked(names[tuple(words)], words)
+        yield theorem(name, words, trace, steps, names[tuple(words)])
+
+
+def ticks(trace):
+    """How many ticks a trace has; a line of more than 65,535 is refused."""
+    numbers = [int(n or 1) for n in re.findall(rb"^tick *(\d*)$", trace, re.M)]
+    return sum(n for n in numbers if n <= 65535)
+
+
+if __name__ == "__main__":
+    shown = HEAD + "".join(theorems(one for one in transcripts([]) if ticks(one[2]) <= MOST_TICKS))
+    if sys.argv[1:] == ["--check"]:
+        sys.exit(0 if FILE.read_text() == shown else "run tools/transcripts.py: examples were changed")
+    FILE.write_text(shown)
