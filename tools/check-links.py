@@ -1,7 +1,8 @@
 #!/usr/bin/env python3
-"""Looks up what the pages name, without a network: links and their anchors, files in backticks, calls in backticks, lines
-of sources in blocks that say `rust` or `antt`, on pages about proofs each clause, definition and lemma in backticks, and
-that no module of a crate lacks its row in docs/ARCHITECTURE.md, nor any file of definitions its row in
+"""Looks up what the pages name, without a network: links and their anchors, files in backticks, calls in backticks, options,
+lines of sources in blocks that say `rust` or `antt`, which stand in one file one behind another, on pages about proofs
+each clause, definition, lemma and large number, in rows of docs/CLAIMS.md that a clause is one of the calls of its row,
+that each module of a crate says in its first line what it is, and that no file of definitions lacks its row in
 docs/DEFINITIONS.md. No line of text is over 120 columns long.
 
     tools/check-links.py
@@ -22,7 +23,17 @@ FUNCTIONS |= set(re.findall(r"^    (\w+)(?:\(|,| \{)", SOURCE, re.M))  # the cas
 PROOFS = "\n".join(path.read_text() for path in TOP.glob("crates/*/proofs/**/*.antt"))
 FILES = {name for path in TOP.rglob("*") if not {"out", ".git"} & set(path.relative_to(TOP).parts) for name in (path.stem, path.name)}
 NAMES = FILES | {name for text in (SOURCE, DEFINITIONS, PROOFS) for name in re.findall(r"\w+(?:-\w+)*", text)} | set(CRATES)
-ABOUT_PROOFS = ("CLAIMS.md", "DEFINITIONS.md", "PROOFS.md", "ARCHITECTURE.md", "GLOSSARY.md", "STANDARD.md")
+ABOUT_PROOFS = ("CLAIMS.md", "DEFINITIONS.md", "PROOFS.md", "ARCHITECTURE.md", "STANDARD.md")
+SCRIPTS = "\n".join(path.read_text() for path in (TOP / "tools").glob("*.*") if path.suffix in (".py", ".sh"))
+NUMBERS_OF_SOURCES = set(re.findall(r"\d+", (SOURCE + DEFINITIONS + SCRIPTS).replace("_", "")))
+
+# what people run, and what its options stand in
+OF_OPTIONS = [TOP / "examples" / "help.txt"] + [path for folder in ("python", "bin", "tools", ".ci") for path in (TOP / folder).rglob("*")]
+OPTIONS = {option for path in OF_OPTIONS if path.is_file() and path.suffix != ".pyc"
+           for option in re.findall(r"--[a-z][a-z-]*[a-z]", path.read_text())}
+# of the toolchain and of other programs
+OPTIONS |= {"--only", "--allow-holes", "--fix-imports", "--test", "--minutes", "--line-buffered", "--now"}
+
 FOLDERS_OF_A_CRATE = ("specs", "proofs", "src", "must-fail")
 
 
@@ -88,9 +99,42 @@ def names(text):
 
 
 def excerpts(text):
-    """The lines that a page shows of the sources, in blocks that say their language."""
+    """The lines that a page shows of the sources, block by block, in blocks that say their language."""
     for block in re.findall(r"^```(?:rust|antt)\n(.*?)^```$", text, re.M | re.S):
-        yield from filter(None, map(str.strip, block.splitlines()))
+        yield [line.strip() for line in block.splitlines() if line.strip()]
+
+
+def lines_of_sources():
+    """The lines of each source, without those that are empty."""
+    for folder in ("src", "specs"):
+        for path in TOP.glob(f"crates/*/{folder}/**/*"):
+            if path.suffix in (".rt", ".antt"):
+                yield [line.strip() for line in path.read_text().splitlines() if line.strip()]
+
+
+LINES = ["\n".join(["", *lines, ""]) for lines in lines_of_sources()]
+
+
+def is_shown(lines):
+    """Whether these lines stand in a source, one behind another."""
+    shown = "\n".join(["", *lines, ""])
+    return any(shown in source for source in LINES)
+
+
+def large_numbers(text):
+    """The numbers of four digits and more that stand by themselves, but for years."""
+    for number in re.findall(r"(?<![\w.,-])(\d{1,3}(?:,\d{3})+|\d{4,})(?![\w,.-]*\w)", text):
+        if number not in ("2009", "2016"):
+            yield number.replace(",", "")
+
+
+def clauses_of_crate(crate):
+    """The names of the clauses of each function of a crate."""
+    found = {}
+    for path in (TOP / "crates" / crate / "src").rglob("*.rt"):
+        for name, head in re.findall(r"\bfn (\w+)(.*?)(?=\bfn \w+|\Z)", path.read_text(), re.S):
+            found.setdefault(name, set()).update(re.findall(r"(?:ensures|requires|accesses|\n +)\s*(\w+) \{ ", head))
+    return found
 
 
 class Checks:
@@ -120,35 +164,34 @@ def check_page(checks, page):
     if page.name in ABOUT_PROOFS:
         for word in names(text):
             checks.see(name, word, None if word in NAMES else "no such name in the sources")
-    for line in excerpts(page.read_text()):
-        checks.see(name, line, None if line in SOURCE or line in DEFINITIONS else "no such line in the sources")
+        for number in large_numbers(text):
+            checks.see(name, number, None if number in NUMBERS_OF_SOURCES else "no such number in the sources")
+    for option in re.findall(r"(?<![\w-])--[a-z][a-z-]*[a-z]", page.read_text()):
+        checks.see(name, option, None if option in OPTIONS else "no such option")
+    for lines in excerpts(page.read_text()):
+        checks.see(name, lines[0], None if is_shown(lines) else "these lines do not stand in the sources one behind another")
 
 
-def check_row(checks, page, crate, row):
-    """The calls of a row are calls of its modules, and the definitions are cited there."""
-    modules, _, calls_of_it, specs = row.split("|")[1:5]
-    texts = [path.read_text() for name in re.findall(r"`(\w+)`", modules) for path in (TOP / "crates" / crate / "src").rglob(f"{name}.rt")]
-    source = "\n".join(texts)
-    for call in re.findall(r"`(?:\w+::)?(\w+)`", calls_of_it):
-        checks.see(page, f"{crate}, {modules.strip()}, {call}", None if re.search(rf"\b{call}\b", source) else "no such call there")
-    for name in re.findall(r"`([\w/]+)`", specs):
-        cited = re.search(rf"Rattle\.{crate}\.specs\.{name.replace('/', '.')}\b", source)
-        checks.see(page, f"{crate}, {modules.strip()}, {name}", None if cited else "is not cited there")
+def check_claims(checks):
+    """A clause that a row of docs/CLAIMS.md names is one of the calls of that row."""
+    page = "docs/CLAIMS.md"
+    for crate, section in re.findall(r"^## `(\w+)`.*?\n(.*?)(?=^## )", (TOP / page).read_text(), re.M | re.S):
+        clauses = clauses_of_crate(crate)
+        named = set().union(*clauses.values()) - FUNCTIONS - set(re.findall(r"^\s*(?:\w+ )*(\w+) :", DEFINITIONS, re.M))
+        for row in re.findall(r"^\| (`.*)$", section, re.M):
+            calls_of_row, says = row.split("|")[:2]
+            own = set().union(*(clauses.get(call, set()) for call in re.findall(r"(\w+)`", calls_of_row)))
+            for word in set(re.findall(r"`(\w+)`", says)) & named if own else ():
+                checks.see(page, f"{calls_of_row.strip()}: {word}", None if word in own else "no clause of these calls")
 
 
 def check_modules(checks):
-    """Each module has its row below its crate's, and each row its module."""
-    page = "docs/ARCHITECTURE.md"
-    table = (TOP / page).read_text().split("## Modules")[1].split("\n## ")[0]
-    for crate, rows in re.findall(r"^\| \*\*`(\w+)`\*\*.*\n((?:\|.*\n)*?)(?=\| \*\*|\n|\Z)", table, re.M):
-        told = {name for row in rows.splitlines() for name in re.findall(r"`(\w+)`", row.split("|")[1])}
-        there = {path.stem for path in (TOP / "crates" / crate / "src").rglob("*.rt") if "tests" not in path.relative_to(TOP).parts}
-        for module in sorted(told | there - {"lib", "tests"}):
-            fault = None if module in told & there else "has no row" if module in there else "no such module"
-            checks.see(page, f"{crate}, {module}", fault)
-        for row in rows.splitlines():
-            check_row(checks, page, crate, row)
-    checks.see(page, "crates", None if all(f"**`{crate}`**" in table for crate in CRATES) else "one has no rows")
+    """The first line of each module says what it is."""
+    for crate in CRATES:
+        for path in sorted((TOP / "crates" / crate / "src").rglob("*.rt")):
+            if "tests" not in path.relative_to(TOP).parts:
+                says = re.match(r"//! \w", path.read_text())
+                checks.see(path.relative_to(TOP), "its first line", None if says else "does not say what the module is")
 
 
 def check_definitions(checks):
@@ -168,6 +211,7 @@ def main():
         check_page(checks, page)
     check_modules(checks)
     check_definitions(checks)
+    check_claims(checks)
     print(f"{checks.passed} passed, {checks.failed} failed")
     return 1 if checks.failed else 0
 

@@ -2,6 +2,7 @@
 """Runs the examples on the built program, and compares what they show.
 
     python3 tools/examples.py PROGRAM [NAME ...]
+    python3 tools/examples.py --as-root
 
 The transcripts stand under examples/: NAME.args has the words, one a line, and NAME.trace the input. NAME.expect
 shows each line of the input behind `> `, a long one by its first octets and `...`, and below it what it writes.
@@ -12,17 +13,22 @@ the program has read the one before it. Each run must end with status 0 and say 
 The examples of the documents and of the manual page are blocks whose first line begins with `$ `. Each such line
 is a command, with its input up to the line EOF where it ends with <<'EOF' or <<EOF; what stands below is what it
 writes, up to the next command. A status other than 0 is shown by the command `echo $?`. Nothing may come on standard
-error. Sessions on a link are left to tools/try-live.sh.
+error. The number of a port behind --listen stands for a free one. A block that takes too long has failed, and all that
+it started is ended. A block whose commands begin with sudo is left to tools/try-package.sh, for which --as-root lists
+these commands; a block with commands of both kinds has failed.
 
 With names only those transcripts are run. The last line counts each way of each transcript, and each block.
 """
 import array
 import concurrent.futures
+import contextlib
 import fcntl
 import functools
 import os
 import pathlib
 import re
+import signal
+import socket
 import subprocess
 import sys
 import tempfile
@@ -31,8 +37,8 @@ import time
 
 TOP = pathlib.Path(__file__).resolve().parent.parent
 
-# what a session on a link begins with, and what is shown of it
-ON_A_LINK = ("$ sudo ", "$ lldpcli ", "$ head ")
+# what a command that needs root begins with
+AS_ROOT = "$ sudo "
 
 # for how long one run may take
 SECONDS = 60
@@ -152,6 +158,19 @@ def blocks():
         yield f"manual page, block {place}", block.splitlines()
 
 
+def commands(lines):
+    """The lines of a block that are commands."""
+    return [line for line in lines if line.startswith("$ ")]
+
+
+def list_as_root():
+    """Prints each command that needs root, without sudo, in the order of the pages."""
+    for _, lines in blocks():
+        for command in commands(lines):
+            if command.startswith(AS_ROOT):
+                print(command.removeprefix(AS_ROOT))
+
+
 def script_and_output(lines):
     """The commands of a block with their input, and what they write."""
     script, wanted, is_input = [], [], False
@@ -167,15 +186,46 @@ def script_and_output(lines):
     return "".join(f"{line}\n" for line in script), "".join(f"{line}\n" for line in wanted)
 
 
+def with_free_ports(text, script):
+    """The text with each port at which the script listens replaced by a free one."""
+    for number in sorted(set(re.findall(r"--listen[ =](\d+)", script))):
+        text = re.sub(rf"\b{number}\b", free_port(number), text)
+    return text
+
+
+@functools.lru_cache(None)
+def free_port(number):
+    """A port of this host at which nobody listens, the same one for the same number of the pages."""
+    with socket.socket() as one:
+        one.bind(("127.0.0.1", 0))
+        return str(one.getsockname()[1])
+
+
+def ended(ran):
+    """What a script wrote and said, or a text that says that it took too long; all that it started is then ended."""
+    try:
+        return ran.communicate(timeout=SECONDS)
+    except subprocess.TimeoutExpired:
+        return f"it took more than {SECONDS} seconds"
+    finally:
+        with contextlib.suppress(ProcessLookupError):
+            os.killpg(ran.pid, signal.SIGKILL)
+        ran.wait()
+
+
 def fault_of_block(lines, folder):
     """What is wrong with a block, or None."""
-    script, wanted = script_and_output(lines)
-    ran = subprocess.run(["sh", "-c", f'PATH="{folder}:$PATH"\n{script}'], stdin=subprocess.DEVNULL, cwd=TOP,
-                         capture_output=True, text=True, timeout=SECONDS)
-    if ran.stderr:
-        return f"standard error {ran.stderr[:300]!r}"
-    if ran.stdout != wanted:
-        return difference(ran.stdout, wanted)
+    script, wanted = (with_free_ports(text, script_and_output(lines)[0]) for text in script_and_output(lines))
+    ran = subprocess.Popen(["sh", "-c", f'PATH="{folder}:$PATH"\n{script}'], stdin=subprocess.DEVNULL, cwd=TOP, text=True,
+                           stdout=subprocess.PIPE, stderr=subprocess.PIPE, start_new_session=True)
+    found = ended(ran)
+    if isinstance(found, str):
+        return found
+    written, told = found
+    if told:
+        return f"standard error {told[:300]!r}"
+    if written != wanted:
+        return difference(written, wanted)
     if ran.returncode != 0:
         return f"it ended with status {ran.returncode}, which no `$ echo $?` shows"
     return None
@@ -186,12 +236,19 @@ def run_blocks(program):
     with tempfile.TemporaryDirectory() as folder:
         (pathlib.Path(folder) / "lldpa").symlink_to(program)
         for name, lines in blocks():
-            if lines and lines[0].startswith("$ ") and not lines[0].startswith(ON_A_LINK):
-                yield f"{name} ({lines[0]})", fault_of_block(lines, folder)
+            if lines and lines[0].startswith("$ "):
+                as_root = {command.startswith(AS_ROOT) for command in commands(lines)}
+                if as_root == {False}:
+                    yield f"{name} ({lines[0]})", fault_of_block(lines, folder)
+                elif as_root != {True}:
+                    yield f"{name} ({lines[0]})", "some of its commands begin with sudo, and others do not"
 
 
 def main():
     """Runs them all."""
+    if sys.argv[1:] == ["--as-root"]:
+        list_as_root()
+        return 0
     program, only = pathlib.Path(sys.argv[1]).resolve(), sys.argv[2:]
     passed = failed = 0
     for runs in (run_transcripts(program, only), [] if only else run_blocks(program)):

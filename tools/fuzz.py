@@ -1,7 +1,8 @@
 #!/usr/bin/env python3
-"""Runs lldpa and the model of tools/model.py on the same random words and traces, and compares the answers.
+"""Runs lldpa and the model of tools/model.py on the same random words and traces, and compares the answers. Some of the
+traces also go to the judge of tools/judge.py, which looks when frames went.
 
-    python3 tools/fuzz.py [--program FILE] [--seed N] [--seconds S] [--traces N]
+    python3 tools/fuzz.py [--program FILE] [--seed N] [--seconds S] [--traces N] [--judge-one-in N]
 
 Each trace has a seed of its own: trace K of a run has the seed N + K, so `--seed SEED --traces 1` runs one
 alone. At the first difference the trace is made small and printed with its seed, and the status is 1.
@@ -18,6 +19,7 @@ import time
 
 sys.dont_write_bytecode = True
 import model  # noqa: E402
+from compare import FREE_PORT, difference, judged  # noqa: E402
 
 TOP = pathlib.Path(__file__).resolve().parent.parent
 
@@ -266,6 +268,10 @@ def words_of(dice):
             options.append((name, dice.choice(values)))
     if dice.happens(5):
         options.append(("--receive-only",))
+    if dice.happens(30):
+        options.append(("--connections", str(dice.choice([1, 2, 3, 65535]))))
+    elif dice.happens(30):
+        options += [("--listen=" + FREE_PORT,), ("--connections", str(dice.choice([1, 2, 3])))]
     if dice.happens(12):
         options, ports = altered_words(dice, options, ports)
     dice.shuffle(options)
@@ -280,8 +286,11 @@ def altered_words(dice, options, ports):
     change = dice.choice(["value", "value", "twice", "port", "port", "same", "unknown", "help"])
     if change == "value":
         name = dice.choice(sorted(model.VALUED)).replace("_", "-")
-        others = [option for option in options if option[0][2:] != name]
-        return others + [("--" + name, dice.choice(ODD_VALUES))], ports
+        others = [option for option in options if not option[0].startswith("--" + name)]
+        value = dice.choice(ODD_VALUES)
+        if name == "listen" and re.fullmatch(r"\+?0*[0-9]{1,5}", value):
+            return others + [("--listen=" + FREE_PORT,)], ports
+        return others + [("--" + name, value)], ports
     if change == "twice" and options:
         return options + [dice.choice(options)], ports
     if change == "port":
@@ -339,35 +348,6 @@ def case(seed, known):
     return words, lines + [b""] * dice.happens(4)
 
 
-# --------------------------------------------------------------------------------------------- comparing
-def answer_of_program(program, words, trace):
-    """Status, standard output and standard error; a program that does not end has no status."""
-    try:
-        ran = subprocess.run([program, *words], input=trace, capture_output=True, timeout=60)
-    except subprocess.TimeoutExpired:
-        return None, b"", b""
-    return ran.returncode, ran.stdout, ran.stderr
-
-
-def difference(program, words, lines):
-    """What the two answer otherwise, or None. Where the model does not know a text, there must be some."""
-    trace = b"\n".join(lines)
-    status, output, complaint = answer_of_program(program, words, trace)
-    wanted_status, wanted, wanted_complaint = model.run(words, trace)
-    if status != wanted_status:
-        return f"status {status}, the model says {wanted_status}; standard error: {complaint[:200]!r}"
-    if wanted_complaint is None:
-        is_well = output and not complaint if status == 0 else complaint and not output
-        return None if is_well else f"status {status} with {output[:200]!r} and {complaint[:200]!r}"
-    if complaint.decode("latin-1") != (wanted_complaint and wanted_complaint + "\n"):
-        return f"standard error {complaint[:200]!r}, the model says {wanted_complaint!r}"
-    if output == wanted.encode("latin-1"):
-        return None
-    got, want = output.split(b"\n"), wanted.encode("latin-1").split(b"\n")
-    place = next(at for at in range(len(got) + 1) if got[at:at + 1] != want[at:at + 1])
-    return f"output line {place + 1}: {got[place:place + 1]}, the model says {want[place:place + 1]}"
-
-
 # ------------------------------------------------------------------------------------------- making small
 def without_runs(items, differs):
     """The items without the runs that a difference does not need, longest runs first."""
@@ -393,12 +373,12 @@ def shorter_line(line, differs):
     return line
 
 
-def made_small(program, words, lines):
+def made_small(find, program, words, lines):
     """Words and lines that still differ, and need all that they have, as far as two minutes reach."""
     end = time.monotonic() + 120
 
     def differs(words, lines):
-        return time.monotonic() < end and difference(program, words, lines) is not None
+        return time.monotonic() < end and find(program, words, lines) is not None
 
     before = None
     while before != (words, lines):
@@ -428,18 +408,14 @@ def main():
     parser.add_argument("--seed", type=int, default=random.randrange(10 ** 9))
     parser.add_argument("--seconds", type=float)
     parser.add_argument("--traces", type=int)
+    parser.add_argument("--judge-one-in", type=int, default=20)
     given = parser.parse_args()
     seconds = given.seconds or (30 if given.traces is None else float("inf"))
     known, begin, ran = list(examples()), time.monotonic(), 0
     while time.monotonic() - begin < seconds and (given.traces is None or ran < given.traces):
         seed = given.seed + ran
-        words, lines = case(seed, known)
-        what = difference(given.program, words, lines)
-        if what is not None:
-            print(f"seed {seed} differs: {what[:1000]}", flush=True)
-            words, lines = made_small(given.program, words, lines)
-            print(f"made small: {difference(given.program, words, lines)}")
-            print(as_command(given.program, words, lines))
+        finders = [difference] + [judged] * (seed % given.judge_one_in == 0)
+        if any(is_found(find, given.program, seed, known) for find in finders):
             return 1
         ran += 1
         if ran % 10000 == 0:
@@ -449,5 +425,19 @@ def main():
     return 0
 
 
+def is_found(find, program, seed, known):
+    """Whether something is found wrong with the trace of a seed; it is then made small and told."""
+    words, lines = case(seed, known)
+    what = find(program, words, lines)
+    if what is None:
+        return False
+    print(f"seed {seed} differs: {what[:1000]}", flush=True)
+    words, lines = made_small(find, program, words, lines)
+    print(f"made small: {find(program, words, lines)}")
+    print(as_command(program, words, lines))
+    return True
+
+
 if __name__ == "__main__":
+    sys.setrecursionlimit(100000)
     sys.exit(main())

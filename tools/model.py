@@ -3,7 +3,7 @@
 
     python3 tools/model.py WORDS.. < TRACE
 
-takes the words of lldpa (all but those on sockets) and a trace, and writes what lldpa must write. It was
+takes the words of lldpa and a trace, and writes what lldpa must write, over connections as over standard output. It was
 written from the text of IEEE 802.1AB-2009 (clauses 8 and 9) and the manual, and shares no code with lldpa.
 tools/fuzz.py compares the two. Where lldpa's reader of words answers by itself (a bad option, --help), the
 model knows the status and not the text.
@@ -518,7 +518,8 @@ class NoRun(Exception):
     """Words with which no trace is run: the status, and the line on standard error, or None where that is
     the text of lldpa's reader of words."""
 
-GREATEST = {"max_neighbors": 128, "tx_credit_max": 10, "tx_fast_init": 8, "reinit_delay": 10}
+GREATEST = {"max_neighbors": 128, "tx_credit_max": 10, "tx_fast_init": 8, "reinit_delay": 10, "listen": 65535,
+            "connections": 65535}
 VALUED = (*GREATEST, "mac", "hostname", "management", "role")
 MAC, PORT_NAME = "[0-9a-fA-F]{2}(:[0-9a-fA-F]{2}){5}", "[0-9A-Za-z_/:-]{1,15}"
 BELOW_256 = "(25[0-5]|2[0-4][0-9]|1[0-9][0-9]|[1-9]?[0-9])"

@@ -1,0 +1,67 @@
+#!/usr/bin/env python3
+"""Talks to the built program over a connection, and looks how soon it answers.
+
+    tools/check-listen.py PROGRAM
+
+A client asks a question whose answer is written in several pieces, and asks again when it has read all of it. Each answer
+has to come at once: a program that does not set TCP_NODELAY keeps the last piece back until the one before it was
+acknowledged, some 40 milliseconds each time. The last line is `N passed, M failed`.
+"""
+import socket
+import subprocess
+import sys
+import time
+
+from compare import connected, free_port
+
+PORTS = [f"p{place}" for place in range(64)]
+QUESTIONS = 100
+
+# a line that is refused marks the end of an answer
+QUESTION = b"show statistics\nx\n"
+END = b"error: unknown command\n"
+
+# an answer that takes longer was kept back, or the machine was busy; so many may be
+LATE = 0.02
+MOST_LATE = QUESTIONS // 4
+
+
+def answer(client):
+    """All that comes up to the mark."""
+    octets = b""
+    while not octets.endswith(END):
+        piece = client.recv(65536)
+        if not piece:
+            break
+        octets += piece
+    return octets
+
+
+def late_answers(client):
+    """How many questions are answered late, or None where an answer is not whole."""
+    late = 0
+    for _ in range(QUESTIONS):
+        begin = time.perf_counter()
+        client.sendall(QUESTION)
+        if answer(client).count(b"\n") != 9 * len(PORTS) + 1:
+            return None
+        late += time.perf_counter() - begin > LATE
+    return late
+
+
+def main():
+    number = free_port()
+    words = [sys.argv[1], "--listen", number, "--receive-only", *PORTS]
+    with subprocess.Popen(words, stdin=subprocess.DEVNULL) as program:
+        client = connected(number, program)
+        client.setsockopt(socket.IPPROTO_TCP, socket.TCP_NODELAY, 1)
+        late = late_answers(client)
+        client.close()
+    is_soon = late is not None and late <= MOST_LATE
+    print(f"of {QUESTIONS} questions over a connection {late} were answered late")
+    print("1 passed, 0 failed" if is_soon else "0 passed, 1 failed")
+    return 0 if is_soon else 1
+
+
+if __name__ == "__main__":
+    sys.exit(main())
