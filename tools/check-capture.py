@@ -1,81 +1,43 @@
 #!/usr/bin/env python3
-"""Makes captures and sees that tools/capture.py gives back the trace that each was made of. With a folder of NAME.trace and
-NAME.expect it also makes captures of those traces, and sees that lldpa shows what is expected of what comes back."""
+"""Makes captures and sees that bin/lldpa-capture gives back the trace that each was made of, and the
+neighbors of 48 ports from 48 captures. With a folder of NAME.trace and NAME.expect it also makes
+captures of those traces, and sees that lldpa shows what is expected of what comes back."""
 import argparse
 import pathlib
-import struct
+import random
 import subprocess
 import sys
 import tempfile
 
-TOOL = pathlib.Path(__file__).with_name("capture.py")
-SECOND = 10**9
-START = 1_700_000_000 * SECOND + 999_000_000
-LLDP = bytes.fromhex("0180c200000e00112233445588cc02070400112233445504050565746830060200780000")
-OTHER = bytes.fromhex("ffffffffffff0011223344550800") + bytes(46)
-TAGGED = LLDP[:12] + bytes.fromhex("81000005") + LLDP[12:]
+TOP = pathlib.Path(__file__).resolve().parent.parent
+sys.dont_write_bytecode = True
+sys.path.insert(0, str(TOP / "python" / "tests"))
+from made_captures import (FORMS, LLDP, OTHER, SECOND, START, interface, lldp_frame,  # noqa: E402
+                           packet, pcap, section, whole)
+from lldpa import read_show  # noqa: E402
+
+TOOL = TOP / "bin" / "lldpa-capture"
+PORTS = [f"swp{number}" for number in range(1, 49)]
 
 
-def pcap(frames, order="<", units=10**6, link_type=1):
-    """A pcap file of (time in nanoseconds, octets, whole length)."""
-    magic = {10**6: 0xA1B2C3D4, 10**9: 0xA1B23C4D}[units]
-    file = struct.pack(order + "IHHiIII", magic, 2, 4, 0, 0, 65535, link_type)
-    for time, octets, length in frames:
-        file += struct.pack(order + "IIII", time // SECOND, time % SECOND * units // SECOND, len(octets), length) + octets
-    return file
-
-
-def block(order, kind, body):
-    body += bytes(-len(body) % 4)
-    size = struct.pack(order + "I", 12 + len(body))
-    return struct.pack(order + "I", kind) + size + body + size
-
-
-def pcapng(frames, order="<", resolution=None, link_type=1):
-    """A section of a pcapng file, with a block of no meaning to the tool."""
-    units = 10**6 if resolution is None else 2**(resolution & 127) if resolution & 128 else 10**resolution
-    options = b"" if resolution is None else struct.pack(order + "HHBxxxHH", 9, 1, resolution, 0, 0)
-    file = block(order, 0x0A0D0D0A, struct.pack(order + "IHHq", 0x1A2B3C4D, 1, 0, -1))
-    file += block(order, 1, struct.pack(order + "HHI", link_type, 0, 0) + options) + block(order, 5, bytes(12))
-    for time, octets, length in frames:
-        stamp = -(-time * units // SECOND)
-        file += block(order, 6, struct.pack(order + "IIIII", 0, stamp >> 32, stamp & 0xFFFFFFFF, len(octets), length) + octets)
-    return file
-
-
-FORMS = {
-    "pcap, little end first": pcap,
-    "pcap, big end first": lambda frames: pcap(frames, ">"),
-    "pcap of nanoseconds": lambda frames: pcap(frames, "<", SECOND),
-    "pcap of nanoseconds, big end first": lambda frames: pcap(frames, ">", SECOND),
-    "pcapng": pcapng,
-    "pcapng, big end first": lambda frames: pcapng(frames, ">"),
-    "pcapng of nanoseconds": lambda frames: pcapng(frames, "<", 9),
-    "pcapng of binary fractions": lambda frames: pcapng(frames, ">", 128 + 20),
-    "pcapng of two sections": lambda frames: pcapng(frames[:2], "<", 9) + pcapng(frames[2:], ">"),
-}
-
-
-def run_tool(octets, *words):
-    """What the tool writes, tells and answers of a capture."""
-    with tempfile.NamedTemporaryFile() as file:
-        file.write(octets)
-        file.flush()
-        done = subprocess.run([sys.executable, TOOL, file.name, *words], capture_output=True, text=True)
+def run_tool(*words):
+    """What lldpa-capture writes, says and answers."""
+    done = subprocess.run([sys.executable, TOOL, *words], capture_output=True, text=True)
     return done.stdout, done.stderr, done.returncode
 
 
 def frames_of(trace):
-    """The frames of a trace in time, each a tenth of a millisecond behind the one before, with another frame at its end."""
-    time, frames = START, [(START, OTHER, len(OTHER))]
+    """The frames of a trace in time, each a tenth of a millisecond behind the one before, with
+    another frame at its end."""
+    time, frames = START, [whole(OTHER)]
     for line in trace.splitlines():
         word, *rest = line.split()
         if word == "tick":
             time += int(rest[0] if rest else 1) * SECOND
         elif word == "rx":
             time += 100_000
-            frames.append((time, bytes.fromhex(rest[1]), len(rest[1]) // 2))
-    return frames + [(time, OTHER, len(OTHER))]
+            frames.append(whole(bytes.fromhex(rest[1]), time))
+    return frames + [whole(OTHER, time)]
 
 
 def events_of(trace):
@@ -91,6 +53,7 @@ def events_of(trace):
 
 
 class Checks:
+    """Counts what holds."""
     passed = failed = 0
 
     def that(self, what, holds):
@@ -100,51 +63,82 @@ class Checks:
             print(f"failed: {what}")
 
 
-def check_trace(checks, name, trace, expected, program):
+def check_trace(checks, name, trace, expected, given):
+    """A trace comes back from a capture of each form, and is shown as expected."""
+    file = given.room / "made"
     for form, capture in FORMS.items():
-        back, told, status = run_tool(capture(frames_of(trace)))
-        checks.that(f"{name} as {form} comes back", (events_of(back), told, status) == (events_of(trace), "", 0))
+        file.write_bytes(capture(frames_of(trace)))
+        back, said, status = run_tool(file)
+        same = (events_of(back), said, status) == (events_of(trace), "", 0)
+        checks.that(f"{name} as {form} comes back", same)
         if expected is not None:
-            shows = "".join(line + "\n" for line in trace.splitlines() if line.startswith("show"))
-            shown = subprocess.run([program, "--receive-only", "eth0"], input=back + shows, capture_output=True, text=True).stdout
+            shows = [line + "\n" for line in trace.splitlines() if line.startswith("show")]
+            shown = subprocess.run([given.program, "--receive-only", "eth0"], text=True,
+                                   input=back + "".join(shows), capture_output=True).stdout
             checks.that(f"{name} as {form} is shown", shown == expected)
 
 
-def check_faults(checks):
-    whole, size = (START, LLDP, len(LLDP)), len(LLDP)
-    rx = f"rx eth0 {LLDP.hex()}\n"
-    for form, capture in FORMS.items():
-        back, told, status = run_tool(capture([whole, (START, LLDP[:30], size), (START, TAGGED, len(TAGGED)), (START, LLDP[:9], size)]))
-        checks.that(f"{form}: snapped and tagged", (back, status) == (rx, 0) and told.count("passed over") == 3)
-        checks.that(f"{form}: the end inside a record", run_tool(capture([whole] * 3)[:-2])[::2] == (rx + rx, 1))
-    for capture in (pcap, pcapng):
-        back, told, status = run_tool(capture([whole], link_type=113))
-        checks.that("another link type", (back, status) == ("", 1) and "LINUX_SLL (113)" in told)
-    back, _, _ = run_tool(pcap([whole, (START + 131_072 * SECOND, LLDP, size)]))
-    checks.that("a long time", back == rx + "tick 65535\ntick 65535\ntick 2\n" + rx)
-    back, told, _ = run_tool(pcap([whole, (START - 9 * SECOND, LLDP, size), (START - 8 * SECOND, LLDP, size)]))
-    checks.that("a clock set back", back == rx + rx + "tick\n" + rx and "go back by 9 s" in told)
-    back, told, _ = run_tool(pcap([whole, (START + SECOND, LLDP, size), (START + SECOND - 1000, LLDP, size)]))
-    checks.that("frames out of order", (back, told) == (rx + "tick\n" + rx + rx, ""))
-    simple = block("<", 3, struct.pack("<I", size) + LLDP)
-    checks.that("packets without time", run_tool(pcapng([]) + simple)[0] == rx)
-    checks.that("another port", run_tool(pcap([whole]), "--port", "ge-0/0/1")[0] == rx.replace("eth0", "ge-0/0/1"))
-    checks.that("shows", run_tool(pcap([whole]), "--show")[0] == rx + "show neighbors\nshow statistics\n")
-    checks.that("no capture", run_tool(b"#!/bin/sh\n")[2] == 1 and run_tool(b"")[2] == 1)
-    checks.that("a bad port", run_tool(pcap([whole]), "--port", "eth0.10")[2] == 2)
+def neighbor_of(number):
+    """The MAC address and the interface of the neighbor at a port."""
+    return bytes.fromhex("02005e0053") + bytes([number]), f"eth{number % 4}"
+
+
+def shown_neighbors(program, trace):
+    """The neighbors that an agent with 48 ports shows behind a trace: chassis and port of each."""
+    shown = subprocess.run([program, "--receive-only", *PORTS], input=trace + "show neighbors\n",
+                           text=True, capture_output=True, check=True).stdout
+    return {(one.port, one.chassis.text, one.port_id.text)
+            for one in read_show(shown.splitlines()).neighbors}
+
+
+def check_ports(checks, given):
+    """48 captures, and one capture of 48 interfaces, give the 48 neighbors that were put in."""
+    dice = random.Random(48)
+    known, words, blocks = set(), [], []
+    head = section() + b"".join(interface(name=port) for port in PORTS)
+    for number, port in enumerate(PORTS):
+        mac, peer = neighbor_of(number)
+        known.add((port, mac.hex(":"), peer))
+        begin = START + dice.randrange(20) * SECOND
+        octets = lldp_frame(mac, peer.encode())
+        frames = [whole(octets if i % 4 == 0 else OTHER, begin + i * 7 * SECOND) for i in range(9)]
+        (given.room / port).write_bytes(dice.choice(list(FORMS.values()))(frames))
+        words.append(f"{port}={given.room / port}")
+        blocks += [(frame, packet(frame, place=number)) for frame in frames]
+    back, said, status = run_tool(*words)
+    checks.that("48 captures are read", (said, status) == ("", 0))
+    checks.that("48 captures give 48 neighbors", shown_neighbors(given.program, back) == known)
+    blocks.sort(key=lambda pair: pair[0][0])
+    file = given.room / "all"
+    file.write_bytes(head + b"".join(octets for _, octets in blocks))
+    back, said, status = run_tool(file)
+    checks.that("48 interfaces are read", (said, status) == ("", 0))
+    checks.that("48 interfaces give 48 neighbors", shown_neighbors(given.program, back) == known)
+    checks.that("48 ports are listed", run_tool("--ports", file)[0].split() == PORTS)
 
 
 def main():
     parser = argparse.ArgumentParser(description=__doc__)
-    parser.add_argument("folder", nargs="?", type=pathlib.Path, help="a folder of NAME.trace and NAME.expect")
-    parser.add_argument("--program", default="lldpa", help="lldpa, found on the search path unless given")
+    parser.add_argument("folder", nargs="?", type=pathlib.Path,
+                        help="a folder of NAME.trace and NAME.expect")
+    parser.add_argument("--program", default="lldpa",
+                        help="lldpa, found on the search path unless given")
     given = parser.parse_args()
     checks = Checks()
-    check_faults(checks)
-    check_trace(checks, "a small trace", f"tick 3\nrx eth0 {LLDP.hex()}\ntick\nrx eth0 {LLDP.hex()}00\ntick 70000\n", None, None)
-    traces = sorted(given.folder.glob("*.trace")) if given.folder else []
-    for trace in traces:
-        check_trace(checks, trace.stem, trace.read_text(), trace.with_suffix(".expect").read_text(), given.program)
+    with tempfile.TemporaryDirectory() as room:
+        given.room = pathlib.Path(room)
+        digits = LLDP.hex()
+        small = f"tick 3\nrx eth0 {digits}\ntick\nrx eth0 {digits}00\ntick 70000\n"
+        check_trace(checks, "a small trace", small, None, given)
+        long = pcap([whole(LLDP), whole(LLDP, START + 131_072 * SECOND)])
+        (given.room / "long").write_bytes(long)
+        rx = f"rx eth0 {digits}\n"
+        checks.that("a long time",
+                    run_tool(given.room / "long")[0] == rx + "tick 65535\ntick 65535\ntick 2\n" + rx)
+        check_ports(checks, given)
+        for trace in sorted(given.folder.glob("*.trace")) if given.folder else ():
+            expected = trace.with_suffix(".expect").read_text()
+            check_trace(checks, trace.stem, trace.read_text(), expected, given)
     print(f"{checks.passed} passed, {checks.failed} failed")
     sys.exit(checks.failed > 0)
 

@@ -1,0 +1,31 @@
+"""An LLDP agent as a library: run lldpa or connect to it, and read its shows and captures.
+
+    >>> from lldpa import Agent
+    >>> frame = "0180c200000e00112233445588cc02070400112233445504050565746830060200780000"
+    >>> with Agent.start(["eth0"], receive_only=True) as agent:
+    ...     agent.frame("eth0", bytes.fromhex(frame))
+    ...     agent.tick(20)
+    ...     for neighbor in agent.neighbors():
+    ...         print(neighbor.port, neighbor.id, neighbor.expires)
+    eth0 mac=00:11:22:33:44:55 ifname=eth0 100
+"""
+from importlib import import_module
+from typing import TYPE_CHECKING
+
+from .capture import BadCapture, Packet, packets_of
+from .show import Counters, Neighbor, Port, Show, ShowFault, lines_of, read_show, unescaped
+from .trace import Source, Told, ports_of, trace_of
+
+if TYPE_CHECKING:
+    from .agent import Agent, AsyncAgent, Ended, Refused
+
+__all__ = ["Agent", "AsyncAgent", "BadCapture", "Counters", "Ended", "Neighbor", "Packet", "Port",
+           "Refused", "Show", "ShowFault", "Source", "Told", "lines_of", "packets_of", "ports_of",
+           "read_show", "trace_of", "unescaped"]
+
+
+def __getattr__(name: str) -> object:
+    """Loads the agent's module when it is first used, since asyncio in it takes 8 MB."""
+    if name in ("Agent", "AsyncAgent", "Ended", "Refused"):
+        return getattr(import_module(".agent", __name__), name)
+    raise AttributeError(f"module {__name__!r} has no attribute {name!r}")

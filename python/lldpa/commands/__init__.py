@@ -1,0 +1,1 @@
+"""The programs: the words of one each, and its main."""

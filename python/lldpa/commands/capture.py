@@ -1,0 +1,100 @@
+"""lldpa-capture: writes the LLDP frames of captures as a trace for lldpa."""
+from __future__ import annotations
+
+import argparse
+import os
+import sys
+from typing import Dict, List, Mapping, Optional, Sequence, Tuple
+
+from ..source import PORT_NAME_RULE, STANDARD_INPUT, Source, TooManyPorts, is_port_name, ports_of
+from ..trace import Told, trace_of
+
+NAME = "lldpa-capture"
+SUMMARY = "Writes the LLDP frames of captures as a trace for lldpa, with the seconds between them."
+FILE_HELP = """a capture, pcap or pcapng of Ethernet, or - for standard input; as PORT=FILE one
+whose frames all came in at that port"""
+PORT_HELP = """the port of all frames, or as INTERFACE=NAME of those of one interface; without it
+a frame's port is its interface in a pcapng file, and eth0 else"""
+SHOWS = ("show neighbors", "show statistics")
+ANY_INTERFACE = ""
+
+
+def note(text: str) -> None:
+    """Writes a line on standard error."""
+    print(f"{NAME}: {text}", file=sys.stderr)
+
+
+def parser_of_words() -> argparse.ArgumentParser:
+    """What reads the program's words."""
+    parser = argparse.ArgumentParser(prog=NAME, description=SUMMARY, allow_abbrev=False)
+    parser.add_argument("files", metavar="FILE", nargs="+", help=FILE_HELP)
+    parser.add_argument("--port", metavar="NAME", action="append", default=[], help=PORT_HELP)
+    parser.add_argument("--show", action="store_true",
+                        help="end the trace with show neighbors and show statistics")
+    parser.add_argument("--no-seconds", action="store_true",
+                        help="leave the seconds out, so that nobody ages out")
+    parser.add_argument("--ports", action="store_true",
+                        help="write the names of the ports, and no trace")
+    return parser
+
+
+def renamed(word: str) -> Tuple[str, str]:
+    """The interface that a word of --port is for, and the port's name."""
+    interface, _, port = word.rpartition("=")
+    if not is_port_name(port):
+        raise ValueError(f"{port}: {PORT_NAME_RULE}")
+    return interface, port
+
+
+def source_of(word: str, names: Mapping[str, str]) -> Source:
+    """The capture that a word names."""
+    front, mark, file = word.partition("=")
+    if mark and is_port_name(front):
+        return Source(file, front)
+    if mark and not os.path.exists(word):
+        raise ValueError(f"{front}: {PORT_NAME_RULE}; write another name in front of ={file}")
+    return Source(word, names.get(ANY_INTERFACE), names)
+
+
+def write_trace(sources: List[Source], seconds: bool, shows: bool) -> int:
+    """Writes the trace; answers 1 where something of the captures is wanting, else 0."""
+    faults: List[str] = []
+    is_live = not all(os.path.isfile(source.file) for source in sources)
+
+    def fault(text: str) -> None:
+        faults.append(text)
+        note(text)
+
+    for line in trace_of(sources, Told(note, fault), seconds):
+        sys.stdout.write(line + "\n")
+        if is_live:
+            sys.stdout.flush()
+    for line in SHOWS if shows else ():
+        sys.stdout.write(line + "\n")
+    sys.stdout.flush()
+    return 1 if faults else 0
+
+
+def run(given: argparse.Namespace) -> int:
+    """Does what the words say; answers the status."""
+    names: Dict[str, str] = dict(renamed(word) for word in given.port)
+    sources = [source_of(word, names) for word in given.files]
+    if [source.file for source in sources].count(STANDARD_INPUT) > 1:
+        raise ValueError("standard input can be read once")
+    if given.ports:
+        print("\n".join(ports_of(sources)), flush=True)
+        return 0
+    return write_trace(sources, not given.no_seconds, given.show)
+
+
+def main(words: Optional[Sequence[str]] = None) -> int:
+    """Runs the program on these words; answers its status."""
+    parser = parser_of_words()
+    given = parser.parse_args(words)
+    try:
+        return run(given)
+    except (TooManyPorts, ValueError) as fault:
+        parser.error(str(fault))
+    except BrokenPipeError:  # nobody reads the trace any more
+        os.dup2(os.open(os.devnull, os.O_WRONLY), sys.stdout.fileno())
+        return 1

@@ -1,0 +1,148 @@
+"""What lldpa's shows tell: ports, their neighbors and counters, and the agent itself.
+
+Texts stand as they are shown, each octet that is not printable escaped, so they can be printed as
+they are; `show.unescaped` gives the octets behind one.
+"""
+from __future__ import annotations
+
+from dataclasses import dataclass, field
+from typing import List, Mapping, NamedTuple, Optional, Tuple
+
+
+class Identifier(NamedTuple):
+    """A chassis ID or port ID: its kind, such as `mac` or `ifname`, and its text."""
+    kind: str
+    text: str
+
+    def __str__(self) -> str:
+        return f"{self.kind}={self.text}"
+
+
+@dataclass(frozen=True)
+class Neighbor:
+    """A neighbor of a port. `place` counts from 1 and changes when another one goes; `id` stays.
+
+    `ttl` is the time to live that it sent, `expires` what is left of it, both in seconds. `said`
+    has the key and the value of each further line, in the order in which the neighbor sent them.
+    """
+    port: str
+    place: int
+    chassis: Identifier
+    port_id: Identifier
+    ttl: int
+    expires: int
+    said: Tuple[Tuple[str, str], ...] = ()
+
+    @property
+    def id(self) -> str:
+        """The MSAP identifier: chassis ID and port ID, parted by the one space in it."""
+        parts = (self.chassis, self.port_id)
+        return " ".join(str(part).replace(" ", "\\x20") for part in parts)
+
+    @property
+    def name(self) -> Optional[str]:
+        """The System Name."""
+        return self._first("chassis.name")
+
+    @property
+    def descr(self) -> Optional[str]:
+        """The System Description."""
+        return self._first("chassis.descr")
+
+    @property
+    def port_descr(self) -> Optional[str]:
+        """The Port Description."""
+        return self._first("port.descr")
+
+    @property
+    def capabilities(self) -> Optional[Mapping[str, bool]]:
+        """Its capabilities, such as `Bridge`, and whether each is on; None where it sent none."""
+        text = self._first("chassis.caps")
+        if text is None:
+            return None
+        parts = [part.rpartition(":") for part in text.split(",") if part]
+        return {capability: state == "on" for capability, _, state in parts}
+
+    @property
+    def management(self) -> Tuple[str, ...]:
+        """Its management addresses, without what stands behind them in the line."""
+        return tuple(text.partition(",")[0] for key, text in self.said if key == "chassis.mgmt")
+
+    @property
+    def org(self) -> Tuple[Tuple[str, str], ...]:
+        """Organizationally specific TLVs: OUI and subtype, such as `00120f.1`, and hexadecimal."""
+        return tuple((key[4:], text) for key, text in self.said if key.startswith("org."))
+
+    @property
+    def unknown(self) -> Tuple[Tuple[int, str], ...]:
+        """TLVs of reserved types: the type, and the octets in hexadecimal."""
+        found = ((key.split("."), text) for key, text in self.said)
+        return tuple((int(words[1]), text) for words, text in found if words[0] == "unknown")
+
+    def _first(self, key: str) -> Optional[str]:
+        return next((text for name, text in self.said if name == key), None)
+
+
+@dataclass(frozen=True)
+class Port:
+    """A port's neighbors in the order of its table.
+
+    `octets` is the sum of what is stored of them. `too_many` tells whether one was dropped for want
+    of room that would still be there.
+    """
+    name: str
+    neighbors_held: int
+    octets: int
+    too_many: bool
+    neighbors: Tuple[Neighbor, ...] = ()
+
+
+@dataclass(frozen=True)
+class Counters:
+    """A port's counters. Each begins at 0 again behind 4,294,967,295."""
+    sent: int
+    shutdowns: int
+    received: int
+    discarded: int
+    errors: int
+    tlvs_discarded: int
+    unrecognized: int
+    ageouts: int
+    drops: int
+
+
+@dataclass(frozen=True)
+class LocalChassis:
+    """What the agent says of itself. `mgmt` is the whole value of its line, or None."""
+    mac: str
+    name: str
+    descr: str
+    caps: str
+    mgmt: Optional[str] = None
+
+
+@dataclass(frozen=True)
+class Configuration:
+    """The numbers in force, and the status of each port by its name."""
+    tx_interval: int
+    tx_hold: int
+    ttl: int
+    reinit_delay: int
+    tx_fast_init: int
+    tx_credit_max: int
+    max_neighbors: int
+    statuses: Mapping[str, str]
+
+
+@dataclass(frozen=True)
+class Show:
+    """What one or several shows tell; what none of them tells is empty or None."""
+    ports: Tuple[Port, ...] = ()
+    counters: Mapping[str, Counters] = field(default_factory=dict)
+    chassis: Optional[LocalChassis] = None
+    configuration: Optional[Configuration] = None
+
+    @property
+    def neighbors(self) -> List[Neighbor]:
+        """The neighbors of all ports, one port after the other."""
+        return [neighbor for port in self.ports for neighbor in port.neighbors]

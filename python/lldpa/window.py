@@ -1,0 +1,43 @@
+"""A stretch of a file in memory, which moves from the file's begin to its end."""
+from __future__ import annotations
+
+from typing import BinaryIO
+
+AT_ONCE = 1 << 17
+MOST_OCTETS = 1 << 24
+
+
+class BadCapture(Exception):
+    """Why a capture cannot be read on, and at which octet from its begin."""
+
+
+class Window:
+    """A stretch of a file: `octets`, the first of which is the file's octet `begin`."""
+
+    def __init__(self, file: BinaryIO) -> None:
+        self._file = file
+        self.begin = 0
+        self.octets = b""
+
+    def move(self, at: int, count: int) -> bool:
+        """Leaves the first `at` octets behind, and has at least `count` from there on.
+
+        Answers whether there are any. Raises BadCapture where there are some, but too few.
+        """
+        if not 0 <= count <= MOST_OCTETS:
+            raise self.damage(at, "the length there is out of all measure")
+        self.begin += at
+        self.octets = self.octets[at:]
+        while len(self.octets) < count:
+            more = self._file.read(max(AT_ONCE, count - len(self.octets)))
+            if not more:
+                break
+            self.octets += more
+        if 0 < len(self.octets) < count:
+            end = self.begin + len(self.octets)
+            raise BadCapture(f"it ends at octet {end}, inside the record of octet {self.begin}")
+        return len(self.octets) >= count
+
+    def damage(self, at: int, why: str) -> BadCapture:
+        """Tells what is wrong with the record that begins at this place of the window."""
+        return BadCapture(f"it is damaged at octet {self.begin + at}: {why}")

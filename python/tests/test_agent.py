@@ -1,0 +1,223 @@
+"""Agents that run and that listen, asked plainly."""
+from __future__ import annotations
+
+import doctest
+import os
+import signal
+import socket
+import subprocess
+import unittest
+from pathlib import Path
+from typing import List, Tuple
+from unittest import mock
+
+import lldpa
+from lldpa.agent import LONGEST_LINE, MARK, MARK_ANSWER, Agent, Answers, Ended, Refused, checked
+from lldpa.framing import command, ticks
+from made_captures import LLDP, OTHER
+from support import DEFAULT_FRAME, PROGRAM, kill
+
+def started(*ports: str, **options: lldpa.agent.Option) -> Agent:
+    """An agent with these ports, eth0 where there are none."""
+    return Agent.start(ports or ["eth0"], PROGRAM, **options)
+
+
+class Framing(unittest.TestCase):
+    """Lines and answers without an agent."""
+
+    def test_lines_that_are_refused(self) -> None:
+        for line in ("tick\nshow", b"\n", "x" * (LONGEST_LINE + 1), b"#" * 5000):
+            with self.assertRaises(ValueError):
+                checked(line)
+
+    def test_lines_that_are_taken(self) -> None:
+        self.assertEqual(checked("tick"), b"tick")
+        self.assertEqual(checked(b"\xff\0"), b"\xff\0")
+        self.assertEqual(len(checked("x" * LONGEST_LINE)), LONGEST_LINE)
+
+    def test_the_mark_is_a_comment_one_octet_too_long(self) -> None:
+        self.assertEqual(MARK, b"#" * 4097)
+
+    def test_answers_are_whole_however_they_come(self) -> None:
+        stream = b"a\nb\n" + MARK_ANSWER + b"\n" + MARK_ANSWER + b"\nc\n" + MARK_ANSWER + b"\nd"
+        for size in (1, 2, 7, 1000):
+            answers = Answers()
+            pieces = [stream[at:at + size] for at in range(0, len(stream), size)]
+            got = [answer for piece in pieces for answer in answers.feed(piece)]
+            self.assertEqual(got, [[b"a", b"b"], [], [b"c"]])
+
+    def test_words_are_quoted_where_they_need_it(self) -> None:
+        line = command("configure", "system", "hostname", "sw 1")
+        self.assertEqual(line, 'configure system hostname "sw 1"')
+        self.assertEqual(command("x", "", "#y"), 'x "" "#y"')
+        with self.assertRaises(ValueError):
+            command('a"b')
+
+    def test_seconds_as_lines(self) -> None:
+        self.assertEqual(ticks(0), [])
+        self.assertEqual(ticks(1), ["tick"])
+        self.assertEqual(ticks(65535), ["tick 65535"])
+        self.assertEqual(ticks(131072), ["tick 65535", "tick 65535", "tick 2"])
+        with self.assertRaises(ValueError):
+            ticks(-1)
+
+
+class Asked(unittest.TestCase):
+    """A child that is asked."""
+
+    def test_the_example_of_the_package(self) -> None:
+        path = f"{Path(PROGRAM).parent}{os.pathsep}{os.environ['PATH']}"
+        with mock.patch.dict(os.environ, PATH=path):
+            result = doctest.testmod(lldpa)
+        self.assertEqual((result.failed, result.attempted), (0, 3))
+
+    def test_a_neighbor_comes_and_goes(self) -> None:
+        with started(receive_only=True) as agent:
+            agent.frame("eth0", OTHER)
+            self.assertEqual(agent.neighbors(), [])
+            agent.frame("eth0", LLDP)
+            agent.tick(20)
+            (neighbor,) = agent.neighbors()
+            self.assertEqual((neighbor.port, neighbor.ttl, neighbor.expires), ("eth0", 120, 100))
+            self.assertEqual(agent.statistics()["eth0"].received, 1)
+            agent.link("eth0", False)
+            agent.frame("eth0", LLDP)
+            self.assertEqual(agent.statistics()["eth0"].received, 1)
+            agent.link("eth0", True)
+            agent.tick(70000)
+            self.assertEqual(agent.neighbors(), [])
+            self.assertEqual(agent.statistics()["eth0"].ageouts, 1)
+
+    def test_answers_are_whole(self) -> None:
+        with started("p1", "p2") as agent:
+            self.assertEqual(agent.ask("# nothing"), [])
+            self.assertEqual(agent.ask(""), [])
+            self.assertEqual(len(agent.ask("show neighbors")), 6)
+            self.assertEqual(len(agent.ask("show statistics")), 18)
+
+    def test_a_refused_line_is_told_with_its_text(self) -> None:
+        with started() as agent:
+            for line, text in (("rx eth9 00", "no such port"), ("tick 65536", "out of range"),
+                               (b"\xff", "unknown command"), ("rx eth0 abc", "bad hexadecimal")):
+                with self.assertRaises(Refused) as refused:
+                    agent.ask(line)
+                self.assertEqual(refused.exception.text, text)
+            self.assertEqual(len(agent.ask("show chassis")), 4)
+
+    def test_a_line_that_is_none_is_not_written(self) -> None:
+        with started() as agent:
+            for line in ("show chassis\ntick", "#" * (LONGEST_LINE + 1)):
+                with self.assertRaises(ValueError):
+                    agent.ask(line)
+            self.assertEqual(agent.ask("# so long".ljust(LONGEST_LINE)), [])
+            self.assertEqual(agent.statistics()["eth0"].sent, 0)
+
+    def test_frames_that_ports_send(self) -> None:
+        frames: List[Tuple[str, bytes]] = []
+        with Agent.start(["eth0"], PROGRAM, on_frame=lambda *frame: frames.append(frame)) as agent:
+            self.assertEqual(agent.ask("tick"), [])
+            self.assertEqual(frames, [("eth0", DEFAULT_FRAME)])
+            agent.update()
+            self.assertEqual(len(frames), 2)
+            agent.configure("system", "hostname", "sw 1")
+            self.assertIn(b"\x0a\x04sw 1", frames[2][1])
+            self.assertEqual(agent.show("configuration").configuration.statuses,
+                             {"eth0": "rx-and-tx"})
+
+    def test_much_is_told_and_answered_at_once(self) -> None:
+        def give_up(number: int, _: object) -> None:
+            raise TimeoutError(f"signal {number}: both sides wait for the other")
+        self.addCleanup(signal.signal, signal.SIGALRM, signal.signal(signal.SIGALRM, give_up))
+        self.addCleanup(signal.alarm, 0)
+        signal.alarm(60)
+        lines = 20_000
+        with started() as agent:
+            told = agent.tell(["show configuration"] * lines)
+        self.assertEqual(len(told), lines * 9)
+
+    def test_options(self) -> None:
+        with started(max_neighbors=3, hostname="-x y", receive_only=False, mac=None) as agent:
+            self.assertEqual(agent.show("configuration").configuration.max_neighbors, 3)
+            self.assertEqual(agent.show("chassis").chassis.name, "-x y")
+
+
+class EndedAgents(unittest.TestCase):
+    """Agents that are no more, or not there."""
+
+    def test_bad_words(self) -> None:
+        for words, text in ((["a.b"], "lldpa: bad port name"), ([], "lldpa: no ports")):
+            with self.assertRaises(Ended) as ended:
+                Agent.start(words, PROGRAM)
+            self.assertEqual((ended.exception.status, ended.exception.text), (2, text))
+        with self.assertRaises(FileNotFoundError):
+            Agent.start(["eth0"], "/no/such/program")
+
+    def test_a_killed_agent_is_told_by_its_signal(self) -> None:
+        with started() as agent:
+            kill(agent.pid)
+            with self.assertRaises(Ended) as ended:
+                agent.ask("tick")
+            self.assertEqual(ended.exception.status, -signal.SIGKILL)
+            self.assertIn("SIGKILL", ended.exception.text)
+
+    def test_a_program_that_does_not_answer(self) -> None:
+        with mock.patch("lldpa.agent.PATIENCE", 0.2), self.assertRaises(Ended) as ended:
+            Agent.start(["60"], "sleep")
+        self.assertIsNone(ended.exception.status)
+
+    def test_close_ends_the_child(self) -> None:
+        agent = started()
+        number = agent.pid
+        agent.close()
+        with self.assertRaises(ProcessLookupError):
+            kill(number)
+
+    def test_an_answer_that_was_broken_off(self) -> None:
+        def broken(port: str, octets: bytes) -> None:
+            raise KeyError(port)
+        with Agent.start(["eth0"], PROGRAM, on_frame=broken) as agent:
+            with self.assertRaises(KeyError):
+                agent.ask("tick")
+            self.assertEqual(agent.statistics()["eth0"].sent, 1)
+
+
+class Listening(unittest.TestCase):
+    """An agent that serves connections."""
+
+    def setUp(self) -> None:
+        with socket.create_server(("127.0.0.1", 0)) as free:
+            self.number = free.getsockname()[1]
+        words = [PROGRAM, "--receive-only", "--listen", str(self.number), "--connections", "3"]
+        self.process = subprocess.Popen([*words, "eth0"])
+        self.addCleanup(self.process.wait)
+        self.addCleanup(self.process.kill)
+        self.first = self.connected()
+        self.addCleanup(self.first.close)
+
+    def connected(self) -> Agent:
+        """An agent, as soon as it listens."""
+        for _ in range(200):
+            try:
+                return Agent.connect(self.number)
+            except ConnectionRefusedError:
+                signal.sigtimedwait([], 0.02)
+        raise TimeoutError
+
+    def test_what_one_client_tells_the_next_one_is_shown(self) -> None:
+        self.first.frame("eth0", LLDP)
+        with mock.patch("lldpa.agent.PATIENCE", 0.2), self.assertRaises(Ended) as ended:
+            Agent.connect(self.number)
+        self.assertIn("another client", ended.exception.text)
+        self.first.close()
+        with Agent.connect(self.number) as second:
+            self.assertEqual(len(second.neighbors()), 1)
+
+    def test_a_listening_agent_that_ends(self) -> None:
+        self.process.kill()
+        with self.assertRaises(Ended) as ended:
+            self.first.ask("tick")
+        self.assertIsNone(ended.exception.status)
+
+
+if __name__ == "__main__":
+    unittest.main()

@@ -1,0 +1,59 @@
+"""Agents that are asked by tasks of asyncio."""
+from __future__ import annotations
+
+import asyncio
+import signal
+import unittest
+from typing import List, Tuple
+
+from lldpa.agent import AsyncAgent, Ended, Refused
+from made_captures import LLDP
+from support import DEFAULT_FRAME, PROGRAM, kill
+
+
+class AskedByTasks(unittest.IsolatedAsyncioTestCase):
+    """The form for asyncio."""
+
+    async def test_each_task_gets_its_own_answer(self) -> None:
+        async with await AsyncAgent.start(["p1", "p2"], PROGRAM) as agent:
+            shows = {"neighbors": 6, "statistics": 18, "chassis": 4, "configuration": 10}
+            asked = [what for what in shows for _ in range(50)]
+            told = await asyncio.gather(*(agent.ask(f"show {what}") for what in asked))
+            self.assertEqual([len(lines) for lines in told], [shows[what] for what in asked])
+
+    async def test_the_calls(self) -> None:
+        frames: List[Tuple[str, bytes]] = []
+        async with await AsyncAgent.start(["eth0"], PROGRAM, max_neighbors=3,
+                                          on_frame=lambda *frame: frames.append(frame)) as agent:
+            await agent.frame("eth0", LLDP)
+            await agent.tick(2)
+            self.assertEqual(len(await agent.neighbors()), 1)
+            await agent.configure("system", "hostname", "sw 1")
+            await agent.update()
+            self.assertEqual(frames[0], ("eth0", DEFAULT_FRAME))
+            self.assertEqual((await agent.statistics())["eth0"].sent, len(frames))
+            with self.assertRaises(Refused) as refused:
+                await agent.link("eth9", True)
+            self.assertEqual(refused.exception.text, "no such port")
+            with self.assertRaises(ValueError):
+                await agent.ask("tick\ntick")
+
+    async def test_a_cancelled_question_leaves_no_answer_behind(self) -> None:
+        async with await AsyncAgent.start(["eth0"], PROGRAM) as agent:
+            with self.assertRaises(asyncio.TimeoutError):
+                await asyncio.wait_for(agent.tell(["show configuration"] * 20_000), 0.001)
+            self.assertEqual(len(await agent.ask("show chassis")), 4)
+
+    async def test_ends(self) -> None:
+        with self.assertRaises(Ended) as ended:
+            await AsyncAgent.start(["a.b"], PROGRAM)
+        self.assertEqual(ended.exception.text, "lldpa: bad port name")
+        async with await AsyncAgent.start(["eth0"], PROGRAM) as agent:
+            kill(agent.pid)
+            with self.assertRaises(Ended) as ended:
+                await agent.ask("tick")
+            self.assertEqual(ended.exception.status, -signal.SIGKILL)
+
+
+if __name__ == "__main__":
+    unittest.main()

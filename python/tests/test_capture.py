@@ -1,0 +1,185 @@
+"""Captures that are made, and the packets that are read of them."""
+from __future__ import annotations
+
+import io
+import random
+import unittest
+from typing import List
+
+from lldpa.capture import BadCapture, Packet, interfaces_of, packets_of, reader_of
+from made_captures import (ETHERNET, FORMS, LLDP, NEAREST_BRIDGE, OTHER, SECOND, START, Frame,
+                           block, interface, packet, pcap, pcapng, section, units_of, whole)
+
+FRAMES: List[Frame] = [whole(OTHER), whole(LLDP, START + 1000), (START + SECOND, LLDP[:30], 99),
+                       whole(b"", START + SECOND), whole(OTHER * 40, START + 9 * SECOND)]
+
+
+class Dripping(io.RawIOBase):
+    """A file of which each read gives few octets, as a pipe does."""
+
+    def __init__(self, octets: bytes, most: int) -> None:
+        super().__init__()
+        self._rest = octets
+        self._most = most
+
+    def read(self, size: int = -1) -> bytes:
+        count = min(size, self._most)
+        octets, self._rest = self._rest[:count], self._rest[count:]
+        return octets
+
+
+def packets(octets: bytes) -> List[Packet]:
+    """All packets of a capture."""
+    return list(packets_of(io.BytesIO(octets)))
+
+
+def fault_of(octets: bytes) -> str:
+    """Why a capture cannot be read on, nothing where it can."""
+    try:
+        packets(octets)
+    except BadCapture as fault:
+        return str(fault)
+    return ""
+
+
+class Read(unittest.TestCase):
+    """Packets come back as they were put in."""
+
+    def test_each_form(self) -> None:
+        for name, form in FORMS.items():
+            with self.subTest(name):
+                got = [(one.time, one.octets, one.length) for one in packets(form(FRAMES))]
+                rounded = [(time // 1000 * 1000, *rest) for time, *rest in FRAMES]
+                if "binary" in name:
+                    unit = SECOND // units_of(128 + 20) + 1
+                    apart = [abs(one[0] - frame[0]) for one, frame in zip(got, FRAMES) if one[0]]
+                    self.assertEqual([some <= unit for some in apart], [True] * len(FRAMES))
+                    got = [(frame[0], *one[1:]) for one, frame in zip(got, rounded)]
+                self.assertEqual(got, rounded)
+
+    def test_however_few_octets_a_read_gives(self) -> None:
+        for name, form in FORMS.items():
+            want = packets(form(FRAMES))
+            for most in (1, 3, 17, 1000):
+                with self.subTest(name, most=most):
+                    self.assertEqual(list(packets_of(Dripping(form(FRAMES), most))), want)
+
+    def test_interfaces(self) -> None:
+        file = section() + interface(name="swp1") + interface(name="swp2", resolution=9, offset=5)
+        file += packet(whole(LLDP), place=1, units=SECOND) + packet(whole(OTHER))
+        first, second = packets(file)
+        self.assertEqual((first.interface.name, first.interface.link_type), ("swp2", ETHERNET))
+        self.assertEqual(first.time, START + 5 * SECOND)
+        self.assertEqual((second.interface.name, second.time), ("swp1", START))
+        self.assertEqual([one.name for one in interfaces_of(io.BytesIO(file))], ["swp1", "swp2"])
+        self.assertEqual(interfaces_of(io.BytesIO(pcap(FRAMES))), [])
+        self.assertEqual(interfaces_of(io.BytesIO(b"#!/bin/sh")), [])
+        self.assertEqual(packets(pcap(FRAMES))[0].interface.name, None)
+
+    def test_a_packet_without_a_time_stamp(self) -> None:
+        simple = block("<", 3, len(LLDP).to_bytes(4, "little") + LLDP)
+        (got,) = packets(pcapng([]) + simple)
+        self.assertEqual((got.time, got.octets, got.length), (None, LLDP, len(LLDP)))
+
+    def test_a_packet_of_the_old_kind(self) -> None:
+        new = packet(whole(LLDP))[8:-4]
+        (got,) = packets(pcapng([]) + block("<", 2, new[:2] + b"\7\0" + new[4:]))
+        self.assertEqual((got.time, got.octets), (START, LLDP))
+
+
+class InPlace(unittest.TestCase):
+    """What is passed over in place is what cannot matter."""
+
+    def random_frames(self, dice: random.Random) -> List[Frame]:
+        """Frames, some of them LLDP's, at times that mostly go on."""
+        time, frames = START, []
+        for _ in range(dice.randrange(60)):
+            time += dice.choice([0, 1000, 10**6, SECOND, -1000, -SECOND, 7 * SECOND, -5 * SECOND])
+            octets = dice.choice([LLDP, OTHER, OTHER + LLDP, b"", dice.randbytes(30)])
+            taken = octets[:dice.choice([3, 20])] if dice.random() < 0.1 else octets
+            frames.append((time, taken, len(octets)))
+        return frames
+
+    def test_packets_that_begin_so_and_the_times(self) -> None:
+        dice = random.Random(28)
+        for _ in range(1500):
+            form = dice.choice(list(FORMS.values()))
+            file = form(self.random_frames(dice))
+            everything = [(one.octets, one.time or 0) for one in packets(file)]
+            reader = reader_of(Dripping(file, dice.choice([50, 500, 100_000])))
+            looked = []
+            for _, time, begin, end, _ in reader.looks(NEAREST_BRIDGE):
+                looked.append((reader.window.octets[begin:end], time or 0))
+                self.assertEqual(everything[reader.number - 1], looked[-1])
+            begun = [octets for octets, _ in looked if octets[:6] == NEAREST_BRIDGE]
+            want = [octets for octets, _ in everything if octets[:6] == NEAREST_BRIDGE]
+            self.assertEqual(begun, want)
+            self.assertEqual(looked[-1:], everything[-1:])
+            self.assertEqual(self.steps_back(looked), self.steps_back(everything))
+
+    def steps_back(self, timed: "List[tuple[bytes, int]]") -> List["tuple[int, int]"]:
+        """Each step back of the time: from where, and to where."""
+        times = [time for _, time in timed]
+        return [(one, other) for one, other in zip(times, times[1:]) if other < one]
+
+
+class Damaged(unittest.TestCase):
+    """What cannot be read on says where."""
+
+    def test_no_captures(self) -> None:
+        self.assertEqual(fault_of(b""), "it is empty")
+        self.assertIn("it is no capture: octet 0 begins with 23 21 2f 62", fault_of(b"#!/bin/sh"))
+        self.assertIn("compressed by gzip", fault_of(bytes.fromhex("1f8b0800")))
+        self.assertEqual(fault_of(b"\n\r"), "it ends at octet 2, inside the record of octet 0")
+
+    def test_a_capture_that_is_cut_anywhere(self) -> None:
+        for name, form in FORMS.items():
+            file = form(FRAMES)
+            ends = set()
+            for end in range(1, len(file)):
+                fault = fault_of(file[:end])
+                if fault:
+                    self.assertIn(f"it ends at octet {end}, inside the record of octet ", fault)
+                else:
+                    ends.add(end)
+            records = 5 if "pcap," in name or "pcap of" in name else 7
+            self.assertLessEqual(len(ends), records + 4, name)
+
+    def test_where_a_record_is_damaged(self) -> None:
+        first = pcapng([whole(OTHER)])
+        bad = packet(whole(LLDP))
+        damages = {
+            "a block's two lengths differ": bad[:-4] + b"\0\0\0\0",
+            "a block of 8 octets": bad[:4] + b"\x08\0\0\0" + bad[8:],
+            "the length there is out of all measure": bad[:4] + b"\xff\xff\xff\x7f" + bad[8:],
+            "a block that its fields do not fit": packet(whole(LLDP), place=1),
+            "a section of no known byte order": section()[:8] + b"abcd" + section()[12:],
+        }
+        for why, record in damages.items():
+            with self.subTest(why):
+                told = f"it is damaged at octet {len(first)}: {why}"
+                self.assertEqual(fault_of(first + record), told)
+        runs_past = bytearray(bad)
+        runs_past[20:24] = (len(LLDP) + 40).to_bytes(4, "little")
+        self.assertIn(f"octet {len(first)}", fault_of(first + bytes(runs_past) + bad))
+
+    def test_a_pcap_record_of_a_mad_length(self) -> None:
+        file = bytearray(pcap([whole(OTHER), whole(LLDP)]))
+        at = 24 + 16 + len(OTHER)
+        file[at + 8:at + 12] = b"\xff\xff\xff\xff"
+        self.assertEqual(fault_of(bytes(file)),
+                         f"it is damaged at octet {at}: the length there is out of all measure")
+
+    def test_random_damage_is_told_and_never_more(self) -> None:
+        dice = random.Random(5)
+        faults = 0
+        for _ in range(3000):
+            file = bytearray(dice.choice(list(FORMS.values()))(FRAMES))
+            for _ in range(dice.randrange(1, 4)):
+                file[dice.randrange(len(file))] = dice.choice([0, 1, 255, dice.randrange(256)])
+            faults += fault_of(bytes(file)) != ""
+        self.assertGreater(faults, 50)
+
+
+if __name__ == "__main__":
+    unittest.main()

@@ -1,0 +1,235 @@
+"""Shows that are read, and their very lines again."""
+from __future__ import annotations
+
+import subprocess
+import sys
+import unittest
+from typing import Iterator, List, Tuple
+
+from lldpa.agent import MARK, MARK_ANSWER
+from lldpa.show import Identifier, Neighbor, Show, ShowFault, lines_of, read_show, unescaped
+from support import PROGRAM, REPOSITORY
+
+sys.dont_write_bytecode = True
+sys.path.insert(1, str(REPOSITORY / "tools"))
+import fuzz  # type: ignore[import-not-found]  # noqa: E402
+
+RANDOM_SHOWS = 1000
+
+NEIGHBORS = """\
+lldp.eth0.neighbors=2
+lldp.eth0.octets=120
+lldp.eth0.too-many=yes
+lldp.eth0.1.chassis.mac=00:11:22:33:44:55
+lldp.eth0.1.port.ifname=eth 0
+lldp.eth0.1.ttl=120
+lldp.eth0.1.expires=119
+lldp.eth0.1.chassis.name=caf\\xc3\\xa9 = \\\\
+lldp.eth0.1.port.descr=
+lldp.eth0.1.chassis.caps=Bridge:on,Router:off
+lldp.eth0.1.chassis.mgmt=192.0.2.1,2,7,
+lldp.eth0.1.chassis.mgmt=fe80:0000:0000:0000:0000:0000:0000:0001,2,7,2b06
+lldp.eth0.1.org.00120f.1=0080000036
+lldp.eth0.1.unknown.9=00
+lldp.eth0.1.chassis.descr=x.y=z
+lldp.eth0.2.chassis.local=a b
+lldp.eth0.2.port.unhandled=00
+lldp.eth0.2.ttl=1
+lldp.eth0.2.expires=1
+lldp.p1.neighbors=0
+lldp.p1.octets=0
+lldp.p1.too-many=no
+""".splitlines()
+
+STATISTICS = [f"lldp.{port}.{key}={number}" for port in ("eth0", "p1") for number, key in enumerate(
+    "sent shutdowns received discarded errors tlvs-discarded unrecognized ageouts drops".split())]
+
+CHASSIS = """\
+local-chassis.mac=02:00:00:00:00:01
+local-chassis.name=localhost
+local-chassis.descr=lldpa
+local-chassis.caps=Station:on
+local-chassis.mgmt=192.0.2.1,1,0,
+""".splitlines()
+
+CONFIGURATION = """\
+configuration.tx-interval=30
+configuration.tx-hold=4
+configuration.ttl=121
+configuration.reinit-delay=2
+configuration.tx-fast-init=4
+configuration.tx-credit-max=5
+configuration.max-neighbors=32
+configuration.ports=2
+configuration.eth0.status=rx-and-tx
+configuration.p1.status=disabled
+""".splitlines()
+
+ALL = NEIGHBORS + STATISTICS + CHASSIS + CONFIGURATION
+
+
+def shows_of_transcript(text: str) -> Iterator[List[str]]:
+    """What each show of a transcript writes."""
+    shown: List[str] = []
+    for line in text.splitlines() + ["> "]:
+        if not line.startswith("> "):
+            shown.append(line)
+            continue
+        if shown and shown[0].startswith(("lldp.", "local-chassis.", "configuration.")):
+            yield shown
+        shown = []
+
+
+def random_show(seed: int) -> List[str]:
+    """The shows at the end of a random trace, nothing where its words are bad."""
+    dice = fuzz.Dice(seed)
+    words, lines = fuzz.new_trace(dice)
+    lines[-3:-3] = [MARK]
+    done = subprocess.run([PROGRAM, *words], input=b"\n".join(lines) + b"\n", capture_output=True,
+                          check=False)
+    _, mark, shown = done.stdout.rpartition(MARK_ANSWER + b"\n")
+    return shown.decode("ascii").splitlines() if mark and done.returncode == 0 else []
+
+
+class ThereAndBack(unittest.TestCase):
+    """Lines that are read give the very lines again."""
+
+    def test_each_show_of_the_transcripts(self) -> None:
+        count = neighbors = 0
+        for path in sorted((REPOSITORY / "examples").glob("*.expect")):
+            for lines in shows_of_transcript(path.read_text("latin-1")):
+                with self.subTest(path.name, show=lines[0]):
+                    show = read_show(lines)
+                    self.assertEqual(lines_of(show), lines)
+                    neighbors += len(show.neighbors)
+                    count += 1
+        self.assertGreater(count, 50)
+        self.assertGreater(neighbors, 30)
+
+    def test_random_shows(self) -> None:
+        count = neighbors = 0
+        for seed in range(100_000):
+            lines = random_show(seed)
+            if lines:
+                show = read_show(lines)
+                self.assertEqual(lines_of(show), lines, f"seed {seed}")
+                neighbors += len(show.neighbors)
+                count += 1
+            if count == RANDOM_SHOWS:
+                break
+        self.assertEqual(count, RANDOM_SHOWS)
+        self.assertGreater(neighbors, RANDOM_SHOWS / 2)
+
+    def test_all_shows_together_and_each_alone(self) -> None:
+        for lines in (ALL, NEIGHBORS, STATISTICS, CHASSIS, CHASSIS[:4], CONFIGURATION, []):
+            self.assertEqual(lines_of(read_show(lines)), lines)
+
+    def test_lines_with_line_feeds(self) -> None:
+        self.assertEqual(lines_of(read_show(line + "\n" for line in ALL)), ALL)
+
+
+class WhatIsRead(unittest.TestCase):
+    """What a show tells."""
+
+    def test_a_neighbor(self) -> None:
+        neighbor = read_show(NEIGHBORS).neighbors[0]
+        self.assertEqual((neighbor.port, neighbor.place), ("eth0", 1))
+        self.assertEqual(neighbor.chassis, ("mac", "00:11:22:33:44:55"))
+        self.assertEqual(neighbor.port_id, ("ifname", "eth 0"))
+        self.assertEqual((neighbor.ttl, neighbor.expires), (120, 119))
+        self.assertEqual(neighbor.name, "caf\\xc3\\xa9 = \\\\")
+        self.assertEqual(neighbor.descr, "x.y=z")
+        self.assertEqual(neighbor.port_descr, "")
+        self.assertEqual(neighbor.capabilities, {"Bridge": True, "Router": False})
+        self.assertEqual(neighbor.management,
+                         ("192.0.2.1", "fe80:0000:0000:0000:0000:0000:0000:0001"))
+        self.assertEqual(neighbor.org, (("00120f.1", "0080000036"),))
+        self.assertEqual(neighbor.unknown, ((9, "00"),))
+
+    def test_a_neighbor_that_says_little(self) -> None:
+        neighbor = read_show(NEIGHBORS).neighbors[1]
+        self.assertIsNone(neighbor.name)
+        self.assertIsNone(neighbor.capabilities)
+        self.assertEqual((neighbor.management, neighbor.org, neighbor.unknown), ((), (), ()))
+
+    def test_ports_and_counters(self) -> None:
+        show = read_show(ALL)
+        eth0, p1 = show.ports
+        self.assertEqual((eth0.name, eth0.neighbors_held, eth0.octets, eth0.too_many),
+                         ("eth0", 2, 120, True))
+        self.assertEqual((p1.name, p1.too_many, p1.neighbors), ("p1", False, ()))
+        self.assertEqual(show.counters["p1"].tlvs_discarded, 5)
+        self.assertEqual(show.counters["eth0"].drops, 8)
+        assert show.chassis is not None and show.configuration is not None
+        self.assertEqual(show.chassis.mgmt, "192.0.2.1,1,0,")
+        self.assertEqual(show.configuration.tx_credit_max, 5)
+        self.assertEqual(show.configuration.statuses, {"eth0": "rx-and-tx", "p1": "disabled"})
+        self.assertEqual(read_show([]), Show())
+
+    def test_an_id_stays_and_is_of_one_neighbor_alone(self) -> None:
+        def id_of(chassis: str, port: str, place: int = 1) -> str:
+            parts = Identifier("local", chassis), Identifier("local", port)
+            return Neighbor("eth0", place, *parts, 1, 1).id
+        self.assertEqual(id_of("a", "b", 1), id_of("a", "b", 7))
+        pairs = [("a", "b"), ("a b", "c"), ("a", "b c"), ("a\\\\x20b", "c"), ("a local=b", "c")]
+        self.assertEqual(len({id_of(*pair) for pair in pairs}), len(pairs))
+        self.assertEqual({id_of(*pair).count(" ") for pair in pairs}, {1})
+
+    def test_octets_behind_a_text(self) -> None:
+        self.assertEqual(unescaped("caf\\xc3\\xa9 \\\\x41"), "café \\x41".encode())
+        self.assertEqual(unescaped("\\\\\\x00"), b"\\\0")
+
+
+class Refused(unittest.TestCase):
+    """Lines that are no show are told by their number and their text."""
+
+    def changed(self, old: str, new: List[str]) -> Tuple[int, List[str]]:
+        """All lines, with one that is replaced, and its number."""
+        place = ALL.index(old)
+        return place + 1, ALL[:place] + new + ALL[place + 1:]
+
+    def test_lines_out_of_place(self) -> None:
+        changes = [
+            ("lldp.eth0.octets=120", ["lldp.eth0.octets=0120"]),
+            ("lldp.eth0.octets=120", ["lldp.eth1.octets=120"]),
+            ("lldp.eth0.too-many=yes", ["lldp.eth0.too-many=maybe"]),
+            ("lldp.eth0.1.ttl=120", []),
+            ("lldp.eth0.1.ttl=120", ["lldp.eth0.1.ttl=-1"]),
+            ("lldp.eth0.1.chassis.mac=00:11:22:33:44:55", ["lldp.eth0.1.chassis.name=x"]),
+            ("lldp.eth0.1.org.00120f.1=0080000036", ["lldp.eth0.1.org.00120F.1=00"]),
+            ("lldp.eth0.1.unknown.9=00", ["lldp.eth0.1.vlan.9=00"]),
+            ("lldp.eth0.1.unknown.9=00", ["tx eth0 00"]),
+            ("lldp.eth0.1.unknown.9=00", ["error: unknown command"]),
+            ("lldp.eth0.2.chassis.local=a b", ["lldp.eth0.3.chassis.local=a b"]),
+            ("lldp.eth0.2.chassis.local=a b", ["lldp.eth0.2.chassis.local"]),
+            ("lldp.eth0.2.chassis.local=a b", ["lldp.eth0.2.chassis.local=\x1b[2J"]),
+            ("lldp.eth0.2.chassis.local=a b", ["lldp.eth0.2.chassis.local=caf\u00e9"]),
+            ("lldp.p1.neighbors=0", ["lldp.eth0.neighbors=0"]),
+            ("lldp.p1.sent=0", ["lldp.eth0.sent=0"]),
+            ("lldp.p1.drops=8", ["lldp.p1.drop=8"]),
+            ("local-chassis.name=localhost", []),
+            ("configuration.ports=2", ["configuration.ports=x"]),
+        ]
+        for old, new in changes:
+            number, lines = self.changed(old, new)
+            with self.subTest(old, new=new), self.assertRaises(ShowFault) as fault:
+                read_show(lines)
+            told = str(fault.exception)
+            self.assertTrue(told.startswith(f"line {number}: "), told)
+            self.assertIn(repr(lines[number - 1]), told)
+
+    def test_a_status_too_many_and_too_few(self) -> None:
+        for lines in (CONFIGURATION[:-1], CONFIGURATION + ["configuration.p2.status=rx-only"]):
+            with self.assertRaises(ShowFault):
+                read_show(lines)
+
+    def test_an_end_in_the_middle(self) -> None:
+        whole = {0, 19, 22, 31, 40, 44, 45, 55}
+        for end in set(range(len(ALL))) - whole:
+            with self.subTest(end=end), self.assertRaises(ShowFault) as fault:
+                read_show(ALL[:end])
+            self.assertIn("the end", str(fault.exception))
+
+
+if __name__ == "__main__":
+    unittest.main()
