@@ -1,0 +1,236 @@
+"""The control socket, at which a running bridge answers: `Server` is its end, `Client` the other.
+
+A question is one line of at most 4,096 octets; its answer is a line `=N` and then N lines.
+`show ..`, `configure ..` and `update` are the agent's commands; `bridge` asks the bridge itself.
+`tick`, `rx`, `up` and `down` are refused: what comes in, and how time goes, the bridge alone tells.
+
+Who may connect is said by the socket's mode: 0600, or 0660 for the members of a group. They may
+do all. If the mode is widened to 0666, all may ask, and `configure` and `update` stay with root,
+the owner and the group (see `Peer.may_change`).
+"""
+
+from __future__ import annotations
+
+import asyncio
+import contextlib
+import grp
+import socket
+from typing import Awaitable, Callable, Optional
+
+from .agent import LONGEST_LINE, Ended, Refused, checked
+from .listening import InUse, Listening
+from .peer import Peer
+
+__all__ = ["DEFAULT_PATH", "Client", "Gone", "InUse", "Server"]
+
+DEFAULT_PATH = "/run/lldpa/control"
+MOST_CLIENTS = 64
+SECONDS_TO_READ = 10.0
+MOST_UNREAD = 64 * 1024 * 1024  # octets of all answers together that wait for their readers
+SECONDS_TO_ANSWER = 30.0
+
+ASKING = (b"show", b"bridge")
+CHANGING = (b"configure", b"update")
+OF_THE_BRIDGE = (b"tick", b"rx", b"up", b"down")
+
+Ask = Callable[[bytes], Awaitable["list[bytes]"]]
+
+
+async def read_line(reader: asyncio.StreamReader) -> Optional[bytes]:
+    """The next line without its LF, or None at the end. Of a line that is too long it gives a part
+    that is too long as well, and holds no more of it."""
+    part = b""
+    while True:
+        try:
+            line = await reader.readuntil(b"\n")
+            return part or line[:-1]
+        except asyncio.IncompleteReadError as end:
+            return part or end.partial or None
+        except asyncio.LimitOverrunError as overrun:
+            part = await reader.readexactly(overrun.consumed)
+
+
+def first_word(line: bytes) -> bytes:
+    """The first word of a line without leading blanks, as the agent reads it."""
+    if line.startswith(b'"'):
+        return line[1:].partition(b'"')[0]
+    return line.replace(b"\t", b" ").partition(b" ")[0]
+
+
+class Server:
+    """Serves the control socket at a path: asks what clients ask, one question after another.
+
+    `ask` gives the lines of an answer or raises `Refused`; where it raises `Ended` there is no
+    answer, and the connection ends. `group` is the name of a group whose members may connect.
+    """
+
+    def __init__(self, path: str, ask: Ask, group: Optional[str] = None) -> None:
+        self.path = path
+        self.ask = ask
+        self.group = None if group is None else number_of_group(group)
+        self.listening: Optional[Listening] = None
+        self.accepting: Optional[asyncio.Future[None]] = None
+        self.clients: set[asyncio.Future[None]] = set()
+        self.unread: dict[asyncio.StreamWriter, int] = {}
+
+    def bind(self) -> None:
+        """Takes the path, while the bridge still has the right to; clients wait until `start`.
+
+        Raises `InUse` where another bridge answers there, OSError where there can be no socket.
+        """
+        self.listening = Listening(self.path, self.group)
+
+    async def start(self) -> None:
+        """Begins to serve, and takes the path before where `bind` has not."""
+        if self.listening is None:
+            self.bind()
+        assert self.listening is not None
+        self.asking = asyncio.Lock()
+        self.accepting = asyncio.ensure_future(self.accept(self.listening.socket))
+
+    async def close(self) -> None:
+        """Ends every connection at once, and lets go of the path."""
+        tasks = [*self.clients] if self.accepting is None else [self.accepting, *self.clients]
+        for task in tasks:
+            task.cancel()
+        await asyncio.gather(*tasks, return_exceptions=True)
+        if self.listening is not None:
+            self.listening.close()
+        self.listening = self.accepting = None
+
+    async def accept(self, listener: socket.socket) -> None:
+        """Serves each client that comes in a task of its own, without end."""
+        loop = asyncio.get_running_loop()
+        while True:
+            try:
+                connection, _ = await loop.sock_accept(listener)
+            except OSError:  # too many files are open
+                await asyncio.sleep(1)
+                continue
+            client = asyncio.ensure_future(self.serve(connection))
+            self.clients.add(client)
+            client.add_done_callback(self.clients.discard)
+
+    async def serve(self, connection: socket.socket) -> None:
+        """Answers one client until it goes, reads too slowly, or the agent or the bridge ends."""
+        peer = Peer(connection)
+        reader, writer = await asyncio.open_unix_connection(sock=connection, limit=LONGEST_LINE)
+        writer.transport.set_write_buffer_limits(high=0)
+        try:
+            if len(self.clients) > MOST_CLIENTS:
+                await self.send(writer, [b"error: too many clients"])
+                return
+            while (line := await read_line(reader)) is not None and not writer.is_closing():
+                await self.send(writer, await self.answer(line, peer))
+        except (OSError, Ended):
+            pass
+        finally:
+            writer.transport.abort()
+
+    async def answer(self, line: bytes, peer: Peer) -> list[bytes]:
+        """The lines that answer a question of this peer."""
+        if len(line) > LONGEST_LINE:
+            return [b"error: line too long"]
+        words = line.lstrip(b" \t")
+        if not words or words.startswith(b"#"):
+            return []
+        word = first_word(words)
+        if word in OF_THE_BRIDGE:
+            return [b"error: for the bridge alone"]
+        if word in CHANGING and not peer.may_change(self.path):
+            return [b"error: no permission"]
+        if word not in ASKING + CHANGING:
+            return [b"error: unknown command"]
+        try:
+            async with self.asking:
+                return await asyncio.shield(self.ask(line))
+        except Refused as refused:
+            return [b"error: " + refused.text.encode("ascii", "backslashreplace")]
+
+    async def send(self, writer: asyncio.StreamWriter, lines: list[bytes]) -> None:
+        """Sends an answer, and ends the connection where it is not read soon enough."""
+        answer = b"".join(line + b"\n" for line in [b"=%d" % len(lines), *lines])
+        self.unread[writer] = len(answer)
+        self.end_slowest()
+        loop = asyncio.get_running_loop()
+        patience = loop.call_later(SECONDS_TO_READ, writer.transport.abort)
+        try:
+            writer.write(answer)
+            await writer.drain()
+        finally:
+            patience.cancel()
+            self.unread.pop(writer, None)
+
+    def end_slowest(self) -> None:
+        """Ends the connections that have waited longest, while too much waits to be read."""
+        while sum(self.unread.values()) > MOST_UNREAD and len(self.unread) > 1:
+            slowest = next(iter(self.unread))
+            slowest.transport.abort()
+            del self.unread[slowest]
+
+
+def number_of_group(name: str) -> int:
+    """The number of a group. Raises LookupError where there is none of that name."""
+    try:
+        return grp.getgrnam(name).gr_gid
+    except KeyError:
+        raise LookupError(f"there is no group {name}") from None
+
+
+class Gone(ConnectionError):
+    """The bridge ended the connection before its answer was whole."""
+
+
+class Client:
+    """A conversation with a bridge, one question after the other; it blocks.
+
+    Raises OSError where no bridge answers at this path.
+    """
+
+    def __init__(self, path: str = DEFAULT_PATH, seconds: float = SECONDS_TO_ANSWER) -> None:
+        self.connection = socket.socket(socket.AF_UNIX, socket.SOCK_STREAM)
+        try:
+            self.connection.settimeout(seconds)
+            self.connection.connect(path)
+        except OSError:
+            self.connection.close()
+            raise
+        self.answers = self.connection.makefile("rb")
+
+    def ask(self, line: str) -> list[str]:
+        """The lines that answer a line.
+
+        Raises `Refused` with the text behind `error: `, ValueError for a line that is none or too
+        long, `Gone` where the bridge ends, TimeoutError where it does not answer in time.
+        """
+        octets = checked(line)
+        with contextlib.suppress(BrokenPipeError, ConnectionResetError):
+            self.connection.sendall(octets + b"\n")  # a bridge that has gone may have said why
+        head = self.read_line()
+        if not (head.startswith("=") and head[1:].isdecimal()):
+            raise Gone(f"no answer of a bridge: {head!r}")
+        lines = [self.read_line() for _ in range(int(head[1:]))]
+        if len(lines) == 1 and lines[0].startswith("error: "):
+            raise Refused(lines[0][len("error: "):])
+        return lines
+
+    def read_line(self) -> str:
+        """The next line of an answer."""
+        try:
+            line = self.answers.readline()
+        except ConnectionResetError:
+            line = b""
+        if not line.endswith(b"\n"):
+            raise Gone("the bridge has ended the connection")
+        return line[:-1].decode("ascii", "backslashreplace")
+
+    def close(self) -> None:
+        """Ends the conversation."""
+        self.answers.close()
+        self.connection.close()
+
+    def __enter__(self) -> Client:
+        return self
+
+    def __exit__(self, *_: object) -> None:
+        self.close()

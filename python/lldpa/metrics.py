@@ -1,0 +1,98 @@
+"""What a bridge tells of its ports and neighbors, in Prometheus' text format."""
+
+from __future__ import annotations
+
+import re
+from dataclasses import fields
+from typing import Iterable, Iterator, Mapping
+
+from .show import Counters, Neighbor, Show
+
+Labels = Mapping[str, str]
+
+HELP_OF_COUNTERS = {
+    "sent": "Ordinary frames sent.",
+    "shutdowns": "Shutdown frames sent.",
+    "received": "LLDP frames that came while the port was receiving and up.",
+    "discarded": "LLDPDUs refused.",
+    "errors": "LLDPDUs refused or with a discarded TLV.",
+    "tlvs_discarded": "TLVs discarded.",
+    "unrecognized": "TLVs kept whose meaning is not known.",
+    "ageouts": "Neighbors that aged out.",
+    "drops": "LLDPDUs dropped for want of room in the table.",
+}
+KERNEL_DROPS = re.compile(r"bridge\.([^.]+)\.kernel-drops=([0-9]+)")
+
+
+def metrics(show: Show, bridge: Iterable[str]) -> list[str]:
+    """The metrics of a show of neighbors and counters, and of the bridge's own lines."""
+    return [
+        *lines_of("lldpa_neighbors", "gauge", "Neighbors that the port holds.",
+                  [({"port": port.name}, port.neighbors_held) for port in show.ports]),
+        *lines_of("lldpa_too_many", "gauge", "Whether a neighbor found no room lately, 1 or 0.",
+                  [({"port": port.name}, int(port.too_many)) for port in show.ports]),
+        *lines_of("lldpa_neighbor_info", "gauge", "What a neighbor says of itself; always 1.",
+                  [(described(neighbor), 1) for neighbor in show.neighbors]),
+        *lines_of("lldpa_expires_seconds", "gauge", "Seconds until the neighbor ages out.",
+                  [(identified(neighbor), neighbor.expires) for neighbor in show.neighbors]),
+        *counter_lines(show.counters),
+        *lines_of("lldpa_kernel_drops_total", "counter",
+                  "Frames that the kernel dropped since the bridge did not read them in time.",
+                  kernel_drops(bridge)),
+    ]
+
+
+def identified(neighbor: Neighbor) -> dict[str, str]:
+    """The labels that tell neighbors apart: no two neighbors of a port have all of them alike."""
+    return {
+        "port": neighbor.port,
+        "chassis_kind": neighbor.chassis.kind,
+        "chassis": neighbor.chassis.text,
+        "port_id_kind": neighbor.port_id.kind,
+        "port_id": neighbor.port_id.text,
+    }
+
+
+def described(neighbor: Neighbor) -> dict[str, str]:
+    """The labels of what a neighbor says of itself; what it does not say is empty."""
+    return {
+        **identified(neighbor),
+        "name": neighbor.name or "",
+        "port_descr": neighbor.port_descr or "",
+        "management": neighbor.management[0] if neighbor.management else "",
+    }
+
+
+def counter_lines(counters: Mapping[str, Counters]) -> Iterator[str]:
+    """The metrics of each counter, by ports."""
+    for counter in fields(Counters):
+        samples = [({"port": port}, getattr(of, counter.name)) for port, of in counters.items()]
+        name = f"lldpa_{counter.name}_total"
+        yield from lines_of(name, "counter", HELP_OF_COUNTERS[counter.name], samples)
+
+
+def kernel_drops(bridge: Iterable[str]) -> list[tuple[Labels, int]]:
+    """The drops that the bridge tells in its lines `bridge.PORT.kernel-drops=N`."""
+    found = (KERNEL_DROPS.fullmatch(line) for line in bridge)
+    return [({"port": drops[1]}, int(drops[2])) for drops in found if drops]
+
+
+def lines_of(
+    name: str, kind: str, text: str, samples: Iterable[tuple[Labels, int]]
+) -> Iterator[str]:
+    """The lines of one metric, none where it has no samples."""
+    lines = [f"{name}{{{label_list(labels)}}} {value}" for labels, value in samples]
+    if lines:
+        yield f"# HELP {name} {text}"
+        yield f"# TYPE {name} {kind}"
+        yield from lines
+
+
+def label_list(labels: Labels) -> str:
+    """Labels as they stand between braces."""
+    return ",".join(f'{name}="{escaped(value)}"' for name, value in labels.items())
+
+
+def escaped(value: str) -> str:
+    """A label's value as the format wants it between double quotes."""
+    return value.replace("\\", "\\\\").replace('"', '\\"').replace("\n", "\\n")

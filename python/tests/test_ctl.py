@@ -1,0 +1,240 @@
+"""lldpa-ctl as a program, against a control socket with the real agent behind it."""
+
+from __future__ import annotations
+
+import fcntl
+import json
+import os
+import pty
+import re
+import select
+import signal
+import socket
+import struct
+import subprocess
+import termios
+import time
+import unittest
+
+from lldpa.control import Client
+from served import BRIDGE_LINES, CTL, Served, frame, numbered, tlv
+
+HOSTILE = b"\x1b[31m\r\n\x9b2J\x07"
+TIME = r"[0-9]{4}-[0-9]{2}-[0-9]{2}T[0-9]{2}:[0-9]{2}:[0-9]{2}[+-][0-9]{4}"
+
+
+class Program(unittest.TestCase):
+    """With a bridge's socket."""
+
+    def setUp(self) -> None:
+        self.served = Served()
+        self.addCleanup(self.served.close)
+
+    def run_ctl(self, *words: str, status: int = 0, said: str = "") -> str:
+        """What lldpa-ctl prints; its status and what it says are looked at."""
+        told = subprocess.run([CTL, "--control", self.served.path, *words], check=False,
+                              capture_output=True, text=True)
+        self.assertEqual((told.stderr, told.returncode), (said and f"lldpa-ctl: {said}\n", status))
+        return told.stdout
+
+
+class Answers(Program):
+    """Questions, and what is printed."""
+
+    def test_alone_it_prints_the_table(self) -> None:
+        self.assertEqual(self.run_ctl(), "no neighbors on 2 ports.\n")
+        name = tlv(5, b"n" * 255)
+        self.served.frame("eth1", numbered(7, 120, name))
+        lines = self.run_ctl().splitlines()
+        self.assertRegex(lines[1], r"^eth1  n{255}  p7 +120 s$")
+        self.assertEqual(lines[2:], ["1 neighbor on 2 ports."])
+
+    def test_commands_print_the_lines_of_the_agent(self) -> None:
+        self.served.frame("eth0", numbered(1))
+        for words in (["show", "neighbors"], ["show", "statistics"], ["show", "chassis"],
+                      ["show", "configuration"], ["show neighbors"]):
+            answer = self.served.call(self.served.agent.ask(" ".join(words)))
+            self.assertEqual(self.run_ctl(*words).splitlines(), answer)
+        lines = [one.decode() for one in BRIDGE_LINES]
+        self.assertEqual(self.run_ctl("bridge").splitlines(), lines)
+
+    def test_a_port_alone(self) -> None:
+        self.served.frame("eth1", numbered(1))
+        lines = self.run_ctl("show", "neighbors").splitlines()
+        self.assertEqual(self.run_ctl("show", "neighbors", "eth1").splitlines(), lines[3:])
+        self.assertEqual(self.run_ctl("show", "neighbors", "eth0").splitlines(), lines[:3])
+        self.assertEqual(len(self.run_ctl("show", "statistics", "eth0").splitlines()), 9)
+        self.run_ctl("show", "neighbors", "eth", status=1, said="no such port")
+
+    def test_what_changes_the_agent(self) -> None:
+        self.assertEqual(self.run_ctl("configure", "system", "description", "a  b#"), "")
+        self.assertIn("descr=a  b#\n", self.run_ctl("show", "chassis"))
+        self.assertEqual(self.run_ctl("update"), "")
+        self.run_ctl("configure", "lldp", "tx-hold", "0", status=1, said="out of range")
+        self.run_ctl("tick", status=1, said="for the bridge alone")
+
+    def test_json_tells_the_same(self) -> None:
+        self.served.frame("eth0", numbered(1, 120, tlv(5, HOSTILE), tlv(7, b"\0\x14\0\4"),
+                                           tlv(8, bytes([5, 1, 192, 0, 2, 1, 2, 0, 0, 0, 1, 0])),
+                                           tlv(127, b"\0\x12\x0f\x01abc"), tlv(9, b"\xff")))
+        told = json.loads(self.run_ctl("--json", "show", "neighbors"))
+        self.assertEqual(told, json.loads(self.run_ctl("--json")))
+        self.assertEqual([port["name"] for port in told["ports"]], ["eth0", "eth1"])
+        self.assertEqual(told["ports"][0]["neighbors"], [{
+            "port": "eth0", "place": 1, "id": "mac=02:00:00:00:00:01 ifname=p1",
+            "chassis": {"kind": "mac", "text": "02:00:00:00:00:01"},
+            "port_id": {"kind": "ifname", "text": "p1"}, "ttl": 120, "expires": 120,
+            "name": r"\x1b[31m\x0d\x0a\x9b2J\x07", "descr": None, "port_descr": None,
+            "capabilities": {"Bridge": True, "Router": False}, "management": ["192.0.2.1"],
+            "org": [{"kind": "00120f.1", "octets": "616263"}],
+            "unknown": [{"type": 9, "octets": "ff"}]}])
+        eth1 = json.loads(self.run_ctl("show", "neighbors", "eth1", "--json"))
+        self.assertEqual(eth1, {"ports": told["ports"][1:]})
+        counters = json.loads(self.run_ctl("--json", "show", "statistics"))["counters"]
+        self.assertEqual(counters["eth0"]["received"], 1)
+        configuration = json.loads(self.run_ctl("--json", "show", "configuration"))
+        self.assertEqual(configuration["configuration"]["tx_interval"], 30)
+        chassis = json.loads(self.run_ctl("--json", "show", "chassis"))["chassis"]
+        self.assertEqual(chassis["name"], "localhost")
+        self.assertEqual(json.loads(self.run_ctl("--json", "update")), {})
+        self.assertEqual(json.loads(self.run_ctl("--json", "bridge"))["bridge.eth0.kernel-drops"],
+                         "7")
+
+    def test_on_a_terminal_it_is_as_wide_and_nothing_is_raw(self) -> None:
+        texts = [tlv(kind, HOSTILE) for kind in (4, 5, 6)]
+        for kind in range(8):
+            identifier = bytes([kind]) + HOSTILE
+            self.served.frame("eth0", frame(identifier, identifier, 120, *texts))
+        questions: list[list[str]] = [[], ["show", "neighbors"], ["--json"], ["metrics"]]
+        for words in questions:
+            octets = self.on_a_terminal(60, *words)
+            self.assertRegex(octets.replace("…".encode(), b"").decode("latin-1"), "^([ -~]|\r\n)*$")
+        lines = self.on_a_terminal(60).decode().splitlines()
+        self.assertEqual(max(map(len, lines)), max(len(lines[0]), len(lines[1])))
+        self.assertTrue(55 < len(lines[1]) <= 60 and "…" in lines[1], lines[1])
+
+    def on_a_terminal(self, width: int, *words: str) -> bytes:
+        """What lldpa-ctl writes to a terminal of that width."""
+        ours, theirs = pty.openpty()
+        fcntl.ioctl(theirs, termios.TIOCSWINSZ, struct.pack("HHHH", 24, width, 0, 0))
+        child = subprocess.Popen([CTL, "--control", self.served.path, *words], stdout=theirs)
+        os.close(theirs)
+        octets = b""
+        while True:
+            try:
+                octets += os.read(ours, 65536)
+            except OSError:  # the terminal was closed at its other end
+                break
+        os.close(ours)
+        self.assertEqual(child.wait(), 0)
+        return octets
+
+    def test_a_terminal_without_the_mark_gets_another(self) -> None:
+        self.served.frame("eth0", numbered(1, 120, tlv(5, b"n" * 255)))
+        environment = {"LC_ALL": "C", "PYTHONCOERCECLOCALE": "0", "PYTHONUTF8": "0"}
+        os.environ.update(environment)
+        self.addCleanup(lambda: [os.environ.pop(name) for name in environment])
+        self.assertIn(b"nnn?  p1", self.on_a_terminal(60))
+
+
+class Watching(Program):
+    """lldpa-ctl watch."""
+
+    def watch(self, *words: str) -> subprocess.Popen[str]:
+        """A watch that has begun."""
+        words = (CTL, "--control", self.served.path, *words, "watch")
+        environment = {key: value for key, value in os.environ.items() if key != "PYTHONUNBUFFERED"}
+        child = subprocess.Popen(words, stdout=subprocess.PIPE, stderr=subprocess.PIPE, text=True,
+                                 env=environment)
+        self.addCleanup(child.communicate)
+        self.addCleanup(child.kill)
+        while b"show neighbors" not in self.served.asked:
+            time.sleep(0.01)
+        return child
+
+    def line(self, child: subprocess.Popen[str]) -> str:
+        """Its next line, which has to come within a second."""
+        assert child.stdout is not None
+        self.assertTrue(select.select([child.stdout], [], [], 1)[0], "nothing within a second")
+        return child.stdout.readline()
+
+    def test_a_line_for_each_that_comes_changes_or_goes(self) -> None:
+        self.served.frame("eth1", numbered(1))
+        child = self.watch()
+        self.served.frame("eth0", numbered(2, 120, tlv(5, b"sw" + HOSTILE)))
+        self.assertRegex(self.line(child), rf"^{TIME} eth0 came: sw\\x1b\[31m[ -~]* p2\n$")
+        self.served.frame("eth0", numbered(2, 90, tlv(5, b"b"), tlv(4, b"up")))
+        self.assertRegex(self.line(child), rf"^{TIME} eth0 changed: b p2; ttl: 120 -> 90; "
+                         r"chassis\.name: sw[ -~]* -> b; port\.descr: nothing -> up\n$")
+        self.served.frame("eth1", numbered(1, 0))
+        self.assertRegex(self.line(child), rf"^{TIME} eth1 gone: 02:00:00:00:00:01 p1\n$")
+        self.served.call(self.served.agent.tick(30))
+        self.served.frame("eth0", numbered(2, 90, tlv(5, b"b"), tlv(4, b"up")))
+        assert child.stdout is not None
+        self.assertFalse(select.select([child.stdout], [], [], 1.2)[0], "nothing was new")
+        self.served.call(self.served.agent.tick(90))
+        self.assertRegex(self.line(child), rf"^{TIME} eth0 gone: b p2\n$")
+
+    def test_as_json(self) -> None:
+        child = self.watch("--json")
+        self.served.frame("eth0", numbered(2))
+        told = json.loads(self.line(child))
+        self.assertRegex(told["time"], f"^{TIME}$")
+        self.assertEqual((told["what"], told["changes"]), ("came", []))
+        self.assertEqual(told["neighbor"]["id"], "mac=02:00:00:00:00:02 ifname=p2")
+
+    def test_its_end(self) -> None:
+        child = self.watch()
+        child.send_signal(signal.SIGINT)
+        self.assertEqual((child.communicate(), child.returncode), (("", ""), 130))
+        self.served.asked.clear()
+        child = self.watch()
+        self.served.call(self.served.server.close())
+        said = child.communicate(timeout=5)
+        self.assertEqual((said, child.returncode),
+                         (("", "lldpa-ctl: the bridge has ended the connection\n"), 1))
+        self.served.call(self.served.server.start())
+
+
+class Faults(Program):
+    """What goes wrong."""
+
+    def test_nobody_answers(self) -> None:
+        self.served.path += "-none"
+        self.run_ctl(status=1, said=f"nobody answers at {self.served.path}: is lldpa-live running?")
+        with socket.socket(socket.AF_UNIX, socket.SOCK_STREAM) as left_behind:
+            left_behind.bind(self.served.path)
+        self.run_ctl(status=1, said=f"nobody answers at {self.served.path}: is lldpa-live running?")
+
+    def test_a_silent_bridge_is_not_waited_for_without_end(self) -> None:
+        path = self.served.path + "-silent"
+        with socket.socket(socket.AF_UNIX, socket.SOCK_STREAM) as silent:
+            silent.bind(path)
+            silent.listen()
+            with Client(path, seconds=0.2) as client, self.assertRaises(socket.timeout):
+                client.ask("show chassis")
+
+    def test_bad_words(self) -> None:
+        self.run_ctl("configure", 'a"b', status=2, said='a word with a double quote in it: a"b')
+        self.run_ctl("a\nb", status=2, said="a line has a line feed in it")
+        for words in (["watch", "x"], ["metrics", "x"], ["--json", "metrics"], ["--jso"]):
+            told = subprocess.run([CTL, *words], check=False, capture_output=True, text=True)
+            self.assertEqual((told.returncode, told.stdout), (2, ""))
+            self.assertRegex(told.stderr, r"(?s)^usage: lldpa-ctl .*lldpa-ctl: error: [^\n]*\n$")
+
+    def test_a_reader_that_goes_is_no_fault_to_tell(self) -> None:
+        for number in range(32):
+            self.served.frame("eth0", numbered(number, 120, *[tlv(9, bytes(500))] * 2))
+        words = f"{CTL} --control {self.served.path} show neighbors | head -n 1"
+        told = subprocess.run(["bash", "-c", words], check=False, capture_output=True, text=True)
+        self.assertEqual((told.stdout, told.stderr), ("lldp.eth0.neighbors=32\n", ""))
+
+    def test_help_names_each_command(self) -> None:
+        told = self.run_ctl("--help")
+        for word in ("show neighbors", "configure", "update", "watch", "metrics", "--json"):
+            self.assertTrue(re.search(rf"\b{word.lstrip('-')}\b", told), word)
+        self.assertLessEqual(max(map(len, told.splitlines())), 80)
+
+
+if __name__ == "__main__":
+    unittest.main()

@@ -1,0 +1,110 @@
+"""Prometheus' text format."""
+
+from __future__ import annotations
+
+import re
+import shutil
+import subprocess
+import unittest
+from typing import Dict, Tuple
+
+from lldpa import read_show
+from lldpa.metrics import escaped, metrics
+from served import CTL, Served, frame, numbered, tlv
+
+SAMPLE = re.compile(r'([a-z_]+)\{((?:[a-z_]+="(?:[^"\\\n]|\\["\\n])*",?)*)\} ([0-9]+)')
+LABEL = re.compile(r'([a-z_]+)="((?:[^"\\\n]|\\["\\n])*)"')
+Series = Dict[Tuple[str, Tuple[Tuple[str, str], ...]], int]
+
+
+def read(value: str) -> str:
+    """The value of a label, as Prometheus reads it."""
+    return re.sub(r"\\(.)", lambda found: {"n": "\n"}.get(found[1], found[1]), value)
+
+
+def series_of(lines: list[str]) -> Series:
+    """Each sample by its name and labels, read as Prometheus does."""
+    series: Series = {}
+    for line in lines:
+        if line.startswith("#"):
+            continue
+        found = SAMPLE.fullmatch(line)
+        assert found, line
+        labels = tuple((name, read(value)) for name, value in LABEL.findall(found[2]))
+        assert (found[1], labels) not in series, line
+        series[found[1], labels] = int(found[3])
+    return series
+
+
+class Metrics(unittest.TestCase):
+    """What a bridge tells for Prometheus."""
+
+    def setUp(self) -> None:
+        self.served = Served(max_neighbors=3)
+        self.addCleanup(self.served.close)
+
+    def shown(self) -> Series:
+        """The metrics as they are now."""
+        with self.served.client() as client:
+            lines = client.ask("show neighbors") + client.ask("show statistics")
+            return series_of(metrics(read_show(lines), client.ask("bridge")))
+
+    def test_ports_and_their_counters(self) -> None:
+        for number in range(4):
+            self.served.frame("eth0", numbered(number))
+        self.served.frame("eth1", numbered(0)[:20])
+        series = self.shown()
+        told = {(name, labels[0][1]): value for (name, labels), value in series.items()
+                if len(labels) == 1}
+        counters = {"sent": 0, "shutdowns": 0, "received": 4, "discarded": 0, "errors": 0,
+                    "tlvs_discarded": 0, "unrecognized": 0, "ageouts": 0, "drops": 1}
+        for name, value in counters.items():
+            self.assertEqual(told.pop((f"lldpa_{name}_total", "eth0")), value, name)
+        for name in counters:
+            value = int(name in ("received", "discarded", "errors"))
+            self.assertEqual(told.pop((f"lldpa_{name}_total", "eth1")), value, name)
+        self.assertEqual(told, {
+            ("lldpa_neighbors", "eth0"): 3, ("lldpa_neighbors", "eth1"): 0,
+            ("lldpa_too_many", "eth0"): 1, ("lldpa_too_many", "eth1"): 0,
+            ("lldpa_kernel_drops_total", "eth0"): 7, ("lldpa_kernel_drops_total", "eth1"): 0})
+
+    def test_neighbors(self) -> None:
+        text = b'a "quoted" \\ back\nslash\x1b'
+        address = bytes([5, 1, 192, 0, 2, 1, 2, 0, 0, 0, 1, 0])
+        said = [tlv(4, b"uplink"), tlv(5, text), tlv(8, address)]
+        self.served.frame("eth0", frame(b"\x07" + text, b"\x05swp1", 90, *said))
+        series = {name: (labels, value) for (name, labels), value in self.shown().items()}
+        shown = 'a "quoted" \\\\ back\\x0aslash\\x1b'
+        identity = (("port", "eth0"), ("chassis_kind", "local"), ("chassis", shown),
+                    ("port_id_kind", "ifname"), ("port_id", "swp1"))
+        self.assertEqual(series["lldpa_expires_seconds"], (identity, 90))
+        self.assertEqual(series["lldpa_neighbor_info"], (
+            (*identity, ("name", shown), ("port_descr", "uplink"), ("management", "192.0.2.1")), 1))
+
+    def test_neighbors_of_one_text_are_told_apart(self) -> None:
+        for chassis in (b"\x04\x02\0\0\0\0\x01", b"\x0702:00:00:00:00:01"):
+            self.served.frame("eth0", frame(chassis, b"\x05p", 90))
+        names = [name for name, _ in self.shown()]
+        self.assertEqual(names.count("lldpa_neighbor_info"), 2)
+        self.assertEqual(names.count("lldpa_expires_seconds"), 2)
+
+    def test_values_are_escaped(self) -> None:
+        for value in ("", '"', "\\", "\n", '\\"', "\\n", "a\\\\n\"\n", "é"):
+            self.assertEqual(read(escaped(value)), value)
+            self.assertNotRegex(escaped(value), r'(^|[^\\])(\\\\)*"|\n')
+
+    @unittest.skipUnless(shutil.which("promtool"), "there is no promtool (Debian: prometheus)")
+    def test_promtool_says_nothing(self) -> None:
+        for _ in range(2):
+            words = f"{CTL} --control {self.served.path} metrics | promtool check metrics"
+            told = subprocess.run(["bash", "-o", "pipefail", "-c", words], check=False,
+                                  capture_output=True, text=True)
+            self.assertEqual((told.returncode, told.stdout, told.stderr), (0, "", ""))
+            for kind in range(1, 4):
+                text = b'"\\\n\r\x1b\xff' + bytes(range(60, 200))
+                self.served.frame("eth0", frame(bytes([kind]) + text, b"\x07" + text, 90,
+                                                tlv(5, text), tlv(4, text)))
+
+
+if __name__ == "__main__":
+    unittest.main()

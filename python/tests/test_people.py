@@ -1,0 +1,118 @@
+"""The table for people."""
+
+from __future__ import annotations
+
+import re
+import unittest
+
+from lldpa import Neighbor, Port, read_show
+from lldpa.people import cut, printable, summary, table
+from lldpa.shown import Identifier
+from served import Served, frame, numbered, tlv
+
+HOSTILE = bytes([0x1B]) + b"[31m\r\n\x9b2J\x07\x00\xc2\x9b\xff\x7f\\"
+
+
+def neighbor(port: str, name: str, its_port: str, *said: tuple[str, str]) -> Neighbor:
+    """A neighbor with a name."""
+    return Neighbor(port, 1, Identifier("mac", "02:00:00:00:00:01"),
+                    Identifier("ifname", its_port), 120, 98, (("chassis.name", name), *said))
+
+
+def port(name: str, *neighbors: Neighbor, too_many: bool = False) -> Port:
+    """A port and its neighbors."""
+    return Port(name, len(neighbors), 20, too_many, neighbors)
+
+
+class Table(unittest.TestCase):
+    """The lines of the table."""
+
+    def test_a_line_a_neighbor_and_a_count(self) -> None:
+        ports = [port("eth0", neighbor("eth0", "switch-2", "swp1",
+                                       ("chassis.mgmt", "192.0.2.2,2,2,"),
+                                       ("chassis.mgmt", "192.0.2.3,2,2,"))),
+                 port("eth1"), port("p2", neighbor("p2", "b", "swp12"))]
+        self.assertEqual(table(ports, 80), [
+            "PORT  NEIGHBOR  ITS PORT  MANAGEMENT  LEFT",
+            "eth0  switch-2  swp1      192.0.2.2   98 s",
+            "p2    b         swp12                 98 s",
+            "2 neighbors on 3 ports."])
+
+    def test_without_neighbors_it_is_the_count(self) -> None:
+        self.assertEqual(table([port("eth0")], 80), ["no neighbors on 1 port."])
+
+    def test_what_stands_where_a_neighbor_says_little(self) -> None:
+        said = (("port.descr", "to the roof"),)
+        bare = Neighbor("eth0", 1, Identifier("mac", "02:00:00:00:00:01"),
+                        Identifier("unhandled", "ff01"), 120, 5, said)
+        self.assertEqual(table([port("eth0", bare)], 80)[1],
+                         "eth0  02:00:00:00:00:01  to the roof               5 s")
+        known = Neighbor("eth0", 1, bare.chassis, Identifier("ifname", "swp1"), 120, 5, said)
+        self.assertEqual(summary(known), "02:00:00:00:00:01 swp1")
+
+    def test_it_is_as_wide_as_the_terminal(self) -> None:
+        ports = [port("eth0", neighbor("eth0", "n" * 300, "p" * 30,
+                                       ("chassis.mgmt", "192.0.2.2,2,2,")))]
+        for width in range(1, 400):
+            lines = table(ports, width)
+            self.assertLessEqual(max(map(len, lines[:2])), width)
+            self.assertEqual("…" in lines[1], width < 356, width)
+        wide = table(ports, 80)[1]
+        self.assertTrue(wide.startswith("eth0  nnnnnnnnnnnnnnnnnnn") and wide.endswith("98 s"))
+        self.assertIn("…  ppppppp", wide)
+        self.assertIn("192.0.2.2", wide)
+        self.assertGreater(len(wide), 75)
+
+    def test_cut_keeps_what_fits(self) -> None:
+        self.assertEqual([cut("abc", width) for width in (1, 2, 3, 4)], ["…", "a…", "abc", "abc"])
+
+    def test_each_full_port_is_told_with_what_to_raise(self) -> None:
+        lines = table([port("eth0", too_many=True), port("eth1"),
+                       Port("p2", 128, 0, True)], 1000)
+        self.assertEqual(lines, [
+            "128 neighbors on 3 ports. eth0 had no room for all: raise --max-neighbors."
+            " p2 had no room for all: 128 is the most that a port can hold."])
+        for line in table([port("eth0", too_many=True)] * 5, 40):
+            self.assertLessEqual(len(line), 40)
+
+
+class Escapes(unittest.TestCase):
+    """Nothing of a peer reaches a terminal as it is."""
+
+    def test_texts_of_a_neighbor_are_printable(self) -> None:
+        management = bytes([10, 99]) + HOSTILE[:9] + bytes([2, 0, 0, 0, 1, 0])
+        texts = [tlv(kind, HOSTILE) for kind in (4, 5, 6)] + [tlv(8, management)]
+        with Served() as served:
+            for kind in range(256):
+                sent = frame(bytes([kind]) + HOSTILE, bytes([kind]) + HOSTILE, 120,
+                             *texts[kind % 2:])
+                served.frame("eth0", sent)
+            served.frame("eth1", frame(b"\x07" + HOSTILE, b"\x07" + HOSTILE, 120, tlv(5, b"")))
+            with served.client() as client:
+                shown = read_show(client.ask("show neighbors"))
+        self.assertEqual([one.neighbors_held for one in shown.ports], [32, 1])
+        for line in [*table(shown.ports, 10_000), *map(summary, shown.neighbors)]:
+            self.assertRegex(line, "^[ -~]*$")
+        self.assertIn(r"\x1b[31m\x0d\x0a\x9b2J", table(shown.ports, 10_000)[1])
+
+    def test_what_no_agent_shows_is_escaped_too(self) -> None:
+        for text in ("\x1b[31m", "\r", "\n", "\x9b", "\x85", "\u202e", "é", "\x7f"):
+            hostile = neighbor(text, text, text, ("chassis.mgmt", text))
+            lines = table([port(text, hostile, too_many=True)], 200)
+            self.assertRegex("".join(lines), "^[ -~]*$")
+            self.assertRegex(summary(hostile), "^[ -~]*$")
+        self.assertEqual(printable("a\x1b\\\n\u202e"), "a\\x1b\\\\n\\u202e")
+
+    def test_a_number_of_neighbors_is_laid_out(self) -> None:
+        with Served() as served:
+            for number in range(20):
+                served.frame("eth0", numbered(number, 120, tlv(5, b"n" * number)))
+            with served.client() as client:
+                lines = table(read_show(client.ask("show neighbors")).ports, 60)
+        self.assertEqual(len(lines), 22)
+        self.assertEqual({len(line) for line in lines[:21]}, {len(lines[0])})
+        self.assertTrue(all(re.search(r"120 s$", line) for line in lines[1:21]))
+
+
+if __name__ == "__main__":
+    unittest.main()
