@@ -1,0 +1,126 @@
+"""lldpa-live: puts lldpa on Ethernet interfaces, until it is told to end."""
+
+from __future__ import annotations
+
+import argparse
+import asyncio
+import os
+import re
+import sys
+from typing import Callable, Dict, Sequence, Tuple
+
+from ..agent import Ended
+from ..child import Option
+from ..console import open_missing_streams, report
+from ..control import DEFAULT_PATH
+from ..running import live
+
+USAGE = "lldpa-live [OPTION...] PORT... [-- OPTIONS OF LLDPA]"
+PORT_NAME = re.compile("[A-Za-z0-9_/:-]{1,15}")
+MOST_PORTS = 64
+FLAGS = {
+    "stay": "go on when standard input has ended, until a signal",
+    "only-existing": "refuse to start where an interface is not there",
+    "forget-on-down": "empty the table of a port whose link goes down",
+}
+TEXTS = {
+    "program": ("PATH", "lldpa", "the agent, found on the search path unless given"),
+    "user": ("NAME", None, "as root, become this user (nobody) once the sockets are open"),
+    "control": ("PATH", DEFAULT_PATH, "the control socket (%(default)s)"),
+    "control-group": ("GROUP", None, "let members of this group use the control socket"),
+    "log": ("FOLDER", None, "keep the session there, a trace for lldpa in a file of its own"),
+}
+NUMBERS = {
+    "connect": (1, 65535, None, "take the lldpa that listens on this port of 127.0.0.1"),
+    "log-most": (1, 1000000, 64, "end the log before it has more than N megabytes (64)"),
+    "once": (1, 86400, None, "print a table once each port has a neighbor, or after N seconds"),
+}
+NOT_HERE = ("listen", "connections", "help", "version")  # options of lldpa that make it no child
+
+
+def main() -> int:
+    """Runs the program, and gives its status."""
+    is_closed = open_missing_streams()
+    words, options = words_given(sys.argv[1:])
+    words.stay |= is_closed
+    try:
+        return asyncio.run(live(words, options))
+    except (OSError, LookupError) as error:
+        report(text_of(error))
+    except Ended as ended:
+        report(f"{words.program}: {ended.text}")
+    return 1
+
+
+def text_of(error: Exception) -> str:
+    """An error as a text for people."""
+    if not isinstance(error, OSError) or not error.strerror:
+        return str(error)
+    if error.filename:
+        return f"{error.filename}: {error.strerror}"
+    if isinstance(error, PermissionError):
+        return f"{error.strerror} (to open packet sockets it needs root or CAP_NET_RAW)"
+    return error.strerror
+
+
+def words_given(words: Sequence[str]) -> Tuple[argparse.Namespace, Dict[str, Option]]:
+    """The bridge's own words, and behind `--` the options of lldpa. Ends the program where they
+    are wrong, with status 2."""
+    parser = the_parser()
+    cut = words.index("--") if "--" in words else len(words)
+    given = parser.parse_args(words[:cut])
+    for name in given.ports:
+        if not PORT_NAME.fullmatch(name):
+            parser.error(f"{name}: a port's name has 1 to 15 letters, digits, -, _, / and : "
+                         "(VLAN interfaces can be no ports)")
+    if len(set(given.ports)) < len(given.ports):
+        parser.error("the same port twice")
+    if len(given.ports) > MOST_PORTS:
+        parser.error(f"{len(given.ports)} ports, and {MOST_PORTS} are the most")
+    if given.user is not None and os.geteuid() != 0:
+        parser.error("--user: only root can become another user")
+    options = options_of(words[cut + 1:], parser)
+    return given, options
+
+
+def the_parser() -> argparse.ArgumentParser:
+    """What reads the words before `--`."""
+    parser = argparse.ArgumentParser(prog="lldpa-live", usage=USAGE, description=__doc__,
+                                     allow_abbrev=False)
+    parser.add_argument("ports", nargs="+", metavar="PORT", help="an Ethernet interface")
+    for name, text in FLAGS.items():
+        parser.add_argument(f"--{name}", action="store_true", help=text)
+    for name, (metavar, default, text) in TEXTS.items():
+        parser.add_argument(f"--{name}", metavar=metavar, default=default, help=text)
+    for name, (first, last, unset, text) in NUMBERS.items():
+        parser.add_argument(f"--{name}", metavar="N", default=unset, help=text,
+                            type=number_from(first, last))
+    return parser
+
+
+def number_from(first: int, last: int) -> Callable[[str], int]:
+    """What reads a number of that range."""
+    def number(text: str) -> int:
+        if not (text.isascii() and text.isdigit() and first <= int(text) <= last):
+            raise argparse.ArgumentTypeError(f"{text} is no number from {first} to {last}")
+        return int(text)
+    return number
+
+
+def options_of(words: Sequence[str], parser: argparse.ArgumentParser) -> Dict[str, Option]:
+    """The options of lldpa by their names. A word that follows one and is none is its value."""
+    options: Dict[str, Option] = {}
+    name = ""
+    for word in words:
+        if word.startswith("--"):
+            name, has_value, value = word[2:].partition("=")
+            if name in options:
+                parser.error(f"--{name} is given twice")
+            if name in NOT_HERE:
+                parser.error(f"--{name} is no option of an agent on links")
+            options[name] = value if has_value else True
+        elif options.get(name) is True:
+            options[name] = word
+        else:
+            parser.error(f"{word}: behind -- stand options of lldpa alone")
+    return options

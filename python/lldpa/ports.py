@@ -1,0 +1,140 @@
+"""The ports of a bridge: each finds, keeps and loses the interface of its name."""
+
+from __future__ import annotations
+
+import select
+import time
+from typing import Callable, Iterable, Sequence
+
+from .interface import Frame, Interface
+from .links import News
+from .seconds import Seconds
+
+MOST_AT_ONCE = 256  # frames that are read at a turn, of all ports together
+SECONDS_BETWEEN_REPORTS = 60
+
+Report = Callable[[str], None]
+
+
+class Ports:
+    """The ports of a bridge. `report` is told, as a line for people, what becomes of them."""
+
+    def __init__(self, interfaces: Sequence[Interface], report: Report) -> None:
+        self.by_name = {interface.name: interface for interface in interfaces}
+        self.report = report
+        self.waiting: list[tuple[float, Frame]] = []  # frames that were read, by their moments
+        self.drops_told = 0
+        self.next_report = 0.0
+        self.readable = select.epoll()
+        for interface in interfaces:
+            self.readable.register(interface.socket, select.EPOLLIN)
+
+    def take_link(self, news: News) -> list[bytes]:
+        """What an agent is to be told of the news of an interface: `up PORT`, `down PORT`."""
+        lines: list[bytes] = []
+        for port in self.by_name.values():
+            if news.is_there and news.name == port.name:
+                if port.number not in (None, news.number):
+                    lines += self.lose(port, "gone")
+                if port.number is None:
+                    self.find(port, news)
+                if port.number is not None:
+                    lines += told_link(port, news.is_running)
+            elif port.number == news.number:
+                lines += self.lose(port, f"now {news.name}" if news.is_there else "gone")
+        return lines
+
+    def find(self, port: Interface, news: News) -> None:
+        """Takes an interface that has come."""
+        if not news.is_ethernet:
+            self.report(f"{port.name}: this is no Ethernet interface, and is not taken")
+            return
+        try:
+            port.take(news.number)
+        except OSError as error:
+            self.report(f"{port.name}: the interface is not taken: {error.strerror}")
+            return
+        if port.is_up is not None:
+            self.report(f"{port.name}: the interface is there, and is taken")
+
+    def lose(self, port: Interface, what: str) -> list[bytes]:
+        """Lets go of an interface that has gone."""
+        port.release()
+        self.report(f"{port.name}: the interface is {what}; the next of that name is awaited")
+        return told_link(port, False)
+
+    def await_missing(self) -> list[bytes]:
+        """What an agent is to be told at the start of ports whose interface is not there."""
+        lines: list[bytes] = []
+        for port in self.by_name.values():
+            if port.number is None:
+                self.report(f"{port.name}: there is no such interface yet; it is awaited")
+                lines += told_link(port, False)
+        return lines
+
+    def read(self, seconds: Seconds) -> float:
+        """Reads some frames, and gives the moment up to which none is left in any socket.
+
+        A port whose frames still wait is not read, so that few wait, however many come.
+        """
+        now = seconds.now()
+        readable = {number for number, _ in self.readable.poll(0)}
+        unfinished = {frame.port for _, frame in self.waiting}
+        ports = [port for port in self.by_name.values() if port.name not in unfinished
+                 and (port.has_more or port.socket.fileno() in readable)]
+        for port in ports:
+            for frame in port.read(max(1, MOST_AT_ONCE // len(ports))):
+                self.waiting.append((seconds.moment(frame.stamp), frame))
+        self.waiting.sort(key=lambda entry: entry[0])
+        last = {frame.port: moment for moment, frame in self.waiting}
+        return min([now, *(last[name] for name, port in self.by_name.items()
+                           if port.has_more and name in last)])
+
+    def frames_until(self, moment: float) -> Iterable[tuple[float, Frame]]:
+        """Takes out the frames up to a moment, in their order."""
+        while self.waiting and self.waiting[0][0] <= moment:
+            yield self.waiting.pop(0)
+
+    def report_drops(self) -> None:
+        """Tells of frames that the kernel had no room for, at most once a minute."""
+        for port in self.by_name.values():
+            port.count_drops()
+        drops = sum(port.drops for port in self.by_name.values())
+        if drops > self.drops_told and Seconds.now() >= self.next_report:
+            each = [f"{name} {port.drops}" for name, port in self.by_name.items() if port.drops]
+            self.report(f"the kernel has dropped {drops} frames that came too fast: "
+                        + ", ".join(each))
+            self.drops_told = drops
+            self.next_report = Seconds.now() + SECONDS_BETWEEN_REPORTS
+
+    def about(self) -> list[str]:
+        """Lines that say of each port what the agent can't know."""
+        lines = []
+        for port in self.by_name.values():
+            port.count_drops()
+            where = "awaited" if port.number is None else "present"
+            lines.append(f"bridge.{port.name}.interface={where}")
+            lines.append(f"bridge.{port.name}.link={'up' if port.is_up else 'down'}")
+            lines.append(f"bridge.{port.name}.kernel-drops={port.drops}")
+        return lines
+
+    def close(self) -> None:
+        """Lets go of all sockets."""
+        self.readable.close()
+        for port in self.by_name.values():
+            port.close()
+
+
+def told_link(port: Interface, is_up: bool) -> list[bytes]:
+    """The line of a link that came or went, none where the agent knows it already."""
+    if port.is_up == is_up:
+        return []
+    port.is_up = is_up
+    return [b"%s %s" % (b"up" if is_up else b"down", port.name.encode())]
+
+
+def parted(news: Sequence[News]) -> tuple[list[News], list[News]]:
+    """News up to the last time that their interface ran, and the others."""
+    last = {one.number: place for place, one in enumerate(news) if one.is_running}
+    ran = [one for place, one in enumerate(news) if place <= last.get(one.number, -1)]
+    return ran, [one for place, one in enumerate(news) if place > last.get(one.number, -1)]

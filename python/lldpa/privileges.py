@@ -1,0 +1,48 @@
+"""Giving up rights: who reads frames of strangers needs none of those that opened the sockets."""
+
+from __future__ import annotations
+
+import ctypes
+import os
+import pwd
+import struct
+from typing import Optional
+
+# linux/prctl.h, linux/capability.h
+PR_SET_NO_NEW_PRIVS = 38
+PR_CAP_AMBIENT, PR_CAP_AMBIENT_CLEAR_ALL = 47, 4
+LINUX_CAPABILITY_VERSION_3 = 0x20080522
+USER = "nobody"
+
+
+def give_up(user: Optional[str]) -> None:
+    """Keeps no capability, for good, and as root becomes that user, `nobody` unless given.
+
+    Children have none either, and no program that they run gives them any. Raises LookupError
+    where there is no such user, and OSError where the kernel refuses.
+    """
+    if os.geteuid() == 0:
+        entry = entry_of(user or USER)
+        os.setgroups([])
+        os.setresgid(entry.pw_gid, entry.pw_gid, entry.pw_gid)
+        os.setresuid(entry.pw_uid, entry.pw_uid, entry.pw_uid)
+    libc = ctypes.CDLL(None, use_errno=True)
+    succeeded(libc.prctl(PR_SET_NO_NEW_PRIVS, 1, 0, 0, 0))
+    succeeded(libc.prctl(PR_CAP_AMBIENT, PR_CAP_AMBIENT_CLEAR_ALL, 0, 0, 0))
+    header = struct.pack("Ii", LINUX_CAPABILITY_VERSION_3, 0)
+    succeeded(libc.capset(header, struct.pack("6I", 0, 0, 0, 0, 0, 0)))
+
+
+def entry_of(user: str) -> pwd.struct_passwd:
+    """What the system knows of a user."""
+    try:
+        return pwd.getpwnam(user)
+    except KeyError:
+        raise LookupError(f"there is no user {user}") from None
+
+
+def succeeded(result: int) -> None:
+    """Raises OSError where a call of the C library failed."""
+    if result != 0:
+        number = ctypes.get_errno()
+        raise OSError(number, os.strerror(number))

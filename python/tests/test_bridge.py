@@ -1,0 +1,203 @@
+"""A bridge between an agent and real links, and what was seen to go wrong with one."""
+
+from __future__ import annotations
+
+import os
+import signal
+import time
+from pathlib import Path
+
+from served import numbered
+from bridged import Live, OnLinks, on_links
+from wires import Peer, eventually
+
+
+@on_links
+class TestTime(OnLinks):
+    """Frames and seconds go in as they came, whenever that is."""
+
+    def test_stopped_bridge_ages_out_nobody_who_was_heard(self) -> None:
+        live, peer = self.live("eth0", "--", "--receive-only"), self.peer()
+        peer.send(numbered(1, ttl=8))
+        self.assertTrue(eventually(live.neighbors))
+        live.signal(signal.SIGSTOP)
+        for _ in range(6):
+            time.sleep(2)
+            peer.send(numbered(1, ttl=8))
+        live.signal(signal.SIGCONT)
+        shown = live.ask("show neighbors")
+        self.assertIn("lldp.eth0.neighbors=1", shown)
+        self.assertIn("lldp.eth0.ageouts=0", live.ask("show statistics"))
+        left = [int(line.split("=")[1]) for line in shown if ".expires=" in line]
+        self.assertGreaterEqual(left[0], 7)
+
+    def test_stopped_bridge_ages_out_who_was_not_heard(self) -> None:
+        live, peer = self.live("eth0", "--", "--receive-only"), self.peer()
+        peer.send(numbered(1, ttl=2))
+        self.assertTrue(eventually(live.neighbors))
+        live.signal(signal.SIGSTOP)
+        time.sleep(3.2)
+        peer.send(numbered(2, ttl=2))
+        live.signal(signal.SIGCONT)
+        shown = live.ask("show neighbors")
+        self.assertIn("lldp.eth0.neighbors=1", shown)
+        self.assertIn("lldp.eth0.1.port.ifname=p2", shown)
+
+    def test_no_second_is_lost_or_told_twice(self) -> None:
+        live = self.live("--log", os.path.join(self.wires.folder, "log"), "eth0")
+        began = time.clock_gettime(time.CLOCK_BOOTTIME)
+        told = seconds_told(live)
+        live.signal(signal.SIGSTOP)
+        time.sleep(2.5)
+        live.signal(signal.SIGCONT)
+        time.sleep(1.2)
+        passed = time.clock_gettime(time.CLOCK_BOOTTIME) - began
+        self.assertAlmostEqual(seconds_told(live) - told, passed, delta=1.1)
+        lines = next(Path(self.wires.folder, "log").iterdir()).read_text().splitlines()
+        ticks = [int((line.split() + ["1"])[1]) for line in lines if line.startswith("tick")]
+        self.assertEqual(sum(ticks), seconds_told(live))
+
+
+@on_links
+class TestLinks(OnLinks):
+    """Links come and go, and interfaces do."""
+
+    def test_link_that_goes_and_comes(self) -> None:
+        live, peer = self.live("eth0"), self.peer()
+        self.assertIsNotNone(peer.hears())
+        peer.send(numbered(1))
+        self.assertTrue(eventually(live.neighbors))
+        self.wires.set_link("peer0", "down")
+        self.assertTrue(eventually(lambda: "bridge.eth0.link=down" in live.ask("bridge")))
+        self.assertEqual(live.neighbors(), 1)
+        self.wires.set_link("peer0", "up")
+        self.assertTrue(eventually(lambda: "bridge.eth0.link=up" in live.ask("bridge")))
+        self.assertIsNotNone(peer.hears())
+
+    def test_forget_on_down_empties_the_table_and_sends_nothing(self) -> None:
+        live, peer = self.live("--forget-on-down", "eth0"), self.peer()
+        peer.send(numbered(1))
+        self.assertTrue(eventually(live.neighbors))
+        self.wires.set_link("eth0", "down")
+        self.assertTrue(eventually(lambda: not live.neighbors()))
+        self.assertIn("configuration.eth0.status=rx-and-tx", live.ask("show configuration"))
+        self.assertIn("lldp.eth0.shutdowns=0", live.ask("show statistics"))
+        self.wires.set_link("eth0", "up")
+        self.assertTrue(eventually(lambda: "bridge.eth0.link=up" in live.ask("bridge")))
+        peer.send(numbered(2))
+        self.assertTrue(eventually(live.neighbors))
+
+    def test_forget_on_down_keeps_a_status_that_was_set(self) -> None:
+        live = self.live("--forget-on-down", "eth0")
+        for status in ("rx-only", "disabled"):
+            live.ask(f"configure ports eth0 lldp status {status}")
+            self.wires.set_link("peer0", "down")
+            self.assertTrue(eventually(lambda: "bridge.eth0.link=down" in live.ask("bridge")))
+            self.assertIn(f"configuration.eth0.status={status}", live.ask("show configuration"))
+            self.wires.set_link("peer0", "up")
+            self.assertTrue(eventually(lambda: "bridge.eth0.link=up" in live.ask("bridge")))
+
+    def test_interface_that_goes_and_comes_back(self) -> None:
+        live = self.live("eth0", "--", "--receive-only")
+        self.wires.remove_link("eth0")
+        self.assertTrue(live.says("eth0: the interface is gone; the next of that name is awaited"))
+        self.assertIn("bridge.eth0.interface=awaited", live.ask("bridge"))
+        self.assertIn("bridge.eth0.link=down", live.ask("bridge"))
+        self.wires.add_link(0)
+        self.assertTrue(live.says("eth0: the interface is there, and is taken"))
+        self.assertTrue(eventually(lambda: "bridge.eth0.link=up" in live.ask("bridge")))
+        self.peer().send(numbered(1))
+        self.assertTrue(eventually(live.neighbors))
+
+    def test_interface_that_comes_later(self) -> None:
+        live = self.live("eth1", "--", "--receive-only")
+        self.assertTrue(live.says("eth1: there is no such interface yet; it is awaited"))
+        self.wires.add_link(1)
+        self.assertTrue(eventually(lambda: "bridge.eth1.link=up" in live.ask("bridge")))
+        self.peer("peer1").send(numbered(1))
+        self.assertTrue(eventually(lambda: live.neighbors("eth1")))
+
+    def test_interface_that_is_renamed_and_named_back(self) -> None:
+        live, peer = self.live("eth0", "--", "--receive-only"), self.peer()
+        self.wires.set_link("eth0", "down")
+        self.wires.set_link("eth0", "name", "ethX")
+        self.wires.set_link("ethX", "up")
+        self.assertTrue(live.says("eth0: the interface is now ethX"))
+        self.assertIn("bridge.eth0.interface=awaited", live.ask("bridge"))
+        time.sleep(0.2)
+        peer.send(numbered(1))
+        time.sleep(0.2)
+        self.assertEqual(live.neighbors(), 0)
+        self.assertIn("lldp.eth0.received=0", live.ask("show statistics"))
+        self.wires.set_link("ethX", "down")
+        self.wires.set_link("ethX", "name", "eth0")
+        self.wires.set_link("eth0", "up")
+        self.assertTrue(eventually(lambda: "bridge.eth0.link=up" in live.ask("bridge")))
+        peer.send(numbered(2))
+        self.assertTrue(eventually(live.neighbors))
+
+    def test_frame_of_a_link_that_went_meanwhile_counts(self) -> None:
+        live, peer = self.live("eth0", "--", "--receive-only"), self.peer()
+        live.signal(signal.SIGSTOP)
+        peer.send(numbered(1))
+        self.wires.set_link("eth0", "down")
+        time.sleep(0.2)
+        live.signal(signal.SIGCONT)
+        self.assertTrue(eventually(live.neighbors))
+
+    def test_frame_of_a_link_that_came_meanwhile_counts(self) -> None:
+        live, peer = self.live("eth0", "--", "--receive-only"), self.peer()
+        self.wires.set_link("eth0", "down")
+        self.assertTrue(eventually(lambda: "bridge.eth0.link=down" in live.ask("bridge")))
+        live.signal(signal.SIGSTOP)
+        self.wires.set_link("eth0", "up")
+        time.sleep(0.2)
+        peer.send(numbered(1))
+        live.signal(signal.SIGCONT)
+        self.assertTrue(eventually(live.neighbors))
+
+
+@on_links
+class TestSending(OnLinks):
+    """What the agent sends goes out."""
+
+    def test_fast_start(self) -> None:
+        self.live("eth0")
+        peer = self.peer()
+        self.assertIsNotNone(peer.hears())
+        peer.send(numbered(1))
+        began = time.monotonic()
+        self.assertTrue(all(peer.hears() for _ in range(4)))
+        self.assertLess(time.monotonic() - began, 5)
+
+    def test_two_bridges_see_each_other_and_take_leave(self) -> None:
+        here, there = self.live("eth0"), self.live("peer0", side="there")
+        self.assertTrue(eventually(here.neighbors) and eventually(lambda: there.neighbors("peer0")))
+        here.process.stdin.close()
+        self.assertEqual(here.ends(), 0)
+        self.assertTrue(eventually(lambda: not there.neighbors("peer0"), 1))
+
+    def test_of_missed_seconds_the_last_frame_goes_out(self) -> None:
+        live, peer = self.live("eth0"), self.peer()
+        live.ask("configure lldp tx-interval 1")
+        self.assertIsNotNone(peer.hears())
+        live.signal(signal.SIGSTOP)
+        while peer.hears(0.1):
+            pass
+        time.sleep(5)
+        live.signal(signal.SIGCONT)
+        self.assertEqual(heard_within(peer, 0.5), 1)
+
+
+def heard_within(peer: Peer, seconds: float) -> int:
+    """How many frames come in so many seconds."""
+    last, count = time.monotonic() + seconds, 0
+    while (left := last - time.monotonic()) > 0:
+        count += peer.hears(left) is not None
+    return count
+
+
+def seconds_told(live: Live) -> int:
+    """How many seconds the agent was told."""
+    lines = dict(line.split("=") for line in live.ask("bridge"))
+    return int(lines["bridge.seconds"])

@@ -1,0 +1,106 @@
+"""lldpa-ctl beside a real lldpa-live, whose ports are links to namespaces."""
+
+from __future__ import annotations
+
+import os
+import re
+import select
+import shutil
+import signal
+import subprocess
+import time
+import unittest
+
+from bridged import Live, OnLinks, on_links
+from served import CTL, numbered, tlv
+from wires import eventually
+
+
+@on_links
+class OnARealLink(OnLinks):
+    """Real frames, seconds and links."""
+
+    links = 2
+
+    def bridge(self, *words: str) -> Live:
+        """A bridge on both links."""
+        return self.live("--stay", *words, "eth0", "eth1", "--", "--hostname", "lab-1")
+
+    def ctl(self, bridge: Live, *words: str) -> str:
+        """What lldpa-ctl prints."""
+        return subprocess.run([CTL, "--control", bridge.control, *words], check=True,
+                              capture_output=True, text=True).stdout
+
+    def test_watch_tells_within_a_second(self) -> None:
+        bridge = self.bridge()
+        peer = self.peer("peer1")
+        watch = subprocess.Popen([CTL, "--control", bridge.control, "watch"],
+                                 stdout=subprocess.PIPE, text=True)
+        self.addCleanup(watch.communicate)
+        self.addCleanup(watch.kill)
+        time.sleep(1.5)  # until it has begun
+        assert watch.stdout is not None
+        for sent, told in ((numbered(1, 60, tlv(5, b"a")), "came: a p1"),
+                           (numbered(1, 60, tlv(5, b"b")), "changed: b p1; chassis.name: a -> b"),
+                           (numbered(1, 0), "gone: b p1"),
+                           (numbered(2, 2), "came: 02:00:00:00:00:02 p2")):
+            peer.send(sent)
+            self.assertTrue(select.select([watch.stdout], [], [], 1)[0], told)
+            self.assertTrue(watch.stdout.readline().endswith(f" eth1 {told}\n"), told)
+        self.assertTrue(select.select([watch.stdout], [], [], 3.5)[0], "it aged out")
+        self.assertRegex(watch.stdout.readline(), r" eth1 gone: .* p2\n$")
+        bridge.signal(signal.SIGTERM)
+        self.assertEqual((bridge.ends(), watch.wait(5)), (0, 1))
+
+    def test_the_table_and_the_metrics(self) -> None:
+        bridge = self.bridge()
+        self.peer("peer0").send(numbered(1, 300, tlv(5, b"\x1b[2Jswitch")))
+        self.assertTrue(eventually(lambda: bridge.neighbors("eth0")))
+        lines = self.ctl(bridge).splitlines()
+        self.assertRegex(lines[1], r"^eth0  \\x1b\[2Jswitch  p1 +(300|299|298) s$")
+        self.assertEqual(lines[2], "1 neighbor on 2 ports.")
+        metrics = self.ctl(bridge, "metrics")
+        for sample in ('lldpa_neighbors{port="eth0"} 1', 'lldpa_received_total{port="eth0"} 1',
+                       'lldpa_kernel_drops_total{port="eth0"} 0',
+                       'lldpa_kernel_drops_total{port="eth1"} 0'):
+            self.assertIn(sample + "\n", metrics)
+        if shutil.which("promtool"):
+            checked = subprocess.run(["promtool", "check", "metrics"], input=metrics, check=False,
+                                     capture_output=True, text=True)
+            self.assertEqual((checked.returncode, checked.stdout, checked.stderr), (0, "", ""))
+        no_drops = re.compile("^bridge.eth1.kernel-drops=0$", re.M)
+        self.assertRegex(self.ctl(bridge, "bridge"), no_drops)
+
+    def test_what_is_configured_goes_out(self) -> None:
+        bridge = self.bridge()
+        peer = self.peer("peer0")
+        self.assertIsNotNone(peer.hears())
+        self.ctl(bridge, "configure", "system", "hostname", "of the room below")
+        heard = [peer.hears(2) or b"" for _ in range(2)]
+        self.assertTrue(any(b"of the room below" in octets for octets in heard))
+
+    def test_a_second_bridge_says_that_the_path_is_taken(self) -> None:
+        bridge = self.bridge()
+        second = self.live("--control", bridge.control, "--stay", "eth0", awaits=False)
+        self.assertEqual(second.ends(), 1)
+        self.assertIn("another bridge answers at this control path", second.errors())
+        self.assertIn("bridge.eth0.interface=present", self.ctl(bridge, "bridge"))
+
+    def test_a_killed_bridge_is_followed_by_the_next(self) -> None:
+        bridge = self.bridge()
+        bridge.signal(signal.SIGKILL)
+        self.assertEqual(bridge.ends(), -signal.SIGKILL)
+        self.assertTrue(os.path.exists(bridge.control))
+        told = subprocess.run([CTL, "--control", bridge.control], check=False, capture_output=True,
+                              text=True)
+        self.assertEqual((told.returncode, told.stderr), (
+            1, f"lldpa-ctl: nobody answers at {bridge.control}: is lldpa-live running?\n"))
+        following = self.live("--control", bridge.control, "--stay", "eth0", awaits=False)
+        self.assertTrue(eventually(lambda: os.path.exists(bridge.control)))
+        self.assertTrue(eventually(lambda: bridge.ask_quietly()))
+        following.signal(signal.SIGTERM)
+        self.assertEqual(following.ends(), 0)
+
+
+if __name__ == "__main__":
+    unittest.main()

@@ -1,0 +1,207 @@
+"""The log of a session: a trace with the time of day, that fills no disk."""
+
+from __future__ import annotations
+
+import re
+import signal
+import subprocess
+import time
+from datetime import datetime, timezone
+from pathlib import Path
+
+from served import PROGRAM, numbered
+from bridged import Live, OnLinks, on_links
+from wires import Peer, eventually, flood, inside
+
+CLOCK = re.compile(r"# \d{4}-\d\d-\d\dT\d\d:\d\d:\d\dZ")
+
+
+@on_links
+class TestLog(OnLinks):
+    """What a folder has of the sessions."""
+
+    def setUp(self) -> None:
+        super().setUp()
+        self.folder = Path(self.wires.folder, "log")
+
+    def logs(self) -> list[Path]:
+        """The files of the folder, oldest first."""
+        return sorted(self.folder.iterdir(), key=lambda path: path.stat().st_mtime_ns)
+
+    def test_replay_gives_the_session_to_the_octet(self) -> None:
+        tee = Path(self.wires.folder, "tee")
+        answers = Path(self.wires.folder, "answers")
+        answers.touch()
+        answers.chmod(0o666)
+        tee.write_text(f"#!/bin/sh\n{PROGRAM} \"$@\" | tee {answers}\n")
+        tee.chmod(0o755)
+        Path(self.wires.folder).chmod(0o755)
+        live = self.live("--log", str(self.folder), "eth0", "--", "--role", "router",
+                         program=str(tee))
+        peer = self.peer()
+        self.live_a_little(live, peer)
+        live.process.stdin.close()
+        self.assertEqual(live.ends(), 0)
+        log = self.logs()[0].read_bytes()
+        words = log.splitlines()[0].decode().removeprefix("# lldpa ")
+        replay = subprocess.run(f"{PROGRAM} {words}", shell=True, input=log, capture_output=True)
+        session = answers.read_bytes().replace(b"error: line too long\n", b"")
+        self.assertEqual(replay.stdout, session)
+        self.assertIn(b"lldp.eth0.neighbors=2\n", session)
+        self.assertGreaterEqual(session.count(b"tx eth0 "), 2)
+
+    def live_a_little(self, live: Live, peer: Peer) -> None:
+        """Frames, questions, refused lines, links, seconds that were missed."""
+        peer.send(numbered(1))
+        peer.send(numbered(2, ttl=1))
+        self.assertTrue(eventually(lambda: live.neighbors() == 2))
+        for line in ("show statistics", "configure lldp tx-hold 7", "nonsense", "# a remark",
+                     "update"):
+            live.say(line)
+        self.wires.set_link("eth0", "down")
+        self.assertTrue(eventually(lambda: "bridge.eth0.link=down" in live.ask("bridge")))
+        self.wires.set_link("eth0", "up")
+        live.signal(signal.SIGSTOP)
+        time.sleep(2.1)
+        live.signal(signal.SIGCONT)
+        time.sleep(1)
+        live.told("show neighbors")
+
+    def test_each_session_has_a_file_of_its_own(self) -> None:
+        for _ in range(3):
+            live = self.live("--log", str(self.folder), "eth0")
+            live.signal(signal.SIGTERM)
+            live.ends()
+        self.assertEqual(len(self.logs()), 3)
+        for path in self.logs():
+            self.assertRegex(path.name, r"^\d{8}T\d{6}Z(-\d)?\.trace$")
+            self.assertTrue(path.read_text().startswith("# lldpa --"))
+
+    def test_clock_stands_before_what_came_in_its_second(self) -> None:
+        live, peer = self.live("--log", str(self.folder), "eth0"), self.peer()
+        for number in range(4):
+            peer.send(numbered(number))
+            time.sleep(0.4)
+        self.assertTrue(eventually(lambda: live.neighbors() == 4))
+        lines = self.logs()[0].read_text().splitlines()
+        clocks = [line for line in lines if CLOCK.fullmatch(line)]
+        self.assertEqual(len(set(clocks)), len(clocks))
+        self.assertGreaterEqual(len(clocks), 2)
+        first = datetime.strptime(clocks[0], "# %Y-%m-%dT%H:%M:%SZ").replace(tzinfo=timezone.utc)
+        self.assertLess(abs(first.timestamp() - time.time()), 10)
+        self.assertRegex(lines[1], CLOCK)
+
+    def test_log_ends_at_its_size_and_the_bridge_goes_on(self) -> None:
+        live = self.live("--log", str(self.folder), "--log-most", "1", "eth0",
+                         "--", "--receive-only")
+        frames = [numbered(number).ljust(1500, b"\0") for number in range(100)]
+        for _ in range(10):
+            flood(self.wires, "peer0", frames, 100).wait()
+            time.sleep(0.1)
+        self.assertTrue(live.says("ends, the bridge goes on: it has reached its size (--log-most)"))
+        log = self.logs()[0].read_bytes()
+        self.assertLessEqual(len(log), 1_000_000)
+        self.assertGreater(len(log), 100_000)
+        last = b"# the log ends here: it has reached its size (--log-most)"
+        self.assertEqual(log.splitlines()[-1], last)
+        self.assertIn("bridge.log=ended", live.ask("bridge"))
+        self.assertGreater(live.neighbors(), 0)
+        self.assertEqual(live.errors().count("ends, the bridge goes on"), 1)
+
+    def test_full_device_ends_the_log_and_not_the_bridge(self) -> None:
+        self.folder.mkdir()
+        subprocess.run(["mount", "-t", "tmpfs", "-o", "size=64k", "none", self.folder], check=True)
+        self.addCleanup(subprocess.run, ["umount", "-l", str(self.folder)], check=True)
+        live, peer = self.live("--log", str(self.folder), "eth0"), self.peer()
+        self.assertIsNotNone(peer.hears())
+        for number in range(60):
+            peer.send(numbered(number).ljust(1500, b"\0"))
+            time.sleep(0.01)
+        self.assertTrue(live.says("ends, the bridge goes on: No space left on device"))
+        self.assertTrue(self.logs()[0].read_bytes().endswith(b"\n"))
+        live.signal(signal.SIGTERM)
+        self.assertIsNotNone(peer.hears(2, ttl=0))
+        self.assertEqual(live.ends(2), 0)
+
+    def test_folder_that_cannot_be_is_told(self) -> None:
+        self.folder.write_text("")
+        live = self.live("--log", str(self.folder), "eth0")
+        self.assertEqual(live.ends(), 1)
+        self.assertIn(str(self.folder), live.errors())
+
+
+@on_links
+class TestOnce(OnLinks):
+    """A table once all are there."""
+
+    links = 2
+
+    def test_table_of_all_that_were_awaited(self) -> None:
+        live = self.live("--once", "20", "eth0", "eth1", awaits=False, reads_output=False)
+        peers = [self.peer("peer0"), self.peer("peer1")]
+        for peer, number in zip(peers, (1, 2)):
+            self.assertIsNotNone(peer.hears())
+            peer.send(numbered(number))
+        self.assertEqual(live.ends(), 0)
+        table = live.process.stdout.read().decode().splitlines()
+        self.assertEqual([line.split()[0] for line in table], ["PORT", "eth0", "eth1", "2"])
+        self.assertIsNotNone(peers[0].hears(1, ttl=0))
+
+    def test_status_tells_that_one_was_missing(self) -> None:
+        live = self.live("--once", "1", "eth0", "eth1", awaits=False, reads_output=False)
+        peer = self.peer("peer1")
+        self.assertIsNotNone(peer.hears())
+        peer.send(numbered(1))
+        self.assertEqual(live.ends(), 1)
+        self.assertIn("1 neighbor on 2 ports", live.process.stdout.read().decode())
+
+
+@on_links
+class TestConnect(OnLinks):
+    """An agent that listens."""
+
+    def listener(self, connections: int) -> None:
+        """Starts an agent that listens at 4711."""
+        with inside(self.wires.here):
+            agent = subprocess.Popen([PROGRAM, "--listen", "4711",
+                                      "--connections", str(connections), "eth0"])
+        self.addCleanup(agent.wait)
+        self.addCleanup(agent.kill)
+        eventually(lambda: "4711" in self.listening())
+
+    def listening(self) -> str:
+        """What listens in the namespace."""
+        with inside(self.wires.here):
+            return subprocess.run(["ss", "-tln"], capture_output=True, text=True).stdout
+
+    def test_listening_agent_is_taken_and_kept(self) -> None:
+        self.listener(2)
+        first, peer = self.live("--connect", "4711", "eth0"), self.peer()
+        peer.send(numbered(1))
+        self.assertTrue(eventually(first.neighbors))
+        self.assertIsNotNone(peer.hears())
+        first.signal(signal.SIGTERM)
+        self.assertIsNotNone(peer.hears(2, ttl=0))
+        self.assertEqual(first.ends(), 0)
+        second = self.live("--connect", "4711", "eth0")
+        second.ask("configure ports eth0 lldp status rx-and-tx")
+        self.assertIsNotNone(peer.hears())
+
+    def test_second_client_says_why_it_does_not_come_in(self) -> None:
+        self.listener(2)
+        self.live("--connect", "4711", "eth0")
+        second = self.live("--connect", "4711", "eth0", awaits=False)
+        self.assertEqual(second.ends(8), 1)
+        self.assertIn("another client may be connected to it", second.errors())
+
+    def test_agent_of_other_ports_is_told(self) -> None:
+        self.listener(1)
+        live = self.live("--connect", "4711", "eth1")
+        self.assertEqual(live.ends(), 1)
+        self.assertIn("the agent refused what the bridge told it: error: no such port\n",
+                      live.errors())
+
+    def test_nobody_listens(self) -> None:
+        live = self.live("--connect", "4711", "eth0")
+        self.assertEqual(live.ends(), 1)
+        self.assertIn("4711", live.errors())

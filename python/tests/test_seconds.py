@@ -1,0 +1,65 @@
+"""The clock."""
+
+from __future__ import annotations
+
+import time
+import unittest
+from unittest import mock
+
+from lldpa.seconds import Seconds
+
+
+class At:
+    """A clock that stands where it is put."""
+
+    def __init__(self, moment: float) -> None:
+        self.moment = moment
+
+    def __call__(self) -> float:
+        return self.moment
+
+
+class TestSeconds(unittest.TestCase):
+    """Each second is handed out once."""
+
+    def setUp(self) -> None:
+        self.clock = At(1000.25)
+        patch = mock.patch.object(Seconds, "now", self.clock)
+        patch.start()
+        self.addCleanup(patch.stop)
+        self.seconds = Seconds()
+
+    def test_seconds_end_a_whole_second_behind_the_beginning(self) -> None:
+        self.assertEqual(self.seconds.until(1001.24), 0)
+        self.assertEqual(self.seconds.until(1001.25), 1)
+
+    def test_none_is_handed_out_twice_or_lost(self) -> None:
+        moments = (1003.0, 1002.0, 1003.0, 1003.3, 1010.3, 1000.0, 1010.3)
+        self.assertEqual([self.seconds.until(moment) for moment in moments], [2, 0, 0, 1, 7, 0, 0])
+        self.assertEqual(self.seconds.told, 10)
+
+    def test_time_to_the_next(self) -> None:
+        self.assertEqual(self.seconds.to_next(), 1.0)
+        self.clock.moment = 1000.5
+        self.assertEqual(self.seconds.to_next(), 0.75)
+        self.clock.moment = 1009.0
+        self.assertEqual(self.seconds.to_next(), 0.0)
+        self.seconds.until(1009.0)
+        self.assertEqual(self.seconds.to_next(), 0.25)
+
+    def test_moment_of_a_stamp(self) -> None:
+        with mock.patch("time.time", lambda: 5000.0):
+            self.assertEqual(self.seconds.moment(4990.0), 990.25)
+            self.assertEqual(self.seconds.moment(5001.0), 1000.25)
+            self.assertEqual(self.seconds.moment(None), 1000.25)
+
+
+class TestNow(unittest.TestCase):
+    """The clock that it goes by."""
+
+    def test_it_is_the_one_that_goes_on_in_sleep(self) -> None:
+        self.assertAlmostEqual(Seconds.now(), time.clock_gettime(time.CLOCK_BOOTTIME), delta=0.1)
+
+
+if __name__ == "__main__":
+    unittest.main()

@@ -1,0 +1,155 @@
+"""For tests on real links: a pair of namespaces with veth pairs, and who sends there."""
+
+from __future__ import annotations
+
+import contextlib
+import ctypes
+import os
+import shutil
+import socket
+import subprocess
+import sys
+import tempfile
+import time
+from typing import Any, Callable, Iterator, Optional
+
+CLONE_NEWNET = 0x40000000
+
+
+def ip(*words: str) -> None:
+    """Runs ip."""
+    subprocess.run(["ip", *words], check=True, capture_output=True)
+
+
+def eventually(holds: Callable[[], Any], seconds: float = 5) -> Any:
+    """What the condition gives once it holds, or after so many seconds."""
+    last = time.monotonic() + seconds
+    while not (found := holds()) and time.monotonic() < last:
+        time.sleep(0.02)
+    return found
+
+
+@contextlib.contextmanager
+def inside(namespace: str) -> Iterator[None]:
+    """Lets this thread open sockets, and start programs, in a namespace."""
+    libc = ctypes.CDLL(None, use_errno=True)
+    with open("/proc/thread-self/ns/net") as own, open(f"/run/netns/{namespace}") as other:
+        if libc.setns(other.fileno(), CLONE_NEWNET):
+            raise OSError(ctypes.get_errno(), "setns")
+        try:
+            yield
+        finally:
+            libc.setns(own.fileno(), CLONE_NEWNET)
+
+
+class Wires:
+    """Links eth0.. to peer0.. between the namespaces `here` and `there`, and a folder."""
+
+    numbers = iter(range(1000))
+
+    def __init__(self, links: int = 1) -> None:
+        number = f"{os.getpid()}-{next(self.numbers)}"
+        self.here, self.there = f"lldpa-here-{number}", f"lldpa-there-{number}"
+        self.folder = tempfile.mkdtemp()
+        for name in (self.here, self.there):
+            ip("netns", "add", name)
+            ip("-n", name, "link", "set", "lo", "up")
+        for i in range(links):
+            self.make_link(i)
+        eventually(self.all_up)
+
+    def add_link(self, i: int) -> None:
+        """Makes a further link, and waits until frames go over it."""
+        self.make_link(i)
+        eventually(self.all_up)
+
+    def all_up(self) -> bool:
+        """Whether all ends are up. (Before that the kernel drops what is sent.)"""
+        shown = [subprocess.run(["ip", "-n", name, "-br", "link"], capture_output=True, text=True)
+                 for name in (self.here, self.there)]
+        ends = [line.split() for run in shown for line in run.stdout.splitlines() if "@" in line]
+        return all(words[1] == "UP" for words in ends)
+
+    def make_link(self, i: int) -> None:
+        """Makes a link and sets both ends up."""
+        ip("link", "add", f"eth{i}", "netns", self.here, "type", "veth",
+           "peer", "name", f"peer{i}", "netns", self.there)
+        for name, end in ((self.here, f"eth{i}"), (self.there, f"peer{i}")):
+            ip("-n", name, "link", "set", end, "up")
+
+    def set_link(self, end: str, *words: str) -> None:
+        """Changes an end: `set_link("eth0", "down")`."""
+        ip("-n", self.here if end.startswith("eth") else self.there, "link", "set", end, *words)
+
+    def remove_link(self, end: str) -> None:
+        """Takes a link away."""
+        ip("-n", self.here if end.startswith("eth") else self.there, "link", "del", end)
+
+    def close(self) -> None:
+        """Takes all away."""
+        for name in (self.here, self.there):
+            subprocess.run(["ip", "netns", "del", name], check=False)
+        shutil.rmtree(self.folder)
+
+
+FLOOD = """
+import socket, sys
+sender = socket.socket(socket.AF_PACKET, socket.SOCK_RAW)
+sender.bind((sys.argv[1], 0))
+frames = [bytes.fromhex(line) for line in sys.stdin.read().split()]
+for number in range(int(sys.argv[2])):
+    try:
+        sender.send(frames[number % len(frames)])
+    except OSError:
+        pass
+"""
+
+
+def flood(wires: Wires, end: str, frames: list[bytes], count: int) -> subprocess.Popen[bytes]:
+    """Starts who sends so many frames out of an end, one after the other, as fast as it goes."""
+    with inside(wires.there):
+        sender = subprocess.Popen([sys.executable, "-c", FLOOD, end, str(count)],
+                                  stdin=subprocess.PIPE)
+    assert sender.stdin is not None
+    sender.stdin.write("\n".join(frame.hex() for frame in frames).encode())
+    sender.stdin.close()
+    return sender
+
+
+class Peer:
+    """Who sends and hears LLDP frames at an end of a link."""
+
+    def __init__(self, wires: Wires, end: str) -> None:
+        with inside(wires.here if end.startswith("eth") else wires.there):
+            self.socket = socket.socket(socket.AF_PACKET, socket.SOCK_RAW, socket.htons(0x88CC))
+            self.socket.bind((end, 0x88CC))
+
+    def send(self, octets: bytes) -> None:
+        """Sends a frame."""
+        self.socket.send(octets)
+
+    def hears(self, seconds: float = 5, ttl: Optional[int] = None) -> Optional[bytes]:
+        """The next frame, or the next that gives this time to live; None if none comes."""
+        last = time.monotonic() + seconds
+        while (left := last - time.monotonic()) > 0:
+            self.socket.settimeout(left)
+            with contextlib.suppress(OSError):  # none in time, or an end that was down meanwhile
+                octets, address = self.socket.recvfrom(2000)
+                if address[2] != socket.PACKET_OUTGOING and ttl in (None, ttl_of(octets)):
+                    return octets
+        return None
+
+    def close(self) -> None:
+        """Lets go of the socket."""
+        self.socket.close()
+
+
+def ttl_of(octets: bytes) -> int:
+    """The time to live that a frame gives."""
+    rest = octets[14:]
+    while rest:
+        head = int.from_bytes(rest[:2], "big")
+        if head >> 9 == 3:
+            return int.from_bytes(rest[2:4], "big")
+        rest = rest[2 + head % 512:]
+    return -1
