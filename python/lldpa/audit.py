@@ -1,0 +1,117 @@
+"""Judges what is seen at the ports of hosts by a plan. The manual defines each verdict."""
+from __future__ import annotations
+
+from enum import Enum
+from typing import Iterator, NamedTuple, Optional, Sequence
+
+from .names import End, Seen
+from .plan import Plan
+from .tables import Tables
+
+
+class Verdict(Enum):
+    """What an audit says of an end."""
+
+    RIGHT = "right"
+    WRONG = "wrong"
+    SWAPPED = "swapped"
+    SILENT = "silent"
+    EXTRA = "extra"
+    DOUBLED = "doubled"
+    ONE_SIDED = "one-sided"
+    UNPLANNED = "unplanned"
+    NO_DATA = "no data"
+
+
+class Finding(NamedTuple):
+    """The verdict on an end, the end that it wants, and its neighbors.
+
+    `partner` is the end that it is swapped with. An end that is not planned wants none.
+    """
+
+    end: End
+    verdict: Verdict
+    wants: Optional[End]
+    has: Sequence[Seen] = ()
+    partner: Optional[End] = None
+
+
+def audit(plan: Plan, tables: Tables, planned_only: bool = False) -> list[Finding]:
+    """A finding for each planned end of the audited hosts, and for each other port with a neighbor.
+
+    They stand in the order of the plan; those beside it follow.
+    """
+    judge = Judge(plan, tables)
+    findings = list(judge.planned())
+    return findings if planned_only else [*findings, *judge.unplanned()]
+
+
+class Judge:
+    """Knows a plan and what is seen. It is asked of ends by their names as they are compared."""
+
+    def __init__(self, plan: Plan, tables: Tables) -> None:
+        self.plan = plan
+        self.tables = tables
+        self.names = tables.names
+
+    def planned(self) -> Iterator[Finding]:
+        """The findings on the planned ends of the audited hosts."""
+        for end in self.plan.ends:
+            if end.host in self.tables.hosts:
+                yield self.finding(end)
+
+    def unplanned(self) -> Iterator[Finding]:
+        """The findings on ports beside the plan."""
+        for end, told in self.tables.ends.items():
+            if told.neighbors and end not in self.plan.ends:
+                yield Finding(told.end, Verdict.UNPLANNED, None, told.neighbors)
+
+    def finding(self, end: End) -> Finding:
+        """The finding on a planned end."""
+        wish = self.plan.ends[end]
+        told = self.tables.ends.get(end)
+        if told is None:
+            return Finding(wish.end, Verdict.NO_DATA, wish.wants)
+        wanted = self.names.end(wish.wants)
+        verdict = self.verdict(end, wanted, told.neighbors)
+        if verdict is Verdict.WRONG:
+            partner = self.partner(end, wanted, told.neighbors[0])
+            if partner is not None:
+                return Finding(wish.end, Verdict.SWAPPED, wish.wants, told.neighbors, partner)
+        return Finding(wish.end, verdict, wish.wants, told.neighbors)
+
+    def verdict(self, end: End, wanted: End, neighbors: Sequence[Seen]) -> Verdict:
+        """The verdict on an end that is told of. One that is swapped is still wrong here."""
+        if not neighbors:
+            return Verdict.ONE_SIDED if self.sees(wanted, end) else Verdict.SILENT
+        right_ones = [one for one in neighbors if self.names.answers(one, wanted)]
+        if len(neighbors) > 1:
+            return Verdict.EXTRA if len(right_ones) == 1 else Verdict.DOUBLED
+        if not right_ones:
+            return Verdict.WRONG
+        is_heard = wanted not in self.tables.ends or self.sees(wanted, end)
+        return Verdict.RIGHT if is_heard else Verdict.ONE_SIDED
+
+    def sees(self, end: End, other: End) -> bool:
+        """Whether one of an end's neighbors answers to the other end."""
+        told = self.tables.ends.get(end)
+        return told is not None and any(self.names.answers(one, other) for one in told.neighbors)
+
+    def partner(self, end: End, wanted: End, neighbor: Seen) -> Optional[End]:
+        """The end of another link with which an end is swapped that has this neighbor alone.
+
+        Each has what the other one wants, and not what it wants itself. Where there are several it
+        is the first one of the plan.
+        """
+        wishes = [self.plan.ends[key] for key in self.names.ends(neighbor) if key in self.plan.ends]
+        others = {self.names.end(wish.wants) for wish in wishes} - {end, wanted}
+        for other in sorted(others, key=lambda other: self.plan.ends[other].place):
+            its_wanted = self.names.end(self.plan.ends[other].wants)
+            if self.has_alone(other, wanted) and not self.sees(other, its_wanted):
+                return self.plan.ends[other].end
+        return None
+
+    def has_alone(self, end: End, other: End) -> bool:
+        """Whether an end has one neighbor, who answers to the other end."""
+        told = self.tables.ends.get(end)
+        return told is not None and len(told.neighbors) == 1 and self.sees(end, other)

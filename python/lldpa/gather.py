@@ -1,0 +1,128 @@
+"""What an audit is given, as tables: captures, shows, and a bridge that runs."""
+from __future__ import annotations
+
+import os
+import time
+from typing import Callable, Iterable, Iterator, NamedTuple
+
+from .control import Client
+from .names import End
+from .plan import Plan
+from .recorded import Recorded, read_interfaces, read_port
+from .seen import Ports, read_ports
+from .show import ShowFault
+from .tables import Tables
+
+BEGIN_OF_SHOW = b"lldp."
+SECONDS_BETWEEN_LOOKS = 0.5
+
+
+class What(NamedTuple):
+    """A file of a host, and the port where it is a capture of one."""
+
+    host: str
+    port: str
+    file: str
+
+
+def read_what(word: str, ours: str) -> What:
+    """A word as FILE, PORT=FILE or HOST:FILE: the first of these whose file is there."""
+    forms = [What(ours, "", word)]
+    forms += [What(ours, port, file) for port, file in parted(word, "=")]
+    forms += [What(host, "", file) for host, file in parted(word, ":")]
+    there = (form for form in forms if os.path.exists(form.file))
+    return next(there, forms[min(1, len(forms) - 1)])
+
+
+def parted(word: str, mark: str) -> Iterator[tuple[str, str]]:
+    """What stands before and behind each mark in a word, where neither is empty."""
+    for at, letter in enumerate(word):
+        if letter == mark and 0 < at < len(word) - 1:
+            yield word[:at], word[at + 1:]
+
+
+class Gathering:
+    """Puts what is given into tables. What is damaged is said, and its ports are not known.
+
+    Its calls raise OSError for what cannot be read, ValueError for what tells no port or a port
+    twice, and Ended where the agent ends that reads captures.
+    """
+
+    def __init__(self, tables: Tables, program: str, say: Callable[[str], None]) -> None:
+        self.tables = tables
+        self.program = program
+        self.say = say
+        self.is_damaged = False
+
+    def add_files(self, whats: Iterable[What]) -> None:
+        """Takes files. Several captures of one port are one."""
+        of_ports: dict[End, list[str]] = {}
+        for what in whats:
+            if what.port:
+                of_ports.setdefault(End(what.host, what.port), []).append(what.file)
+            else:
+                self.add_file(what.host, what.file)
+        for end, files in of_ports.items():
+            for file in files:
+                open(file, "rb").close()
+            recorded = read_port(files, end.port, self.program)
+            self.add_recorded(end.host, end.port, recorded)
+
+    def add_file(self, host: str, path: str) -> None:
+        """Takes a show, or a capture that names its interfaces."""
+        with open(path, "rb") as file:
+            begin = file.read(len(BEGIN_OF_SHOW))
+            if begin != BEGIN_OF_SHOW:
+                self.add_recorded(host, "", read_interfaces(path, self.program))
+                return
+            text = (begin + file.read()).decode("latin-1")
+        try:
+            self.add_ports(host, read_ports(text))
+        except ShowFault as fault:
+            self.damaged(host, "", f"{path}: {fault}")
+
+    def add_recorded(self, host: str, port: str, recorded: Recorded) -> None:
+        """Takes the ports of captures, all of a host where no port is named."""
+        for note in recorded.notes:
+            self.say(note)
+        for fault in recorded.faults:
+            self.damaged(host, port, fault)
+        if not recorded.faults:
+            for name, neighbors in recorded.ports.items():
+                self.add_heard(host, name, recorded)
+
+    def add_heard(self, host: str, port: str, recorded: Recorded) -> None:
+        """Takes a port of a capture, but not what it sent itself, which a capture has too.
+
+        One without neighbors is not known where LLDP frames were passed over.
+        """
+        own = self.tables.names.end(End(host, port))
+        neighbors = [one for one in recorded.ports[port] if not self.tables.names.answers(one, own)]
+        if neighbors or not recorded.passed_over:
+            self.tables.add(host, port, neighbors)
+        else:
+            self.tables.add_reason(host, port, recorded.passed_over)
+
+    def add_live(self, host: str, path: str, plan: Plan, seconds: float) -> None:
+        """Takes a running bridge's ports, when each planned one has a neighbor or time is up."""
+        end = time.monotonic() + seconds
+        with Client(path) as client:
+            while True:
+                ports = read_ports("\n".join([*client.ask("show neighbors"), ""]))
+                silent = [port for port, neighbors in ports.items() if not neighbors]
+                waits = any(self.tables.names.end(End(host, port)) in plan.ends for port in silent)
+                if not waits or time.monotonic() >= end:
+                    break
+                time.sleep(SECONDS_BETWEEN_LOOKS)
+        self.add_ports(host, ports)
+
+    def add_ports(self, host: str, ports: Ports) -> None:
+        """Takes the ports of a host."""
+        for port, neighbors in ports.items():
+            self.tables.add(host, port, neighbors)
+
+    def damaged(self, host: str, port: str, why: str) -> None:
+        """Says what is wrong with a file, whose port, or whose host's ports, are not known."""
+        self.say(why)
+        self.is_damaged = True
+        self.tables.add_reason(host, port, why)

@@ -1,0 +1,162 @@
+#!/usr/bin/env python3
+"""Makes a large network with known faults: a plan, and a `show neighbors` of each host.
+
+    python3 tools/cabling.py FOLDER [--hosts 2000] [--ports 100] [--check]
+
+FOLDER gets plan.csv and HOST.txt of each host; one link in a hundred has a fault. With --check
+bin/lldpa-audit is run on them: it must find each fault and no other.
+"""
+import argparse
+import collections
+import json
+import os
+import pathlib
+import random
+import resource
+import subprocess
+import sys
+import time
+
+TOP = pathlib.Path(__file__).resolve().parent.parent
+AUDIT = [sys.executable, str(TOP / "bin" / "lldpa-audit")]
+
+
+class Network:
+    """Hosts whose ports are joined at random, and what is seen at each end: lists of neighbors."""
+
+    def __init__(self, hosts, ports, seed=1):
+        self.rng = random.Random(seed)
+        ends = [(f"sw{host:04}", f"swp{port}") for host in range(hosts) for port in range(1, ports + 1)]
+        self.rng.shuffle(ends)
+        self.links = list(zip(ends[::2], ends[1::2]))
+        self.seen = {}
+        for one, other in self.links:
+            self.seen[one], self.seen[other] = [other], [one]
+        self.verdicts = {}
+        self.break_some(len(self.links) // 100)
+
+    def break_some(self, count):
+        """Makes faults at so many links."""
+        faults = [self.swap, self.swap_with_stranger, self.unplug, self.add_rogue, self.double,
+                  self.deafen, self.hide]
+        links = self.rng.sample(self.links, count)
+        while links:
+            fault = faults.pop(0)
+            faults.append(fault)
+            fault(links.pop(), links)
+        rogue = (next(iter(self.seen))[0], "swp999")
+        self.seen[rogue] = [("rogue", "p1")]
+        self.verdicts[rogue] = "unplanned"
+
+    def swap(self, link, links):
+        """The cables of two links end at each other's ends."""
+        if not links:
+            self.unplug(link, links)
+            return
+        (one, other), (third, fourth) = link, links.pop()
+        for end, neighbor in ((one, fourth), (fourth, one), (third, other), (other, third)):
+            self.seen[end] = [neighbor]
+            self.verdicts[end] = "swapped"
+
+    def swap_with_stranger(self, link, _):
+        """A cable ends at somebody who is not planned."""
+        one, other = link
+        self.seen[one], self.seen[other] = [("stranger", f"p{len(self.verdicts)}")], []
+        self.verdicts[one], self.verdicts[other] = "wrong", "silent"
+
+    def unplug(self, link, _):
+        """There is no cable."""
+        for end in link:
+            self.seen[end], self.verdicts[end] = [], "silent"
+
+    def add_rogue(self, link, _):
+        """Somebody else hangs in."""
+        self.seen[link[0]].append(("rogue", f"p{len(self.verdicts)}"))
+        self.verdicts[link[0]] = "extra"
+
+    def double(self, link, _):
+        """There are two of one name."""
+        self.seen[link[0]] *= 2
+        self.verdicts[link[0]] = "doubled"
+
+    def deafen(self, link, _):
+        """One end hears nobody."""
+        self.seen[link[1]] = []
+        self.verdicts[link[0]] = self.verdicts[link[1]] = "one-sided"
+
+    def hide(self, link, _):
+        """An end is in no show."""
+        del self.seen[link[0]]
+        self.verdicts[link[0]] = "no data"
+
+    def write(self, folder):
+        """Writes the plan and the shows. Gives the words for the audit."""
+        plan = "".join(f"{a},{b},{c},{d}\n" for (a, b), (c, d) in self.links)
+        (folder / "plan.csv").write_text("host,port,peer,peer_port\n" + plan)
+        shows = collections.defaultdict(list)
+        for (host, port), neighbors in self.seen.items():
+            shows[host] += show_of_port(port, neighbors)
+        for host, lines in shows.items():
+            (folder / f"{host}.txt").write_text("".join(line + "\n" for line in lines))
+        return [str(folder / "plan.csv"), *(f"{host}:{folder}/{host}.txt" for host in shows)]
+
+
+def show_of_port(port, neighbors):
+    """What a show says of a port."""
+    yield f"lldp.{port}.neighbors={len(neighbors)}"
+    yield f"lldp.{port}.octets={110 * len(neighbors)}"
+    yield f"lldp.{port}.too-many=no"
+    for place, (host, port_id) in enumerate(neighbors, 1):
+        front = f"lldp.{port}.{place}."
+        number = int(host[2:]) if host[2:].isdecimal() else 9999
+        yield f"{front}chassis.mac=02:00:5e:{place:02x}:{number >> 8:02x}:{number & 255:02x}"
+        yield f"{front}port.ifname={port_id}"
+        yield f"{front}ttl=120"
+        yield f"{front}expires=107"
+        yield f"{front}port.descr=to the fabric"
+        yield f"{front}chassis.name={host}"
+        yield f"{front}chassis.descr=Debian GNU/Linux 12 (bookworm) Linux 6.1.0-18-amd64"
+        yield f"{front}chassis.caps=Bridge:on,Router:on,Station:off"
+        yield f"{front}chassis.mgmt=10.0.{number >> 8}.{number & 255},2,1,"
+
+
+def faults_found(words):
+    """The verdict of each end that is not right, as the audit tells it in JSON."""
+    told = subprocess.run([*AUDIT, "--json", *words], stdout=subprocess.PIPE, check=False).stdout
+    ends = json.loads(told)["ends"]
+    return {(end["host"], end["port"]): end["verdict"] for end in ends if end["verdict"] != "right"}
+
+
+def measured(words):
+    """Seconds of processor time and of the clock, and the most megabytes, of an audit."""
+    begin, before = time.monotonic(), resource.getrusage(resource.RUSAGE_CHILDREN)
+    child = subprocess.Popen([*AUDIT, *words], stdout=subprocess.DEVNULL)
+    _, status, usage = os.wait4(child.pid, 0)
+    child.returncode = os.waitstatus_to_exitcode(status)
+    if child.returncode != 1:
+        sys.exit(f"the audit ended with {child.returncode}")
+    return usage.ru_utime + usage.ru_stime, time.monotonic() - begin, usage.ru_maxrss / 1024
+
+
+def main():
+    parser = argparse.ArgumentParser(description=__doc__.splitlines()[0])
+    parser.add_argument("folder", type=pathlib.Path)
+    parser.add_argument("--hosts", type=int, default=2000)
+    parser.add_argument("--ports", type=int, default=100, help="of each host")
+    parser.add_argument("--check", action="store_true", help="run the audit and compare")
+    given = parser.parse_args()
+    network = Network(given.hosts, given.ports)
+    words = network.write(given.folder)
+    if given.check:
+        used, passed, megabytes = measured(words)
+        print(f"{len(network.links)} links: {used:.1f} s of processor time, {passed:.1f} s, {megabytes:.0f} MB")
+        found = faults_found(words)
+        wrong = {end for end in {**found, **network.verdicts} if found.get(end) != network.verdicts.get(end)}
+        for end in sorted(wrong)[:10]:
+            print(f"{end}: {found.get(end)}, and not {network.verdicts.get(end)}")
+        print(collections.Counter(found.values()))
+        sys.exit(bool(wrong))
+
+
+if __name__ == "__main__":
+    main()
