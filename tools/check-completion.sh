@@ -8,7 +8,7 @@ program=${1:+$(realpath -- "$1")}
 cd "$(dirname "$0")/../share/bash-completion/completions" || exit 2
 passed=0
 failed=0
-for file in lldpa lldpa-live lldpa-capture; do
+for file in lldpa lldpa-live lldpa-capture lldpa-ctl lldpa-audit; do
     # shellcheck source=/dev/null
     . "./$file"
 done
@@ -93,11 +93,16 @@ offers 'eth1 lo' _lldpa lldpa eth0 '<' trace ''
 offers "--listen" _lldpa lldpa eth0 '<' trace --l
 
 offers 'eth0 eth1 lo' _lldpa_live lldpa-live ''
-offers '--program --connect --log --stay --help' _lldpa_live lldpa-live -
-offers '--program --connect --stay --help' _lldpa_live lldpa-live --log f -
+live='--program --connect --user --control --control-group --log --log-most --once --stay --only-existing --forget-on-down --help'
+offers "$live" _lldpa_live lldpa-live -
+offers "${live/ --log / }" _lldpa_live lldpa-live --log f -
 offers FILES _lldpa_live lldpa-live --log f
 offers FILES _lldpa_live lldpa-live --program = f
 offers '' _lldpa_live lldpa-live --connect ''
+offers '' _lldpa_live lldpa-live --once ''
+offers FILES _lldpa_live lldpa-live --control /run
+offers 'root' _lldpa_live lldpa-live --user roo
+offers 'daemon' _lldpa_live lldpa-live --control-group daemo
 offers 'eth1 lo' _lldpa_live lldpa-live --log f eth0 ''
 offers FILES _lldpa_live lldpa-live eth0 '<>' ''
 offers "$all" _lldpa_live lldpa-live eth0 -- ''
@@ -106,10 +111,48 @@ offers 'router' _lldpa_live lldpa-live eth0 -- --role ro
 offers '' _lldpa_live lldpa-live eth0 -- --mac ''
 
 offers FILES _lldpa_capture lldpa-capture ''
-offers '--port --show --help' _lldpa_capture lldpa-capture -
-offers '--port --help' _lldpa_capture lldpa-capture f --show -
+offers '--port --show --no-seconds --ports --help' _lldpa_capture lldpa-capture -
+offers '--port --no-seconds --ports --help' _lldpa_capture lldpa-capture f --show -
+offers FILES _lldpa_capture lldpa-capture swp1 = f
+offers FILES _lldpa_capture lldpa-capture swp1 = a.pcap swp2 =
+offers FILES _lldpa_capture lldpa-capture --show swp1 = a.pcap b
 offers 'eth0 eth1' _lldpa_capture lldpa-capture --port e
 offers FILES _lldpa_capture lldpa-capture --port eth0 f
+
+offers 'show configure update bridge watch metrics' _lldpa_ctl lldpa-ctl ''
+offers 'show' _lldpa_ctl lldpa-ctl sh
+offers '--control --json --help' _lldpa_ctl lldpa-ctl -
+offers '--control --help' _lldpa_ctl lldpa-ctl --json -
+offers FILES _lldpa_ctl lldpa-ctl --control /run
+offers 'show configure update bridge watch metrics' _lldpa_ctl lldpa-ctl --control = /run/c --json ''
+offers 'show' _lldpa_ctl lldpa-ctl --control /run/c s
+offers 'neighbors statistics chassis configuration' _lldpa_ctl lldpa-ctl show ''
+offers 'eth0 eth1' _lldpa_ctl lldpa-ctl show neighbors e
+offers '' _lldpa_ctl lldpa-ctl show chassis ''
+offers '' _lldpa_ctl lldpa-ctl show neighbors eth0 ''
+offers 'system lldp ports' _lldpa_ctl lldpa-ctl configure ''
+offers 'hostname description' _lldpa_ctl lldpa-ctl configure system ''
+offers 'tx-interval tx-hold max-neighbors' _lldpa_ctl lldpa-ctl configure lldp ''
+offers 'eth0 eth1 lo' _lldpa_ctl lldpa-ctl configure ports ''
+offers 'lldp' _lldpa_ctl lldpa-ctl configure ports eth0 ''
+offers 'status' _lldpa_ctl lldpa-ctl configure ports eth0 lldp ''
+offers 'rx-and-tx rx-only' _lldpa_ctl lldpa-ctl configure ports eth0 lldp status r
+offers '' _lldpa_ctl lldpa-ctl configure ports eth0 lldp status rx-only ''
+offers FILES _lldpa_ctl lldpa-ctl metrics '>' f
+
+# lldpa-live's words are those of its help
+for word in $(../../../bin/lldpa-live --help | grep -o '^  [-a-z, ]*--[a-z-]*' | grep -o -e '--[a-z-]*'); do
+    offers "$(tr ' ' '\n' <<< "$live" | grep -e "^$word" | paste -s -d ' ')" _lldpa_live lldpa-live "$word"
+done
+
+offers FILES _lldpa_audit lldpa-audit ''
+offers FILES _lldpa_audit lldpa-audit plan.csv swp1 = a
+offers FILES _lldpa_audit lldpa-audit plan.csv leaf1 : a
+offers FILES _lldpa_audit lldpa-audit --svg f
+offers '' _lldpa_audit lldpa-audit --host ''
+offers '--live --control --wait --host --ignore-case --short-names --planned-only --json --svg --program --help' \
+    _lldpa_audit lldpa-audit -
+offers '--short-names --svg' _lldpa_audit lldpa-audit plan.csv --json --s
 
 # the words of the completion are those of the program's help, where a program is given
 if [ -n "$program" ]; then

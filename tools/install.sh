@@ -1,46 +1,141 @@
 #!/bin/sh
-# Installs lldpa, its manual page, the scripts live.py and capture.py as lldpa-live and lldpa-capture, and completions for bash
-# under a prefix, /usr/local unless given. With --uninstall it takes away what it installs. DESTDIR, where it is set, is put in front.
+# Installs lldpa under a prefix, /usr/local unless given: the program, those of bin/ with the Python package that they
+# stand on, the manual pages, completions for bash and zsh, the service with its configuration, and the documents.
+#     tools/install.sh [--uninstall] [--python FOLDER] [PREFIX]
+# With --uninstall it takes away what it installs, but for a configuration that was changed. `import lldpa` works for
+# the python3 that looks into FOLDER, by itself the first one below the prefix where python3 looks. DESTDIR, where it is
+# set, is put in front. LLDPA names the program, crates/lldpa/out/lldpa unless it is set.
+# tools/package.sh makes its package of what this installs under /usr.
 set -eu
 usage() {
-    echo "usage: tools/install.sh [--uninstall] [PREFIX]" >&2
+    echo "usage: tools/install.sh [--uninstall] [--python FOLDER] [PREFIX]" >&2
     exit 2
 }
 
 uninstall=
 prefix=/usr/local
-for word in "$@"; do
-    case $word in
+looks=
+while [ $# -gt 0 ]; do
+    case $1 in
         --uninstall) uninstall=yes ;;
-        /*) prefix=${word%/} ;;
+        --python)
+            [ $# -gt 1 ] || usage
+            looks=${2%/}
+            shift
+            ;;
+        /*) prefix=${1%/} ;;
         *) usage ;;
     esac
+    shift
 done
+program=$(realpath -- "${LLDPA:-$(dirname "$0")/../crates/lldpa/out/lldpa}")
 cd "$(dirname "$0")/.."
-to=${DESTDIR:-}$prefix
+umask 022
+root=${DESTDIR:-}
+package=$prefix/lib/lldpa/python/lldpa
+documents=$prefix/share/doc/lldpa
+# Debian's own folders stand below /usr, and the configuration of what is below /usr and /usr/local in /etc.
+case $prefix in
+    /usr) etc=/etc zsh=vendor-completions interpreter=/usr/bin/python3 ;;
+    /usr/local) etc=/etc zsh=site-functions interpreter='/usr/bin/env python3' ;;
+    *) etc=$prefix/etc zsh=site-functions interpreter='/usr/bin/env python3' ;;
+esac
 
-# Each file: its mode, where it is, and where it goes.
+# Each file: how it is installed, where it is, and where it goes. The programs of bin/ stay beside their package.
 files() {
-    echo "755 crates/lldpa/out/lldpa bin/lldpa"
-    echo "755 tools/live.py bin/lldpa-live"
-    echo "755 tools/capture.py bin/lldpa-capture"
-    echo "644 man/lldpa.1 share/man/man1/lldpa.1"
-    for name in lldpa lldpa-live lldpa-capture; do
-        echo "644 share/bash-completion/completions/$name share/bash-completion/completions/$name"
+    echo "program $program $prefix/bin/lldpa"
+    for file in bin/*; do
+        echo "script $file $prefix/lib/lldpa/$file"
+    done
+    find python/lldpa -name '*.py' | while read -r file; do
+        echo "plain $file $prefix/lib/lldpa/$file"
+    done
+    for file in man/*.1; do
+        echo "packed $file $prefix/share/man/man1/${file#man/}.gz"
+    done
+    for file in share/bash-completion/completions/*; do
+        echo "plain $file $prefix/$file"
+    done
+    for file in share/zsh/*; do
+        echo "plain $file $prefix/share/zsh/$zsh/${file##*/}"
+    done
+    echo "unit share/systemd/lldpa.service $prefix/lib/systemd/system/lldpa.service"
+    echo "plain share/tmpfiles.d/lldpa.conf $prefix/lib/tmpfiles.d/lldpa.conf"
+    echo "configuration share/default/lldpa $etc/default/lldpa"
+    echo "plain README.md $documents/README.md"
+    echo "packed CHANGELOG.md $documents/changelog.gz"
+    find docs -type f | while read -r file; do
+        echo "plain $file $documents/$file"
     done
 }
 
-if [ -n "$uninstall" ]; then
-    files | while read -r _ _ name; do
-        rm -f "$to/$name"
+# Each link: where it leads, and where it stands.
+links() {
+    for file in bin/*; do
+        echo "../lib/lldpa/$file $prefix/$file"
     done
-    echo "uninstalled from $to"
+    [ -z "$looks" ] || echo "$(realpath -m --relative-to="$looks" "$package") $looks/lldpa"
+}
+
+# Installs a file in its way.
+put() {
+    mkdir -p "$(dirname "$3")"
+    case $1 in
+        program) install -m 755 "$2" "$3" ;;
+        script)
+            sed "1s,.*,#!$interpreter," "$2" > "$3"
+            chmod 755 "$3"
+            ;;
+        plain) install -m 644 "$2" "$3" ;;
+        packed)
+            gzip -9nc "$2" > "$3"
+            chmod 644 "$3"
+            ;;
+        unit)
+            sed "s,/usr/local/,$prefix/,g; s,/etc/default/,$etc/default/,g" "$2" > "$3"
+            chmod 644 "$3"
+            ;;
+        configuration)
+            if [ -e "$3" ]; then
+                cmp -s "$2" "$3" || echo "$3 is left as it is"
+            else
+                install -m 644 "$2" "$3"
+            fi
+            ;;
+    esac
+}
+
+# Takes a file away; a configuration that was changed stays.
+take_away() {
+    if [ "$1" = configuration ] && [ -e "$3" ] && ! cmp -s "$2" "$3"; then
+        echo "$3 was changed, and stays"
+    else
+        rm -f "$3"
+    fi
+}
+
+if [ -z "$looks" ]; then
+    looks=$(python3 -c 'import site; print(*site.getsitepackages(), sep="\n")' |
+        awk -v front="$prefix/" 'index($0, front) == 1 && !found++')
+fi
+if [ -n "$uninstall" ]; then
+    files | while read -r way source name; do
+        take_away "$way" "$source" "$root$name"
+    done
+    links | while read -r _ name; do
+        rm -f "$root$name"
+    done
+    rm -rf "$root$prefix/lib/lldpa" "$root$documents"
+    echo "uninstalled from $root$prefix"
     exit
 fi
-files | while read -r _ source _; do
-    [ -f "$source" ] || { echo "no $source: build the program with rt run in crates/lldpa" >&2; exit 1; }
+[ -f "$program" ] || { echo "no $program: build the program with rt run in crates/lldpa" >&2; exit 1; }
+files | while read -r way source name; do
+    put "$way" "$source" "$root$name"
 done
-files | while read -r mode source name; do
-    install -D -m "$mode" "$source" "$to/$name"
+links | while read -r target name; do
+    mkdir -p "$(dirname "$root$name")"
+    ln -sfn "$target" "$root$name"
 done
-echo "installed under $to"
+[ -n "$looks" ] || echo "for import lldpa, put ${package%/lldpa} on PYTHONPATH: python3 does not look below $prefix"
+echo "installed under $root$prefix"

@@ -1,0 +1,122 @@
+#!/bin/sh
+# Builds the Debian package, and compares it with what tools/install.sh installs; runs what is in it; and sees that
+# what is installed is all taken away again, and that lintian, where it is installed, finds nothing.
+#     tools/check-package.sh [PROGRAM]
+# No root is needed, and nothing is installed on this host. The last line is `N passed, M failed`; without dpkg-deb it
+# says so, and its status is 3.
+set -u
+LLDPA=$(realpath -- "${1:-$(dirname "$0")/../crates/lldpa/out/lldpa}")
+export LLDPA
+cd "$(dirname "$0")/.." || exit 2
+for needed in dpkg-deb dpkg strip objdump; do
+    command -v "$needed" > /dev/null || { echo "skipped: the package, since there is no $needed"; exit 3; }
+done
+room=$(mktemp -d) || exit 2
+trap 'rm -rf "$room"' EXIT
+passed=0
+failed=0
+
+# Counts a check that held (0), or one that did not, which is told.
+judge() {
+    if [ "$1" -eq 0 ]; then
+        passed=$((passed + 1))
+    else
+        failed=$((failed + 1))
+        echo "FAILED: $2"
+    fi
+}
+
+# The files, folders and links of a tree, each with its mode and where it leads.
+listed() {
+    (cd "$1" && find . -mindepth 1 -printf '%P %M %l\n' | LC_ALL=C sort)
+}
+
+# Installs into a tree of its own.
+install_into() {
+    tree=$1
+    shift
+    DESTDIR=$tree tools/install.sh "$@" > "$room/said" 2>&1
+    judge $? "tools/install.sh $*: $(cat "$room/said")"
+}
+
+tools/package.sh "$room" > "$room/name" 2> "$room/said"
+judge $? "tools/package.sh: $(cat "$room/said")"
+package=$(cat "$room/name")
+dpkg-deb -x "$package" "$room/package"
+judge $? "dpkg-deb -x $package"
+
+# The package has what is installed under /usr, and these files besides.
+install_into "$room/usr" --python /usr/lib/python3/dist-packages /usr
+own='^usr/share/doc/lldpa/\(copyright\|changelog.Debian.gz\) \|^usr/share/lintian\>'
+listed "$room/package" | grep -v "$own" > "$room/packaged"
+listed "$room/usr" > "$room/installed"
+diff "$room/installed" "$room/packaged"
+judge $? "the package has other files than tools/install.sh installs"
+strip --remove-section=.comment --remove-section=.note "$room/usr/usr/bin/lldpa"
+diff -rq "$room/usr" "$room/package" | grep -v 'Only in .*package/usr/share' > "$room/out"
+[ ! -s "$room/out" ]
+judge $? "files differ: $(cat "$room/out")"
+
+# So it is with the prefix that is taken unless one is given, but for folders that Debian names otherwise.
+install_into "$room/local" --python /usr/local/lib/python3/dist-packages
+(cd "$room/local" && find . ! -type d | sed 's,/usr/local/,/usr/,; s,/site-functions/,/vendor-completions/,' | LC_ALL=C sort) > "$room/out"
+(cd "$room/usr" && find . ! -type d | LC_ALL=C sort) | diff "$room/out" -
+judge $? "the prefix /usr/local has other files than /usr"
+
+# All that is installed goes again, but for a configuration that was changed.
+for prefix in /usr /usr/local /opt/lldpa; do
+    install_into "$room/gone" --python /opt/python "$prefix"
+    DESTDIR=$room/gone tools/install.sh --uninstall --python /opt/python "$prefix" > "$room/said" 2>&1
+    left=$(find "$room/gone" ! -type d)
+    [ -z "$left" ]
+    judge $? "tools/install.sh --uninstall $prefix leaves $left"
+done
+install_into "$room/kept" /usr
+echo 'PORTS="swp1"' > "$room/kept/etc/default/lldpa"
+install_into "$room/kept" /usr
+DESTDIR=$room/kept tools/install.sh --uninstall /usr > "$room/said" 2>&1
+grep -qx 'PORTS="swp1"' "$room/kept/etc/default/lldpa"
+judge $? "tools/install.sh does not keep a configuration that was changed"
+
+# Each program has its page and its completions, and runs from the package.
+for path in "$room"/package/usr/bin/*; do
+    name=${path##*/}
+    for file in man/man1/$name.1.gz bash-completion/completions/$name zsh/vendor-completions/_$name; do
+        [ -f "$room/package/usr/share/$file" ]
+        judge $? "$name has no usr/share/$file"
+    done
+    "$path" --help > "$room/out" 2>&1 && grep -q "$name" "$room/out"
+    judge $? "$name --help of the package: $(head -c 200 "$room/out")"
+done
+version=$(dpkg-deb -f "$package" Version)
+[ "lldpa ${version%-*}" = "$("$room/package/usr/bin/lldpa" --version)" ]
+judge $? "the package is $version, and the program says $("$LLDPA" --version)"
+(cd / && PYTHONDONTWRITEBYTECODE=1 PYTHONPATH=$room/package/usr/lib/python3/dist-packages \
+    /usr/bin/python3 -c 'import lldpa; print(lldpa.__file__)') > "$room/out" 2>&1
+[ "$(cat "$room/out")" = "$room/package/usr/lib/python3/dist-packages/lldpa/__init__.py" ]
+judge $? "import lldpa: $(cat "$room/out")"
+dpkg-deb --info "$package" conffiles | grep -qx /etc/default/lldpa
+judge $? "/etc/default/lldpa is no configuration file of the package"
+grep -q '^ExecStart=/usr/bin/lldpa-live --program /usr/bin/lldpa ' "$room/package/usr/lib/systemd/system/lldpa.service"
+judge $? "the service of the package does not run its programs"
+
+# The words of zsh's completions are those of each program's help.
+for name in lldpa lldpa-live lldpa-ctl lldpa-capture lldpa-audit; do
+    "$room/package/usr/bin/$name" --help | sed -n '/^ *-/p' | grep -o -e '--[a-z-]*[a-z]' | sort -u > "$room/helped"
+    grep -o -e '--[a-z-]*[a-z]' "share/zsh/_$name" | sort -u | diff "$room/helped" -
+    judge $? "share/zsh/_$name has other words than $name --help"
+    if command -v zsh > /dev/null; then
+        zsh -n "share/zsh/_$name"
+        judge $? "share/zsh/_$name is not zsh's"
+    fi
+done
+command -v zsh > /dev/null || echo "skipped: reading zsh's completions, since there is no zsh"
+
+if command -v lintian > /dev/null; then
+    lintian --fail-on error,warning --allow-root "$package" > "$room/out" 2>&1 && [ ! -s "$room/out" ]
+    judge $? "lintian: $(cat "$room/out")"
+else
+    echo "skipped: lintian, which is not installed"
+fi
+echo "$passed passed, $failed failed"
+[ "$failed" -eq 0 ]

@@ -1,0 +1,100 @@
+#!/bin/sh
+# Makes a Debian package, lldpa_VERSION-REVISION_ARCH.deb, of what tools/install.sh installs under /usr.
+#     tools/package.sh [--revision N] [FOLDER]
+# The package is written to FOLDER, the one where this is called unless given, and its name to standard output. VERSION is
+# the newest of CHANGELOG.md and must be what the program says of itself. N, 1 unless given, is for a second package of
+# one version. LLDPA names the program, crates/lldpa/out/lldpa unless it is set. Who makes it is named by DEBFULLNAME
+# and DEBEMAIL, and else is who made the last commit. It needs dpkg-deb, dpkg and binutils, and no root.
+set -eu
+usage() {
+    echo "usage: tools/package.sh [--revision N] [FOLDER]" >&2
+    exit 2
+}
+
+fail() {
+    echo "tools/package.sh: $1" >&2
+    exit 1
+}
+
+revision=1
+folder=.
+while [ $# -gt 0 ]; do
+    case $1 in
+        --revision)
+            [ $# -gt 1 ] || usage
+            revision=$2
+            shift
+            ;;
+        -*) usage ;;
+        *) folder=$1 ;;
+    esac
+    shift
+done
+folder=$(realpath -- "$folder")
+program=$(realpath -- "${LLDPA:-$(dirname "$0")/../crates/lldpa/out/lldpa}")
+cd "$(dirname "$0")/.."
+[ -x "$program" ] || fail "no $program: build the program with rt run in crates/lldpa"
+version=$(sed -n 's/^## \([0-9][0-9.]*\)$/\1/p' CHANGELOG.md | head -n 1)
+said=$("$program" --version)
+[ "$said" = "lldpa $version" ] || fail "CHANGELOG.md begins with $version, and the program says: $said"
+version=$version-$revision
+architecture=$(dpkg --print-architecture)
+maker="${DEBFULLNAME:-$(git log -1 --format=%an)} <${DEBEMAIL:-$(git log -1 --format=%ae)}>"
+# The same sources give the same package: its moment is that of the last commit.
+SOURCE_DATE_EPOCH=${SOURCE_DATE_EPOCH:-$(git log -1 --format=%ct)}
+export SOURCE_DATE_EPOCH
+umask 022
+room=$(mktemp -d)
+trap 'rm -rf "$room"' EXIT
+tree=$room/tree
+
+# The newest GNU C library that the program asks for.
+c_library() {
+    objdump -T "$program" | grep -o 'GLIBC_[0-9.]*' | sort -uV | tail -n 1 | sed 's/GLIBC_//'
+}
+
+control() {
+    cat << END
+Package: lldpa
+Version: $version
+Architecture: $architecture
+Maintainer: $maker
+Installed-Size: $(du -sk --apparent-size "$tree" | cut -f 1)
+Depends: libc6 (>= $(c_library)), python3:any (>= 3.9)
+Suggests: graphviz, python3-pydot
+Section: net
+Priority: optional
+Description: agent for the Link Layer Discovery Protocol (LLDP)
+ lldpa keeps the neighbors that LLDP tells of on up to 64 ports, and sends
+ this host's own frames. It understands the commands of lldpcli, and every
+ call of it is proved to do what its definition says. With it come lldpa-live,
+ which puts it on network interfaces, lldpa-ctl, which asks it, lldpa-capture,
+ which reads captures, lldpa-audit, which compares a plan of the cabling with
+ who is seen, and a package for Python.
+END
+}
+
+changelog() {
+    cat << END
+lldpa ($version) unstable; urgency=medium
+
+  * lldpa ${version%-*}. What it brings stands in changelog.gz.
+
+ -- $maker  $(date -u -R -d "@$SOURCE_DATE_EPOCH")
+END
+}
+
+DESTDIR=$tree LLDPA=$program tools/install.sh --python /usr/lib/python3/dist-packages /usr > /dev/null
+strip --remove-section=.comment --remove-section=.note "$tree/usr/bin/lldpa"
+changelog | gzip -9n > "$tree/usr/share/doc/lldpa/changelog.Debian.gz"
+install -m 644 share/debian/copyright "$tree/usr/share/doc/lldpa/copyright"
+install -D -m 644 share/debian/lintian-overrides "$tree/usr/share/lintian/overrides/lldpa"
+mkdir "$room/DEBIAN"
+control > "$room/DEBIAN/control"
+echo /etc/default/lldpa > "$room/DEBIAN/conffiles"
+(cd "$tree" && find usr -type f -exec md5sum {} + | LC_ALL=C sort -k 2) > "$room/DEBIAN/md5sums"
+install -m 755 share/debian/postinst share/debian/prerm share/debian/postrm "$room/DEBIAN"
+mv "$room/DEBIAN" "$tree/DEBIAN"
+package=$folder/lldpa_${version}_$architecture.deb
+dpkg-deb --root-owner-group --build "$tree" "$package" > "$room/said" || fail "$(cat "$room/said")"
+echo "$package"

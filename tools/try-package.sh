@@ -1,0 +1,118 @@
+#!/bin/sh
+# Boots a Debian of its own in a container, and there installs the package, runs each command of the pages that needs
+# root and the service on a link, upgrades and purges it; then no file may be left.
+#     tools/try-package.sh [ROOT]
+# ROOT is a folder with a Debian that has python3, systemd-sysv, dbus and iproute2, and is left as it is; unless given,
+# debootstrap makes one, which takes a minute and a network. It needs Linux, root, and Debian's packages
+# systemd-container and, without ROOT, debootstrap. LLDPA names the program, as for tools/package.sh. The last line is
+# `N passed, M failed`; where something is missing it says so, and its status is 77.
+set -u
+skip() {
+    echo "skipped: $1"
+    echo "0 passed, 0 failed"
+    exit 77
+}
+
+given=${1:+$(realpath -- "$1")}
+tools=$(realpath "$(dirname "$0")")
+[ "$(id -u)" -eq 0 ] || skip "this is not root"
+command -v systemd-nspawn > /dev/null || skip "there is no systemd-nspawn"
+[ -n "$given" ] || command -v debootstrap > /dev/null || skip "there is no debootstrap"
+room=$(mktemp -d) || exit 2
+trap 'rm -rf "$room"' EXIT
+root=$room/root
+if [ -n "$given" ]; then
+    cp -a "$given" "$root" || exit 1
+else
+    debootstrap --variant=minbase --include=python3,systemd-sysv,dbus,iproute2 bookworm "$root" > "$room/said" || exit 1
+fi
+mkdir "$root/root/packages"
+"$tools/package.sh" "$root/root/packages" || exit 1
+"$tools/package.sh" --revision 2 "$root/root/packages" || exit 1
+python3 "$tools/examples.py" --as-root > "$root/root/commands" || exit 1
+
+# What runs there, once it has booted: each check is a line, `held` or `FAILED` with what was to hold.
+cat > "$root/root/try.sh" <<'EOF'
+#!/bin/bash
+export DEBIAN_FRONTEND=noninteractive
+cd /root/packages || exit
+check() {
+    local what=$1
+    shift
+    if "$@" > /root/said 2>&1; then echo "held: $what"; else echo "FAILED: $what: $(tail -n 3 /root/said)"; fi
+}
+# All files but logs and what dpkg and systemd write by themselves.
+listed() {
+    find /etc /usr /opt /srv /var/lib /run/lldpa -path /var/lib/dpkg -prune -o -printf '%p %M %u %g %l\n' 2> /dev/null |
+        grep -v '^/var/lib/systemd/\(timers\|random-seed\|catalog\)\|^/\(etc\|var/lib\|var/lib/systemd\) ' | sort
+}
+# Runs a command, which may go on until it is ended.
+for_a_while() {
+    local status
+    timeout 15 bash -c "$1" < /dev/null
+    status=$?
+    [ "$status" -eq 0 ] || [ "$status" -eq 124 ]
+}
+inactive() { ! systemctl is-active lldpa; }
+process() { systemctl show -p MainPID --value lldpa; }
+is_another() { [ "$old" != "$(process)" ]; }
+shows() { sleep 2 && lldpa-ctl show chassis | grep "$1"; }
+finds() { python3 -c 'import lldpa.control'; }
+reads() { lldpa-capture --show /usr/share/doc/lldpa/docs/lab.pcap | lldpa --receive-only eth0 | grep -x lldp.eth0.neighbors=2; }
+
+ip link add eth0 type veth peer name far && ip link set eth0 up && ip link set far up
+listed > /root/before
+check "it installs" dpkg -i lldpa_*-1_*.deb
+check "it does not run before it is enabled" inactive
+check "its programs run" reads
+check "import lldpa finds the package" finds
+mkdir -p /var/lib/prometheus/node-exporter
+while read -r command; do
+    check "sudo $command" for_a_while "$command"
+    sleep 1
+done < /root/commands
+rm -r /var/lib/prometheus
+systemctl restart lldpa
+check "the service answers" shows Station:on
+check "the service keeps no right" grep -q '^CapEff:\s*0*$' "/proc/$(process)/status"
+sed -i 's/--role station/--role bridge/' /etc/default/lldpa
+old=$(process)
+check "it upgrades" dpkg -i lldpa_*-2_*.deb
+check "the upgrade starts the service anew" is_another
+check "a changed configuration stays" shows Bridge:on
+check "all files are as the package has them, but the configuration" \
+    bash -c '! dpkg --verify lldpa | grep -v " c /etc/default/lldpa"'
+check "it is removed" dpkg -r lldpa
+check "the service has ended" inactive
+check "it installs again" dpkg -i lldpa_*-2_*.deb
+check "it is purged" dpkg -P lldpa
+listed > /root/after
+check "no file is left" diff /root/before /root/after
+poweroff
+EOF
+chmod 755 "$root/root/try.sh"
+cat > "$root/etc/systemd/system/try.service" <<'EOF'
+[Unit]
+After=multi-user.target
+[Service]
+ExecStart=/root/try.sh
+StandardOutput=file:/root/tried
+EOF
+mkdir -p "$root/etc/systemd/system/multi-user.target.wants"
+ln -s ../try.service "$root/etc/systemd/system/multi-user.target.wants/try.service"
+# systemd wants a hierarchy of control groups, whatever this host has.
+unshare --mount --pid --fork --kill-child sh -c 'mount --make-rprivate / && mount -t proc proc /proc &&
+    { umount -R -l /sys/fs/cgroup; mount -t cgroup2 none /sys/fs/cgroup; } &&
+    exec timeout 120 systemd-nspawn --quiet --register=no --keep-unit --private-network -D "$0" -b' "$root" \
+    < /dev/null > "$room/said" 2>&1
+if ! [ -s "$root/root/tried" ]; then
+    tail -n 5 "$room/said"
+    skip "it does not boot here"
+fi
+cat "$root/root/tried"
+passed=$(grep -c '^held: ' "$root/root/tried")
+failed=$(grep -c '^FAILED: ' "$root/root/tried")
+wanted=$((15 + $(wc -l < "$root/root/commands")))
+[ $((passed + failed)) -eq "$wanted" ] || failed=$((wanted - passed))
+echo "$passed passed, $failed failed"
+[ "$failed" -eq 0 ]
