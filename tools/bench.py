@@ -3,7 +3,8 @@
 
 Each row is run by both programs by turns, several times; the least processor time counts, less that of an empty
 trace. Instructions are counted by valgrind's callgrind where there is one, on a shorter trace. tshark and tcpdump
-read the frames of the mix too, where they are installed. Needs Python and a C compiler.
+read the frames of the mix too, where they are installed, and the captures that lldpa-capture reads. Needs Python and a
+C compiler.
 """
 import argparse
 import html
@@ -13,11 +14,14 @@ import platform
 import random
 import re
 import shutil
+import struct
 import subprocess
 import sys
 import tempfile
 import time
 from pathlib import Path
+
+import cabling
 
 TOP = Path(__file__).resolve().parent.parent
 NEAREST_BRIDGE = bytes.fromhex("0180c200000e")
@@ -225,6 +229,71 @@ def other_readers(room, times):
     return lines
 
 
+def write_small_frames(path):
+    """200 MB of small frames that are not LLDP's, a thousand a second."""
+    rng, frames = random.Random(3), 1_400_000
+    octets = [rng.randbytes(127) for _ in range(100)]
+    with path.open("wb") as file:
+        file.write(bytes.fromhex("d4c3b2a1020004000000000000000000ffff000001000000"))
+        for i in range(frames):
+            file.write(struct.pack("<IIII", i // 1000, i % 1000 * 1000, 127, 127) + octets[i % 100])
+
+
+def write_lldp_frames(path):
+    """100,000 LLDP frames of the mix, a hundred a second."""
+    frames = mix(992, 32)
+    with path.open("wb") as file:
+        file.write(bytes.fromhex("d4c3b2a1020004000000000000000000ffff000001000000"))
+        for i in range(100_000):
+            octets = frames[i % len(frames)]
+            file.write(struct.pack("<IIII", i // 100, i % 100 * 10_000, len(octets), len(octets)) + octets)
+
+
+CAPTURES = (("a capture of 1.4 million small frames, none LLDP's", write_small_frames),
+            ("a capture of 100,000 LLDP frames", write_lldp_frames))
+CAPTURE_READERS = (("lldpa-capture", [sys.executable, str(TOP / "bin/lldpa-capture")]),
+                   ("tcpdump", ["tcpdump", "-nnv", "ether proto 0x88cc", "-r"]),
+                   ("tshark", ["tshark", "-V", "-Y", "lldp", "-r"]))
+
+
+def spent(words):
+    """Seconds of processor time of one run, and the megabytes of memory that it took at most."""
+    child, ended, kilobytes = subprocess.Popen(words, stdout=subprocess.DEVNULL, stderr=subprocess.DEVNULL), 0, [0]
+    while not ended:
+        kilobytes += re.findall(r"VmHWM:\s+(\d+)", Path(f"/proc/{child.pid}/status").read_text())
+        time.sleep(0.01)
+        ended, child.returncode, usage = os.wait4(child.pid, os.WNOHANG)
+    if child.returncode != 0:
+        sys.exit(f"{words} ended with {child.returncode}")
+    return usage.ru_utime + usage.ru_stime, int(kilobytes[-1]) / 1024
+
+
+def capture_rows(room, times):
+    """What each reader of captures takes for each capture, by turns."""
+    lines = []
+    for title, write in CAPTURES:
+        capture = room / "capture.pcap"
+        write(capture)
+        readers = [(name, words) for name, words in CAPTURE_READERS if shutil.which(words[0])]
+        runs = {name: [] for name, _ in readers}
+        for _ in range(times):
+            for name, words in readers:
+                runs[name].append(spent([*words, str(capture)]))
+        told = [f"{name} {min(ran)[0]:.2f} s and {max(mb for _, mb in ran):.0f} MB" for name, ran in runs.items()]
+        lines.append(f"{title}: {', '.join(told)}")
+    return lines
+
+
+AUDIT = "an audit of 100,000 links from the shows of 2,000 hosts"
+
+
+def audit_of_cabling(room):
+    """What an audit of 100,000 links costs, and the memory that it takes."""
+    words = cabling.Network(2000, 100).write(room)
+    used, _, megabytes = min(cabling.measured(words) for _ in range(3))
+    return [f"{AUDIT}: {used:.1f} s, {megabytes:.0f} MB"]
+
+
 def picture(told):
     """Bars of lldpa beside C, a pair for each row; C's are equally long, so ours show the ratio."""
     left, widest, high, top = 250, 330, 40, 66
@@ -232,6 +301,7 @@ def picture(told):
     others = [row for row in told["rows"] if len(row["time"]) == 1]
     end = top + high * len(rows_of_c)
     foot = [f"{row['title']}: {row['time'][0]:.0f} ns" for row in others] + told["start"] + told["others"]
+    foot += told.get("captures", [])
     out = [f'<svg xmlns="http://www.w3.org/2000/svg" width="860" height="{end + 34 + 19 * len(foot)}" '
            'font-family="sans-serif" font-size="13">',
            '<rect width="100%" height="100%" fill="white"/>',
@@ -278,7 +348,10 @@ def measured(options, room):
             print(f"{row.title:34}{beside(spent, ' ns')}{beside(ran) if count else ''}", flush=True)
             told["rows"].append({"title": row.title, "time": spent, "instructions": ran})
     told["start"], told["others"] = start(room), other_readers(room, options.times)
-    print("\n".join(told["start"] + told["others"]))
+    told["captures"] = capture_rows(room, options.times)
+    if options.only in AUDIT:
+        told["others"] += audit_of_cabling(room)
+    print("\n".join(told["start"] + told["others"] + told["captures"]))
     return told
 
 
@@ -291,11 +364,16 @@ def main():
     parser.add_argument("--no-instructions", action="store_true", help="count no instructions")
     parser.add_argument("--save", metavar="FILE", help="keep the table in this file")
     parser.add_argument("--saved", metavar="FILE", help="measure nothing: take the table that was kept in this file")
+    parser.add_argument("--captures", action="store_true", help="with --saved, measure what reads captures, and that alone")
     parser.add_argument("--svg", metavar="FILE", help="draw the table into this file (docs/bench.svg is the one that the pages show)")
     options = parser.parse_args()
     program = options.program
     if options.saved:
         told = json.loads(Path(options.saved).read_text())
+        if options.captures:
+            with tempfile.TemporaryDirectory() as folder:
+                told["captures"] = capture_rows(Path(folder), options.times)
+            print("\n".join(told["captures"]))
     else:
         with tempfile.TemporaryDirectory() as folder:
             yardstick = str(Path(folder) / "limit")

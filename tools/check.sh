@@ -1,9 +1,11 @@
 #!/bin/sh
-# Checks the built program: the transcripts of examples/, the examples and the links of the pages, the completion,
-# misuse of its words and streams, refused memory, and half a minute of random traces beside the model.
+# Checks the built program: the transcripts of examples/, the examples and the links of the pages, what the sources
+# say of memory, the completion, the package, misuse of its words and streams, every value of each range, refused
+# memory, and traces of fixed and of random seeds beside the model and the judge of windows.
 #     tools/check.sh [PROGRAM]
-# PROGRAM is the one that the gate leaves unless given. It needs sh, bash, python3 and cmp, and a C compiler for
-# refused memory; what had to be skipped is said and not counted. The last line is `N passed, M failed`.
+# PROGRAM is the one that the gate leaves unless given. It needs sh, bash, python3 and cmp, a C compiler for refused
+# memory, and mypy for the types of the Python package; what had to be skipped is said and not counted. The last line
+# is `N passed, M failed`.
 set -u
 cd "$(dirname "$0")/.." || exit 2
 program=$(realpath -- "${1:-crates/lldpa/out/lldpa}")
@@ -97,6 +99,15 @@ bad_openings() {
     ends 2 "lldpa: bad text" 'lldpa --hostname "caf$(printf "\303\251")" eth0'
     ends 0 "" 'lldpa --hostname "" eth0'
     ends 2 "lldpa: no memory" 'lldpa "$(printf "\377")"'
+    ends 2 "*unexpected argument '--no-such' found*" 'lldpa $(seq 64) --no-such'
+    ends 2 "*invalid value 'switch'*--role*" 'lldpa $(seq 64) --role switch'
+    ends 2 "lldpa: bad --mac" 'lldpa $(seq 64) --mac 1'
+    ends 2 "lldpa: too many ports" 'lldpa $(seq 70) --hostname last'
+    ends 0 "" 'echo show chassis | lldpa $(seq 64) --mac 00:00:5e:00:53:01 --hostname last --role router' \
+        "local-chassis.mac=00:00:5e:00:53:01
+local-chassis.name=last
+local-chassis.descr=lldpa
+local-chassis.caps=Router:on"
     ends 2 "lldpa: bad port name" 'printf "tick\n" | { lldpa a.b; kept=$?; cat; exit $kept; }' tick
 }
 
@@ -156,6 +167,8 @@ bad_options() {
         ends 2 "" "lldpa $words 2>&-"
     done
     ends 0 "" 'lldpa --help > help && ! grep -n ".\{81\}" help'
+    cmp -s "$room/help" examples/help.txt
+    judge $? "lldpa --help does not write examples/help.txt"
 }
 
 misused_streams() {
@@ -221,36 +234,86 @@ picture() {
     judge $? "docs/bench.svg is not what tools/bench.py draws of docs/bench.json"
 }
 
-# The manual page is well formed, where there is mandoc or man.
-manual_page() {
-    echo "== manual page"
+# The manual pages are well formed, where there is mandoc or groff.
+manual_pages() {
+    echo "== manual pages"
     if command -v mandoc > /dev/null; then
-        mandoc -T lint man/lldpa.1 > "$room/out" 2>&1
-        judge $? "mandoc -T lint: $(cat "$room/out")"
+        for page in man/*.1; do # which pages are installed beside them does not matter
+            mandoc -T lint "$page" 2>&1 | grep -v "referenced manual not found\|mandoc.db" > "$room/out"
+            [ ! -s "$room/out" ]
+            judge $? "mandoc -T lint: $(cat "$room/out")"
+        done
     else
         echo "skipped: mandoc, which is not installed"
     fi
     if command -v groff > /dev/null; then
-        groff -mandoc -ww -z man/lldpa.1 > "$room/out" 2>&1 && [ ! -s "$room/out" ]
-        judge $? "groff: $(cat "$room/out")"
+        for page in man/*.1; do
+            groff -mandoc -ww -z "$page" > "$room/out" 2>&1 && [ ! -s "$room/out" ]
+            judge $? "groff: $(cat "$room/out")"
+        done
     else
         echo "skipped: groff, which is not installed"
     fi
 }
 
+# The service is hardened, and takes what its example sets.
+service() {
+    echo "== the service"
+    if command -v systemd-analyze > /dev/null; then
+        systemd-analyze security --offline=true --threshold=20 "$PWD/share/systemd/lldpa.service" > "$room/out" 2>&1
+        judge $? "systemd-analyze security: $(tail -n 1 "$room/out")"
+    else
+        echo "skipped: systemd-analyze, which is not installed"
+    fi
+    for name in PORTS LIVE_OPTIONS AGENT_OPTIONS; do
+        grep -q "^$name=" share/default/lldpa && grep -q "^ExecStart=.* \$$name\b" share/systemd/lldpa.service
+        judge $? "$name is not both in share/default/lldpa and in the service"
+    done
+}
+
+# The Python package has the types that it says, where there is mypy.
+python_types() {
+    echo "== types of the Python package"
+    if command -v mypy > /dev/null; then
+        mypy --strict --cache-dir "$room/types" python/lldpa > "$room/out" 2>&1
+        judge $? "mypy --strict: $(cat "$room/out")"
+    else
+        echo "skipped: mypy, which is not installed"
+    fi
+}
+
 part "transcripts, and examples of the pages" python3 tools/examples.py "$program"
+echo "== transcripts as theorems"
+python3 tools/transcripts.py --check
+judge $? "crates/lldpa/proofs/Transcripts.antt is not what tools/transcripts.py writes of examples/"
 part "links of the pages" python3 tools/check-links.py
-manual_page
+part "memory and accesses, by the sources" python3 tools/check-memory.py
+manual_pages
+service
 picture
 part "completion" tools/check-completion.sh "$program"
+part "completion for zsh" python3 tools/check-zsh.py
+# The Python package: its tests, its types, and what it reads of captures.
+part "tests of the Python package" python3 tools/test-python.py "$program"
+python_types
+part "captures" python3 tools/check-capture.py --program "$program"
+# The worked audit of docs/audit: its lines, from a plan in CSV and in DOT, and its picture.
+part "audit of eight ports" python3 tools/check-audit.py --program "$program"
+# The Debian package, and what tools/install.sh installs.
+part "the package" tools/check-package.sh "$program"
 bad_openings
 bad_addresses
 bad_options
 misused_streams
 binary_input
 part "refused memory" tools/refuse-memory.sh "$program"
-echo "== random traces, beside the model"
-python3 tools/fuzz.py --program "$program" --seconds 30
+part "every value of each range" python3 tools/check-ranges.py "$program"
+part "answers over a connection" python3 tools/check-listen.py "$program"
+echo "== traces of fixed seeds, beside the model and the judge of windows"
+python3 tools/fuzz.py --program "$program" --seed 1 --traces 4000 --judge-one-in 20
+judge $? "the program and the model differ"
+echo "== random traces, beside both"
+python3 tools/fuzz.py --program "$program" --seconds 20
 judge $? "the program and the model differ"
 echo "$passed passed, $failed failed"
 [ "$failed" -eq 0 ]
