@@ -1,11 +1,11 @@
-"""Judges what is seen at the ports of hosts by a plan. The manual defines each verdict."""
+"""Judges what is seen at the ports of hosts by a plan. docs/OPERATORS.md defines each verdict."""
 from __future__ import annotations
 
 from enum import Enum
 from typing import Iterator, NamedTuple, Optional, Sequence
 
 from .names import End, Seen
-from .plan import Plan
+from .plan import Plan, Wish
 from .tables import Tables
 
 
@@ -56,9 +56,9 @@ class Judge:
 
     def planned(self) -> Iterator[Finding]:
         """The findings on the planned ends of the audited hosts."""
-        for end in self.plan.ends:
+        for end, wish in self.plan.ends.items():
             if end.host in self.tables.hosts:
-                yield self.finding(end)
+                yield self.finding(end, wish)
 
     def unplanned(self) -> Iterator[Finding]:
         """The findings on ports beside the plan."""
@@ -66,16 +66,14 @@ class Judge:
             if told.neighbors and end not in self.plan.ends:
                 yield Finding(told.end, Verdict.UNPLANNED, None, told.neighbors)
 
-    def finding(self, end: End) -> Finding:
+    def finding(self, end: End, wish: Wish) -> Finding:
         """The finding on a planned end."""
-        wish = self.plan.ends[end]
         told = self.tables.ends.get(end)
         if told is None:
             return Finding(wish.end, Verdict.NO_DATA, wish.wants)
-        wanted = self.names.end(wish.wants)
-        verdict = self.verdict(end, wanted, told.neighbors)
+        verdict = self.verdict(end, wish.wanted, told.neighbors)
         if verdict is Verdict.WRONG:
-            partner = self.partner(end, wanted, told.neighbors[0])
+            partner = self.partner(end, wish.wanted, told.neighbors[0])
             if partner is not None:
                 return Finding(wish.end, Verdict.SWAPPED, wish.wants, told.neighbors, partner)
         return Finding(wish.end, verdict, wish.wants, told.neighbors)
@@ -84,10 +82,10 @@ class Judge:
         """The verdict on an end that is told of. One that is swapped is still wrong here."""
         if not neighbors:
             return Verdict.ONE_SIDED if self.sees(wanted, end) else Verdict.SILENT
-        right_ones = [one for one in neighbors if self.names.answers(one, wanted)]
         if len(neighbors) > 1:
+            right_ones = [one for one in neighbors if self.names.answers(one, wanted)]
             return Verdict.EXTRA if len(right_ones) == 1 else Verdict.DOUBLED
-        if not right_ones:
+        if not self.names.answers(neighbors[0], wanted):
             return Verdict.WRONG
         is_heard = wanted not in self.tables.ends or self.sees(wanted, end)
         return Verdict.RIGHT if is_heard else Verdict.ONE_SIDED
@@ -95,7 +93,10 @@ class Judge:
     def sees(self, end: End, other: End) -> bool:
         """Whether one of an end's neighbors answers to the other end."""
         told = self.tables.ends.get(end)
-        return told is not None and any(self.names.answers(one, other) for one in told.neighbors)
+        for one in told.neighbors if told is not None else ():
+            if self.names.answers(one, other):
+                return True
+        return False
 
     def partner(self, end: End, wanted: End, neighbor: Seen) -> Optional[End]:
         """The end of another link with which an end is swapped that has this neighbor alone.
@@ -104,11 +105,11 @@ class Judge:
         is the first one of the plan.
         """
         wishes = [self.plan.ends[key] for key in self.names.ends(neighbor) if key in self.plan.ends]
-        others = {self.names.end(wish.wants) for wish in wishes} - {end, wanted}
+        others = {wish.wanted for wish in wishes} - {end, wanted}
         for other in sorted(others, key=lambda other: self.plan.ends[other].place):
-            its_wanted = self.names.end(self.plan.ends[other].wants)
-            if self.has_alone(other, wanted) and not self.sees(other, its_wanted):
-                return self.plan.ends[other].end
+            its_wish = self.plan.ends[other]
+            if self.has_alone(other, wanted) and not self.sees(other, its_wish.wanted):
+                return its_wish.end
         return None
 
     def has_alone(self, end: End, other: End) -> bool:

@@ -3,17 +3,16 @@ from __future__ import annotations
 
 import os
 import time
-from typing import Callable, Iterable, Iterator, NamedTuple
+from typing import Callable, Iterable, Iterator, NamedTuple, Sequence
 
 from .control import Client
 from .names import End
 from .plan import Plan
 from .recorded import Recorded, read_interfaces, read_port
-from .seen import Ports, read_ports
-from .show import ShowFault
+from .seen import read_ports
+from .showfiles import ShowFile
 from .tables import Tables
 
-BEGIN_OF_SHOW = b"lldp."
 SECONDS_BETWEEN_LOOKS = 0.5
 
 
@@ -32,6 +31,11 @@ def read_what(word: str, ours: str) -> What:
     forms += [What(host, "", file) for host, file in parted(word, ":")]
     there = (form for form in forms if os.path.exists(form.file))
     return next(there, forms[min(1, len(forms) - 1)])
+
+
+def of_hosts(whats: Iterable[What]) -> list[What]:
+    """Those that are not captures of one port."""
+    return [what for what in whats if not what.port]
 
 
 def parted(word: str, mark: str) -> Iterator[tuple[str, str]]:
@@ -54,32 +58,28 @@ class Gathering:
         self.say = say
         self.is_damaged = False
 
-    def add_files(self, whats: Iterable[What]) -> None:
-        """Takes files. Several captures of one port are one."""
+    def add_files(self, whats: Sequence[What], files: Iterator[ShowFile]) -> None:
+        """Takes files, those of hosts as they were read. Several captures of one port are one."""
+        for what, file in zip(of_hosts(whats), files):
+            self.add_file(what, file)
         of_ports: dict[End, list[str]] = {}
         for what in whats:
             if what.port:
                 of_ports.setdefault(End(what.host, what.port), []).append(what.file)
-            else:
-                self.add_file(what.host, what.file)
-        for end, files in of_ports.items():
-            for file in files:
-                open(file, "rb").close()
-            recorded = read_port(files, end.port, self.program)
+        for end, captures in of_ports.items():
+            for capture in captures:
+                open(capture, "rb").close()
+            recorded = read_port(captures, end.port, self.program)
             self.add_recorded(end.host, end.port, recorded)
 
-    def add_file(self, host: str, path: str) -> None:
+    def add_file(self, what: What, file: ShowFile) -> None:
         """Takes a show, or a capture that names its interfaces."""
-        with open(path, "rb") as file:
-            begin = file.read(len(BEGIN_OF_SHOW))
-            if begin != BEGIN_OF_SHOW:
-                self.add_recorded(host, "", read_interfaces(path, self.program))
-                return
-            text = (begin + file.read()).decode("latin-1")
-        try:
-            self.add_ports(host, read_ports(text))
-        except ShowFault as fault:
-            self.damaged(host, "", f"{path}: {fault}")
+        if not file.is_show:
+            self.add_recorded(what.host, "", read_interfaces(what.file, self.program))
+        elif file.fault:
+            self.damaged(what.host, "", file.fault)
+        else:
+            self.tables.add_ports(what.host, file.ports)
 
     def add_recorded(self, host: str, port: str, recorded: Recorded) -> None:
         """Takes the ports of captures, all of a host where no port is named."""
@@ -114,12 +114,7 @@ class Gathering:
                 if not waits or time.monotonic() >= end:
                     break
                 time.sleep(SECONDS_BETWEEN_LOOKS)
-        self.add_ports(host, ports)
-
-    def add_ports(self, host: str, ports: Ports) -> None:
-        """Takes the ports of a host."""
-        for port, neighbors in ports.items():
-            self.tables.add(host, port, neighbors)
+        self.tables.add_ports(host, ports)
 
     def damaged(self, host: str, port: str, why: str) -> None:
         """Says what is wrong with a file, whose port, or whose host's ports, are not known."""

@@ -34,10 +34,14 @@ class Link(NamedTuple):
 
 
 class Wish(NamedTuple):
-    """A planned end and the one that it wants, as the plan writes them, and its place there."""
+    """A planned end and the one that it wants, as the plan writes them, and its place there.
+
+    `wanted` is the one that it wants as it is compared.
+    """
 
     end: End
     wants: End
+    wanted: End
     place: int
 
 
@@ -52,11 +56,12 @@ class Plan:
         self.ends: dict[End, Wish] = {}
         lines: dict[End, Optional[int]] = {}
         for one, other, line in links:
-            for end, wanted in ((one, other), (other, one)):
-                key = names.end(end)
+            one_key, other_key = names.end(one), names.end(other)
+            both = ((one_key, one, other, other_key), (other_key, other, one, one_key))
+            for key, end, wants, wanted in both:
                 if key in lines:
                     raise PlanFault(file, line, planned_twice(end, lines[key], line))
-                self.ends[key] = Wish(end, wanted, len(lines))
+                self.ends[key] = Wish(end, wants, wanted, len(lines))
                 lines[key] = line
         if not self.ends:
             raise PlanFault(file, None, "it plans no link")
@@ -109,15 +114,22 @@ def links_of_csv(file: str, text: str) -> Iterator[Link]:
 
 def rows_of_csv(file: str, text: str) -> Iterator[tuple[int, list[str]]]:
     """The fields of each line that is not blank and no comment, with its number."""
-    separator = ""
-    for number, line in enumerate(text.split("\n"), 1):
-        if not line.strip(" \t\r,;") or line.lstrip().startswith("#"):
-            continue
-        separator = separator or max(SEPARATORS, key=line.count)
+    lines = [(number, line) for number, line in enumerate(text.split("\n"), 1) if has_fields(line)]
+    separator = max(SEPARATORS, key=lines[0][1].count) if lines else ","
+    reader = csv.reader((line for _, line in lines), delimiter=separator, strict=True)
+    for taken, (number, _) in enumerate(lines, 1):
         try:
-            yield number, next(csv.reader([line], delimiter=separator, strict=True))
+            row = next(reader)
         except csv.Error as fault:
             raise PlanFault(file, number, str(fault)) from None
+        if reader.line_num > taken:
+            raise PlanFault(file, number, "a field in quotes has no end")
+        yield number, row
+
+
+def has_fields(line: str) -> bool:
+    """Whether a line of a CSV file is not blank and no comment."""
+    return bool(line.strip(" \t\r,;")) and not line.lstrip().startswith("#")
 
 
 def fields_of_row(file: str, line: int, row: Sequence[str], places: Sequence[int],
@@ -126,7 +138,7 @@ def fields_of_row(file: str, line: int, row: Sequence[str], places: Sequence[int
     if any(row[width:]):
         raise PlanFault(file, line, f"it has {len(row)} fields under {width} columns")
     fields = [row[at].strip() if at < len(row) else "" for at in places]
-    for name, field in zip(COLUMNS, fields):
-        if not field:
-            raise PlanFault(file, line, f"its {name} is missing")
+    if not all(fields):
+        name = COLUMNS[fields.index("")]
+        raise PlanFault(file, line, f"its {name} is missing")
     return fields

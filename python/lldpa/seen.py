@@ -2,11 +2,11 @@
 from __future__ import annotations
 
 import ipaddress
-from typing import Sequence
+from typing import Iterable, Iterator, Sequence, Tuple
 
 from .names import NAMELESS, Seen
-from .quickshow import QuickPort, Said, Unusual, quick_ports
-from .show import Neighbor, Port, ShowFault, read_show, unescaped
+from .quickshow import NAMES, USUAL_PORT
+from .show import Port, Show, ShowFault, read_show, unescaped
 
 Ports = dict[str, Sequence[Seen]]
 
@@ -16,45 +16,73 @@ def read_ports(text: str) -> Ports:
     if not text.endswith("\n"):
         raise ShowFault("its last line has no end: it was cut short")
     try:
-        ports = quick_ports(text)
-    except Unusual:
-        ports = [quick_form(port) for port in read_show(text[:-1].split("\n")).ports]
-    return {port.name: seen_at(port) for port in ports}
+        return quick_ports(text)
+    except ShowFault:
+        return slow_ports(text)
 
 
-def quick_form(port: Port) -> QuickPort:
-    """A port of `read_show`."""
-    return QuickPort(port.name, port.too_many, [said_by(neighbor) for neighbor in port.neighbors])
+def slow_ports(text: str) -> Ports:
+    """The ports of a show, each line read by `read_show`, which counts them from the first."""
+    return dict(seen_ports(read_show(text[:-1].split("\n"))))
 
 
-def said_by(neighbor: Neighbor) -> Said:
-    """The chassis ID of a neighbor, its port ID, and what else it said."""
-    chassis, port_id = neighbor.chassis, neighbor.port_id
-    first = [(f"chassis.{chassis.kind}", chassis.text), (f"port.{port_id.kind}", port_id.text)]
-    return [*first, *neighbor.said]
+def quick_ports(text: str) -> Ports:
+    """The ports of a show, the usual ones taken whole. The lines of a fault are not the show's."""
+    pairs = list(port_by_port(text))
+    ports = dict(pairs)
+    if len(ports) < len(pairs):
+        raise ShowFault("a port stands twice")
+    return ports
 
 
-def seen_at(port: QuickPort) -> Sequence[Seen]:
+def port_by_port(text: str) -> Iterator[Tuple[str, Sequence[Seen]]]:
+    """The name of each port and its neighbors. Other shows may stand behind the last one."""
+    at = 0
+    for found in USUAL_PORT.finditer(text):
+        if found.start() > at:
+            yield from seen_ports(only_ports(text[at:found.start()]))
+        _, name, chassis, kind, port_id, further = found.groups()
+        yield name, [seen_neighbor(chassis, kind, port_id, NAMES.findall(further))]
+        at = found.end()
+    if at < len(text):
+        yield from seen_ports(read_show(text[at:-1].split("\n")))
+
+
+def only_ports(text: str) -> Show:
+    """A show of ports, behind which further ports stand, and so no other show."""
+    show = read_show(text[:-1].split("\n"))
+    if show != Show(show.ports):
+        raise ShowFault("another show stands between ports")
+    return show
+
+
+def seen_ports(show: Show) -> Iterator[Tuple[str, Sequence[Seen]]]:
+    """The name of each port and its neighbors."""
+    for port in show.ports:
+        yield port.name, seen_at(port)
+
+
+def seen_at(port: Port) -> Sequence[Seen]:
     """The neighbors of a port. All those for whom there was no room are one, without a name."""
-    seen = [seen_neighbor(said) for said in port.neighbors]
+    seen = [seen_neighbor(one.chassis.text, one.port_id.kind, one.port_id.text, one.said)
+            for one in port.neighbors]
     return [*seen, NAMELESS] if port.too_many else seen
 
 
-def seen_neighbor(said: Said) -> Seen:
-    """A neighbor by its names.
+def seen_neighbor(chassis: str, kind: str, port_id: str, said: Iterable[Tuple[str, str]]) -> Seen:
+    """A neighbor by its chassis ID, the kind of its port ID, that ID, and what else it said.
 
     The System Name reads best, and so does the Port Description, unless the Port ID names an
     interface.
     """
-    (_, chassis), (kind, port_id), *further = said
     hosts, ports = [chassis], [port_id]
-    for key, value in further:
+    for key, value in said:
         if key == "chassis.name":
             hosts.insert(0, value)
         elif key == "chassis.mgmt":
             hosts += names_of_address(value.partition(",")[0])
         elif key == "port.descr":
-            ports.insert(1 if kind == "port.ifname" else 0, value)
+            ports.insert(1 if kind == "ifname" else 0, value)
     return Seen(plain(hosts), plain(ports), chassis, port_id)
 
 
@@ -69,6 +97,9 @@ def plain(texts: Sequence[str]) -> tuple[str, ...]:
 
 def names_of_address(address: str) -> Sequence[str]:
     """An address as a show writes it, and as people do, who shorten those of IPv6."""
-    if address.count(":") == 7:
+    if address.count(":") != 7:
+        return (address,)
+    try:
         return address, ipaddress.ip_address(address).compressed
-    return (address,)
+    except ValueError:
+        return (address,)

@@ -1,7 +1,7 @@
 """What is known of the audited hosts: the neighbors of their ports."""
 from __future__ import annotations
 
-from typing import NamedTuple, Sequence
+from typing import Mapping, NamedTuple, Sequence
 
 from .names import End, Names, Seen
 
@@ -31,12 +31,17 @@ class Tables:
 
     def add(self, host: str, port: str, neighbors: Sequence[Seen]) -> None:
         """The neighbors of a port. Raises ValueError where they were told before."""
+        self.add_ports(host, {port: neighbors})
+
+    def add_ports(self, host: str, ports: Mapping[str, Sequence[Seen]]) -> None:
+        """The neighbors of each of a host's ports. Raises ValueError where they were told before."""
         self.add_host(host)
-        end = End(host, port)
-        key = self.names.end(end)
-        if key in self.ends:
-            raise ValueError(f"the neighbors of {end} are told twice")
-        self.ends[key] = Told(end, neighbors)
+        for port, neighbors in ports.items():
+            end = End(host, port)
+            key = self.names.end(end)
+            if key in self.ends:
+                raise ValueError(f"the neighbors of {end} are told twice")
+            self.ends[key] = Told(end, neighbors)
 
     def add_reason(self, host: str, port: str, reason: str) -> None:
         """Why a port is not known, or further ports of a host where the port's name is empty."""

@@ -3,11 +3,11 @@ from __future__ import annotations
 
 import random
 import unittest
-from typing import List
+from typing import Callable, Union
 
 import rack
-from lldpa.quickshow import Unusual, quick_ports
-from lldpa.seen import quick_form, read_ports
+from lldpa.quickshow import USUAL_PORT
+from lldpa.seen import Ports, quick_ports, read_ports, slow_ports
 from lldpa.show import ShowFault, read_show
 
 SHOW = """\
@@ -43,6 +43,10 @@ lldp.c.1.expires=7
 lldp.c.1.port.descr=uplink = 7
 """
 
+COUNTERS = "".join(f"lldp.b.{key}=0\n" for key in (
+    "sent", "shutdowns", "received", "discarded", "errors", "tlvs-discarded", "unrecognized",
+    "ageouts", "drops"))
+
 # what damages a show: lines of other places, digits and marks that are gone or twice
 PIECES = ["=", ".", "\n", "1", "0", "lldp.", "b", "\\", "\x7f", "neighbors", "ttl", "lldp.c."]
 DAMAGED_SHOWS = 4000
@@ -73,47 +77,63 @@ class Neighbors(unittest.TestCase):
             read_ports("lldp\n")
 
     def test_other_shows_behind(self) -> None:
-        counters = [f"lldp.b.{key}=0" for key in (
-            "sent", "shutdowns", "received", "discarded", "errors", "tlvs-discarded",
-            "unrecognized", "ageouts", "drops")]
-        self.assertEqual(read_ports(SHOW + "\n".join(counters) + "\n"), read_ports(SHOW))
+        self.assertEqual(read_ports(SHOW + COUNTERS), read_ports(SHOW))
 
 
 class QuickWay(unittest.TestCase):
-    """What the quick way takes, the other one reads likewise; the rest is left to it."""
+    """What the quick way takes, the other one reads likewise, and each fault is told by its line."""
 
-    def test_whole_shows_are_taken(self) -> None:
+    def test_usual_ports_are_found(self) -> None:
         text = "\n".join(rack.show(rack.PORTS)) + "\n"
-        self.assertEqual(quick_ports(text), self.other_way(text))
+        usual = [found[2] for found in USUAL_PORT.finditer(text)]
+        shown = read_show(text[:-1].split("\n")).ports
+        self.assertEqual(usual, [port.name for port in shown
+                                 if len(port.neighbors) == 1 and not port.too_many])
+        self.assertGreater(len(usual), 40)
+
+    def test_whole_shows(self) -> None:
+        text = "\n".join(rack.show(rack.PORTS)) + "\n"
+        self.assertEqual(quick_ports(text), slow_ports(text))
+        self.assertEqual(list(quick_ports(text)), list(slow_ports(text)))
+
+    def test_ports_that_stand_twice(self) -> None:
+        usual = SHOW[SHOW.index("lldp.c."):]
+        for text in (usual + usual, SHOW + usual, usual + SHOW):
+            with self.assertRaisesRegex(ShowFault, "another port's name"):
+                read_ports(text)
+
+    def test_usual_port_behind_another_show(self) -> None:
+        usual = SHOW[SHOW.index("lldp.c."):]
+        with self.assertRaisesRegex(ShowFault, "line 32: 'lldp.c.neighbors=1' where the end"):
+            read_ports(SHOW.replace(usual, COUNTERS + usual))
 
     def test_damaged_shows(self) -> None:
-        rng, taken = random.Random(30), 0
+        rng, right = random.Random(30), 0
         for number in range(DAMAGED_SHOWS):
             text = damaged(SHOW.replace("a.neighbors=1", "a"), rng)
-            try:
-                ports = quick_ports(text)
-            except Unusual:
-                continue
-            taken += 1
             with self.subTest(number=number):
-                self.assertEqual(ports, self.other_way(text))
-        self.assertGreater(taken, DAMAGED_SHOWS // 20)
-        self.assertLess(taken, DAMAGED_SHOWS * 19 // 20)
+                told = told_by(read_ports, text)
+                self.assertEqual(told, told_by(slow_ports, text))
+            right += isinstance(told, dict)
+        self.assertGreater(right, DAMAGED_SHOWS // 20)
+        self.assertLess(right, DAMAGED_SHOWS * 19 // 20)
 
-    def other_way(self, text: str) -> List[object]:
-        """What read_show reads."""
-        ports = [quick_form(port) for port in read_show(text[:-1].split("\n")).ports]
-        return [port._replace(neighbors=[[list(pair) for pair in said] for said in port.neighbors])
-                for port in ports]
+
+def told_by(read: Callable[[str], Ports], text: str) -> Union[Ports, str]:
+    """The ports of a show, or what is wrong with it."""
+    try:
+        return read(text)
+    except ShowFault as fault:
+        return str(fault)
 
 
 def damaged(text: str, rng: random.Random) -> str:
-    """A text with a piece that is gone, another, or twice."""
+    """Whole lines with a piece that is gone, another, or twice."""
     at = rng.randrange(len(text))
     end = min(len(text), at + rng.choice([0, 1, 2, 5, 30, 200]))
     line = rng.choice(text.splitlines(keepends=True))
     piece = rng.choice(["", rng.choice(PIECES), text[at:end] * 2, line])
-    return text[:at] + piece + text[end:]
+    return (text[:at] + piece + text[end:]).rstrip("\n") + "\n"
 
 
 if __name__ == "__main__":

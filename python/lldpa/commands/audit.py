@@ -8,7 +8,7 @@ import json
 import os
 import socket
 import sys
-from typing import Optional, Sequence
+from typing import Iterator, Optional, Sequence
 
 from ..audit import audit
 from ..child import Ended
@@ -16,11 +16,12 @@ from ..control import DEFAULT_PATH
 from ..faultlines import FaultLines
 from ..findings import as_json, count, in_order
 from ..framing import Refused
-from ..gather import Gathering, read_what
+from ..gather import Gathering, What, of_hosts, read_what
 from ..names import Names, shown
 from ..picture import PictureFault, draw
 from ..plan import Plan, PlanFault, read_plan
 from ..show import ShowFault
+from ..showfiles import ShowFile, read_show_files
 from ..tables import Tables
 
 WORDS = """\
@@ -29,8 +30,8 @@ WHAT is any number of:
   FILE         a pcapng capture that names its interfaces, or a `show neighbors`, of this host
   HOST:FILE    the same of another host
 
-The status is 0 where all is right, 1 where something is not, 2 where the words are bad or a file
-cannot be read. The manual page lldpa-audit(1) has the verdicts.
+The status is 0 if all is right, 1 if something is not, 2 if an argument is wrong or a file cannot
+be read. The manual page lldpa-audit(1) has the verdicts.
 """
 
 
@@ -76,11 +77,12 @@ def seconds(text: str) -> float:
     return number
 
 
-def gathered(given: argparse.Namespace, plan: Plan, names: Names) -> tuple[Tables, bool]:
+def gathered(given: argparse.Namespace, whats: Sequence[What], files: Iterator[ShowFile],
+             plan: Plan, names: Names) -> tuple[Tables, bool]:
     """What is known of the audited hosts, and whether a file of it is damaged."""
     tables = Tables(names)
     gathering = Gathering(tables, given.program, say)
-    gathering.add_files(read_what(word, given.host) for word in given.what)
+    gathering.add_files(whats, files)
     if given.live:
         gathering.add_live(given.host, given.control, plan, given.wait)
     unplanned = [host for key, host in tables.hosts.items() if key not in plan.hosts]
@@ -104,8 +106,10 @@ def run(given: argparse.Namespace) -> int:
     """Audits, prints and draws. Gives the status."""
     gc.disable()  # what is made stays to the end; to look for garbage costs a third of the time
     names = Names(given.ignore_case, given.short_names)
+    whats = [read_what(word, given.host) for word in given.what]
+    files = read_show_files([what.file for what in of_hosts(whats)])  # beside the plan
     plan = read_plan(given.plan, names)
-    tables, is_damaged = gathered(given, plan, names)
+    tables, is_damaged = gathered(given, whats, files, plan, names)
     findings = audit(plan, tables, given.planned_only)
     lines = FaultLines(plan, tables, findings)
     counted = count(findings)
