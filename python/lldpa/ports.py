@@ -10,7 +10,7 @@ from .interface import Frame, Interface
 from .links import News
 from .seconds import Seconds
 
-MOST_AT_ONCE = 256  # frames that are read at a turn, of all ports together
+MOST_AT_ONCE = 64  # frames that are read at a turn, of all ports together
 SECONDS_BETWEEN_REPORTS = 60
 
 Report = Callable[[str], None]

@@ -42,9 +42,8 @@ class TestFlood(OnLinks):
                 began = time.monotonic()
                 client.ask("show statistics")
                 times.append(time.monotonic() - began)
-        times.sort()
         self.assertGreater(len(times), 10)
-        self.assertLess(times[len(times) * 9 // 10], MOST_SECONDS_TO_ANSWER, times[-10:])
+        self.assertLess(max(times), MOST_SECONDS_TO_ANSWER, sorted(times)[-10:])
         self.assertLess(resident(live), MOST_KIB)
 
     def test_what_the_kernel_dropped_is_told(self) -> None:
