@@ -1,5 +1,5 @@
 """Runs lldpa on words and a trace, over standard input or over connections, and compares what it answers with what the
-model of tools/model.py, the manual's table of wrong words and the judge of tools/judge.py say."""
+model of tools/model.py, the table of wrong arguments in docs/TRACE.md and the judge of tools/judge.py say."""
 import re
 import socket
 import subprocess
@@ -13,7 +13,7 @@ FREE_PORT = "FREE"
 
 SECONDS = 60
 
-# how the program tells of wrong words, as the manual has it
+# how the program tells of wrong arguments, as docs/TRACE.md has it
 WRONG_WORDS = (
     r"error: unexpected argument '(?P<word>.+)' found",
     r"error: invalid value '(?P<value>.*)' for '(?P<option>--[a-z-]+) <.*",
@@ -63,10 +63,12 @@ def cut_at_lines(octets, count):
 
 
 def number_of_connections(words):
-    """How many connections the words ask for."""
-    joined = " ".join(words)
-    found = re.search(r"--connections[= ]\+?([0-9]+)", joined)
-    return int(found[1]) if found else 1
+    """How many connections the words ask for. A word behind `--` is a port, whatever it looks like."""
+    try:
+        given, _ = model.read_words(words)
+    except model.NoRun:
+        return 1
+    return given.get("connections", 1)
 
 
 def answer_over_connections(program, words, trace):
@@ -102,7 +104,7 @@ def answer_of_program(program, words, trace):
 
 
 def is_told(complaint, words):
-    """Whether what is said of wrong words has a form of the manual's table, and names what is wrong."""
+    """Whether what is said of wrong words has a form of the table in docs/TRACE.md, and names what is wrong."""
     first = complaint.split("\n")[0]
     found = next(filter(None, (re.fullmatch(form, first) for form in WRONG_WORDS)), None)
     if found is None:
