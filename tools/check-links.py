@@ -3,7 +3,7 @@
 lines of sources in blocks that say `rust` or `antt`, which stand in one file one behind another, on pages about proofs
 each clause, definition, lemma and large number, in rows of docs/CLAIMS.md that a clause is one of the calls of its row,
 that each module of a crate says in its first line what it is, and that no file of definitions lacks its row in
-docs/DEFINITIONS.md. No line of text is over 120 columns long.
+docs/DEFINITIONS.md, and no transcript its row in examples/README.md. No line of text is over 120 columns long.
 
     tools/check-links.py
 
@@ -15,7 +15,7 @@ import sys
 
 TOP = pathlib.Path(__file__).resolve().parent.parent
 CRATES = [line.split(":")[0] for line in (TOP / "crates.txt").read_text().splitlines()]
-PAGES = sorted(TOP.glob("*.md")) + sorted(TOP.glob("docs/*.md"))
+PAGES = [path for folder in (".", "docs", "examples") for path in sorted((TOP / folder).glob("*.md"))]
 SOURCE = "\n".join(path.read_text() for path in TOP.glob("crates/*/src/**/*.rt"))
 DEFINITIONS = "\n".join(path.read_text() for path in TOP.glob("crates/*/specs/**/*.antt"))
 FUNCTIONS = set(re.findall(r"\b(?:fn|const|type|struct|enum|trait) (\w+)", SOURCE))
@@ -204,6 +204,14 @@ def check_definitions(checks):
                 checks.see(page, f"{crate}, {path.stem}", None if re.search(rf"`{path.stem}\b", section) else "is not told")
 
 
+def check_transcripts(checks):
+    """Each transcript is a row of examples/README.md."""
+    page = "examples/README.md"
+    rows = re.findall(r"^\| \[([\w-]+)\]", (TOP / page).read_text(), re.M)
+    for path in sorted((TOP / "examples").glob("*.args")):
+        checks.see(page, path.stem, None if rows.count(path.stem) == 1 else "does not have one row")
+
+
 def main():
     """Looks up all."""
     checks = Checks()
@@ -212,6 +220,7 @@ def main():
     check_modules(checks)
     check_definitions(checks)
     check_claims(checks)
+    check_transcripts(checks)
     print(f"{checks.passed} passed, {checks.failed} failed")
     return 1 if checks.failed else 0
 

@@ -10,7 +10,7 @@ Each is run four ways: its first lines, one more each time; without its last LF,
 octet; and in two pieces, cut at every place (but for inputs of more than 10,000 octets). A piece is written when
 the program has read the one before it. Each run must end with status 0 and say nothing on standard error.
 
-The examples of the documents and of the manual page are blocks whose first line begins with `$ `. Each such line
+The examples of the pages and of the manual page are blocks whose first line begins with `$ `. Each such line
 is a command, with its input up to the line EOF where it ends with <<'EOF' or <<EOF; what stands below is what it
 writes, up to the next command. A status other than 0 is shown by the command `echo $?`. Nothing may come on standard
 error. The number of a port behind --listen stands for a free one. A block that takes too long has failed, and all that
@@ -149,8 +149,8 @@ def run_transcripts(program, only):
 
 
 def blocks():
-    """The name and the lines of each block of the documents and of the manual page."""
-    for path in sorted(TOP.glob("*.md")) + sorted(TOP.glob("docs/*.md")):
+    """The name and the lines of each block of the pages and of the manual page."""
+    for path in [path for folder in (".", "docs", "examples") for path in sorted((TOP / folder).glob("*.md"))]:
         for place, block in enumerate(re.findall(r"^```\w*\n(.*?)^```$", path.read_text(), re.M | re.S), 1):
             yield f"{path.relative_to(TOP)}, block {place}", block.splitlines()
     page = (TOP / "man" / "lldpa.1").read_text().replace("\\e", "\\").replace("\\-", "-").replace("\\&", "")

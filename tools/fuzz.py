@@ -301,9 +301,9 @@ def altered_words(dice, options, ports):
 
 
 def examples():
-    """The words and traces that the manual shows, and the transcripts."""
-    manual = (TOP / "docs" / "MANUAL.md").read_text()
-    for shown in re.finditer(r"^\$ lldpa ([^\n]*?) *(?:2>&1)? *<<'EOF'\n(.*?)^EOF$", manual, re.M | re.S):
+    """The words and traces that the pages show, and the transcripts."""
+    pages = "".join(path.read_text() for path in sorted((TOP / "docs").glob("*.md")))
+    for shown in re.finditer(r"^\$ lldpa ([^\n]*?) *(?:2>&1)? *<<'EOF'\n(.*?)^EOF$", pages, re.M | re.S):
         yield shlex.split(shown[1]), shown[2].encode().split(b"\n")
     for args in sorted((TOP / "examples").glob("*.args")):
         yield args.read_text().splitlines(), args.with_suffix(".trace").read_bytes().split(b"\n")

@@ -103,7 +103,7 @@ ln -s ../try.service "$root/etc/systemd/system/multi-user.target.wants/try.servi
 # systemd wants a hierarchy of control groups, whatever this host has.
 unshare --mount --pid --fork --kill-child sh -c 'mount --make-rprivate / && mount -t proc proc /proc &&
     { umount -R -l /sys/fs/cgroup; mount -t cgroup2 none /sys/fs/cgroup; } &&
-    exec timeout 120 systemd-nspawn --quiet --register=no --keep-unit --private-network -D "$0" -b' "$root" \
+    exec timeout 180 systemd-nspawn --quiet --register=no --keep-unit --private-network -D "$0" -b' "$root" \
     < /dev/null > "$room/said" 2>&1
 if ! [ -s "$root/root/tried" ]; then
     tail -n 5 "$room/said"

@@ -19,8 +19,8 @@ RX = f"rx eth0 {LLDP.hex()}\n"
 
 
 def slow_trace(frames: Sequence[Frame]) -> List[str]:
-    """The trace of a capture, written from the manual's rules packet by packet: the seconds before
-    each LLDP frame, and at the end."""
+    """The trace of a capture, by the rules of docs/OPERATORS.md packet by packet: the
+    seconds before each LLDP frame, and at the end."""
     lines, passed, set_back, start, latest = [], 0, 0, frames[0][0], frames[0][0]
     for time, octets, length in [*frames, (frames[-1][0], b"", 0)]:
         if latest - (time + set_back) >= SECOND:
@@ -45,7 +45,7 @@ class Traces(FilesCase):
         self.faults: List[str] = []
         return list(trace_of(sources, Told(self.notes.append, self.faults.append), seconds))
 
-    def test_random_times_as_the_manual_says(self) -> None:
+    def test_random_times_as_the_page_says(self) -> None:
         dice = random.Random(9)
         steps = [0, 1000, 10**6, SECOND, -1000, -SECOND, 7 * SECOND, -5 * SECOND]
         for _ in range(1000):
