@@ -72,5 +72,5 @@ def told_end(status: int, said: str) -> Ended:
     """How a process ended, by its status and what it said on standard error."""
     if status < 0:
         names = {one.value: one.name for one in signal.Signals}
-        return Ended(status, f"the agent was ended by {names.get(-status, f'signal {-status}')}")
+        return Ended(status, f"the agent was killed by {names.get(-status, f'signal {-status}')}")
     return Ended(status, said or f"the agent ended with status {status}")

@@ -47,20 +47,20 @@ class Ports:
     def find(self, port: Interface, news: News) -> None:
         """Takes an interface that has come."""
         if not news.is_ethernet:
-            self.report(f"{port.name}: this is no Ethernet interface, and is not taken")
+            self.report(f"{port.name}: not an Ethernet interface, so it is not used")
             return
         try:
             port.take(news.number)
         except OSError as error:
-            self.report(f"{port.name}: the interface is not taken: {error.strerror}")
+            self.report(f"{port.name}: the interface cannot be used: {error.strerror}")
             return
         if port.is_up is not None:
-            self.report(f"{port.name}: the interface is there, and is taken")
+            self.report(f"{port.name}: the interface is there, and in use")
 
     def lose(self, port: Interface, what: str) -> list[bytes]:
         """Lets go of an interface that has gone."""
         port.release()
-        self.report(f"{port.name}: the interface is {what}; the next of that name is awaited")
+        self.report(f"{port.name}: the interface is {what}; waiting for the next of that name")
         return told_link(port, False)
 
     def await_missing(self) -> list[bytes]:
@@ -68,7 +68,7 @@ class Ports:
         lines: list[bytes] = []
         for port in self.by_name.values():
             if port.number is None:
-                self.report(f"{port.name}: there is no such interface yet; it is awaited")
+                self.report(f"{port.name}: no such interface yet; waiting for it")
                 lines += told_link(port, False)
         return lines
 
@@ -78,6 +78,7 @@ class Ports:
         A port whose frames still wait is not read, so that few wait, however many come.
         """
         now = seconds.now()
+        seconds.note_wall_clock()
         readable = {number for number, _ in self.readable.poll(0)}
         unfinished = {frame.port for _, frame in self.waiting}
         ports = [port for port in self.by_name.values() if port.name not in unfinished

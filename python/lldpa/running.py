@@ -71,7 +71,7 @@ def check(words: argparse.Namespace, found: Sequence[News]) -> None:
     there = {news.name: news for news in found}
     for name in words.ports:
         if name in there and not there[name].is_ethernet:
-            raise OSError(0, "this is no Ethernet interface", name)
+            raise OSError(0, "not an Ethernet interface", name)
         if name not in there and words.only_existing:
             raise OSError(0, "there is no such interface", name)
 

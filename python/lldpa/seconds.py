@@ -5,6 +5,9 @@ from __future__ import annotations
 import time
 from typing import Optional
 
+# The least change between the clocks that counts, in seconds: less may be how they were read.
+LEAST_CHANGE = 0.001
+
 
 class Seconds:
     """Counts whole seconds from its making on, by the clock that goes on while the machine sleeps.
@@ -16,14 +19,32 @@ class Seconds:
     def __init__(self) -> None:
         self.begin = self.now()
         self.told = 0
+        self.ahead = self.wall_clock_ahead()
 
     @staticmethod
     def now() -> float:
         """The present moment."""
         return time.clock_gettime(time.CLOCK_BOOTTIME)
 
+    def wall_clock_ahead(self) -> float:
+        """How far the wall clock is ahead of this one: both are read three times, and the reading
+        that was interrupted least counts."""
+        readings = []
+        for _ in range(3):
+            before = self.now()
+            wall = time.time()
+            readings.append((self.now() - before, wall - before))
+        return min(readings)[1]
+
+    def note_wall_clock(self) -> None:
+        """Notes how the clocks stand to each other if that has changed, and else keeps it, so that
+        the moments of stamps have the order of the stamps."""
+        ahead = self.wall_clock_ahead()
+        if abs(ahead - self.ahead) > LEAST_CHANGE:
+            self.ahead = ahead
+
     def moment(self, stamp: Optional[float]) -> float:
-        """The moment of a time stamp by the wall clock, as both clocks stand to each other now.
+        """The moment of a time stamp by the wall clock, as both clocks were last noted.
 
         It is never later than now. Where the wall clock was set since the stamp, it is wrong by as
         much, and so may be early or late among the seconds that were not told yet, but no others.
@@ -31,7 +52,7 @@ class Seconds:
         now = self.now()
         if stamp is None:
             return now
-        return min(now, now - (time.time() - stamp))
+        return min(now, stamp - self.ahead)
 
     def until(self, moment: float) -> int:
         """How many seconds end up to that moment and were not told; from now on they are."""

@@ -100,18 +100,18 @@ class TestLinks(OnLinks):
     def test_interface_that_goes_and_comes_back(self) -> None:
         live = self.live("eth0", "--", "--receive-only")
         self.wires.remove_link("eth0")
-        self.assertTrue(live.says("eth0: the interface is gone; the next of that name is awaited"))
+        self.assertTrue(live.says("eth0: the interface is gone; waiting for the next of that name"))
         self.assertIn("bridge.eth0.interface=awaited", live.ask("bridge"))
         self.assertIn("bridge.eth0.link=down", live.ask("bridge"))
         self.wires.add_link(0)
-        self.assertTrue(live.says("eth0: the interface is there, and is taken"))
+        self.assertTrue(live.says("eth0: the interface is there, and in use"))
         self.assertTrue(eventually(lambda: "bridge.eth0.link=up" in live.ask("bridge")))
         self.peer().send(numbered(1))
         self.assertTrue(eventually(live.neighbors))
 
     def test_interface_that_comes_later(self) -> None:
         live = self.live("eth1", "--", "--receive-only")
-        self.assertTrue(live.says("eth1: there is no such interface yet; it is awaited"))
+        self.assertTrue(live.says("eth1: no such interface yet; waiting for it"))
         self.wires.add_link(1)
         self.assertTrue(eventually(lambda: "bridge.eth1.link=up" in live.ask("bridge")))
         self.peer("peer1").send(numbered(1))

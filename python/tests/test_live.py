@@ -29,7 +29,7 @@ class TestWords(unittest.TestCase):
     def test_words_that_are_refused(self) -> None:
         for words, text in (
                 ([], "PORT"),
-                (["eth0.5"], "VLAN interfaces can be no ports"),
+                (["eth0.5"], "a VLAN interface cannot be a port"),
                 (["0123456789abcdef"], "1 to 15"),
                 (["eth0", "eth0"], "same port twice"),
                 ([f"p{number}" for number in range(65)], "64 are the most"),
@@ -85,7 +85,7 @@ class TestStart(OnLinks):
     def test_interface_that_is_no_ethernet(self) -> None:
         live = self.live("lo")
         self.assertEqual(live.ends(), 1)
-        self.assertIn("lo: this is no Ethernet interface", live.errors())
+        self.assertIn("lo: not an Ethernet interface", live.errors())
 
     def test_program_that_is_not_there(self) -> None:
         live = self.live("eth0", program="/nowhere/lldpa")

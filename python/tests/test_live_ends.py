@@ -102,7 +102,7 @@ class TestEnds(OnLinks):
         live = self.live("eth0")
         os.kill(live.agent(), signal.SIGKILL)
         self.assertEqual(live.ends(3), 1)
-        self.assertIn(f"lldpa-live: {PROGRAM}: the agent was ended by SIGKILL\n", live.errors())
+        self.assertIn(f"lldpa-live: {PROGRAM}: the agent was killed by SIGKILL\n", live.errors())
 
     def test_agent_that_refuses_its_words_is_told(self) -> None:
         live = self.live("eth0", "--", "--max-neighbors", "0")

@@ -49,9 +49,24 @@ class TestSeconds(unittest.TestCase):
 
     def test_moment_of_a_stamp(self) -> None:
         with mock.patch("time.time", lambda: 5000.0):
+            self.seconds.note_wall_clock()
             self.assertEqual(self.seconds.moment(4990.0), 990.25)
             self.assertEqual(self.seconds.moment(5001.0), 1000.25)
             self.assertEqual(self.seconds.moment(None), 1000.25)
+
+    def test_an_interrupted_reading_changes_no_order(self) -> None:
+        walls = [5000.0, 5000.0, 5000.0, 5000.2, 5000.0004, 5000.3]
+        with mock.patch("time.time", lambda: walls.pop(0)):
+            self.seconds.note_wall_clock()
+            first = self.seconds.moment(4990.0)
+            self.seconds.note_wall_clock()
+        self.assertEqual(self.seconds.moment(4990.0), first)
+
+    def test_a_wall_clock_that_is_set_is_noted(self) -> None:
+        for wall in (5000.0, 6000.0, 4000.0):
+            with mock.patch("time.time", At(wall)):
+                self.seconds.note_wall_clock()
+            self.assertEqual(self.seconds.moment(wall - 1), 999.25)
 
 
 class TestNow(unittest.TestCase):

@@ -72,7 +72,7 @@ def words_given(words: Sequence[str]) -> Tuple[argparse.Namespace, Dict[str, Opt
     for name in given.ports:
         if not PORT_NAME.fullmatch(name):
             parser.error(f"{name}: a port's name has 1 to 15 letters, digits, -, _, / and : "
-                         "(VLAN interfaces can be no ports)")
+                         "(a VLAN interface cannot be a port)")
     if len(set(given.ports)) < len(given.ports):
         parser.error("the same port twice")
     if len(given.ports) > MOST_PORTS:
