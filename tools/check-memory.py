@@ -38,7 +38,7 @@ HANDED_ON = (
     r"\bopen_ports\(alloc[,)]",
     r"\bstd::alloc\b",
 )
-READ_THE_WORDS = ("lldpa/src/main.rt", "lldpa/src/program.rt", "lldpa/src/arguments.rt")
+READ_THE_WORDS = ("lldpa/src/main.rt", "lldp_program/src/program.rt", "lldp_program/src/arguments.rt")
 WALKS = ("count/Count/add/Proof.antt", "count/Count/new/Proof.antt")
 # What may be reached how often, and from which module of lldp_table alone.
 REACHED = (
@@ -70,7 +70,7 @@ class Sources:
         self.rules = 0
         for path in sorted(CRATES.glob("*/src/**/*.rt")):
             name = str(path.relative_to(CRATES))
-            if "/tests" not in name:
+            if "/tests" not in name and not name.startswith("lldp_tests/"):
                 self.texts[name] = path.read_text()
 
     def code(self, *crates: str) -> dict[str, str]:
@@ -138,7 +138,7 @@ def see_global(sources: Sources) -> None:
         rest = re.sub(r": Global\b[,)]|<A: Allocator = Global>", "", rest)
         is_made = re.search(r"\bGlobal\b", rest) is not None
         sources.see(not is_made, f"{name}: makes a Global of its own")
-    for name, code in sources.code("lldpa").items():
+    for name, code in sources.code("lldpa", "lldp_program").items():
         is_handed = re.search(r": Global\b|\bHostRuntime\b|\.alloc\(\)", code) is not None
         sources.see(name in READ_THE_WORDS or not is_handed, f"{name}: is handed an allocator")
 

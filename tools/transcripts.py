@@ -41,11 +41,11 @@ use Rattle.lldp_engine.specs.Port.Past.{port_after}
 use Rattle.lldp_engine.specs.Past.{Past, opened, agent_of}
 use Rattle.lldp_engine.specs.Frames.{frame_of}
 use Rattle.lldp_engine.specs.Words.{words_from}
-use Rattle.lldpa.specs.Forms.{tick_form, frame_form, link_form, form_of, work_given}
-use Rattle.lldpa.specs.Lines.{lines_of}
-use Rattle.lldpa.specs.Items.{items_of, items_of_lines, after_all, text_of_all, text}
-use Rattle.lldpa.specs.Usage.{Asks, program}
-use Rattle.lldpa.proofs.ItemLemmas.{text_of_all-append}
+use Rattle.lldp_program.specs.Forms.{tick_form, frame_form, link_form, form_of, work_given}
+use Rattle.lldp_program.specs.Lines.{lines_of}
+use Rattle.lldp_program.specs.Items.{items_of, items_of_lines, after_all, text_of_all, text}
+use Rattle.lldp_program.specs.Usage.{Asks, program}
+use Rattle.lldp_program.proofs.ItemLemmas.{text_of_all-append}
 
 -- the text of each line, each read after all before it
 abbrev texts_of : Past → List (List ℕ) → List (List ℕ)

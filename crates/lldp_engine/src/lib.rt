@@ -56,6 +56,3 @@ pub use sayings::{forms_say_their_commands, neighbors_are_numbered_from_1};
 pub use show::line_sink::LineSink;
 pub use show::lines::MOST_LINES;
 pub use show::writer::{LINE_ROOM, Line, ROOM, Writer};
-
-#[cfg(test)]
-mod tests;

@@ -14,8 +14,8 @@ use crate::tlv_type::{
     SYSTEM_CAPABILITIES, SYSTEM_DESCRIPTION, TIME_TO_LIVE,
 };
 
-/// The fields of System Capabilities. None exactly where the body is not well formed: it has not
-/// four octets, or a bit is enabled that is not available (IEEE 802.1AB-2009, 8.5.8).
+/// The fields of System Capabilities. None exactly where the body is not well formed: it does not
+/// have four octets, or a bit is enabled that is not available (IEEE 802.1AB-2009, 8.5.8).
 pub fn caps(body: &[u8]) -> Option<Caps>
     ensures { result ≡ caps_of body.now }
 {

@@ -32,6 +32,3 @@ pub use laws::{
 pub use msap::Msap;
 pub use spelling::append_tlv;
 pub use tlv::{Tlv, Tlvs};
-
-#[cfg(test)]
-mod tests;

@@ -16,7 +16,7 @@ pub struct Tlv<'a> {
     pub body: &'a [u8],
 }
 
-/// The complete TLVs of some octets, from the front. An End Of LLDPDU is a TLV as any other, and
+/// The complete TLVs of some octets, from the front. An End Of LLDPDU is a TLV like any other, and
 /// does not end them.
 #[derive(Debug, Drop)]
 pub struct Tlvs<'a> {

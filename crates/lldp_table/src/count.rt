@@ -1,4 +1,4 @@
-//! A count that clauses alone see.
+//! A count that only clauses see.
 ghost use Rattle.std.specs.Prelude.{◌≡◌, ℕ, ◌+◌};
 ghost use Rattle.std.specs.Borrow.{ftrue};
 
@@ -15,8 +15,8 @@ impl Model for Count {
 }
 
 impl Count {
-    /// A count that begins at some number. At which is not said, so that nobody can begin anew and
-    /// know that less was counted.
+    /// A count that begins at some number. Which one is not said, so that nobody can begin anew and
+    /// claim that less was counted.
     pub(crate) fn new() -> Count
         ensures { result ≡ result }
     {

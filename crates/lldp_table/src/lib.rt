@@ -26,6 +26,3 @@ pub use learned::Learned;
 pub use limits::{MOST_NEIGHBORS, MOST_OCTETS};
 pub use room::Room;
 pub use table::Table;
-
-#[cfg(test)]
-mod tests;

@@ -7,8 +7,8 @@ use std::alloc::{AllocError, Allocator};
 use std::marker::Model;
 
 /// Room for a number of items. `open` takes the memory for all of them, and no other call takes any.
-/// None hands out the allocator, or the `Vec` that has it: so whoever holds a room cannot take memory
-/// by it.
+/// No call hands out the allocator, or the `Vec` that has it: so whoever holds a room cannot take
+/// memory by it.
 #[derive(Drop)]
 pub struct Room<T, A: Allocator> {
     items: Vec<T, A>,

@@ -9,8 +9,6 @@ mod event;
 mod laws;
 mod limits;
 mod machine;
-#[cfg(test)]
-mod tests;
 
 pub use event::{Cause, Mark};
 pub use laws::{

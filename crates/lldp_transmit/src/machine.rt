@@ -99,8 +99,8 @@ impl Transmit {
     /// Takes one event, with the tx-interval in force after it (1 to 3600 seconds), and tells which
     /// frame goes.
     ///
-    /// Where nothing changes by a `Stop` or an `Allow`, and for a `Change` or a `Neighbor` on a
-    /// port that is not active, that is none, and for a `Down`, an `Up` or `Nothing` always.
+    /// On a port that is not active only a tick can send. An `Allow`, a `Down`, an `Up` and
+    /// `Nothing` never do.
     pub fn event(&mut self, cause: Cause, interval: u16) -> Mark
         // What the machine is after the event, and its answer, computed from what it was.
         ensures next { self.new ≡ (stepped self.old cause interval).0 }

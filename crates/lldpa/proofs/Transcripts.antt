@@ -22,11 +22,11 @@ use Rattle.lldp_engine.specs.Port.Past.{port_after}
 use Rattle.lldp_engine.specs.Past.{Past, opened, agent_of}
 use Rattle.lldp_engine.specs.Frames.{frame_of}
 use Rattle.lldp_engine.specs.Words.{words_from}
-use Rattle.lldpa.specs.Forms.{tick_form, frame_form, link_form, form_of, work_given}
-use Rattle.lldpa.specs.Lines.{lines_of}
-use Rattle.lldpa.specs.Items.{items_of, items_of_lines, after_all, text_of_all, text}
-use Rattle.lldpa.specs.Usage.{Asks, program}
-use Rattle.lldpa.proofs.ItemLemmas.{text_of_all-append}
+use Rattle.lldp_program.specs.Forms.{tick_form, frame_form, link_form, form_of, work_given}
+use Rattle.lldp_program.specs.Lines.{lines_of}
+use Rattle.lldp_program.specs.Items.{items_of, items_of_lines, after_all, text_of_all, text}
+use Rattle.lldp_program.specs.Usage.{Asks, program}
+use Rattle.lldp_program.proofs.ItemLemmas.{text_of_all-append}
 
 -- the text of each line, each read after all before it
 abbrev texts_of : Past → List (List ℕ) → List (List ℕ)
@@ -177,6 +177,197 @@ unfolding digits encode_with decode_pairs
     kept_of discarded_of live neighbors events_of too_many_left moment machine_of heard_of counters_of port_after agent_of
     frame_of words_from tick_form frame_form link_form form_of work_given
 bad_capabilities = record { options = record usual { receive_only = true }; asked = words_of_address_and_local_identifiers; sound = refl; written = refl }
+
+words_of_commands_refused : (roles : Bor (List (Bor Text)))
+    → Asks (matches_of (program roles) (codes "lldpa" ∷ codes "--max-neighbors" ∷ codes "3" ∷ codes "--receive-only" ∷ codes "eth0" ∷ codes "eth1" ∷ []))
+    (record usual { max_neighbors = 3; receive_only = true; names = codes "eth0" ∷ codes "eth1" ∷ [] })
+unfolding clap_on_literals decode_pairs digits
+words_of_commands_refused roles =
+    record {
+      names = refl;
+      mac = record { long = refl; colons = refl; digits = refl };
+      hostname = refl;
+      management = refl;
+      role = refl;
+      max_neighbors = refl;
+      credit_max = refl;
+      fast_init = refl;
+      reinit = refl;
+      receives = λ e. refl;
+      sends = λ e. cc;
+    }
+
+commands_refused : Writes
+    (codes "lldpa" ∷ codes "--max-neighbors" ∷ codes "3" ∷ codes "--receive-only" ∷ codes "eth0" ∷ codes "eth1" ∷ [])
+    (codes "show\n"
+    ++ codes "configure\n"
+    ++ codes "configure system\n"
+    ++ codes "configure system hostname\n"
+    ++ codes "configure system description\n"
+    ++ codes "configure lldp\n"
+    ++ codes "configure lldp tx-interval\n"
+    ++ codes "configure lldp max-neighbors\n"
+    ++ codes "configure ports\n"
+    ++ codes "configure ports eth0\n"
+    ++ codes "configure ports eth0 lldp\n"
+    ++ codes "configure ports eth0 lldp status\n"
+    ++ codes "\"\"\n"
+    ++ (255 ∷ []) ++ codes "\n"
+    ++ codes "ticks\n"
+    ++ codes "update" ++ (13 ∷ []) ++ codes "\n"
+    ++ codes "SHOW neighbors\n"
+    ++ codes "\"show neighbors\"\n"
+    ++ codes "show neighbors" ++ (13 ∷ []) ++ codes "\n"
+    ++ codes "show neighbor x\n"
+    ++ codes "configure system max-neighbors 5\n"
+    ++ codes "configure lldp tx-delay 1\n"
+    ++ codes "configure ports eth0 system status rx-only\n"
+    ++ codes "configure ports eth0 lldp statu rx-only\n"
+    ++ codes "configure ports eth0 lldp status up\n"
+    ++ codes "configure ports eth0 lldp status RX-ONLY\n"
+    ++ codes "configure ports eth0 lldp status rx-and-tx-\n"
+    ++ codes "configure ports eth9 lldp status x\n"
+    ++ codes "configure ports eth\n"
+    ++ codes "configure ports \"\" lldp status disabled\n"
+    ++ codes "configure ports ETH0 x\n"
+    ++ codes "configure lldp tx-interval +5\n"
+    ++ codes "configure lldp tx-hold \"\"\n"
+    ++ codes "configure lldp tx-hold 1.0 x\n"
+    ++ codes "configure lldp max-neighbors all\n"
+    ++ codes "configure lldp tx-hold -5\n"
+    ++ codes "configure lldp tx-hold \"5 \"\n"
+    ++ codes "configure lldp tx-hold /\n"
+    ++ codes "configure lldp tx-hold :\n"
+    ++ codes "configure lldp tx-interval 0\n"
+    ++ codes "configure lldp tx-interval 3601\n"
+    ++ codes "configure lldp tx-interval 65537 x\n"
+    ++ codes "configure lldp tx-hold 000\n"
+    ++ codes "configure lldp tx-hold 101\n"
+    ++ codes "configure lldp tx-hold 256\n"
+    ++ codes "configure lldp tx-hold 65536\n"
+    ++ codes "configure lldp tx-hold 99999999999999999999\n"
+    ++ codes "configure lldp max-neighbors 0 x\n"
+    ++ codes "configure lldp max-neighbors 4\n"
+    ++ codes "configure lldp max-neighbors 129\n"
+    ++ codes "configure lldp max-neighbors 257\n"
+    ++ codes "configure system hostname " ++ (195 ∷ []) ++ codes "\n"
+    ++ codes "configure system hostname a" ++ (127 ∷ []) ++ codes " x\n"
+    ++ codes "configure system description \"a" ++ (9 ∷ []) ++ codes "b\"\n"
+    ++ codes "configure system description " ++ (31 ∷ []) ++ codes "\n"
+    ++ codes "update x\n"
+    ++ codes "update \"\"\n"
+    ++ codes "show neighbors x\n"
+    ++ codes "show configuration show\n"
+    ++ codes "configure system hostname a b\n"
+    ++ codes "configure lldp tx-hold 4 5\n"
+    ++ codes "configure lldp max-neighbors 1 x\n"
+    ++ codes "configure ports eth0 lldp status disabled now\n"
+    ++ codes "update\"\n"
+    ++ codes "tick \"\n"
+    ++ codes "\"\n"
+    ++ codes "\"a\n"
+    ++ codes "a\"b\"\n"
+    ++ codes "\"a\"b\n"
+    ++ codes "\"a\"\"b\"\n"
+    ++ codes "\"a\\\"\"\n"
+    ++ codes "a b \"c\n"
+    ++ codes "show neighbors x \"\n"
+    ++ codes "configure system hostname \"a\n"
+    ++ codes "configure lldp tx-interval 0 \"a\"b\n"
+    ++ codes "configure ports eth9 lldp status \"\n"
+    ++ codes "show configuration\n")
+    (codes "error: unknown command\n"
+    ∷ codes "error: unknown command\n"
+    ∷ codes "error: unknown command\n"
+    ∷ codes "error: unknown command\n"
+    ∷ codes "error: unknown command\n"
+    ∷ codes "error: unknown command\n"
+    ∷ codes "error: unknown command\n"
+    ∷ codes "error: unknown command\n"
+    ∷ codes "error: unknown command\n"
+    ∷ codes "error: unknown command\n"
+    ∷ codes "error: unknown command\n"
+    ∷ codes "error: unknown command\n"
+    ∷ codes "error: unknown command\n"
+    ∷ codes "error: unknown command\n"
+    ∷ codes "error: unknown command\n"
+    ∷ codes "error: unknown command\n"
+    ∷ codes "error: unknown command\n"
+    ∷ codes "error: unknown command\n"
+    ∷ codes "error: unknown command\n"
+    ∷ codes "error: unknown command\n"
+    ∷ codes "error: unknown command\n"
+    ∷ codes "error: unknown command\n"
+    ∷ codes "error: unknown command\n"
+    ∷ codes "error: unknown command\n"
+    ∷ codes "error: unknown command\n"
+    ∷ codes "error: unknown command\n"
+    ∷ codes "error: unknown command\n"
+    ∷ codes "error: no such port\n"
+    ∷ codes "error: no such port\n"
+    ∷ codes "error: no such port\n"
+    ∷ codes "error: no such port\n"
+    ∷ codes "error: not a number\n"
+    ∷ codes "error: not a number\n"
+    ∷ codes "error: not a number\n"
+    ∷ codes "error: not a number\n"
+    ∷ codes "error: not a number\n"
+    ∷ codes "error: not a number\n"
+    ∷ codes "error: not a number\n"
+    ∷ codes "error: not a number\n"
+    ∷ codes "error: out of range\n"
+    ∷ codes "error: out of range\n"
+    ∷ codes "error: out of range\n"
+    ∷ codes "error: out of range\n"
+    ∷ codes "error: out of range\n"
+    ∷ codes "error: out of range\n"
+    ∷ codes "error: out of range\n"
+    ∷ codes "error: out of range\n"
+    ∷ codes "error: out of range\n"
+    ∷ codes "error: out of range\n"
+    ∷ codes "error: out of range\n"
+    ∷ codes "error: out of range\n"
+    ∷ codes "error: bad text\n"
+    ∷ codes "error: bad text\n"
+    ∷ codes "error: bad text\n"
+    ∷ codes "error: bad text\n"
+    ∷ codes "error: extra word\n"
+    ∷ codes "error: extra word\n"
+    ∷ codes "error: extra word\n"
+    ∷ codes "error: extra word\n"
+    ∷ codes "error: extra word\n"
+    ∷ codes "error: extra word\n"
+    ∷ codes "error: extra word\n"
+    ∷ codes "error: extra word\n"
+    ∷ codes "error: bad quote\n"
+    ∷ codes "error: bad quote\n"
+    ∷ codes "error: bad quote\n"
+    ∷ codes "error: bad quote\n"
+    ∷ codes "error: bad quote\n"
+    ∷ codes "error: bad quote\n"
+    ∷ codes "error: bad quote\n"
+    ∷ codes "error: bad quote\n"
+    ∷ codes "error: bad quote\n"
+    ∷ codes "error: bad quote\n"
+    ∷ codes "error: bad quote\n"
+    ∷ codes "error: bad quote\n"
+    ∷ codes "error: bad quote\n"
+    ∷ (codes "configuration.tx-interval=30\n"
+    ++ codes "configuration.tx-hold=4\n"
+    ++ codes "configuration.ttl=121\n"
+    ++ codes "configuration.reinit-delay=2\n"
+    ++ codes "configuration.tx-fast-init=4\n"
+    ++ codes "configuration.tx-credit-max=5\n"
+    ++ codes "configuration.max-neighbors=3\n"
+    ++ codes "configuration.ports=2\n"
+    ++ codes "configuration.eth0.status=rx-only\n"
+    ++ codes "configuration.eth1.status=rx-only\n")
+    ∷ [])
+unfolding digits encode_with decode_pairs
+    cut_within cut is_lldp_frame extent ended_incomplete ttl_of msap_of later_tlvs fault_of is_well_formed
+    kept_of discarded_of live neighbors events_of too_many_left moment machine_of heard_of counters_of port_after agent_of
+    frame_of words_from tick_form frame_form link_form form_of work_given
+commands_refused = record { options = record usual { max_neighbors = 3; receive_only = true; names = codes "eth0" ∷ codes "eth1" ∷ [] }; asked = words_of_commands_refused; sound = refl; written = refl }
 
 words_of_credit_of_one : (roles : Bor (List (Bor Text)))
     → Asks (matches_of (program roles) (codes "lldpa" ∷ codes "--tx-credit-max" ∷ codes "1" ∷ codes "eth0" ∷ []))
@@ -891,6 +1082,48 @@ unfolding digits encode_with decode_pairs
     kept_of discarded_of live neighbors events_of too_many_left moment machine_of heard_of counters_of port_after agent_of
     frame_of words_from tick_form frame_form link_form form_of work_given
 limit_after_expiry = record { options = record usual { receive_only = true }; asked = words_of_address_and_local_identifiers; sound = refl; written = refl }
+
+words_of_limit_in_use : (roles : Bor (List (Bor Text)))
+    → Asks (matches_of (program roles) (codes "lldpa" ∷ codes "--max-neighbors" ∷ codes "3" ∷ codes "--receive-only" ∷ codes "eth0" ∷ codes "eth1" ∷ codes "eth2" ∷ []))
+    (record usual { max_neighbors = 3; receive_only = true; names = codes "eth0" ∷ codes "eth1" ∷ codes "eth2" ∷ [] })
+unfolding clap_on_literals decode_pairs digits
+words_of_limit_in_use roles =
+    record {
+      names = refl;
+      mac = record { long = refl; colons = refl; digits = refl };
+      hostname = refl;
+      management = refl;
+      role = refl;
+      max_neighbors = refl;
+      credit_max = refl;
+      fast_init = refl;
+      reinit = refl;
+      receives = λ e. refl;
+      sends = λ e. cc;
+    }
+
+limit_in_use : Writes
+    (codes "lldpa" ∷ codes "--max-neighbors" ∷ codes "3" ∷ codes "--receive-only" ∷ codes "eth0" ∷ codes "eth1" ∷ codes "eth2" ∷ [])
+    (codes "rx eth1 0180c200000e00112233445588cc02070400112233445504050565746830060200780000\n"
+    ++ codes "rx eth1 0180c200000e00112233445588cc02070400112233445504050565746831060200780000\n"
+    ++ codes "configure lldp max-neighbors 1\n"
+    ++ codes "configure lldp max-neighbors 1 x\n"
+    ++ codes "configure lldp max-neighbors 1\"\n"
+    ++ codes "configure lldp max-neighbors 2\n"
+    ++ codes "configure lldp max-neighbors 3\n")
+    ([]
+    ∷ []
+    ∷ codes "error: too many held\n"
+    ∷ codes "error: extra word\n"
+    ∷ codes "error: bad quote\n"
+    ∷ []
+    ∷ []
+    ∷ [])
+unfolding digits encode_with decode_pairs
+    cut_within cut is_lldp_frame extent ended_incomplete ttl_of msap_of later_tlvs fault_of is_well_formed
+    kept_of discarded_of live neighbors events_of too_many_left moment machine_of heard_of counters_of port_after agent_of
+    frame_of words_from tick_form frame_form link_form form_of work_given
+limit_in_use = record { options = record usual { max_neighbors = 3; receive_only = true; names = codes "eth0" ∷ codes "eth1" ∷ codes "eth2" ∷ [] }; asked = words_of_limit_in_use; sound = refl; written = refl }
 
 link_down_keeps_the_table : Writes
     (codes "lldpa" ∷ codes "eth0" ∷ [])
@@ -1663,6 +1896,107 @@ unfolding digits encode_with decode_pairs
     frame_of words_from tick_form frame_form link_form form_of work_given
 shutdown_received = record { options = record usual { receive_only = true }; asked = words_of_address_and_local_identifiers; sound = refl; written = refl }
 
+words_of_spellings_of_commands : (roles : Bor (List (Bor Text)))
+    → Asks (matches_of (program roles) (codes "lldpa" ∷ codes "--receive-only" ∷ codes "--max-neighbors" ∷ codes "3" ∷ codes "eth0" ∷ codes "eth1" ∷ []))
+    (record usual { receive_only = true; max_neighbors = 3; names = codes "eth0" ∷ codes "eth1" ∷ [] })
+unfolding clap_on_literals decode_pairs digits
+words_of_spellings_of_commands roles =
+    record {
+      names = refl;
+      mac = record { long = refl; colons = refl; digits = refl };
+      hostname = refl;
+      management = refl;
+      role = refl;
+      max_neighbors = refl;
+      credit_max = refl;
+      fast_init = refl;
+      reinit = refl;
+      receives = λ e. refl;
+      sends = λ e. cc;
+    }
+
+spellings_of_commands : Writes
+    (codes "lldpa" ∷ codes "--receive-only" ∷ codes "--max-neighbors" ∷ codes "3" ∷ codes "eth0" ∷ codes "eth1" ∷ [])
+    (codes "update\n"
+    ++ codes "configure system hostname \"a b\"" ++ (9 ∷ []) ++ codes "\n"
+    ++ codes "configure system description \" ~\"\n"
+    ++ codes "show chassis\n"
+    ++ codes "configure system hostname \"\"\n"
+    ++ codes " " ++ (9 ∷ []) ++ codes "\"configure\" system  \"description\" x\\y\n"
+    ++ (9 ∷ []) ++ codes "show  \"chassis\" \n"
+    ++ codes "configure lldp tx-interval 1\n"
+    ++ codes "configure lldp tx-hold 1\n"
+    ++ codes "configure lldp max-neighbors 1\n"
+    ++ codes "configure ports eth0 lldp status disabled\n"
+    ++ codes "configure ports \"eth1\" lldp status tx-only\n"
+    ++ codes "show configuration\n"
+    ++ codes "configure lldp tx-interval 3600\n"
+    ++ codes "configure lldp tx-hold 00000000000000000100\n"
+    ++ codes "configure lldp max-neighbors \"03\"\n"
+    ++ codes "configure ports eth1 lldp status rx-only\n"
+    ++ codes "configure ports eth0 lldp status rx-and-tx\n"
+    ++ codes "show configuration\n"
+    ++ codes "\"tick\"\n"
+    ++ codes " # \"\n"
+    ++ codes "show neighbors\n")
+    ([]
+    ∷ []
+    ∷ []
+    ∷ (codes "local-chassis.mac=02:00:00:00:00:01\n"
+    ++ codes "local-chassis.name=a b\n"
+    ++ codes "local-chassis.descr= ~\n"
+    ++ codes "local-chassis.caps=Station:on\n")
+    ∷ []
+    ∷ []
+    ∷ (codes "local-chassis.mac=02:00:00:00:00:01\n"
+    ++ codes "local-chassis.name=\n"
+    ++ codes "local-chassis.descr=x\\\\y\n"
+    ++ codes "local-chassis.caps=Station:on\n")
+    ∷ []
+    ∷ []
+    ∷ []
+    ∷ []
+    ∷ []
+    ∷ (codes "configuration.tx-interval=1\n"
+    ++ codes "configuration.tx-hold=1\n"
+    ++ codes "configuration.ttl=2\n"
+    ++ codes "configuration.reinit-delay=2\n"
+    ++ codes "configuration.tx-fast-init=4\n"
+    ++ codes "configuration.tx-credit-max=5\n"
+    ++ codes "configuration.max-neighbors=1\n"
+    ++ codes "configuration.ports=2\n"
+    ++ codes "configuration.eth0.status=disabled\n"
+    ++ codes "configuration.eth1.status=tx-only\n")
+    ∷ []
+    ∷ []
+    ∷ []
+    ∷ []
+    ∷ []
+    ∷ (codes "configuration.tx-interval=3600\n"
+    ++ codes "configuration.tx-hold=100\n"
+    ++ codes "configuration.ttl=65535\n"
+    ++ codes "configuration.reinit-delay=2\n"
+    ++ codes "configuration.tx-fast-init=4\n"
+    ++ codes "configuration.tx-credit-max=5\n"
+    ++ codes "configuration.max-neighbors=3\n"
+    ++ codes "configuration.ports=2\n"
+    ++ codes "configuration.eth0.status=rx-and-tx\n"
+    ++ codes "configuration.eth1.status=rx-only\n")
+    ∷ codes "tx eth0 0180c200000e02000000000188cc020704020000000001040505657468300602ffff0804657468300a000c03785c790e04008000800000\n"
+    ∷ []
+    ∷ (codes "lldp.eth0.neighbors=0\n"
+    ++ codes "lldp.eth0.octets=0\n"
+    ++ codes "lldp.eth0.too-many=no\n"
+    ++ codes "lldp.eth1.neighbors=0\n"
+    ++ codes "lldp.eth1.octets=0\n"
+    ++ codes "lldp.eth1.too-many=no\n")
+    ∷ [])
+unfolding digits encode_with decode_pairs
+    cut_within cut is_lldp_frame extent ended_incomplete ttl_of msap_of later_tlvs fault_of is_well_formed
+    kept_of discarded_of live neighbors events_of too_many_left moment machine_of heard_of counters_of port_after agent_of
+    frame_of words_from tick_form frame_form link_form form_of work_given
+spellings_of_commands = record { options = record usual { receive_only = true; max_neighbors = 3; names = codes "eth0" ∷ codes "eth1" ∷ [] }; asked = words_of_spellings_of_commands; sound = refl; written = refl }
+
 status_while_down : Writes
     (codes "lldpa" ∷ codes "eth0" ∷ [])
     (codes "tick\n"
@@ -1800,6 +2134,68 @@ unfolding digits encode_with decode_pairs
     kept_of discarded_of live neighbors events_of too_many_left moment machine_of heard_of counters_of port_after agent_of
     frame_of words_from tick_form frame_form link_form form_of work_given
 two_ports = record { options = record usual { mac = 0 ∷ 0 ∷ 94 ∷ 0 ∷ 83 ∷ 1 ∷ []; hostname = codes "h"; management = Some (192 ∷ 0 ∷ 2 ∷ 1 ∷ []); role = Bridge; names = codes "p1" ∷ codes "p2" ∷ [] }; asked = words_of_two_ports; sound = refl; written = refl }
+
+unusual_values : Writes
+    (codes "lldpa" ∷ codes "--receive-only" ∷ codes "eth0" ∷ [])
+    (codes "rx eth0 0180c200000e00112233445588cc020604001f22a34b04020161060200780000\n"
+    ++ codes "rx eth0 0180c200000e00112233445588cc0212050220010db800000000000000000000abcd0412040220010db800000000000000000000abcd06020078080a1f20215c5b7e7f80ff0a0000\n"
+    ++ codes "rx eth0 0180c200000e00112233445588cc02060502c000020104060401c0000201060200780e04ffff80010000\n"
+    ++ codes "rx eth0 0180c200000e00112233445588cc0202050104030403c0060200780e04000000000000\n"
+    ++ codes "rx eth0 0180c200000e00112233445588cc02020041040703001f22a34bff0602007810090201c0010000000000100a0201c00100000000012b0000\n"
+    ++ codes "rx eth0 0180c200000e00112233445588cc020208fe040803001f22a34bff0006020078100c0502c000020103ffffffff000000\n"
+    ++ codes "rx eth0 0180c200000e00112233445588cc020704001f22a34bff0402ff41060200781018110220010db80000000000000000000000010200000007000000\n"
+    ++ codes "show neighbors\n")
+    ([]
+    ∷ []
+    ∷ []
+    ∷ []
+    ∷ []
+    ∷ []
+    ∷ []
+    ∷ (codes "lldp.eth0.neighbors=7\n"
+    ++ codes "lldp.eth0.octets=232\n"
+    ++ codes "lldp.eth0.too-many=no\n"
+    ++ codes "lldp.eth0.1.chassis.unhandled=04001f22a34b\n"
+    ++ codes "lldp.eth0.1.port.ifalias=a\n"
+    ++ codes "lldp.eth0.1.ttl=120\n"
+    ++ codes "lldp.eth0.1.expires=120\n"
+    ++ codes "lldp.eth0.2.chassis.ip=2001:0db8:0000:0000:0000:0000:0000:abcd\n"
+    ++ codes "lldp.eth0.2.port.ip=2001:0db8:0000:0000:0000:0000:0000:abcd\n"
+    ++ codes "lldp.eth0.2.ttl=120\n"
+    ++ codes "lldp.eth0.2.expires=120\n"
+    ++ codes "lldp.eth0.2.port.descr=\\x1f !\\\\[~\\x7f\\x80\\xff\\x0a\n"
+    ++ codes "lldp.eth0.3.chassis.unhandled=0502c0000201\n"
+    ++ codes "lldp.eth0.3.port.ip=192.0.2.1\n"
+    ++ codes "lldp.eth0.3.ttl=120\n"
+    ++ codes "lldp.eth0.3.expires=120\n"
+    ++ codes "lldp.eth0.3.chassis.caps=Other:on,Repeater:off,Bridge:off,Wlan:off,Router:off,Tel:off,Docsis:off,Station:off,Cvlan:off,Svlan:off,Tpmr:off,bit11:off,bit12:off,bit13:off,bit14:off,bit15:on\n"
+    ++ codes "lldp.eth0.4.chassis.unhandled=0501\n"
+    ++ codes "lldp.eth0.4.port.unhandled=0403c0\n"
+    ++ codes "lldp.eth0.4.ttl=120\n"
+    ++ codes "lldp.eth0.4.expires=120\n"
+    ++ codes "lldp.eth0.4.chassis.caps=\n"
+    ++ codes "lldp.eth0.5.chassis.unhandled=0041\n"
+    ++ codes "lldp.eth0.5.port.mac=00:1f:22:a3:4b:ff\n"
+    ++ codes "lldp.eth0.5.ttl=120\n"
+    ++ codes "lldp.eth0.5.expires=120\n"
+    ++ codes "lldp.eth0.5.chassis.mgmt=af1:c0,1,0,\n"
+    ++ codes "lldp.eth0.5.chassis.mgmt=af1:c0,1,0,2b\n"
+    ++ codes "lldp.eth0.6.chassis.unhandled=08fe\n"
+    ++ codes "lldp.eth0.6.port.unhandled=03001f22a34bff00\n"
+    ++ codes "lldp.eth0.6.ttl=120\n"
+    ++ codes "lldp.eth0.6.expires=120\n"
+    ++ codes "lldp.eth0.6.chassis.mgmt=af2:c0000201,3,4294967295,\n"
+    ++ codes "lldp.eth0.7.chassis.mac=00:1f:22:a3:4b:ff\n"
+    ++ codes "lldp.eth0.7.port.unhandled=ff41\n"
+    ++ codes "lldp.eth0.7.ttl=120\n"
+    ++ codes "lldp.eth0.7.expires=120\n"
+    ++ codes "lldp.eth0.7.chassis.mgmt=2001:0db8:0000:0000:0000:0000:0000:0001,2,7,\n")
+    ∷ [])
+unfolding digits encode_with decode_pairs
+    cut_within cut is_lldp_frame extent ended_incomplete ttl_of msap_of later_tlvs fault_of is_well_formed
+    kept_of discarded_of live neighbors events_of too_many_left moment machine_of heard_of counters_of port_after agent_of
+    frame_of words_from tick_form frame_form link_form form_of work_given
+unusual_values = record { options = record usual { receive_only = true }; asked = words_of_address_and_local_identifiers; sound = refl; written = refl }
 
 words_of_wait_of_one_tick : (roles : Bor (List (Bor Text)))
     → Asks (matches_of (program roles) (codes "lldpa" ∷ codes "--reinit-delay" ∷ codes "1" ∷ codes "eth0" ∷ []))

@@ -1,18 +1,7 @@
 //! An LLDP agent over a trace: standard input to standard output, or over connections.
 #![tactic(auto)]
 
-pub mod addresses;
-pub mod arguments;
-pub mod buffer;
-pub mod device;
-pub mod door;
-pub mod help;
-pub mod line;
-pub mod output;
-pub mod program;
-pub mod serve;
-pub mod trace;
-
+use lldp_program::program;
 use std::process::ExitCode;
 use std::{env, io};
 

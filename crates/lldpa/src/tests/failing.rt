@@ -3,7 +3,7 @@ use super::devices::{Burn, Drip, Fuse};
 use super::runs::{
     HEARD, INPUT, OUTPUT, SENT, expect_run, only_receiving, open, sending, statistics,
 };
-use crate::trace::RunFault;
+use lldp_program::trace::RunFault;
 use std::process::Abort;
 use std::test::Fail;
 

@@ -3,8 +3,8 @@ ghost use Rattle.std.specs.Prelude.{◌<◌};
 
 use super::devices::{Drip, Fuse};
 use super::runs::{HEARD, only_receiving, open, statistics};
-use crate::device::{FromReader, ToWriter};
-use crate::trace::run_trace;
+use lldp_program::device::{FromReader, ToWriter};
+use lldp_program::trace::run_trace;
 use std::process::Abort;
 use std::test::Fail;
 

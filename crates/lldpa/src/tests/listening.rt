@@ -2,7 +2,7 @@
 use super::devices::{Drip, Fuse, Network};
 use super::program::expect_status;
 use super::sockets::{ASK, ASK_IN_VAIN, Client, LEARN, LEAVE, listen, read_all, send_all};
-use crate::arguments::{listening_of, parse};
+use lldp_program::arguments::{listening_of, parse};
 use std::net::{Net, TcpListener, TcpStream};
 use std::process::Abort;
 use std::test::Fail;

@@ -1,8 +1,8 @@
 //! The program over streams that fail, and words that no shell can give it.
 use super::devices::{Burn, Drip, Fuse, Network};
 use super::runs::{INPUT, OUTPUT};
-use crate::program::run_program;
-use crate::trace::RunFault;
+use lldp_program::program::run_program;
+use lldp_program::trace::RunFault;
 use std::net::{Net, TcpListener, TcpStream};
 use std::process::Abort;
 use std::test::Fail;

@@ -2,12 +2,12 @@
 ghost use Rattle.std.specs.Prelude.{◌≡◌, IfOk, OnOk};
 ghost use Rattle.lldp_engine.specs.Past.{Past};
 ghost use Rattle.lldp_engine.specs.Standing.{Stands};
-ghost use Rattle.lldpa.specs.Items.{text, after_input};
+ghost use Rattle.lldp_program.specs.Items.{text, after_input};
 
 use super::devices::{Drip, Fuse};
-use crate::device::{FromReader, Source, ToWriter};
-use crate::trace::{RunFault, run_trace};
 use lldp_engine::{Agent, Options, Role};
+use lldp_program::device::{FromReader, Source, ToWriter};
+use lldp_program::trace::{RunFault, run_trace};
 use std::alloc::Global;
 use std::process::Abort;
 use std::test::Fail;

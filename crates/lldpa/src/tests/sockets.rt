@@ -1,10 +1,10 @@
 //! Traces over connections to a listener of this host.
 use super::program::NONE;
 use super::runs::{HEARD, only_receiving, open, statistics};
-use crate::device::{FromReader, ToWriter};
-use crate::serve::{ServeFault, serve};
-use crate::trace::{RunFault, run_trace};
 use lldp_engine::Agent;
+use lldp_program::device::{FromReader, ToWriter};
+use lldp_program::serve::{ServeFault, serve};
+use lldp_program::trace::{RunFault, run_trace};
 use std::io;
 use std::io::{Error, ErrorKind, Read, Write};
 use std::net::{Net, Shutdown, TcpListener, TcpStream};

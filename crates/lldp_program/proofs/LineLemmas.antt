@@ -1,0 +1,225 @@
+-- The lines of an input that comes in pieces.
+use Rattle.std.proofs.Common.{◌≡◌, ℕ, suc, ◌+◌, ◌-◌, ◌<◌, ◌≤◌, false, eqb, List, [], ◌∷◌, ◌++◌, length, take, drop, refl, sym, ap, ◌∙◌, inl, inr, append_assoc, arith, Some, None, get_or, length-drop, length-take}
+use Rattle.std.proofs.lemmas.Bool.{cases_lt, cases_eq, ne_eqb, eqb-true, eq-eqb}
+use Rattle.std.proofs.lemmas.List.{get_or-drop, append-nil, take-append-drop, drop_more, drop-drop, get_or-take, take_all, take-take, take-append-le}
+use Rattle.std.proofs.Math.Seq.{take-add}
+use Rattle.memchr.specs.Find.{IsFirstByte, Nowhere, Passes, is_byte}
+use Rattle.lldp_program.specs.Lines.{ended_lines, unfinished, onto_lines, onto_rest, if_any}
+
+ended_lines-other : (b : ℕ) (bs : List ℕ) → (b ≡ 10 → ⊥) → ended_lines (b ∷ bs) ≡ onto_lines b (ended_lines bs)
+ended_lines-other b bs ne = let e : eqb b 10 ≡ false = ne_eqb b 10 ne in rw e refl
+
+unfinished-other : (b : ℕ) (bs : List ℕ) → (b ≡ 10 → ⊥) → unfinished (b ∷ bs) ≡ onto_rest b (ended_lines bs) (unfinished bs)
+unfinished-other b bs ne = let e : eqb b 10 ≡ false = ne_eqb b 10 ne in rw e refl
+
+lines_step : (b : ℕ) (ls : List (List ℕ)) (r q : List ℕ) → (b ≡ 10 → ⊥) → onto_lines b (ls ++ ended_lines (r ++ q)) ≡ onto_lines b ls ++ ended_lines (onto_rest b ls r ++ q)
+lines_step b [] r q ne = sym (ended_lines-other b (r ++ q) ne)
+lines_step b (l ∷ ls) r q ne = refl
+
+rest_step : (b : ℕ) (ls : List (List ℕ)) (r q : List ℕ) → (b ≡ 10 → ⊥) → onto_rest b (ls ++ ended_lines (r ++ q)) (unfinished (r ++ q)) ≡ unfinished (onto_rest b ls r ++ q)
+rest_step b [] r q ne = sym (unfinished-other b (r ++ q) ne)
+rest_step b (l ∷ ls) r q ne = refl
+
+-- the lines of an input that goes on: what was unfinished goes on too
+pub ended_lines-append : (xs ys : List ℕ) → ended_lines (xs ++ ys) ≡ ended_lines xs ++ ended_lines (unfinished xs ++ ys)
+ended_lines-append [] ys = refl
+ended_lines-append (b ∷ xs) ys = elim (cases_eq b 10) [
+  | inl e ↦ rw e (ap (λ t. [] ∷ t) (ended_lines-append xs ys))
+  | inr ne ↦
+      ended_lines-other b (xs ++ ys) ne ∙ ap (onto_lines b) (ended_lines-append xs ys) ∙ lines_step b (ended_lines xs) (unfinished xs) ys ne
+      ∙ sym (ap (λ t. t ++ ended_lines (unfinished (b ∷ xs) ++ ys)) (ended_lines-other b xs ne) ∙ ap (λ t. onto_lines b (ended_lines xs) ++ ended_lines (t ++ ys)) (unfinished-other b xs ne))
+]
+
+pub unfinished-append : (xs ys : List ℕ) → unfinished (xs ++ ys) ≡ unfinished (unfinished xs ++ ys)
+unfinished-append [] ys = refl
+unfinished-append (b ∷ xs) ys = elim (cases_eq b 10) [
+  | inl e ↦ rw e (unfinished-append xs ys)
+  | inr ne ↦
+      unfinished-other b (xs ++ ys) ne ∙ ap (λ t. onto_rest b t (unfinished (xs ++ ys))) (ended_lines-append xs ys)
+      ∙ ap (onto_rest b (ended_lines xs ++ ended_lines (unfinished xs ++ ys))) (unfinished-append xs ys)
+      ∙ rest_step b (ended_lines xs) (unfinished xs) ys ne ∙ ap (λ t. unfinished (t ++ ys)) (sym (unfinished-other b xs ne))
+]
+
+nil_under : (b : ℕ) (ls : List (List ℕ)) → onto_lines b ls ≡ [] → ls ≡ []
+nil_under b [] h = refl
+nil_under b (l ∷ ls) h = cc
+
+nil_front : {X : Type 0} (xs ys : List X) → xs ++ ys ≡ [] → xs ≡ []
+nil_front [] ys h = refl
+nil_front (x ∷ xs) ys h = cc
+
+not_lf : (b : ℕ) (xs : List ℕ) → ended_lines (b ∷ xs) ≡ [] → b ≡ 10 → ⊥
+not_lf b xs h e = let k : [] ∷ ended_lines xs ≡ [] = ap (λ t. ended_lines (t ∷ xs)) (sym e) ∙ h in cc
+
+no_lf_tail : (b : ℕ) (xs : List ℕ) → ended_lines (b ∷ xs) ≡ [] → ended_lines xs ≡ []
+no_lf_tail b xs h = nil_under b _ (sym (ended_lines-other b xs (not_lf b xs h)) ∙ h)
+
+-- with no LF nothing is ended
+pub no_lf-unfinished : (xs : List ℕ) → ended_lines xs ≡ [] → unfinished xs ≡ xs
+no_lf-unfinished [] h = refl
+no_lf-unfinished (b ∷ xs) h =
+    let t = no_lf_tail b xs h in
+    unfinished-other b xs (not_lf b xs h) ∙ ap (λ ls. onto_rest b ls (unfinished xs)) t ∙ ap (λ t. b ∷ t) (no_lf-unfinished xs t)
+
+rest_no_lf : (b : ℕ) (ls : List (List ℕ)) (r : List ℕ) → (b ≡ 10 → ⊥) → ended_lines r ≡ [] → ended_lines (onto_rest b ls r) ≡ []
+rest_no_lf b [] r ne h = ended_lines-other b r ne ∙ ap (onto_lines b) h
+rest_no_lf b (l ∷ ls) r ne h = h
+
+-- what is unfinished has no LF
+pub unfinished_no_lf : (xs : List ℕ) → ended_lines (unfinished xs) ≡ []
+unfinished_no_lf [] = refl
+unfinished_no_lf (b ∷ xs) = elim (cases_eq b 10) [
+  | inl e ↦ rw e (unfinished_no_lf xs)
+  | inr ne ↦ ap ended_lines (unfinished-other b xs ne) ∙ rest_no_lf b (ended_lines xs) (unfinished xs) ne (unfinished_no_lf xs)
+]
+
+-- an LF ends what is unfinished
+pub line_ended : (xs ys : List ℕ) → ended_lines xs ≡ [] → ended_lines (xs ++ 10 ∷ ys) ≡ xs ∷ ended_lines ys
+line_ended [] ys h = refl
+line_ended (b ∷ xs) ys h =
+    ended_lines-other b (xs ++ 10 ∷ ys) (not_lf b xs h) ∙ ap (onto_lines b) (line_ended xs ys (no_lf_tail b xs h))
+
+pub rest_begins : (xs ys : List ℕ) → ended_lines xs ≡ [] → unfinished (xs ++ 10 ∷ ys) ≡ unfinished ys
+rest_begins [] ys h = refl
+rest_begins (b ∷ xs) ys h =
+    unfinished-other b (xs ++ 10 ∷ ys) (not_lf b xs h)
+    ∙ ap (λ ls. onto_rest b ls (unfinished (xs ++ 10 ∷ ys))) (line_ended xs ys (no_lf_tail b xs h)) ∙ rest_begins xs ys (no_lf_tail b xs h)
+
+pub no_lf-append : (xs ys : List ℕ) → ended_lines xs ≡ [] → ended_lines ys ≡ [] → ended_lines (xs ++ ys) ≡ []
+no_lf-append [] ys h k = k
+no_lf-append (b ∷ xs) ys h k =
+    ended_lines-other b (xs ++ ys) (not_lf b xs h) ∙ ap (onto_lines b) (no_lf-append xs ys (no_lf_tail b xs h) k)
+
+pub no_lf-take : (n : ℕ) (xs : List ℕ) → ended_lines xs ≡ [] → ended_lines (take n xs) ≡ []
+no_lf-take n xs h = nil_front _ _ (sym (ended_lines-append (take n xs) (drop n xs)) ∙ ap ended_lines (take-append-drop n xs) ∙ h)
+
+-- no LF was found
+pub none_found : (xs : List ℕ) → Nowhere (Passes (is_byte 10) xs) 0 (length xs) → ended_lines xs ≡ []
+none_found [] h = refl
+none_found (b ∷ xs) h =
+    let ne : b ≡ 10 → ⊥ = λ e. h 0 (omega arith) (omega arith) (eq-eqb b 10 e) in
+    ended_lines-other b xs ne ∙ ap (onto_lines b) (none_found xs (λ k low high. h (suc k) (omega arith) (omega arith)))
+
+-- an LF was found at k: before it there is none
+pub none_before : (xs : List ℕ) (k : ℕ) → k < length xs → Nowhere (Passes (is_byte 10) xs) 0 k → ended_lines (take k xs) ≡ []
+none_before xs k within h =
+    none_found (take k xs) (λ j low high. let lt : j < k = omega (arith, length-take k xs) in λ found. h j low lt (rw (get_or-take k xs j 0 lt) at found))
+
+-- one more line of the octets is ended
+pub record OneMore (xs : List ℕ) (start end : ℕ) : Type 0 where
+  pub within : end < length xs
+  pub lines : ended_lines (take (end + 1) xs) ≡ ended_lines (take start xs) ++ take (end - start) (drop start xs) ∷ []
+  pub whole : unfinished (take (end + 1) xs) ≡ []
+
+take_between : (xs : List ℕ) (start end : ℕ) → start ≤ end → end < length xs → get_or xs end 0 ≡ 10 → take (end + 1) xs ≡ take start xs ++ (take (end - start) (drop start xs) ++ 10 ∷ [])
+take_between xs start end low within is =
+    let n : start + (end - start) + 1 ≡ end + 1 = omega arith in
+    let here : start + (end - start) ≡ end = omega arith in
+    ap (λ k. take k xs) (sym n) ∙ take-add (start + (end - start)) 1 xs ∙ ap (λ t. t ++ take 1 (drop (start + (end - start)) xs)) (take-add start (end - start) xs)
+    ∙ append_assoc (take start xs) (take (end - start) (drop start xs)) (take 1 (drop (start + (end - start)) xs))
+    ∙ ap (λ k. take start xs ++ (take (end - start) (drop start xs) ++ take 1 (drop k xs))) here
+    ∙ ap (λ t. take start xs ++ (take (end - start) (drop start xs) ++ take 1 t)) (drop_more xs end 0 within)
+    ∙ ap (λ b. take start xs ++ (take (end - start) (drop start xs) ++ b ∷ [])) is
+
+pub one_more_line : (xs : List ℕ) (start from at : ℕ) → start ≤ from → from ≤ length xs → ended_lines (take (from - start) (drop start xs)) ≡ [] → unfinished (take start xs) ≡ [] → IsFirstByte (is_byte 10) (drop from xs) (Some at) → OneMore xs start (from + at)
+one_more_line xs start from at low within none whole found =
+    let at_lf : get_or xs (from + at) 0 ≡ 10 = sym (get_or-drop from xs at 0) ∙ eqb-true _ _ found.1 in
+    let high : from + at < length xs = omega (arith, found.0.high, length-drop from xs) in
+    let far : start ≤ from + at = omega arith in
+    let line = take (from + at - start) (drop start xs) in
+    let before : ended_lines (take at (drop from xs)) ≡ [] = none_before (drop from xs) at found.0.high found.0.before in
+    let back : start + (from - start) ≡ from = omega arith in
+    let long : from - start + at ≡ from + at - start = omega arith in
+    let split : line ≡ take (from - start) (drop start xs) ++ take at (drop from xs) =
+    ap (λ k. take k (drop start xs)) (sym long) ∙ take-add (from - start) at (drop start xs)
+    ∙ ap (λ t. take (from - start) (drop start xs) ++ take at t) (drop-drop (from - start) start xs ∙ ap (λ k. drop k xs) back) in
+    let clear : ended_lines line ≡ [] = ap ended_lines split ∙ no_lf-append (take (from - start) (drop start xs)) (take at (drop from xs)) none before in
+    let whole_front : take (from + at + 1) xs ≡ take start xs ++ (line ++ 10 ∷ []) = take_between xs start (from + at) far high at_lf in
+    record {
+      within = high;
+      lines =
+          ap ended_lines whole_front ∙ ended_lines-append (take start xs) (line ++ 10 ∷ [])
+          ∙ ap (λ t. ended_lines (take start xs) ++ ended_lines (t ++ (line ++ 10 ∷ []))) whole ∙ ap (λ t. ended_lines (take start xs) ++ t) (line_ended line [] clear);
+      whole =
+          ap unfinished whole_front ∙ unfinished-append (take start xs) (line ++ 10 ∷ []) ∙ ap (λ t. unfinished (t ++ (line ++ 10 ∷ []))) whole ∙ rest_begins line [] clear;
+    }
+
+-- no more line of the octets is ended
+pub no_lf_left : (xs : List ℕ) (start from : ℕ) → start ≤ from → ended_lines (take (from - start) (drop start xs)) ≡ [] → IsFirstByte (is_byte 10) (drop from xs) None → ended_lines (drop start xs) ≡ []
+no_lf_left xs start from low none found =
+    let back : start + (from - start) ≡ from = omega arith in
+    let split : drop start xs ≡ take (from - start) (drop start xs) ++ drop from xs =
+    sym (take-append-drop (from - start) (drop start xs)) ∙ ap (λ t. take (from - start) (drop start xs) ++ t) (drop-drop (from - start) start xs ∙ ap (λ k. drop k xs) back) in
+    ap ended_lines split ∙ no_lf-append (take (from - start) (drop start xs)) (drop from xs) none (none_found (drop from xs) found)
+
+pub all_lines : (xs : List ℕ) (start : ℕ) → unfinished (take start xs) ≡ [] → ended_lines (drop start xs) ≡ [] → ended_lines xs ≡ ended_lines (take start xs)
+all_lines xs start whole none =
+    ap ended_lines (sym (take-append-drop start xs)) ∙ ended_lines-append (take start xs) (drop start xs) ∙ ap (λ t. ended_lines (take start xs) ++ ended_lines (t ++ drop start xs)) whole
+    ∙ ap (λ t. ended_lines (take start xs) ++ t) none ∙ append-nil (ended_lines (take start xs))
+
+pub the_rest : (xs : List ℕ) (start : ℕ) → unfinished (take start xs) ≡ [] → ended_lines (drop start xs) ≡ [] → unfinished xs ≡ drop start xs
+the_rest xs start whole none =
+    ap unfinished (sym (take-append-drop start xs)) ∙ unfinished-append (take start xs) (drop start xs) ∙ ap (λ t. unfinished (t ++ drop start xs)) whole ∙ no_lf-unfinished (drop start xs) none
+
+-- the lines of the first octets, and those after them
+pub lines_then : (n : ℕ) (xs : List ℕ) → ended_lines xs ≡ ended_lines (take n xs) ++ ended_lines (unfinished (take n xs) ++ drop n xs)
+lines_then n xs = ap ended_lines (sym (take-append-drop n xs)) ∙ ended_lines-append (take n xs) (drop n xs)
+
+-- an unfinished line in front of more octets goes onto their first line
+abbrev pub onto_all : List ℕ → List (List ℕ) → List (List ℕ)
+onto_all p [] = []
+onto_all p (l ∷ ls) = (p ++ l) ∷ ls
+
+abbrev pub rest_all : List ℕ → List (List ℕ) → List ℕ → List ℕ
+rest_all p [] r = p ++ r
+rest_all p (l ∷ ls) r = r
+
+onto_lines-onto_all : (b : ℕ) (p : List ℕ) (ls : List (List ℕ)) → onto_lines b (onto_all p ls) ≡ onto_all (b ∷ p) ls
+onto_lines-onto_all b p [] = refl
+onto_lines-onto_all b p (l ∷ ls) = refl
+
+onto_rest-rest_all : (b : ℕ) (p : List ℕ) (ls : List (List ℕ)) (r : List ℕ) → onto_rest b (onto_all p ls) (rest_all p ls r) ≡ rest_all (b ∷ p) ls r
+onto_rest-rest_all b p [] r = refl
+onto_rest-rest_all b p (l ∷ ls) r = refl
+
+onto_all-nil : (ls : List (List ℕ)) → onto_all [] ls ≡ ls
+onto_all-nil [] = refl
+onto_all-nil (l ∷ ls) = refl
+
+rest_all-nil : (ls : List (List ℕ)) (r : List ℕ) → rest_all [] ls r ≡ r
+rest_all-nil [] r = refl
+rest_all-nil (l ∷ ls) r = refl
+
+pub ended_lines-onto : (p q : List ℕ) → ended_lines p ≡ [] → ended_lines (p ++ q) ≡ onto_all p (ended_lines q)
+ended_lines-onto [] q h = sym (onto_all-nil (ended_lines q))
+ended_lines-onto (b ∷ p) q h =
+    ended_lines-other b (p ++ q) (not_lf b p h) ∙ ap (onto_lines b) (ended_lines-onto p q (no_lf_tail b p h)) ∙ onto_lines-onto_all b p (ended_lines q)
+
+pub unfinished-onto : (p q : List ℕ) → ended_lines p ≡ [] → unfinished (p ++ q) ≡ rest_all p (ended_lines q) (unfinished q)
+unfinished-onto [] q h = sym (rest_all-nil (ended_lines q) (unfinished q))
+unfinished-onto (b ∷ p) q h =
+    unfinished-other b (p ++ q) (not_lf b p h) ∙ ap (λ ls. onto_rest b ls (unfinished (p ++ q))) (ended_lines-onto p q (no_lf_tail b p h))
+    ∙ ap (onto_rest b (onto_all p (ended_lines q))) (unfinished-onto p q (no_lf_tail b p h)) ∙ onto_rest-rest_all b p (ended_lines q) (unfinished q)
+
+take_front : (n : ℕ) (p r : List ℕ) → take n (take n p ++ r) ≡ take n (p ++ r)
+take_front n p r = elim (cases_lt (length p) n) [
+  | inl lt ↦ ap (λ t. take n (t ++ r)) (take_all n p (omega arith))
+  | inr le ↦ take-append-le n (take n p) r (omega (arith, length-take n p)) ∙ take-take n n p (omega arith) ∙ sym (take-append-le n p r le)
+]
+
+take_rest_all : (n : ℕ) (p : List ℕ) (ls : List (List ℕ)) (r : List ℕ) → take n (rest_all (take n p) ls r) ≡ take n (rest_all p ls r)
+take_rest_all n p [] r = take_front n p r
+take_rest_all n p (l ∷ ls) r = refl
+
+-- The octets xs were read, the first n of what is unfinished are held, and more octets come: so many of what is unfinished then are the same.
+pub held_more : (n : ℕ) (xs ys : List ℕ) → take n (unfinished (take n (unfinished xs) ++ ys)) ≡ take n (unfinished (xs ++ ys))
+held_more n xs ys =
+    let p = unfinished xs in
+    let none : ended_lines p ≡ [] = unfinished_no_lf xs in
+    ap (take n) (unfinished-onto (take n p) ys (no_lf-take n p none)) ∙ take_rest_all n p (ended_lines ys) (unfinished ys)
+    ∙ ap (take n) (sym (unfinished-onto p ys none)) ∙ ap (take n) (sym (unfinished-append xs ys))
+
+-- no line follows the last LF where nothing does
+pub no_last_line : (rest : List ℕ) → length rest ≡ 0 → if_any rest ≡ []
+no_last_line [] e = refl
+no_last_line (octet ∷ octets) e = absurd (omega (arith, e))

@@ -1,0 +1,17 @@
+-- How far a run has come.
+use Rattle.std.proofs.Common.{◌≡◌, ◌≤◌, ℕ, List, length, take, Option}
+use Rattle.std.specs.Io.KnownBytes.{Consumes}
+use Rattle.lldp_engine.specs.AgentState.{AgentState}
+use Rattle.lldp_engine.specs.Past.{Past}
+use Rattle.lldp_engine.specs.Standing.{Stands}
+use Rattle.lldp_program.specs.Lines.{ended_lines, unfinished}
+use Rattle.lldp_program.specs.Items.{items_of_lines}
+use Rattle.lldp_program.specs.Runs.{Done}
+
+-- So many reads gave some input. Each line whose LF was read is done, and of the line that isn't ended the first 4,097 octets are held.
+pub record Progress (to_come left old new : Option (List ℕ)) (before after : AgentState) (reads : ℕ) (held : List ℕ) : Type 0 where
+  pub input : List ℕ
+  pub consumed : Consumes to_come left input
+  pub many : reads ≤ length input
+  pub front : held ≡ take 4097 (unfinished input)
+  pub done : (past : Past) → Stands past before → Done past (items_of_lines past (ended_lines input)) old new after

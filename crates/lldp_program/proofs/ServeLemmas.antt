@@ -1,0 +1,62 @@
+-- What one more connection leaves.
+use Rattle.std.proofs.Common.{◌≡◌, ◌≤◌, ◌++◌, ℕ, List, [], ◌∷◌, Option, Some, None, Result, Ok, Err, ap, sym, refl, append_assoc, append-nil, arith, length, ◌+◌, ◌∙◌}
+use Rattle.std.proofs.lemmas.Option.{same_Some}
+use Rattle.lldp_engine.specs.AgentState.{AgentState}
+use Rattle.lldp_engine.specs.Past.{Past}
+use Rattle.lldp_engine.specs.Standing.{Stands}
+use Rattle.lldp_program.specs.Runs.{KeepsOn, followed}
+use Rattle.lldp_program.specs.Doors.{Call, accepted, ran, Visit, logged}
+use Rattle.lldp_program.specs.Serving.{faults_in, results_of, calls_of, AreRun, AreServed, HasAsked, HasServed}
+use Rattle.lldp_program.specs.declared.serve.ServeFault.{ServeFault}
+use Rattle.lldp_program.specs.declared.trace.RunFault.{RunFault}
+
+pub at_most_one : (r : Result (Unit {0}) RunFault) → faults_in r ≤ 1
+at_most_one (Ok done) = omega arith
+at_most_one (Err fault) = omega arith
+
+pub keeps_on_then : (past : Past) (a b : AgentState) → KeepsOn past a → ((between : Past) → Stands between a → KeepsOn between b) → KeepsOn past b
+keeps_on_then past a b first next =
+    let more = next (followed past first.0) first.1 in
+    let same : followed (followed past first.0) more.0 ≡ followed past (more.0 ++ first.0) =
+    ap {B = Past} (λ events. record { options = past.options; events = events }) (sym (append_assoc more.0 first.0 past.events)) in
+    (more.0 ++ first.0, rw same at more.1, rw same at more.2)
+
+pub logged_none : {C : Type 0} → (told : Option (List (Call C))) → logged [] told ≡ told
+logged_none None = refl
+logged_none (Some earlier) = refl
+
+pub logged_then : {C : Type 0} → (first next : List (Call C)) (told : Option (List (Call C))) → logged next (logged first told) ≡ logged (next ++ first) told
+logged_then first next None = refl
+logged_then first next (Some earlier) = ap Some (sym (append_assoc next first earlier))
+
+-- runs over the connections of a door are runs
+pub are_served : {C : Type 0} → (to_come taken : C → Option (List ℕ)) (visits : List (Visit C)) (before after : AgentState) → AreRun to_come taken visits before after → AreServed (results_of visits) before after
+are_served to_come taken [] before after same = same
+are_served to_come taken (visit ∷ earlier) before after runs =
+    (runs.0, are_served to_come taken earlier before runs.0 runs.1, record { to_come = _; left = _; old = _; new = _; run = runs.2 })
+
+pub has_served : {C : Type 0} → (to_come taken : C → Option (List ℕ)) (old new : Option (List (Call C))) (connections : ℕ) (before after : AgentState) (result : Result ℕ ServeFault) → HasAsked to_come taken old new connections before after result → HasServed connections before after result
+has_served to_come taken old new connections before after result h =
+    record { results = results_of h.visits; served = are_served to_come taken h.visits before after h.runs; told = h.told }
+
+-- a connection more was accepted and then run over
+pub logged_visit : {C : Type 0} → (visits : List (Visit C)) (visit : Visit C) (first told accepting running : Option (List (Call C)))
+    → told ≡ logged (calls_of visits) first → accepting ≡ logged (accepted visit.connection ∷ []) told → running ≡ logged (ran visit ∷ []) accepting
+    → running ≡ logged (calls_of (visit ∷ visits)) first
+logged_visit visits visit first told accepting running before accepts runs =
+    runs ∙ ap (logged (ran visit ∷ [])) (accepts ∙ ap (logged (accepted visit.connection ∷ [])) before ∙ logged_then (calls_of visits) (accepted visit.connection ∷ []) first)
+    ∙ logged_then (accepted visit.connection ∷ calls_of visits) (ran visit ∷ []) first
+
+two_a_visit : {C : Type 0} → (visits : List (Visit C)) → length (calls_of visits) ≡ length (results_of visits) + length (results_of visits)
+two_a_visit [] = refl
+two_a_visit (visit ∷ earlier) = let more = two_a_visit earlier in omega (arith, more)
+
+-- what a door that tells its calls was asked at Ok: two calls a connection, no fewer and no more
+pub asked_at_ok : {C : Type 0} → (to_come taken : C → Option (List ℕ)) (calls : List (Call C)) (connections faulty : ℕ) (before after : AgentState)
+    → HasAsked to_come taken (Some []) (Some calls) connections before after (Ok faulty) → length calls ≡ connections + connections
+asked_at_ok to_come taken calls connections faulty before after h =
+    let same : calls ≡ calls_of h.visits ++ [] = same_Some _ _ h.asked in
+    let two = two_a_visit h.visits in
+    let whole : length calls ≡ length (calls_of h.visits) = ap length (same ∙ append-nil (calls_of h.visits)) in
+    let many = h.told.0 in
+    omega (arith, two, whole, many)

@@ -1,0 +1,19 @@
+use Rattle.std.proofs.Common.{rules, arith}
+use Rattle.lldp_program.proofs.ProgramLemmas.{run_kept}
+use Rattle.lldp_program.proofs.program.run_devices.Goals as goal
+
+pub returns-in-Err-clause-ran : goal.returns-in-Err-clause-ran
+returns-in-Err-clause-ran g c =
+    record {
+      result = c.run_trace-ran.result;
+      run = run_kept _ _ _ _ _ _ _ _ c.run_trace-ran.ensures.run c.flush-flushed.ensures.octets;
+      done = λ e. absurd (omega arith);
+    }
+
+pub returns-in-Ok-clause-ran : goal.returns-in-Ok-clause-ran
+returns-in-Ok-clause-ran g c =
+    record {
+      result = c.run_trace-ran.result;
+      run = run_kept _ _ _ _ _ _ _ _ c.run_trace-ran.ensures.run c.flush-flushed.ensures.octets;
+      done = λ e. search rules;
+    }

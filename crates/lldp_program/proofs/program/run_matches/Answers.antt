@@ -1,0 +1,21 @@
+use Rattle.std.proofs.Common.{◌∙◌, sym, codes, rules}
+use Rattle.clap.specs.Matches.{found_of}
+use Rattle.clap.proofs.WalkLemmas.{one_text-rows}
+use Rattle.lldp_engine.specs.Options.{options_of}
+use Rattle.lldp_program.proofs.ProgramLemmas.{opened_ran}
+use Rattle.lldp_program.proofs.UsageLemmas.{not_asked, was_asked}
+use Rattle.lldp_program.proofs.program.run_matches.Goals as goal
+
+pub returns-in-Ok-open-clause-ran : goal.returns-in-Ok-open-clause-ran
+returns-in-Ok-open-clause-ran g c some =
+    let checked = c.in-Ok-open.ensures.checked in
+    let text = was_asked _ _ _ c.in-Some.listening c.listening_of.ensures c.in-Some.is in
+    let port = sym (one_text-rows (found_of c.args.matches.now) (codes "listen")) ∙ text.1 in
+    (options_of c.in-Ok.options, c.in-Ok.ensures.asks, checked, rw port (search rules, search rules))
+
+pub returns-in-None-clause-ran : goal.returns-in-None-clause-ran
+returns-in-None-clause-ran g c some =
+    let checked = c.in-Ok-open.ensures.checked in
+    let none = not_asked _ _ _ c.listening_of.ensures c.in-None.is in
+    let port = sym (one_text-rows (found_of c.args.matches.now) (codes "listen")) ∙ none in
+    (options_of c.in-Ok.options, c.in-Ok.ensures.asks, checked, rw port (opened_ran (options_of c.in-Ok.options) _ _ _ _ _ _ _ (search rules) c.run_streams.ensures.ran))

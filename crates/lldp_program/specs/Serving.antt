@@ -1,0 +1,74 @@
+-- What serving connections leaves.
+use Rattle.std.specs.Prelude.{◌≡◌, ◌<◌, ℕ, ◌+◌, List, [], ◌∷◌, length, Option, Result, Ok, Err}
+use Rattle.lldp_program.specs.Doors.{Call, accepted, refused, ran, Visit, logged}
+use Rattle.lldp_engine.specs.AgentState.{AgentState}
+use Rattle.lldp_program.specs.Runs.{HasRun}
+use Rattle.lldp_program.specs.declared.trace.RunFault.{RunFault}
+use Rattle.lldp_program.specs.declared.serve.ServeFault.{ServeFault}
+
+-- A connection was served: a trace was run, over octets that the connection may not tell.
+pub record Served (before after : AgentState) (result : Result (Unit {0}) RunFault) : Type 0 where
+  pub to_come : Option (List ℕ)
+  pub left : Option (List ℕ)
+  pub old : Option (List ℕ)
+  pub new : Option (List ℕ)
+  pub run : HasRun to_come left old new before after result
+
+-- connections were served one after the other, the last one first
+abbrev pub AreServed : List (Result (Unit {0}) RunFault) → AgentState → AgentState → Type 0
+AreServed [] before after = after ≡ before
+AreServed (result ∷ earlier) before after =
+    (between : AgentState) × AreServed earlier before between × Served between after result
+
+-- one for a run that ended with a fault
+abbrev pub faults_in : Result (Unit {0}) RunFault → ℕ
+faults_in (Ok done) = 0
+faults_in (Err fault) = 1
+
+-- how many of some runs ended with a fault
+abbrev pub faults_of : List (Result (Unit {0}) RunFault) → ℕ
+faults_of [] = 0
+faults_of (result ∷ earlier) = faults_of earlier + faults_in result
+
+-- What the answer tells of the runs. Ok: all were made, and so many of them ended with a fault. Err: fewer were.
+abbrev pub Tells : ℕ → List (Result (Unit {0}) RunFault) → Result ℕ ServeFault → Type 0
+Tells connections results (Ok faulty) = (length results ≡ connections) × (faulty ≡ faults_of results)
+Tells connections results (Err fault) = length results < connections
+
+-- at most so many connections were served, as the answer tells
+pub record HasServed (connections : ℕ) (before after : AgentState) (result : Result ℕ ServeFault) : Type 0 where
+  pub results : List (Result (Unit {0}) RunFault)
+  pub served : AreServed results before after
+  pub told : Tells connections results result
+
+-- the answers of these runs
+abbrev pub results_of : {C : Type 0} → List (Visit C) → List (Result (Unit {0}) RunFault)
+results_of [] = []
+results_of (visit ∷ earlier) = visit.result ∷ results_of earlier
+
+-- Each connection was accepted and then run over once, before the next was accepted: the last call first.
+abbrev pub calls_of : {C : Type 0} → List (Visit C) → List (Call C)
+calls_of [] = []
+calls_of (visit ∷ earlier) = ran visit ∷ accepted visit.connection ∷ calls_of earlier
+
+-- the same with the refusal that an answer Err tells of, behind all of them
+abbrev pub calls_with : {C : Type 0} → List (Visit C) → Result ℕ ServeFault → List (Call C)
+calls_with visits (Ok faulty) = calls_of visits
+calls_with visits (Err fault) = refused ∷ calls_of visits
+
+-- a trace was run over each connection, the agent going from one to the next as it is
+abbrev pub AreRun : {C : Type 0} → (C → Option (List ℕ)) → (C → Option (List ℕ)) → List (Visit C) → AgentState → AgentState →
+    Type 0
+AreRun to_come taken [] before after = after ≡ before
+AreRun to_come taken (visit ∷ earlier) before after =
+    (between : AgentState) × AreRun to_come taken earlier before between
+    × HasRun (to_come visit.connection) visit.left (taken visit.connection) visit.new between after visit.result
+
+-- A door was asked for so many connections: all that it was asked is that each was accepted and run over once, and the
+-- answer tells how many of the runs ended with a fault, or that it accepted no more.
+pub record HasAsked {C : Type 0} (to_come taken : C → Option (List ℕ)) (old new : Option (List (Call C)))
+    (connections : ℕ) (before after : AgentState) (result : Result ℕ ServeFault) : Type 0 where
+  pub visits : List (Visit C)
+  pub runs : AreRun to_come taken visits before after
+  pub asked : new ≡ logged (calls_with visits result) old
+  pub told : Tells connections (results_of visits) result

@@ -1,0 +1,48 @@
+//! Addresses as the program's options give them.
+ghost use Rattle.std.specs.Prelude.{ℕ, List, MatchOption};
+ghost use Rattle.std.specs.Net.Grammar.{IsDotted};
+ghost use Rattle.lldp_program.specs.Addresses.{IsMac};
+
+use std::net::Ipv4Addr;
+
+/// Six pairs of hexadecimal digits of either case, joined by `:`. None where the text is nothing of
+/// the kind.
+pub fn read_mac(text: &str) -> Option<[u8; 6]>
+    ensures { MatchOption result ((mac : List ℕ) → ¬ (IsMac text.now mac)) (IsMac text.now) }
+{
+    let [
+        a,
+        b,
+        b':',
+        c,
+        d,
+        b':',
+        e,
+        f,
+        b':',
+        g,
+        h,
+        b':',
+        i,
+        j,
+        b':',
+        k,
+        l,
+    ] = *text.as_bytes()
+    else {
+        return None;
+    };
+    let mut mac = [0; 6];
+    hex::decode_to_slice([a, b, c, d, e, f, g, h, i, j, k, l], &mut mac).ok()?;
+    Some(mac)
+}
+
+/// Four numbers from 0 to 255 without leading zeros, joined by `.`. None where the text is nothing
+/// of the kind.
+pub fn read_ipv4(text: &str) -> Option<[u8; 4]>
+    ensures { MatchOption result ((octets : List ℕ) →
+        ¬ (IsDotted text.now octets)) (IsDotted text.now) }
+{
+    let address: Ipv4Addr = text.parse().ok()?;
+    Some(address.octets())
+}

@@ -1,0 +1,319 @@
+//! What the program's arguments ask for.
+ghost use Rattle.std.specs.Prelude.{◌≡◌, ◌≤◌, ◌⊎◌, ℕ, List, IfOk, IfErr, Some, None, false, codes, map, option_map};
+ghost use Rattle.std.specs.Borrow.{Bor};
+ghost use Rattle.clap.specs.Words.{IsPlainArg, app_of, first_value, found_of, kind_of, one_text, rows_of, rule_of};
+ghost use Rattle.clap.specs.Walk.{byte_or_zero};
+ghost use Rattle.clap.specs.declared.error.kind.ErrorKind.TheVariants as ErrorKind;
+ghost use Rattle.lldp_program.specs.Usage.{AreRoles, Asks, AsksListening, AsksManagement, HasBadAddress, IsParse, WritesNoIpv4, WritesNumber, MayFail, listen_rule, management_rule, number_rule, ports_rule, program, receive_only_rule, role_named, role_rule, text_rule, valued_rule};
+ghost use Rattle.lldp_engine.specs.Options.{InRange, options_of as plain_options};
+ghost use Rattle.lldp_program.specs.Arguments.{GivesNumber, GivesOptions, GivesText, HasValue, IsArgument, ReadsOptions, greatest_of};
+
+use crate::addresses::{read_ipv4, read_mac};
+use crate::help::{ABOUT, MORE, USAGE, VERSION};
+use clap::{Arg, ArgAction, ArgMatches, Command, Error, value_parser};
+use lldp_engine::{MOST_CREDIT, MOST_FAST, MOST_NEIGHBORS, MOST_REINIT, Options, Role};
+use std::alloc::{AllocError, Global};
+use std::convert::AsStr;
+
+const MAX_NEIGHBORS: &str = "max-neighbors";
+
+const TX_CREDIT_MAX: &str = "tx-credit-max";
+
+const TX_FAST_INIT: &str = "tx-fast-init";
+
+const REINIT_DELAY: &str = "reinit-delay";
+
+const MAC: &str = "mac";
+
+const HOSTNAME: &str = "hostname";
+
+const MANAGEMENT: &str = "management";
+
+const ROLE: &str = "role";
+
+const RECEIVE_ONLY: &str = "receive-only";
+
+const LISTEN: &str = "listen";
+
+const CONNECTIONS: &str = "connections";
+
+const PORT: &str = "PORT";
+
+const MAX_NEIGHBORS_HELP: &str = "Most neighbors of a port, 1 to 128";
+
+const MAC_HELP: &str = "Source address of frames";
+
+const HOSTNAME_HELP: &str = "System name, up to 255 octets";
+
+const TX_CREDIT_MAX_HELP: &str = "Most frames of a port at once, 1 to 10";
+
+const TX_FAST_INIT_HELP: &str = "Frames for a new neighbor, 1 to 8";
+
+const REINIT_DELAY_HELP: &str = "Seconds from a stop to a start, 1 to 10";
+
+const CONNECTIONS_HELP: &str = "Connections to serve, 1 to 65535";
+
+const ROLES: &[&str] = &["station", "bridge", "router"];
+
+/// Where traces come over connections: a TCP port of 127.0.0.1, and how many connections are
+/// served. Both are from 1 on.
+#[derive(Clone, Copy, Debug, PartialEq, Eq)]
+pub struct Listening {
+    pub port: u16,
+    pub connections: u16,
+}
+
+/// An address that cannot be read.
+#[derive(Clone, Copy, Debug, PartialEq, Eq)]
+pub enum AddressFault {
+    Mac,
+    Management,
+}
+
+/// An option that takes a whole number from 1 on.
+fn number<'a>(
+    alloc: Global,
+    name: &'a str,
+    greatest: u16,
+    default: &'a str,
+    help: &'a str,
+) -> Arg<'a>
+    requires greatest { greatest_of name.now ≡ Some greatest }
+    ensures fits { IsArgument name.entry.now result }
+    ensures rule { rule_of result ≡ number_rule name.entry.now greatest default.entry.now }
+{
+    valued(alloc, name, default)
+        .value_name("N")
+        .value_parser(value_parser!(u16).range(1..=i64::from(greatest)))
+        .help(help)
+}
+
+/// An option that takes a text.
+fn text<'a>(
+    alloc: Global,
+    name: &'a str,
+    value: &'a str,
+    default: &'a str,
+    help: &'a str,
+) -> Arg<'a>
+    requires text { greatest_of name.now ≡ None }
+    ensures fits { IsArgument name.entry.now result }
+    ensures rule { rule_of result ≡ text_rule name.entry.now default.entry.now }
+{
+    valued(alloc, name, default).value_name(value).help(help)
+}
+
+/// An option that takes a value, or has this one.
+fn valued<'a>(alloc: Global, name: &'a str, default: &'a str) -> Arg<'a>
+    ensures id { result.id ≡ name.entry }
+    ensures plain { IsPlainArg result × (result.global ≡ false) }
+    ensures value { HasValue result }
+    ensures rule { rule_of result ≡ valued_rule name.entry.now default.entry.now }
+{
+    Arg::new(alloc, name)
+        .long(name)
+        .action(ArgAction::Set)
+        .default_value(default)
+}
+
+fn management<'a>(alloc: Global) -> Arg<'a>
+    ensures fits { IsArgument (codes "management") result }
+    ensures rule { rule_of result ≡ management_rule }
+{
+    Arg::new(alloc, MANAGEMENT)
+        .long(MANAGEMENT)
+        .value_name("IPV4")
+        .help("Management address to announce")
+}
+
+fn role<'a>(alloc: Global) -> Arg<'a>
+    ensures fits { IsArgument (codes "role") result }
+    ensures rule { (roles : Bor (List (Bor (List ℕ)))) × AreRoles roles
+        × (rule_of result ≡ role_rule roles) }
+{
+    valued(alloc, ROLE, "station")
+        .value_name("ROLE")
+        .value_parser(ROLES)
+        .help("station, bridge or router")
+}
+
+fn receive_only<'a>(alloc: Global) -> Arg<'a>
+    ensures fits { IsArgument (codes "receive-only") result }
+    ensures rule { rule_of result ≡ receive_only_rule }
+{
+    Arg::new(alloc, RECEIVE_ONLY)
+        .long(RECEIVE_ONLY)
+        .action(ArgAction::SetTrue)
+        .help("Start each port with the status rx-only")
+}
+
+fn listen<'a>(alloc: Global) -> Arg<'a>
+    ensures fits { IsArgument (codes "listen") result }
+    ensures rule { rule_of result ≡ listen_rule }
+{
+    Arg::new(alloc, LISTEN)
+        .long(LISTEN)
+        .value_name("PORT")
+        .value_parser(value_parser!(u16).range(1..=65535))
+        .help("Serve connections to this port of 127.0.0.1")
+}
+
+fn ports<'a>(alloc: Global) -> Arg<'a>
+    ensures fits { IsArgument (codes "PORT") result }
+    ensures rule { rule_of result ≡ ports_rule }
+{
+    Arg::new(alloc, PORT).num_args(0..).hide(true)
+}
+
+/// Reads the words, of which the first is the program's name. Fails also where they ask for help or
+/// the version.
+pub fn parse<'a, S: AsStr>(alloc: Global, words: &'a [S]) -> Result<ArgMatches<'a>, Error>
+    ensures options { IfOk result GivesOptions }
+    ensures words { IfOk result (λ m. IsParse (map S.text words.entry.now) (rows_of (found_of m))) }
+    ensures kinds { IfErr result (λ e. (kind_of e ≡ ErrorKind.OutOfMemory)
+        ⊎ MayFail (map S.text words.entry.now) (kind_of e)) }
+{
+    command(alloc)?.try_get_matches_from(words)
+}
+
+/// The program's options and ports.
+fn command<'a>(alloc: Global) -> Result<Command<'a>, AllocError>
+    ensures options { IfOk result ReadsOptions }
+    ensures app { IfOk result (λ c. (roles : Bor (List (Bor (List ℕ)))) × AreRoles roles
+        × (app_of c ≡ program roles)) }
+{
+    Command::new(alloc, "lldpa")
+        .version(VERSION)
+        .about(ABOUT)
+        .override_usage(USAGE)
+        .hide_possible_values(true)
+        .after_help(MORE)
+        .arg(number(
+            alloc,
+            MAX_NEIGHBORS,
+            MOST_NEIGHBORS as u16,
+            "32",
+            MAX_NEIGHBORS_HELP,
+        ))?
+        .arg(text(alloc, MAC, "MAC", "02:00:00:00:00:01", MAC_HELP))?
+        .arg(text(alloc, HOSTNAME, "TEXT", "localhost", HOSTNAME_HELP))?
+        .arg(management(alloc))?
+        .arg(role(alloc))?
+        .arg(number(
+            alloc,
+            TX_CREDIT_MAX,
+            MOST_CREDIT as u16,
+            "5",
+            TX_CREDIT_MAX_HELP,
+        ))?
+        .arg(number(
+            alloc,
+            TX_FAST_INIT,
+            MOST_FAST as u16,
+            "4",
+            TX_FAST_INIT_HELP,
+        ))?
+        .arg(number(
+            alloc,
+            REINIT_DELAY,
+            MOST_REINIT as u16,
+            "2",
+            REINIT_DELAY_HELP,
+        ))?
+        .arg(receive_only(alloc))?
+        .arg(listen(alloc))?
+        .arg(number(alloc, CONNECTIONS, 65535, "1", CONNECTIONS_HELP))?
+        .arg(ports(alloc))
+}
+
+/// The options that the words gave. The MAC is read before the management address.
+pub fn options_of<'m>(matches: &'m ArgMatches<'_>) -> Result<Options<'m>, AddressFault>
+    requires given { GivesOptions matches.now }
+    ensures range { IfOk result (λ options. InRange (plain_options options)) }
+    ensures asks { IfOk result (λ options.
+        Asks (rows_of (found_of matches.now)) (plain_options options)) }
+    ensures refused { IfErr result (HasBadAddress (rows_of (found_of matches.now))) }
+{
+    let Some(mac) = read_mac(given(matches, MAC)) else {
+        return Err(AddressFault::Mac);
+    };
+    Ok(Options {
+        ports: matches.get_strs(PORT).unwrap_or(&[]),
+        mac,
+        hostname: given(matches, HOSTNAME),
+        management: management_of(matches)?,
+        role: role_of(given(matches, ROLE)),
+        max_neighbors: number_of(matches, MAX_NEIGHBORS),
+        credit_max: number_of(matches, TX_CREDIT_MAX),
+        fast_init: number_of(matches, TX_FAST_INIT),
+        reinit: number_of(matches, REINIT_DELAY),
+        receive_only: matches.get_flag(RECEIVE_ONLY),
+    })
+}
+
+/// Where the words ask to listen, and for how many connections. None where they do not.
+pub fn listening_of(matches: &ArgMatches<'_>) -> Option<Listening>
+    requires given { GivesOptions matches.now }
+    ensures { AsksListening (one_text (found_of matches.now) (codes "listen"))
+        (one_text (found_of matches.now) (codes "connections")) result }
+{
+    match matches.get_one::<u16>(LISTEN) {
+        None => None,
+        Some(port) => Some(Listening {
+            port,
+            connections: connections_of(matches),
+        }),
+    }
+}
+
+/// The number of connections.
+fn connections_of(matches: &ArgMatches<'_>) -> u16
+    requires given { GivesNumber 65535 (codes "connections") matches.now }
+    ensures { WritesNumber (one_text (found_of matches.now) (codes "connections")) result }
+{
+    matches.get_one::<u16>(CONNECTIONS).unwrap()
+}
+
+/// The text of an option that has a default.
+fn given<'a>(matches: &ArgMatches<'a>, name: &str) -> &'a str
+    requires given { GivesText name.now matches.now }
+    ensures value { first_value (found_of matches.now) name.now ≡ Some result.now }
+{
+    matches.get_str(name).unwrap()
+}
+
+/// The number of an option that has a default.
+fn number_of(matches: &ArgMatches<'_>, name: &str) -> u8
+    requires given { (greatest : ℕ) × (greatest ≤ 255) × GivesNumber greatest name.now matches.now }
+    ensures range { (greatest : ℕ) → greatest ≤ 255 → GivesNumber greatest name.now matches.now →
+        (1 ≤ result) × (result ≤ greatest) }
+    ensures value { option_map byte_or_zero (one_text (found_of matches.now) name.now)
+        ≡ Some result }
+{
+    matches.get_one::<u8>(name).unwrap()
+}
+
+fn role_of(name: &str) -> Role
+    ensures { result ≡ role_named name.now }
+{
+    match name {
+        "bridge" => Role::Bridge,
+        "router" => Role::Router,
+        _ => Role::Station,
+    }
+}
+
+fn management_of(matches: &ArgMatches<'_>) -> Result<Option<[u8; 4]>, AddressFault>
+    ensures asked { IfOk result (AsksManagement
+        (first_value (found_of matches.now) (codes "management"))) }
+    ensures refused { IfErr result (λ fault. (fault ≡ AddressFault.Management)
+        × WritesNoIpv4 (first_value (found_of matches.now) (codes "management"))) }
+{
+    match matches.get_str(MANAGEMENT) {
+        None => Ok(None),
+        Some(text) => match read_ipv4(text) {
+            Some(address) => Ok(Some(address)),
+            None => Err(AddressFault::Management),
+        },
+    }
+}

@@ -1,0 +1,41 @@
+//! The buffer that a trace is read into. Its first octets are held: what has come of the line that
+//! isn't ended.
+ghost use Rattle.std.specs.Prelude.{◌≡◌, ◌<◌, ◌≤◌, ◌+◌, ◌-◌, length, take, drop, IfOk, min};
+ghost use Rattle.lldp_program.specs.Devices.{one_more, failures_after, ReadsMore};
+
+use crate::device::{DeviceFault, Source};
+use crate::line::LONGEST;
+
+/// Reads behind the octets that are held.
+pub fn read_more<S: Source>(
+    source: &mut S,
+    buffer: &mut [u8],
+    held: usize,
+) -> Result<usize, DeviceFault>
+    requires { held < length buffer.old }
+    ensures kept { take held buffer.new ≡ take held buffer.old }
+    ensures fits { IfOk result (λ n. held + n ≤ length buffer.new) }
+    ensures octets { ReadsMore (S.to_come source.old) (S.to_come source.new)
+        (drop held buffer.new) result }
+    ensures calls { S.calls source.new ≡ one_more (S.calls source.old) }
+    ensures failures { S.failures source.new ≡ failures_after (S.failures source.old) result }
+    ensures place { S.place source.new ≡ S.place source.old }
+{
+    source.read(&mut buffer[held..])
+}
+
+/// Moves the octets from start to end to the front, and holds them. Of a line that is too long
+/// already it holds one octet more than the longest line has, which is all that has to be known of
+/// it.
+pub fn hold(buffer: &mut [u8], start: usize, end: usize) -> usize
+    requires order { start ≤ end }
+    requires within { end ≤ length buffer.old }
+    ensures few { result ≤ 4097 }
+    ensures held { take result buffer.new ≡ take 4097 (drop start (take end buffer.old)) }
+{
+    let held = (end - start).min(LONGEST + 1);
+    if start > 0 {
+        buffer.copy_within(start..start + held, 0);
+    }
+    held
+}

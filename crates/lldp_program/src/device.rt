@@ -1,0 +1,168 @@
+//! Devices that a trace is read from and written to, and the adapters that make them of std's
+//! readers and writers.
+ghost use Rattle.std.specs.Prelude.{◌≡◌, ◌<◌, ◌≤◌, ℕ, List, Option, length, IfOk};
+ghost use Rattle.std.specs.Io.KnownBytes.{ReadConsumes, WriteAppends, Keeps};
+ghost use Rattle.std.specs.Borrow.{GName};
+ghost use Rattle.lldp_program.specs.Devices.{one_more, failures_after};
+
+use std::io::{Read, Write};
+
+/// A read or a write failed.
+#[derive(Clone, Copy, Debug, PartialEq, Eq)]
+pub enum DeviceFault {
+    Failed,
+}
+
+/// What octets come from. Its counts stop at the greatest u64.
+pub trait Source {
+    /// The octets still to come, or None where the device tells none.
+    ghost to_come: { Self → Option (List ℕ) };
+    /// How often it was read.
+    ghost calls: { Self → ℕ };
+    /// How many reads failed.
+    ghost failures: { Self → ℕ };
+    /// Where it reads from, which no call changes: for an adapter the reference that it was lent.
+    ghost place: { Self → GName };
+
+    /// Moves octets into the front of the room, and answers how many; 0 means that none are to
+    /// come. A read that fails moves none.
+    fn read(&mut self, room: &mut [u8]) -> Result<usize, DeviceFault>
+        requires { 0 < length room.old }
+        ensures fits { IfOk result (λ n. n ≤ length room.new) }
+        ensures octets { ReadConsumes (to_come self.old) (to_come self.new) result room.new }
+        ensures calls { calls self.new ≡ one_more (calls self.old) }
+        ensures failures { failures self.new ≡ failures_after (failures self.old) result }
+        ensures place { place self.new ≡ place self.old };
+}
+
+/// What takes octets. Its count stops at the greatest u64.
+pub trait Sink {
+    /// The octets taken, or None where the device tells none.
+    ghost taken: { Self → Option (List ℕ) };
+    /// How many writes failed.
+    ghost failures: { Self → ℕ };
+    /// Where it writes to, which no call changes: for an adapter the reference that it was lent.
+    ghost place: { Self → GName };
+
+    /// Takes octets from the front, at least one, and answers how many. A write that fails takes
+    /// none.
+    fn write(&mut self, octets: &[u8]) -> Result<usize, DeviceFault>
+        requires { 0 < length octets.now }
+        ensures some { IfOk result (λ n. 0 < n) }
+        ensures fits { IfOk result (λ n. n ≤ length octets.now) }
+        ensures octets { WriteAppends (taken self.old) (taken self.new) result octets.now }
+        ensures failures { failures self.new ≡ failures_after (failures self.old) result }
+        ensures place { place self.new ≡ place self.old };
+}
+
+/// What takes octets and can be told to pass them on.
+pub trait Flush: Sink {
+    /// Passes on what was taken. A flush that fails counts as a failed write.
+    fn flush(&mut self) -> Result<(), DeviceFault>
+        ensures octets { Keeps (Self.taken self.old) (Self.taken self.new) }
+        ensures failures { Self.failures self.new ≡ failures_after (Self.failures self.old) result }
+        ensures place { Self.place self.new ≡ Self.place self.old };
+}
+
+/// A source of any reader, which it is lent.
+#[derive(Drop)]
+pub struct FromReader<'a, R> {
+    reader: &'a mut R,
+    calls: u64,
+    failures: u64,
+}
+
+impl<'a, R: Read> FromReader<'a, R> {
+    ghost use Rattle.std.specs.Prelude.{◌≡◌};
+    ghost use Rattle.lldp_program.specs.Adapters.{source_to_come, source_calls, source_failures, source_place};
+
+    /// A source that tells what the reader tells, with no call and no failure yet.
+    pub fn new(reader: &'a mut R) -> Self
+        ensures octets { source_to_come R.remaining result ≡ R.remaining reader.old }
+        ensures calls { source_calls result ≡ 0 }
+        ensures failures { source_failures result ≡ 0 }
+        ensures place { source_place result ≡ reader.entry.ghost_name }
+    {
+        FromReader {
+            reader,
+            calls: 0,
+            failures: 0,
+        }
+    }
+}
+
+impl<R: Read> Source for FromReader<'_, R> {
+    ghost to_come = { λ s. R.remaining s.reader.now };
+
+    ghost calls = { λ s. s.calls };
+
+    ghost failures = { λ s. s.failures };
+
+    ghost place = { λ s. s.reader.ghost_name };
+
+    fn read(&mut self, room: &mut [u8]) -> Result<usize, DeviceFault> {
+        self.calls = self.calls.saturating_add(1);
+        match self.reader.read(room) {
+            Ok(n) => Ok(n),
+            Err(_) => {
+                self.failures = self.failures.saturating_add(1);
+                Err(DeviceFault::Failed)
+            }
+        }
+    }
+}
+
+/// A sink of any writer, which it is lent. A write of the writer that takes no octet is a failed
+/// one.
+#[derive(Drop)]
+pub struct ToWriter<'a, W> {
+    writer: &'a mut W,
+    failures: u64,
+}
+
+impl<'a, W: Write> ToWriter<'a, W> {
+    ghost use Rattle.std.specs.Prelude.{◌≡◌};
+    ghost use Rattle.lldp_program.specs.Adapters.{sink_taken, sink_failures, sink_place};
+
+    /// A sink that tells what the writer tells, with no failure yet.
+    pub fn new(writer: &'a mut W) -> Self
+        ensures octets { sink_taken W.contents result ≡ W.contents writer.old }
+        ensures failures { sink_failures result ≡ 0 }
+        ensures place { sink_place result ≡ writer.entry.ghost_name }
+    {
+        ToWriter {
+            writer,
+            failures: 0,
+        }
+    }
+}
+
+impl<W: Write> Sink for ToWriter<'_, W> {
+    ghost taken = { λ s. W.contents s.writer.now };
+
+    ghost failures = { λ s. s.failures };
+
+    ghost place = { λ s. s.writer.ghost_name };
+
+    fn write(&mut self, octets: &[u8]) -> Result<usize, DeviceFault> {
+        match self.writer.write(octets) {
+            Ok(n) if n > 0 => Ok(n),
+            _ => {
+                self.failures = self.failures.saturating_add(1);
+                Err(DeviceFault::Failed)
+            }
+        }
+    }
+}
+
+impl<W: Write> Flush for ToWriter<'_, W> {
+    fn flush(&mut self) -> Result<(), DeviceFault> {
+        match self.writer.flush() {
+            Ok(()) => Ok(()),
+            Err(_) => {
+                self.failures = self.failures.saturating_add(1);
+                Err(DeviceFault::Failed)
+            }
+        }
+    }
+}

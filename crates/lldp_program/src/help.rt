@@ -1,0 +1,42 @@
+//! What the program's help says beside its options. Its lines have at most 80 columns.
+
+pub const VERSION: &str = "1.0.0";
+
+pub const ABOUT: &str =
+    "Runs an LLDP agent over a trace: reads received frames, seconds and commands
+from standard input or from connections, and writes the frames to send and the
+answers to the commands.
+
+Each PORT, 1 to 64 of them, is a name of 1 to 15 letters, digits, -, _, / and :.";
+
+pub const USAGE: &str = "lldpa [OPTIONS] PORT...";
+
+pub const MORE: &str = "Lines of a trace:
+  tick                                     one second passes
+  tick N                                   N seconds pass, 1 to 65535
+  rx PORT HEX                              a frame was received
+  up PORT, down PORT                       a link came up, went down
+  show neighbors                           the neighbors of each port
+  show statistics                          the counters of each port
+  show chassis                             what the agent says about itself
+  show configuration                       settings, and the status of each port
+  configure system hostname TEXT           up to 255 printable characters, in
+                                           quotes where they have spaces
+  configure system description TEXT        likewise
+  configure lldp tx-interval N             seconds between frames, 1 to 3600
+                                           [default: 30]
+  configure lldp tx-hold N                 intervals that peers keep a frame,
+                                           1 to 100 [default: 4]
+  configure lldp max-neighbors N           1 to the number of --max-neighbors
+  configure ports PORT lldp status STATUS  rx-and-tx, rx-only, tx-only, disabled
+  update                                   sends each port's frame anew
+  # TEXT                                   a comment
+
+Examples:
+  printf 'tick\\nshow statistics\\n' | lldpa eth0
+  lldpa --receive-only --max-neighbors 4 eth0 eth1 < trace.txt
+  lldpa --listen 4711 --connections 10 eth0
+                                           talk to it with nc 127.0.0.1 4711
+
+See lldpa(1) for every form of line, what is shown, the error messages and the
+exit statuses.";

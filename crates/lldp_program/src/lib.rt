@@ -1,0 +1,14 @@
+//! The program but for its `main`: words and streams in, the lines of a trace, frames and shows out.
+#![tactic(auto)]
+
+mod addresses;
+pub mod arguments;
+mod buffer;
+pub mod device;
+pub mod door;
+mod help;
+pub mod line;
+mod output;
+pub mod program;
+pub mod serve;
+pub mod trace;

@@ -1,0 +1,245 @@
+//! One line of a trace, and what it asks for.
+ghost use Rattle.std.specs.Prelude.{◌≡◌, ◌≤◌, length, ℕ, List, ◌∷◌, IfOk, IfErr, IfSome, MatchOption, ◌≢◌, ◌*◌, ◌%◌, ◌++◌};
+ghost use Rattle.std.specs.List.{AllByRecursion};
+ghost use Rattle.hex.specs.Hex.{decode_of};
+ghost use Rattle.lldp_engine.specs.AgentState.{AgentState, IsPort};
+ghost use Rattle.lldp_engine.specs.Answer.{on_ok};
+ghost use Rattle.lldp_program.specs.Forms.{fault_text, is_skipped, or_hex, complete, tick_form, frame_form, link_form, command_form, work_given};
+ghost use Rattle.lldp_program.specs.Work.{frame, work_of, AllowsWork};
+
+use lldp_engine::{
+    Agent, Command, CommandFault, Words, decode_digits, number, split, split_at_bare,
+};
+
+/// How many octets a line has at most, its LF left out.
+pub const LONGEST: usize = 4096;
+
+/// Why a line is refused.
+#[derive(Clone, Copy, Debug, PartialEq, Eq)]
+pub enum LineFault {
+    /// It has more octets than the longest line.
+    TooLong,
+    /// A frame is not written in pairs of hexadecimal digits.
+    Hex,
+    /// Every other fault.
+    Command(CommandFault),
+}
+
+/// What a line asks for.
+#[derive(Clone, Copy)]
+pub enum Work<'l> {
+    /// Nothing.
+    Skip,
+    /// So many ticks, at least one.
+    Ticks(u16),
+    /// A frame came on a port.
+    Frame { port: u8, octets: &'l [u8] },
+    /// The link of a port came up, or went down.
+    Link { port: u8, up: bool },
+    /// A command.
+    Command(Command<'l>),
+}
+
+impl LineFault {
+    /// The line that tells the fault, without LF.
+    pub fn text(self) -> &'static [u8]
+        ensures text { result.now ≡ fault_text self }
+        ensures short { length result.now ≤ 2048 }
+    {
+        match self {
+            LineFault::TooLong => b"error: line too long",
+            LineFault::Hex => b"error: bad hexadecimal",
+            LineFault::Command(fault) => fault.text(),
+        }
+    }
+}
+
+/// Whether a line has nothing but spaces and tabs, or `#` as the first other octet.
+fn is_skipped_line(line: &[u8]) -> bool
+    ensures { result ≡ is_skipped line.now }
+{
+    for octet in line {
+        if *octet != b' ' && *octet != b'\t' {
+            return *octet == b'#';
+        }
+    }
+    true
+}
+
+/// The work, where no word follows it.
+fn completed<'l>(mut words: Words<'_>, work: Work<'l>) -> Result<Work<'l>, LineFault>
+    ensures read { on_ok work_of result ≡ complete words.entry (work_of work.entry) }
+    ensures same { IfOk result (λ done. done ≡ work.entry) }
+{
+    match words.next() {
+        None => Ok(work),
+        Some(_) => Err(LineFault::Command(CommandFault::Extra)),
+    }
+}
+
+/// `tick` and `tick N`, behind their first word.
+#[tactic(auto, unfolding(crate::specs::Forms::tick_form))]
+fn read_tick<'l>(mut words: Words<'_>) -> Result<Work<'l>, LineFault>
+    ensures read { on_ok work_of result ≡ tick_form words.entry }
+    ensures allowed { (agent : AgentState) →
+        IfOk result (λ work. AllowsWork agent (work_of work)) }
+{
+    let Some(word) = words.next() else {
+        return Ok(Work::Ticks(1));
+    };
+    match number(word, 1, 65535) {
+        Ok(ticks) => completed(words, Work::Ticks(ticks)),
+        Err(fault) => Err(LineFault::Command(fault)),
+    }
+}
+
+/// The octets that hexadecimal digits spell, at the front of the room.
+fn decode<'l>(digits: &[u8], room: &'l mut [u8]) -> Result<&'l [u8], LineFault>
+    requires { length digits.now ≤ 2 * length room.old }
+    ensures octets { IfOk result (λ octets. or_hex (decode_of digits.now) ≡ Ok octets.now) }
+    ensures fault { IfErr result (λ fault. or_hex (decode_of digits.now) ≡ Err fault) }
+{
+    let octets = &mut room[..digits.len() / 2];
+    if digits.len() % 2 == 0 && decode_digits(digits, octets) {
+        return Ok(octets);
+    }
+    // Few digits, and whatever is to be refused.
+    match hex::decode_to_slice(digits, octets) {
+        Ok(()) => Ok(octets),
+        Err(_) => Err(LineFault::Hex),
+    }
+}
+
+/// `rx PORT HEX`, behind its first word. The octets go into the room.
+#[tactic(auto, unfolding(crate::specs::Forms::frame_form))]
+fn read_frame<'l>(
+    agent: &Agent,
+    mut words: Words<'_>,
+    room: &'l mut [u8; 2048],
+) -> Result<Work<'l>, LineFault>
+    requires { AllByRecursion (λ word. length word ≤ 4096) words }
+    ensures read { on_ok work_of result ≡ frame_form agent.now words.entry }
+    ensures allowed { IfOk result (λ work. AllowsWork agent.now (work_of work)) }
+{
+    let Some(name) = words.next() else {
+        return Err(LineFault::Command(CommandFault::Unknown));
+    };
+    let Some(port) = agent.find_port(name) else {
+        return Err(LineFault::Command(CommandFault::NoSuchPort));
+    };
+    let Some(digits) = words.next() else {
+        return Err(LineFault::Command(CommandFault::Unknown));
+    };
+    match decode(digits, room) {
+        Ok(octets) => completed(words, Work::Frame { port, octets }),
+        Err(fault) => Err(fault),
+    }
+}
+
+/// `up PORT` and `down PORT`, behind their first word.
+#[tactic(auto, unfolding(crate::specs::Forms::link_form))]
+fn read_link<'l>(agent: &Agent, mut words: Words<'_>, up: bool) -> Result<Work<'l>, LineFault>
+    ensures read { on_ok work_of result ≡ link_form agent.now up words.entry }
+    ensures allowed { IfOk result (λ work. AllowsWork agent.now (work_of work)) }
+{
+    let Some(name) = words.next() else {
+        return Err(LineFault::Command(CommandFault::Unknown));
+    };
+    let Some(port) = agent.find_port(name) else {
+        return Err(LineFault::Command(CommandFault::NoSuchPort));
+    };
+    completed(words, Work::Link { port, up })
+}
+
+/// A command, of its first word and those behind it.
+fn read_order<'l>(agent: &Agent, first: &[u8], words: Words<'l>) -> Result<Work<'l>, LineFault>
+    ensures read { on_ok work_of result ≡ command_form agent.now (first.now ∷ words.entry) }
+    ensures allowed { IfOk result (λ work. AllowsWork agent.now (work_of work)) }
+{
+    match agent.read_words(first, words) {
+        Ok(command) => Ok(Work::Command(command)),
+        Err(fault) => Err(LineFault::Command(fault)),
+    }
+}
+
+/// What follows this front, if the text begins with it.
+fn behind<'l>(text: &'l [u8], front: &[u8]) -> Option<&'l [u8]>
+    ensures { MatchOption result
+        ((rest : List ℕ) → text.now ≢ front.now ++ rest)
+        (λ rest. text.now ≡ front.now ++ rest.now) }
+{
+    text.strip_prefix(front)
+}
+
+/// The port and the digits of `rx PORT HEX` as it is mostly written, with one space between words
+/// and no quotes. A line that gives None is read word by word, so it may be any.
+fn plain_frame<'l>(agent: &Agent, line: &'l [u8]) -> Option<(u8, &'l [u8])>
+    requires { length line.now ≤ 4096 }
+    ensures reads { IfSome result (λ x. (octets : List ℕ) → decode_of x.1.now ≡ Ok octets →
+        work_given agent.now line.now ≡ Ok (frame x.0 octets)) }
+    ensures even { IfSome result (λ x. length x.1.now % 2 ≡ 0) }
+    ensures short { IfSome result (λ x. length x.1.now ≤ 4096) }
+    ensures exists { IfSome result (λ x. IsPort agent.now x.0) }
+{
+    let Some(rest) = behind(line, b"rx ") else {
+        return None;
+    };
+    let (name, after) = split_at_bare(rest);
+    let Some(digits) = behind(after, b" ") else {
+        return None;
+    };
+    if name.is_empty() || digits.is_empty() || digits.len() % 2 != 0 {
+        return None;
+    }
+    match agent.find_port(name) {
+        Some(port) => Some((port, digits)),
+        None => None,
+    }
+}
+
+/// What a line, without its LF, asks of the agent, or its first fault. The octets of a frame stand
+/// in the room; else nothing is promised of the room.
+#[tactic(auto, unfolding(crate::specs::Forms::work_given, crate::specs::Forms::form_of))]
+pub fn read_line<'l>(
+    agent: &Agent,
+    line: &'l [u8],
+    room: &'l mut [u8; 2048],
+) -> Result<Work<'l>, LineFault>
+    ensures read { on_ok work_of result ≡ work_given agent.now line.now }
+    ensures allowed { IfOk result (λ work. AllowsWork agent.now (work_of work)) }
+{
+    if line.len() > LONGEST {
+        return Err(LineFault::TooLong);
+    }
+    // Most lines are such frames. One with a bad digit is refused where every other line is read.
+    if let Some((port, digits)) = plain_frame(agent, line) {
+        let count = digits.len() / 2;
+        if decode_digits(digits, &mut room[..count]) {
+            return Ok(Work::Frame {
+                port,
+                octets: &room[..count],
+            });
+        }
+    }
+    if is_skipped_line(line) {
+        return Ok(Work::Skip);
+    }
+    let mut words = match split(line) {
+        Ok(words) => words,
+        Err(fault) => return Err(LineFault::Command(fault)),
+    };
+    let Some(word) = words.next() else {
+        return Err(LineFault::Command(CommandFault::Unknown));
+    };
+    if word == b"tick".as_slice() {
+        read_tick(words)
+    } else if word == b"rx".as_slice() {
+        read_frame(agent, words, room)
+    } else if word == b"up".as_slice() {
+        read_link(agent, words, true)
+    } else if word == b"down".as_slice() {
+        read_link(agent, words, false)
+    } else {
+        read_order(agent, word, words)
+    }
+}

@@ -1,0 +1,193 @@
+//! Text on its way to a sink. It is gathered, and goes out in large pieces.
+ghost use Rattle.std.specs.Prelude.{◌≡◌, ◌≤◌, ◌<◌, ◌+◌, ◌*◌, [], length, OnOk};
+ghost use Rattle.std.specs.List.{flat_map, AllByRecursion};
+ghost use Rattle.lldp_engine.specs.AgentState.{names_of, IsPort};
+ghost use Rattle.lldp_engine.specs.Frames.{IsSent};
+ghost use Rattle.lldp_engine.specs.Lines.{lines_of as show_lines};
+ghost use Rattle.lldp_engine.specs.declared.show.writer.TheConstants.{ROOM};
+ghost use Rattle.lldp_program.specs.Devices.{failures_after};
+ghost use Rattle.lldp_program.specs.Lines.{ended};
+ghost use Rattle.lldp_program.specs.Code.Output.{WrittenBy, Puts, Flushes, Writes, begun};
+ghost use Rattle.lldp_program.specs.Sent.{sent_line, mark_line};
+ghost use Rattle.lldp_program.specs.Code.Told.{told, Between};
+
+use crate::device::{DeviceFault, Sink};
+use lldp_engine::{Agent, Frame, LINE_ROOM, LineSink, Marks, Show, Writer};
+
+/// Writes all of the octets.
+fn send<W: Sink>(sink: &mut W, octets: &[u8]) -> Result<(), DeviceFault>
+    ensures written { WrittenBy result octets.now (W.taken sink.old) (W.taken sink.new) }
+    ensures failures { W.failures sink.new ≡ failures_after (W.failures sink.old) result }
+    ensures place { W.place sink.new ≡ W.place sink.old }
+{
+    let mut sent = 0;
+    while sent < octets.len() {
+        sent += sink.write(&octets[sent..])?;
+    }
+    Ok(())
+}
+
+/// Writes text to a borrowed sink. A text is gathered, and none of it waits once it is written.
+#[derive(Drop)]
+pub struct Output<'w, W> {
+    sink: &'w mut W,
+    waiting: Writer,
+    answer: Result<(), DeviceFault>,
+}
+
+impl<'w, W: Sink> Output<'w, W> {
+    /// An output that tells what the sink tells.
+    pub fn new(sink: &'w mut W) -> Self
+        ensures taken { W.taken result.sink.now ≡ W.taken sink.old }
+        ensures failures { W.failures result.sink.now ≡ W.failures sink.old }
+        ensures place { W.place result.sink.now ≡ W.place sink.old }
+        ensures sink { result.sink.ghost_name ≡ sink.entry.ghost_name }
+    {
+        Output {
+            sink,
+            waiting: Writer::new(),
+            answer: Ok(()),
+        }
+    }
+}
+
+impl<W: Sink> Output<'_, W> {
+    /// Begins a text. What a write that failed left is forgotten.
+    fn begin(&mut self)
+        ensures { told W.taken W.failures W.place self.new
+            ≡ begun (told W.taken W.failures W.place self.old) }
+    {
+        self.waiting.clear();
+        self.answer = Ok(());
+    }
+
+    /// Writes all that waits.
+    fn flush(&mut self)
+        ensures { Between W.taken W.failures W.place self.old self.new Flushes }
+    {
+        if self.answer.is_ok() {
+            self.answer = send(self.sink, self.waiting.as_slice());
+            self.waiting.clear();
+        }
+    }
+
+    /// Writes what waits where less room than this is left.
+    fn make_room(&mut self, octets: usize)
+        requires { octets ≤ ROOM }
+        ensures puts { Between W.taken W.failures W.place self.old self.new (Puts []) }
+        ensures room { OnOk self.new.answer (length self.new.waiting + octets ≤ ROOM) }
+    {
+        if self.waiting.room_left() < octets {
+            self.flush();
+        }
+    }
+
+    /// Ends a text: writes all that waits.
+    fn end(&mut self) -> Result<(), DeviceFault>
+        ensures flushed { Between W.taken W.failures W.place self.old self.new Flushes }
+        ensures answer { result ≡ self.new.answer }
+    {
+        self.flush();
+        self.answer
+    }
+
+    /// Puts the line that tells which port sent a frame behind what waits.
+    fn sent(&mut self, name: &[u8], frame: &[u8])
+        requires name { length name.now ≤ 15 }
+        requires frame { length frame.now ≤ 1514 }
+        ensures { Between W.taken W.failures W.place self.old self.new
+            (Puts (sent_line name.now frame.now)) }
+    {
+        self.make_room(name.len() + 2 * frame.len() + 5);
+        if self.answer.is_ok() {
+            self.waiting.text(b"tx ");
+            self.waiting.text(name);
+            self.waiting.text(b" ");
+            self.waiting.hex(frame);
+            self.waiting.end_line();
+        }
+    }
+
+    /// Puts the lines of what ports send behind what waits.
+    fn marks(&mut self, agent: &Agent, marks: &Marks)
+        requires { AllByRecursion (λ mark. IsPort agent.now mark.0
+            × IsSent mark.1) marks.now.items }
+        ensures { Between W.taken W.failures W.place self.old self.new
+            (Puts (flat_map (mark_line (names_of agent.now) agent.now.configuration)
+            marks.now.items)) }
+    {
+        let mut frame = Frame::new();
+        for (port, mark) in marks.as_slice() {
+            agent.write_frame(*port, *mark, &mut frame);
+            self.sent(agent.port_name(*port), frame.as_slice());
+        }
+    }
+
+    /// Puts a line and its LF behind what waits.
+    fn line(&mut self, line: &[u8])
+        requires { length line.now ≤ 2048 }
+        ensures { Between W.taken W.failures W.place self.old self.new (Puts (ended line.now)) }
+    {
+        let Some(text) = self.begin_line() else {
+            return;
+        };
+        text.text(line);
+        text.end_line();
+    }
+
+    /// Writes a line and its LF.
+    pub fn write_line(&mut self, line: &[u8]) -> Result<(), DeviceFault>
+        requires { length line.now ≤ 2048 }
+        ensures { Between W.taken W.failures W.place self.old self.new
+            (Writes (ended line.now) result) }
+    {
+        self.begin();
+        self.line(line);
+        self.end()
+    }
+
+    /// Writes the lines of a show.
+    pub fn write_show(&mut self, agent: &Agent, show: Show) -> Result<(), DeviceFault>
+        ensures { Between W.taken W.failures W.place self.old self.new
+            (Writes (flat_map ended (show_lines show agent.now)) result) }
+    {
+        self.begin();
+        agent.show_lines(&show, self);
+        self.end()
+    }
+
+    /// Writes the lines of what ports send.
+    pub fn write_marks(&mut self, agent: &Agent, marks: &Marks) -> Result<(), DeviceFault>
+        requires { AllByRecursion (λ mark. IsPort agent.now mark.0
+            × IsSent mark.1) marks.now.items }
+        ensures { Between W.taken W.failures W.place self.old self.new
+            (Writes (flat_map (mark_line (names_of agent.now) agent.now.configuration)
+            marks.now.items) result) }
+    {
+        // Most events send nothing, and touch nothing here.
+        if marks.is_empty() {
+            return Ok(());
+        }
+        self.begin();
+        self.marks(agent, marks);
+        self.end()
+    }
+}
+
+impl<W: Sink> LineSink for Output<'_, W> {
+    ghost takes = { λ old new line.
+        Between W.taken W.failures W.place old new (Puts (ended line)) };
+
+    /// Lends what waits, behind which the next line is written.
+    fn begin_line(&mut self) -> Option<&mut Writer> {
+        self.make_room(LINE_ROOM);
+        if self.answer.is_err() {
+            return None;
+        }
+        Some(&mut self.waiting)
+    }
+
+    fn is_done(&self) -> bool {
+        self.answer.is_err()
+    }
+}

@@ -1,0 +1,66 @@
+//! Traces that come over connections, one after the other.
+ghost use Rattle.std.specs.Prelude.{◌≡◌, ◌≤◌, IfOk};
+ghost use Rattle.lldp_engine.specs.Past.{Past};
+ghost use Rattle.lldp_engine.specs.Standing.{Stands};
+ghost use Rattle.lldp_program.specs.Runs.{KeepsOn};
+ghost use Rattle.lldp_program.specs.Serving.{HasAsked, HasServed, faults_in};
+
+use crate::door::{AtListener, Door};
+use crate::trace::RunFault;
+use lldp_engine::Agent;
+use std::net::TcpListener;
+use thiserror::Error;
+
+/// Why serving ended before its last connection.
+#[derive(Clone, Copy, Debug, PartialEq, Eq, Error)]
+pub enum ServeFault {
+    /// A connection could not be accepted.
+    #[error("lldpa: socket failed")]
+    Accept = 1,
+}
+
+/// How many faults a run ended with: one or none.
+fn count_fault(ran: Result<(), RunFault>) -> u16
+    ensures { result ≡ faults_in ran }
+{
+    match ran {
+        Ok(()) => 0,
+        Err(_) => 1,
+    }
+}
+
+/// Runs a trace on so many connections of a door, one after the other and the next one also after
+/// a fault, and answers how many ended with a fault. The agent goes from one connection to the next
+/// as it is. Where accepting failed it stands for the connections served so far.
+pub fn serve_connections<D: Door>(
+    agent: &mut Agent,
+    door: &mut D,
+    connections: u16,
+) -> Result<u16, ServeFault>
+    // All that the door was asked: so many connections, each run over once, or fewer and a refusal.
+    ensures asked { HasAsked D.to_come D.taken (D.asked door.old) (D.asked door.new) connections
+        agent.old agent.new result }
+    ensures few { IfOk result (λ faulty. faulty ≤ connections) }
+    // Whatever came over the connections, and also where accepting failed.
+    ensures headline { (past : Past) → Stands past agent.old → KeepsOn past agent.new }
+{
+    let mut faulty = 0;
+    for _served in 0..connections {
+        let Ok(connection) = door.accept() else {
+            return Err(ServeFault::Accept);
+        };
+        faulty += count_fault(door.run(connection, agent));
+    }
+    Ok(faulty)
+}
+
+/// The same over the connections to a listener.
+pub fn serve(agent: &mut Agent, listener: &TcpListener, connections: u16) -> Result<u16, ServeFault>
+    ensures few { IfOk result (λ faulty. faulty ≤ connections) }
+    // So many traces were run, and the answer counts those that ended with a fault.
+    ensures served { HasServed connections agent.old agent.new result }
+    // Whatever came over the connections, and also where accepting failed.
+    ensures headline { (past : Past) → Stands past agent.old → KeepsOn past agent.new }
+{
+    serve_connections(agent, &mut AtListener { listener }, connections)
+}

@@ -1,0 +1,203 @@
+//! A run over a trace.
+ghost use Rattle.std.specs.Prelude.{◌≡◌, ◌<◌, ◌≤◌, ◌+◌, ◌^◌, [], ◌∷◌, length, take, drop, replicate, IfOk};
+ghost use Rattle.lldp_engine.specs.AgentState.{Allows};
+ghost use Rattle.lldp_engine.specs.Answer.{on_ok};
+ghost use Rattle.lldp_engine.specs.Event.{tick};
+ghost use Rattle.lldp_engine.specs.EventView.{event_of};
+ghost use Rattle.lldp_engine.specs.Past.{Past};
+ghost use Rattle.lldp_engine.specs.Standing.{Stands};
+ghost use Rattle.lldp_program.specs.Lines.{ended_lines, unfinished, if_any};
+ghost use Rattle.lldp_program.specs.Work.{work_of, AllowsWork};
+ghost use Rattle.lldp_program.specs.Items.{happens, items_of_work, items_of, items_of_lines};
+ghost use Rattle.lldp_program.specs.Code.Told.{RunsItems, Between};
+ghost use Rattle.lldp_program.specs.Runs.{HasRun, KeepsOn, read_failures_after, write_failures_after};
+
+use crate::buffer::{hold, read_more};
+use crate::device::{DeviceFault, Sink, Source};
+use crate::line::{LineFault, Work, read_line};
+use crate::output::Output;
+use lldp_engine::{Agent, Command, Event};
+use memchr::memchr;
+use thiserror::Error;
+
+const LF: u8 = b'\n';
+
+/// How many octets of the trace are held at most.
+const BUFFER: usize = 16384;
+
+/// How often a run reads at most.
+pub const MOST_READS: u32 = 4_294_967_295;
+
+/// Why a run ended before the end of its trace.
+#[derive(Clone, Copy, Debug, PartialEq, Eq, Error)]
+pub enum RunFault {
+    /// A read failed.
+    #[error("lldpa: read failed")]
+    Read = 1,
+    /// A write failed.
+    #[error("lldpa: write failed")]
+    Write,
+    /// The end was not reached in as many reads as a run makes at most.
+    #[error("lldpa: input too long")]
+    InputTooLong,
+}
+
+/// An event, which the agent allows: what ports send is written.
+fn run_event<W: Sink>(
+    agent: &mut Agent,
+    output: &mut Output<'_, W>,
+    event: Event<'_>,
+) -> Result<(), DeviceFault>
+    requires { Allows agent.old (event_of event) }
+    ensures { Between W.taken W.failures W.place output.old output.new
+        (RunsItems (λ _. happens (event_of event.entry) ∷ []) result agent.old agent.new) }
+{
+    let marks = agent.step(event);
+    output.write_marks(agent, &marks)
+}
+
+/// Some ticks.
+fn run_ticks<W: Sink>(
+    agent: &mut Agent,
+    output: &mut Output<'_, W>,
+    ticks: u16,
+) -> Result<(), DeviceFault>
+    ensures { Between W.taken W.failures W.place output.old output.new
+        (RunsItems (λ _. replicate ticks (happens tick)) result agent.old agent.new) }
+{
+    for _done in 0..ticks {
+        run_event(agent, output, Event::Tick)?;
+    }
+    Ok(())
+}
+
+/// What a line was read as.
+fn run_work<W: Sink>(
+    agent: &mut Agent,
+    output: &mut Output<'_, W>,
+    read: Result<Work<'_>, LineFault>,
+) -> Result<(), DeviceFault>
+    requires { IfOk read (λ work. AllowsWork agent.old (work_of work)) }
+    ensures { Between W.taken W.failures W.place output.old output.new
+        (RunsItems (λ _. items_of_work (on_ok work_of read.entry)) result agent.old agent.new) }
+{
+    match read {
+        Ok(Work::Skip) => Ok(()),
+        Ok(Work::Ticks(ticks)) => run_ticks(agent, output, ticks),
+        Ok(Work::Frame { port, octets }) => {
+            run_event(agent, output, Event::Frame { port, octets })
+        }
+        Ok(Work::Link { port, up }) => run_event(agent, output, Event::Link { port, up }),
+        Ok(Work::Command(Command::Set(setting))) => run_event(agent, output, Event::Set(setting)),
+        Ok(Work::Command(Command::Show(show))) => output.write_show(agent, show),
+        Err(fault) => output.write_line(fault.text()),
+    }
+}
+
+/// A run over a trace: its agent, where its text goes, and room for the octets of a frame.
+#[derive(Drop)]
+struct Run<'a, 'w, W> {
+    agent: &'a mut Agent,
+    output: Output<'w, W>,
+    room: [u8; 2048],
+}
+
+impl<W: Sink> Run<'_, '_, W> {
+    ghost use Rattle.lldp_program.specs.Code.Told.{Performs};
+
+    /// What one line asks for.
+    fn line(&mut self, line: &[u8]) -> Result<(), DeviceFault>
+        ensures { Performs W.taken W.failures W.place self.old self.new (λ past.
+            items_of past line.now) result }
+    {
+        let read = read_line(self.agent, line, &mut self.room);
+        run_work(self.agent, &mut self.output, read)
+    }
+
+    /// Each line whose LF is among the octets, of which the first were searched before. Answers
+    /// where the rest begins.
+    fn lines(&mut self, octets: &[u8], searched: usize) -> Result<usize, DeviceFault>
+        requires within { searched ≤ length octets.now }
+        requires no_line { ended_lines (take searched octets.now) ≡ [] }
+        ensures rest { IfOk result (λ start. (start ≤ length octets.now)
+            × (drop start octets.now ≡ unfinished octets.now)) }
+        ensures run { Performs W.taken W.failures W.place self.old self.new
+            (λ past. items_of_lines past (ended_lines octets.now)) result }
+    {
+        let mut start = 0;
+        let mut from = searched;
+        while let Some(at) = memchr(LF, &octets[from..]) {
+            let end = from + at;
+            self.line(&octets[start..end])?;
+            start = end + 1;
+            from = start;
+        }
+        Ok(start)
+    }
+
+    /// The last line, where it is not empty.
+    fn rest(&mut self, rest: &[u8]) -> Result<(), DeviceFault>
+        ensures { Performs W.taken W.failures W.place self.old self.new
+            (λ past. items_of_lines past (if_any rest.now)) result }
+    {
+        if rest.is_empty() {
+            return Ok(());
+        }
+        self.line(rest)
+    }
+}
+
+/// Runs a trace over the agent: reads it to its end, works on each line as soon as its LF was read,
+/// and writes what the lines ask to see. It reads at most 4,294,967,295 times, into a buffer of
+/// fixed size, and does not flush. Every failed read or write ends it. A last line without LF is a
+/// line too; one over 4,096 octets is passed over and refused.
+pub fn run_trace<S: Source, W: Sink>(
+    agent: &mut Agent,
+    reader: &mut S,
+    writer: &mut W,
+) -> Result<(), RunFault>
+    // What was read, what was written for it, and what the agent stands for then and keeps its
+    // promise for.
+    ensures run { HasRun (S.to_come reader.old) (S.to_come reader.new)
+        (W.taken writer.old) (W.taken writer.new) agent.old agent.new result }
+    // Over any devices, also those that tell nothing: the agent stands for its past and some more
+    // events. Then each table holds the last stored frames that have not expired, and each port has
+    // sent exactly what was due while its credit window was open; no run of events has more frames,
+    // nor more stops, than its bound, and no other choice has sent more up to any event.
+    ensures headline { (past : Past) → Stands past agent.old → KeepsOn past agent.new }
+    // Read is answered exactly where a read failed, Write exactly where a write did, once and as
+    // the last call; where the answer is another, InputTooLong among them, no device failed.
+    ensures reads { S.failures reader.new ≡ read_failures_after (S.failures reader.old) result }
+    ensures writes { W.failures writer.new ≡ write_failures_after (W.failures writer.old) result }
+    // The devices are the ones that were lent.
+    ensures places { (S.place reader.new ≡ S.place reader.old)
+        × (W.place writer.new ≡ W.place writer.old) }
+    ensures calls { S.calls reader.new ≤ S.calls reader.old + 4294967295 }
+    ensures too_long { result ≡ Err RunFault.InputTooLong → S.calls reader.old < 2 ^ 63 →
+        S.calls reader.new ≡ S.calls reader.old + 4294967295 }
+{
+    let mut run = Run {
+        agent,
+        output: Output::new(writer),
+        room: [0u8; 2048],
+    };
+    let mut buffer = [0u8; BUFFER];
+    let mut held = 0;
+    for reads in 0..MOST_READS {
+        let Ok(n) = read_more(reader, &mut buffer, held) else {
+            return Err(RunFault::Read);
+        };
+        if n == 0 {
+            return match run.rest(&buffer[..held]) {
+                Ok(()) => Ok(()),
+                Err(_) => Err(RunFault::Write),
+            };
+        }
+        let end = held + n;
+        let Ok(start) = run.lines(&buffer[..end], held) else {
+            return Err(RunFault::Write);
+        };
+        held = hold(&mut buffer, start, end);
+    }
+    Err(RunFault::InputTooLong)
+}

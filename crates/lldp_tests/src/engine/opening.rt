@@ -1,0 +1,73 @@
+//! Opening, its faults, and the numbers of faults.
+use super::whole_shows::NAMES;
+use super::{open, open_with, options};
+use lldp_engine::{CommandFault, OpenFault, Options};
+use std::test::Fail;
+
+#[test]
+fn faults(rt: HostRuntime) -> Result<(), Fail> {
+    let letters = [b'a'; 256];
+    let long = str::from_utf8(&letters).ok().ok_or("letters")?;
+    let many = ["e"; 65];
+    for (ports, hostname, expected) in [
+        (["eth0"].as_slice(), "localhost", None),
+        (&[], "localhost", Some(OpenFault::NoPorts)),
+        (&many, "localhost", Some(OpenFault::TooManyPorts)),
+        (&["a.b"], "localhost", Some(OpenFault::PortName)),
+        (&["eth0", ""], "localhost", Some(OpenFault::PortName)),
+        (&["0123456789abcdef"], "", Some(OpenFault::PortName)),
+        (&["eth0", "eth0"], "localhost", Some(OpenFault::SamePort)),
+        (&["eth0", "eth0", "a.b"], "", Some(OpenFault::PortName)),
+        (&["eth0"], long, Some(OpenFault::Text)),
+        (&["eth0"], "a\u{7f}", Some(OpenFault::Text)),
+    ] {
+        let options = Options {
+            hostname,
+            ..options(ports, 32)
+        };
+        let fault = open_with(&rt, rt.alloc(), &options).err();
+        assert_eq!(rt; fault, expected);
+    }
+    Ok(())
+}
+
+/// The numbers of the faults.
+#[test]
+fn numbers_of_faults(rt: HostRuntime) {
+    for (fault, number) in [
+        (OpenFault::Memory, 1u8),
+        (OpenFault::NoPorts, 2),
+        (OpenFault::TooManyPorts, 3),
+        (OpenFault::PortName, 4),
+        (OpenFault::SamePort, 5),
+        (OpenFault::Text, 6),
+    ] {
+        assert_eq!(rt; fault as u8, number);
+        assert_eq!(rt; fault.number(), number);
+    }
+    for (fault, number) in [
+        (CommandFault::Unknown, 1u8),
+        (CommandFault::NoSuchPort, 2),
+        (CommandFault::Number, 3),
+        (CommandFault::Range, 4),
+        (CommandFault::Text, 5),
+        (CommandFault::Extra, 6),
+        (CommandFault::Quote, 7),
+        (CommandFault::InUse, 8),
+    ] {
+        assert_eq!(rt; fault as u8, number);
+        assert_eq!(rt; fault.number(), number);
+    }
+}
+
+/// No opening is refused where there is memory: every number of ports, with every limit.
+#[test]
+fn every_size(rt: HostRuntime) -> Result<(), Fail> {
+    for ports in 1..65 {
+        for limit in 1..129 {
+            let agent = open(&rt, rt.alloc(), &NAMES[..ports], limit)?;
+            assert_eq!(rt; usize::from(agent.ports()), ports);
+        }
+    }
+    Ok(())
+}

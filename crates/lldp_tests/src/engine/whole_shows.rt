@@ -1,0 +1,131 @@
+//! Every show at 64 ports, with tables of up to 128 neighbors, line by line against `show_line`.
+use super::{hear, open, shown};
+use lldp_engine::{Agent, LineSink, Show, Writer};
+use std::process::Abort;
+use std::test::Fail;
+
+pub const NAMES: [&str; 64] = [
+    "p00", "p01", "p02", "p03", "p04", "p05", "p06", "p07", "p08", "p09", "p10", "p11", "p12",
+    "p13", "p14", "p15", "p16", "p17", "p18", "p19", "p20", "p21", "p22", "p23", "p24", "p25",
+    "p26", "p27", "p28", "p29", "p30", "p31", "p32", "p33", "p34", "p35", "p36", "p37", "p38",
+    "p39", "p40", "p41", "p42", "p43", "p44", "p45", "p46", "p47", "p48", "p49", "p50", "p51",
+    "p52", "p53", "p54", "p55", "p56", "p57", "p58", "p59", "p60", "p61", "p62", "p63",
+];
+
+/// The LLDPDU of a neighbor, and behind it two TLVs of reserved types.
+fn lldpdu(port: u8, number: u8) -> [u8; 24] {
+    let mut octets =
+        *b"\x02\x07\x04\x00\x11\x22\x33\x00\x00\x04\x05\x05eth0\x06\x02\x00\x78\x12\x00\x14\x00";
+    octets[7] = port;
+    octets[8] = number;
+    octets
+}
+
+/// So many neighbors come on each port. They have none, one or two TLVs besides the mandatory ones,
+/// by their numbers.
+fn hear_all(rt: &impl Abort, agent: &mut Agent, neighbors: u8) -> Result<(), Fail> {
+    for port in 0..agent.ports() {
+        for number in 0..neighbors {
+            let octets = lldpdu(port, number);
+            let len = 20 + 2 * usize::from(number % 3);
+            hear(rt, agent, port, &octets[..len])?;
+        }
+    }
+    Ok(())
+}
+
+/// What compares the lines of a show with `show_line`, those whose number is a multiple of a step.
+#[derive(Drop)]
+struct Compared<'a> {
+    agent: &'a Agent,
+    show: Show,
+    step: u32,
+    lines: u32,
+    line: Writer,
+    different: u32,
+}
+
+impl Compared<'_> {
+    /// Compares the line that was written last, where there is one, and looks for its line feed.
+    fn compare(&mut self) {
+        let Some((end, line)) = self.line.as_slice().split_last() else {
+            return;
+        };
+        if *end != b'\n' {
+            self.different = self.different.saturating_add(1);
+        }
+        let number = self.lines.saturating_sub(1);
+        if number.checked_rem(self.step) == Some(0) {
+            let again = shown(self.agent, self.show, number);
+            if !again.is_some_and(|again| again.as_slice() == line) {
+                self.different = self.different.saturating_add(1);
+            }
+        }
+    }
+}
+
+impl LineSink for Compared<'_> {
+    ghost use Rattle.std.specs.Prelude.{⊤};
+
+    ghost takes = { λ old new line. ⊤ };
+
+    fn begin_line(&mut self) -> Option<&mut Writer> {
+        self.compare();
+        self.lines = self.lines.saturating_add(1);
+        self.line.clear();
+        Some(&mut self.line)
+    }
+
+    fn is_done(&self) -> bool {
+        false
+    }
+}
+
+/// A show has so many lines, which are those of `show_line`.
+fn expect_same(rt: &impl Abort, agent: &Agent, show: Show, step: u32, lines: u32) {
+    let mut compared = Compared {
+        agent,
+        show,
+        step,
+        lines: 0,
+        line: Writer::new(),
+        different: 0,
+    };
+    agent.show_lines(&show, &mut compared);
+    compared.compare();
+    assert_eq!(rt; compared.different, 0);
+    assert_eq!(rt; compared.lines, lines);
+    assert!(rt; shown(agent, show, lines).is_none());
+}
+
+/// All shows. Of the neighbors, 642 lines a port, each 11th line is compared, since `show_line`
+/// costs all lines before it.
+#[test]
+fn every_table_full(rt: HostRuntime) -> Result<(), Fail> {
+    let mut agent = open(&rt, rt.alloc(), &NAMES, 128)?;
+    hear_all(&rt, &mut agent, 128)?;
+    let neighbor_lines = 64 * (3 + 128 * 4 + 43 + 2 * 42);
+    for (show, step, lines) in [
+        (Show::Neighbors, 11, neighbor_lines),
+        (Show::Statistics, 1, 64 * 9),
+        (Show::Chassis, 1, 4),
+        (Show::Configuration, 1, 8 + 64),
+    ] {
+        expect_same(&rt, &agent, show, step, lines);
+    }
+    Ok(())
+}
+
+/// Every line, of two neighbors on each port and of one full table.
+#[test]
+fn every_line(rt: HostRuntime) -> Result<(), Fail> {
+    for (ports, neighbors, lines) in [
+        (64, 2, 64 * (3 + 2 * 4 + 1)),
+        (1, 128, 3 + 128 * 4 + 43 + 2 * 42),
+    ] {
+        let mut agent = open(&rt, rt.alloc(), &NAMES[..ports], neighbors)?;
+        hear_all(&rt, &mut agent, neighbors)?;
+        expect_same(&rt, &agent, Show::Neighbors, 1, lines);
+    }
+    Ok(())
+}

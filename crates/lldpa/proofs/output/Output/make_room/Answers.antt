@@ -1,5 +1,0 @@
-use Rattle.lldpa.proofs.OutputLemmas.{puts_nothing}
-use Rattle.lldpa.proofs.output.Output.make_room.Goals as goal
-
-pub returns-else-room_left-octets-clause-puts : goal.returns-else-room_left-octets-clause-puts
-returns-else-room_left-octets-clause-puts g c = puts_nothing _

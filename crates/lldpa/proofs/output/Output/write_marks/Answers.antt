@@ -1,5 +1,0 @@
-use Rattle.lldpa.proofs.OutputLemmas.{text_written}
-use Rattle.lldpa.proofs.output.Output.write_marks.Goals as goal
-
-pub returns : goal.returns
-returns g c = rw c.end.ensures.answer (text_written _ _ _ _ _ c.begin.ensures c.marks.ensures c.end.ensures.flushed)

@@ -1,8 +1,0 @@
-use Rattle.lldpa.specs.Code.Told.{told}
-use Rattle.lldpa.proofs.OutputLemmas.{text_written, lines_put}
-use Rattle.lldpa.proofs.output.Output.write_show.Goals as goal
-
-pub returns : goal.returns
-returns g c =
-    let lines = lines_put (told g.W.Sink.taken g.W.Sink.failures g.W.Sink.place) _ _ _ c.show_lines.ensures.value in
-    rw c.end.ensures.answer (text_written _ _ _ _ _ c.begin.ensures lines c.end.ensures.flushed)

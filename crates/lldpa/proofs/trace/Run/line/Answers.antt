@@ -1,9 +1,0 @@
-use Rattle.std.proofs.Common.{refl}
-use Rattle.lldpa.proofs.RunLemmas.{items_read, runs_same}
-use Rattle.lldpa.proofs.trace.Run.line.Goals as goal
-
-pub returns : goal.returns
-returns g c = record {
-  agent = refl;
-  items_run = runs_same _ _ _ _ _ _ _ (λ past stands. items_read past _ c.args.line.now _ stands c.read_line-read.ensures.read) c.run_work.ensures;
-}

@@ -1,8 +1,0 @@
-use Rattle.std.proofs.Common.{refl}
-use Rattle.lldp_engine.specs.EventView.{event_of}
-use Rattle.lldpa.proofs.SentLemmas.{event_runs}
-use Rattle.lldpa.proofs.trace.run_event.Goals as goal
-
-pub returns : goal.returns
-returns g c =
-    event_runs _ (event_of c.args.event) c.args.agent.now _ _ _ _ _ refl c.step-marks.ensures.stands c.step-marks.ensures.marks_past c.write_marks.ensures
