@@ -1,5 +1,6 @@
 //! The room for one neighbor.
-ghost use Rattle.std.specs.Prelude.{◌≡◌, ◌≤◌, length};
+ghost use Rattle.std.specs.Prelude.{◌≡◌, ◌+◌, ◌*◌, ◌≤◌, ◌<◌, ◌^◌, true, length};
+ghost use Rattle.std.specs.Str.{bytes_eq};
 ghost use Rattle.lldp_pdu.specs.Cut.{cut};
 ghost use Rattle.lldp_pdu.specs.Lldpdu.{msap_of, tlv_at};
 ghost use Rattle.lldp_pdu.specs.View.{msap_view};
@@ -8,29 +9,30 @@ ghost use Rattle.lldp_table.specs.Code.Layout.{blank};
 ghost use Rattle.lldp_table.specs.Code.Stored.{mixed as mixed_in, tag_of as tag_of_name};
 
 use crate::limits::MOST_OCTETS;
-use arrayvec::ArrayVec;
 use lldp_pdu::{Msap, Tlvs};
 use std::marker::Model;
 
 /// The room for one neighbor, which stores the extent of its frame.
 #[derive(Drop)]
 pub(crate) struct Slot {
-    octets: ArrayVec<u8, MOST_OCTETS>,
+    /// Its first octets are stored. Those behind them are left of earlier frames.
+    room: [u8; MOST_OCTETS],
+    /// How many octets are stored.
+    length: u16,
     ttl: u16,
     /// The tag of its name, which tells most names apart at once.
     tag: u32,
 }
 
 impl Model for Slot {
-    ghost use Rattle.std.specs.Prelude.{◌≡◌};
-    ghost use Rattle.lldp_pdu.specs.Lldpdu.{msap_of};
-    ghost use Rattle.lldp_table.specs.Code.Stored.{Stored, tag_of};
+    ghost use Rattle.std.specs.Prelude.{take};
+    ghost use Rattle.lldp_table.specs.Code.Stored.{Stored, IsSlot};
 
     ghost Value = { Stored };
 
-    ghost view = { λ s. record { octets = s.octets.items; ttl = s.ttl } };
+    ghost view = { λ s. record { octets = take s.length s.room; ttl = s.ttl } };
 
-    ghost invariant = { λ s. s.tag ≡ tag_of (msap_of s.octets.items) };
+    ghost invariant = { λ s. IsSlot s.room s.length s.tag };
 }
 
 /// The body of the next TLV, or no octets where there is none.
@@ -54,15 +56,55 @@ fn msap_in(octets: &[u8]) -> Msap<'_>
     Msap { chassis, port }
 }
 
+/// By what a tag is multiplied for each octet that is mixed into it.
+const FACTOR: u32 = 16_777_619;
+
+/// The same for two octets at once: the power of the factor, modulo 2^32.
+const FACTOR_OF_TWO: u32 = 637_696_617;
+
+/// The same for four octets at once.
+const FACTOR_OF_FOUR: u32 = 1_345_077_009;
+
+/// Two octets mixed into 0.
+fn pair(a: u8, b: u8) -> u32
+    ensures { result ≡ a * FACTOR + b }
+{
+    u32::from(a) * FACTOR + u32::from(b)
+}
+
+/// Four octets mixed into a tag. Only one multiplication waits for the tag.
+fn mixed_with_four(tag: u32, four: [u8; 4]) -> u32
+    ensures { result ≡ mixed_in tag four }
+{
+    let [a, b, c, d] = four;
+    let new = pair(a, b)
+        .wrapping_mul(FACTOR_OF_TWO)
+        .wrapping_add(pair(c, d));
+    tag.wrapping_mul(FACTOR_OF_FOUR).wrapping_add(new)
+}
+
 /// These octets mixed into a tag, one after the other.
-fn mixed(tag: u32, octets: &[u8]) -> u32
+fn mixed_singly(tag: u32, octets: &[u8]) -> u32
     ensures { result ≡ mixed_in tag octets.now }
 {
     let mut mix = tag;
     for octet in octets {
-        mix = mix.wrapping_mul(16_777_619).wrapping_add(u32::from(*octet));
+        mix = mix.wrapping_mul(FACTOR).wrapping_add(u32::from(*octet));
     }
     mix
+}
+
+/// These octets mixed into a tag: four at a time, and then the few that are left.
+fn mixed(tag: u32, octets: &[u8]) -> u32
+    ensures { result ≡ mixed_in tag octets.now }
+{
+    let mut mix = tag;
+    let mut rest = octets;
+    while let [a, b, c, d, others @ ..] = rest {
+        mix = mixed_with_four(mix, [*a, *b, *c, *d]);
+        rest = others;
+    }
+    mixed_singly(mix, rest)
 }
 
 /// The tag of a name: a mix of all its octets.
@@ -72,12 +114,26 @@ pub(crate) fn tag_of(name: &Msap<'_>) -> u32
     mixed(mixed(0, name.chassis), name.port)
 }
 
+/// Whether these may be the same octets, by their number and the last eight of them.
+fn may_be_same(one: &[u8], other: &[u8]) -> bool
+    ensures { bytes_eq one.now other.now ≡ true → result ≡ true }
+{
+    if one.len() != other.len() {
+        return false;
+    }
+    match (one.last_chunk::<8>(), other.last_chunk::<8>()) {
+        (Some(end), Some(other_end)) => end == other_end,
+        _ => true,
+    }
+}
+
 impl Slot {
     pub(crate) fn blank() -> Slot
         ensures { result ≡ blank }
     {
         Slot {
-            octets: ArrayVec::new(),
+            room: [0; MOST_OCTETS],
+            length: 0,
             ttl: 0,
             tag: 0,
         }
@@ -88,7 +144,7 @@ impl Slot {
         ensures value { result.now ≡ self.now.octets }
         ensures short { length result.now ≤ MOST_OCTETS }
     {
-        self.octets.as_slice()
+        &self.room[..usize::from(self.length)]
     }
 
     pub(crate) fn ttl(&self) -> u16
@@ -100,7 +156,7 @@ impl Slot {
     pub(crate) fn msap(&self) -> Msap<'_>
         ensures { msap_view result ≡ msap_of self.now.octets }
     {
-        msap_in(self.octets.as_slice())
+        msap_in(self.octets())
     }
 
     /// Whether its frame has this name, whose tag is given.
@@ -112,6 +168,9 @@ impl Slot {
             return false;
         }
         let held = self.msap();
+        if !may_be_same(name.chassis, held.chassis) {
+            return false;
+        }
         name.chassis == held.chassis && name.port == held.port
     }
 
@@ -122,8 +181,8 @@ impl Slot {
         ensures octets { self.new.octets ≡ octets.now }
         ensures ttl { self.new.ttl ≡ ttl }
     {
-        self.octets.clear();
-        self.octets.try_extend_from_slice(octets).unwrap();
+        self.room[..octets.len()].copy_from_slice(octets);
+        self.length = octets.len() as u16;
         self.ttl = ttl;
         self.tag = tag;
     }

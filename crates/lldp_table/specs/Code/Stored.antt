@@ -1,6 +1,8 @@
 -- What a slot stores, and the tag by which names are told apart at once.
-use Rattle.std.specs.Prelude.{ℕ, ◌+◌, ◌*◌, ◌^◌, ◌%◌, List, [], ◌∷◌}
+use Rattle.std.specs.Prelude.{◌≡◌, ℕ, ◌≤◌, ◌+◌, ◌*◌, ◌^◌, ◌%◌, List, [], ◌∷◌, take}
 use Rattle.lldp_pdu.specs.Msap.{MsapId}
+use Rattle.lldp_pdu.specs.Lldpdu.{msap_of}
+use Rattle.lldp_table.specs.declared.limits.TheConstants.{MOST_OCTETS}
 
 -- the octets of a frame's extent and its TTL
 pub record Stored : Type 0 where
@@ -15,3 +17,8 @@ mixed tag (octet ∷ octets) = mixed ((tag * 16777619 % 2 ^ 32 + octet) % 2 ^ 32
 -- all octets of a name, the Chassis ID's first
 abbrev pub tag_of : MsapId → ℕ
 tag_of name = mixed (mixed 0 name.chassis) name.port
+
+-- what is true of a slot's parts
+pub record IsSlot (room : List ℕ) (size tag : ℕ) : Type 0 where
+  pub within : size ≤ MOST_OCTETS
+  pub tagged : tag ≡ tag_of (msap_of (take size room))

@@ -1,7 +1,10 @@
--- The octets before this one are mixed in.
-use Rattle.std.proofs.Common.{◌≡◌, drop}
+-- The octets before the rest are mixed in.
+use Rattle.std.proofs.Common.{◌≡◌, length}
 use Rattle.lldp_table.specs.Code.Stored.{mixed}
 use Rattle.lldp_table.proofs.slot.mixed.Given as goal
 
-abbrev pub invariant-loop-octet : goal.invariant-loop-octet
-invariant-loop-octet l = mixed l.mix (drop l.octet-index l.octets) ≡ mixed l.tag l.octets
+abbrev pub invariant-loop-rest : goal.invariant-loop-rest
+invariant-loop-rest l = mixed l.mix l.rest ≡ mixed l.tag l.octets
+
+abbrev pub decreases-loop-rest : goal.decreases-loop-rest
+decreases-loop-rest l = length l.rest

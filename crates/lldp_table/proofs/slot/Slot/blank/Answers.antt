@@ -1,4 +1,4 @@
-use Rattle.std.proofs.Common.{◌≡◌, [], refl}
+use Rattle.std.proofs.Common.{◌≡◌, [], refl, arith}
 use Rattle.lldp_pdu.specs.Cut.{cut, cut_within}
 use Rattle.lldp_pdu.specs.Lldpdu.{msap_of}
 use Rattle.lldp_table.specs.Code.Stored.{tag_of}
@@ -10,4 +10,4 @@ unfolding cut cut_within msap_of
 blank_tag = refl
 
 pub invariant_of-result : goal.invariant_of-result
-invariant_of-result c = rw c.new.ensures blank_tag
+invariant_of-result c = record { within = omega arith; tagged = blank_tag }
