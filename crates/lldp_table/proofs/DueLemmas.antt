@@ -5,13 +5,13 @@ use Rattle.std.specs.List.Sorted.{IsPermutation}
 use Rattle.std.proofs.Math.ListN.{drop_of_length-le}
 use Rattle.std.proofs.Math.Seq.{drop-cons, take-append_seam, drop-append_seam}
 use Rattle.std.proofs.lemmas.Bool.{cases_Bool, eqb-true, eqb-false, eq-eqb, le-leb, lt-leb, ltb-true, cond-true, cond-false}
-use Rattle.std.proofs.lemmas.List.{take_all, take_more, append_assoc, append-nil, map-append, take-map, drop-map, get_or-set_same, get_or-set_other}
+use Rattle.std.proofs.lemmas.List.{take_all, take_more, take-append-drop, append_assoc, append-nil, map-append, take-map, drop-map, get_or-set_same, get_or-set_other}
 use Rattle.std.proofs.lemmas.List.Elements.{All-from_recursion, recursion_from_All}
 use Rattle.std.proofs.lemmas.List.Sorted.{All-permutation}
 use Rattle.std.proofs.lemmas.Map.Keys.{IsDistinct-head, IsDistinct-tail, IsDistinct-cons}
-use Rattle.lldp_table.specs.Code.Queue.{Due, due, dues, slots_of, holds, ticks_left, put, enter, leave, less_first, add_first, total, IsQueue}
+use Rattle.lldp_table.specs.Code.Queue.{Due, due, dues, slots_of, holds, ticks_left, put, enter, leave, less_first, add_first, is_spent, total, IsRunning, IsQueue}
 use Rattle.lldp_table.proofs.PlaceLemmas.{at_place, all-push, all-both, not_before, not_behind, nat_eq_sym, map-remove, unheld, distinct-moved}
-use Rattle.lldp_table.proofs.QueueLemmas.{at_first, behind, total-cons, total-enter, total-leave, total-less_first}
+use Rattle.lldp_table.proofs.QueueLemmas.{at_first, behind, enter-last, total-cons, total-append, total-added, total-enter, total-leave, total-less_first, total-pass}
 use Rattle.lldp_table.proofs.QueueOrderLemmas.{slots-enter, slots-leave}
 use Rattle.std.proofs.lemmas.Grind.{common_steps}
 
@@ -125,6 +125,15 @@ entered times times' slots k slot rest l n w u e =
     ∙ ap (λ q. q ++ due slot rest ∷ drop k (take k queue ++ others)) (seam_take k (take k queue) others front)
     ∙ ap (λ q. take k queue ++ due slot rest ∷ q) (seam_drop k (take k queue) others front)
 
+-- as the last
+pub entered_last : (times slots : List ℕ) (slot gap : ℕ) → length times ≡ 128 → slot < 128 → list_any (nat_eq slot) slots ≡ false
+    → dues (set times slot gap) (slots ++ slot ∷ []) ≡ enter slot (total (dues times slots) + gap) (dues times slots)
+entered_last times slots slot gap n w u =
+    map-append (λ i. due i (get_or (set times slot gap) i 0)) slots (slot ∷ [])
+    ∙ ap (λ m. dues (set times slot gap) slots ++ due slot m ∷ []) (get_or-set_same times slot gap 0 (omega (arith, n, w)))
+    ∙ ap (λ q. q ++ due slot gap ∷ []) (dues-other times slot gap slots (unheld (nat_eq slot) slots u))
+    ∙ sym (enter-last slot (total (dues times slots) + gap) (dues times slots) gap refl)
+
 -- ## A slot that leaves
 
 pub leaves_at : (times slots : List ℕ) (k slot : ℕ) → k < length slots → get_or slots k 0 ≡ slot → IsDistinct nat_eq slots
@@ -165,6 +174,40 @@ two_fit times slots k slot l e =
     let first : (get_or (dues times slots) k (due 0 0)).gap ≡ get_or times slot 0 = gap_at times slots k (omega arith) ∙ ap (λ i. get_or times i 0) e in
     let next : (get_or (dues times slots) (suc k) (due 0 0)).gap ≡ get_or times (get_or slots (k + 1) 0) 0 = gap_at times slots (suc k) (omega arith) ∙ ap (λ n. get_or times (get_or slots n 0) 0) one in
     omega (arith, two_of_total (dues times slots) k (due 0 0) (omega (arith, length-dues times slots, l)), first, next)
+
+-- the ticks left of the last, where another one leaves, and where it leaves itself
+module _ (times slots : List ℕ) (k slot : ℕ) (l : k < length slots) (e : get_or slots k 0 ≡ slot) (d : IsDistinct nat_eq slots) where
+  abbrev front : List Due
+  front = take k (dues times slots)
+
+  abbrev others : List Due
+  others = drop (suc k) (dues times slots)
+
+  total_left : total (leave slot (dues times slots)) ≡ total front + total (add_first (get_or times slot 0) others)
+  total_left = ap total (leaves_at times slots k slot l e d) ∙ total-append front (add_first (get_or times slot 0) others)
+
+  total_here : total (dues times slots) ≡ total front + (get_or times slot 0 + total others)
+  total_here =
+      ap total (sym (take-append-drop k (dues times slots))) ∙ total-append front (drop k (dues times slots))
+      ∙ ap (λ q. total front + total q) (drop-dues times slots k l)
+      ∙ ap (λ n. total front + n) (total-cons (due (get_or slots k 0) (get_or times (get_or slots k 0) 0)) others)
+      ∙ ap (λ i. total front + (get_or times i 0 + total others)) e
+
+  pub total_left_behind : k + 1 < length slots → total (leave slot (dues times slots)) ≡ total (dues times slots)
+  total_left_behind m =
+      let next : Due = due (get_or slots (suc k) 0) (get_or times (get_or slots (suc k) 0) 0) in
+      let some : others ≡ next ∷ drop (suc (suc k)) (dues times slots) = drop-dues times slots (suc k) (omega arith) in
+      let added : total (add_first (get_or times slot 0) others) ≡ get_or times slot 0 + total others =
+      rw some (total-added (get_or times slot 0) next (drop (suc (suc k)) (dues times slots))) in
+      omega (arith, total_left, total_here, added)
+
+  pub total_left_last : length slots ≤ k + 1 → total (leave slot (dues times slots)) + get_or times slot 0 ≡ total (dues times slots)
+  total_left_last m =
+      let past : length (dues times slots) ≤ suc k = omega (arith, length-dues times slots, m) in
+      let none : others ≡ [] = drop_of_length-le (dues times slots) past in
+      let added : total (add_first (get_or times slot 0) others) ≡ 0 = ap (λ q. total (add_first (get_or times slot 0) q)) none in
+      let left : total others ≡ 0 = ap total none in
+      omega (arith, total_left, total_here, added, left)
 
 -- ## What stays true of a queue
 
@@ -207,6 +250,15 @@ within_times times slots h k l = let w : get_or slots k 0 < 128 = at_place (λ i
 pub queue_popped : (times slots : List ℕ) → IsQueue times slots → IsQueue times (remove slots 0)
 queue_popped times [] h = h
 queue_popped times (i ∷ is) h = grind (arith, common_steps, IsDistinct-tail, total-cons)
+
+-- the ticks left of the last, where the first has nothing left and leaves, and where a tick passes
+pub total_popped : (times slots : List ℕ) → is_spent (dues times slots) ≡ true → total (dues times (remove slots 0)) ≡ total (dues times slots)
+total_popped times [] e = refl
+total_popped times (i ∷ is) e = omega (arith, eqb-true (get_or times i 0) 0 e, total-cons (due i (get_or times i 0)) (dues times is))
+
+pub total_passed : (times slots : List ℕ) → 0 < length slots → IsRunning (dues times slots) → total (less_first 1 (dues times slots)) + 1 ≡ total (dues times slots)
+total_passed times [] l r = absurd (omega arith)
+total_passed times (i ∷ is) l r = total-pass (due i (get_or times i 0)) (dues times is) r
 
 -- ## The ticks left of each slot, one after the other
 

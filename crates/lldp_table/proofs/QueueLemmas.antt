@@ -1,7 +1,7 @@
 -- Each step of the queue changes the ticks left of the slots as it is meant to.
-use Rattle.std.proofs.Common.{◌≡◌, ℕ, ◌+◌, ◌-◌, ◌<◌, ◌≤◌, true, false, ◌||◌, cond, nat_eq, nat_le, List, [], ◌∷◌, refl, inl, inr, ap, ◌∙◌, sym, arith, max}
+use Rattle.std.proofs.Common.{◌≡◌, ℕ, ◌+◌, ◌-◌, ◌<◌, ◌≤◌, true, false, ◌||◌, cond, nat_eq, nat_le, List, [], ◌∷◌, ◌++◌, refl, inl, inr, ap, ◌∙◌, sym, arith, max}
 use Rattle.std.proofs.lemmas.List.Sums.{sum_by-cons}
-use Rattle.std.proofs.lemmas.Bool.{cases_Bool, leb-true, leb-false, or_parts, cond-true, cond-false, eqb-true, eqb-false, eq-eqb}
+use Rattle.std.proofs.lemmas.Bool.{cases_Bool, le-leb, leb-true, leb-false, or_parts, cond-true, cond-false, eqb-true, eqb-false, eq-eqb}
 use Rattle.lldp_table.specs.Code.Queue.{Due, due, holds, ticks_left, enter, add_first, less_first, leave, IsRunning, total}
 use Rattle.std.proofs.lemmas.Grind.{common_steps}
 
@@ -98,7 +98,7 @@ left-front_other slot other queue d = behind (due slot 0) queue other d ∙ omeg
 pub total-cons : (e : Due) (queue : List Due) → total (e ∷ queue) ≡ e.gap + total queue
 total-cons e queue = sum_by-cons (λ (d : Due). d.gap) e queue
 
-pub total-enter : (slot left : ℕ) (queue : List Due) → total (enter slot left queue) ≤ max (total queue) left
+pub total-enter : (slot left : ℕ) (queue : List Due) → total (enter slot left queue) ≡ max (total queue) left
 total-enter slot left [] = omega arith
 total-enter slot left (e ∷ queue) = grind (arith, common_steps, total-cons, cases_Bool, leb-true, leb-false, total-enter slot (left - e.gap) queue)
 
@@ -113,3 +113,23 @@ total-leave slot (e ∷ queue) = grind (arith, common_steps, total-cons, cases_B
 pub total-less_first : (n : ℕ) (queue : List Due) → total (less_first n queue) ≤ total queue
 total-less_first n [] = omega arith
 total-less_first n (e ∷ queue) = omega (arith, total-cons e queue, total-cons (due e.slot (e.gap - n)) queue)
+
+pub total-append : (queue others : List Due) → total (queue ++ others) ≡ total queue + total others
+total-append [] others = omega arith
+total-append (e ∷ queue) others = omega (arith, total-cons e (queue ++ others), total-cons e queue, total-append queue others)
+
+-- where there is a first, it takes what is added
+pub total-added : (n : ℕ) (e : Due) (queue : List Due) → total (add_first n (e ∷ queue)) ≡ n + total (e ∷ queue)
+total-added n e queue = omega (arith, total-cons e queue, total-cons (due e.slot (n + e.gap)) queue)
+
+-- a tick takes one from the last too
+pub total-pass : (e : Due) (queue : List Due) → IsRunning (e ∷ queue) → total (less_first 1 (e ∷ queue)) + 1 ≡ total (e ∷ queue)
+total-pass e queue r = omega (arith, running_first e queue r, total-cons e queue, total-cons (due e.slot (e.gap - 1)) queue)
+
+-- a slot that expires no earlier than the last
+pub enter-last : (slot left : ℕ) (queue : List Due) (gap : ℕ) → left ≡ total queue + gap → enter slot left queue ≡ queue ++ due slot gap ∷ []
+enter-last slot left [] gap e = ap (λ n. due slot n ∷ []) (omega arith)
+enter-last slot left (d ∷ queue) gap e =
+    let sum : d.gap + total queue ≡ total (d ∷ queue) = sym (total-cons d queue) in
+    let t : nat_le d.gap left ≡ true = le-leb d.gap left (omega arith) in
+    rw t (ap (λ q. d ∷ q) (enter-last slot (left - d.gap) queue gap (omega arith)))

@@ -1,7 +1,7 @@
 //! The slots in use, in the order in which their neighbors expire.
 ghost use Rattle.std.specs.Prelude.{◌≡◌, ℕ, true, false, ◌≤◌, ◌<◌, ◌+◌, ◌^◌, [], ◌∷◌, ◌++◌, length, take, drop, slice_index, nat_eq};
 ghost use Rattle.std.specs.List.{list_any, AllByRecursion};
-ghost use Rattle.lldp_table.specs.Code.Queue.{due, dues, holds, ticks_left, put, enter, leave, less_first, add_first, is_spent, IsRunning, IsQueue};
+ghost use Rattle.lldp_table.specs.Code.Queue.{due, dues, holds, ticks_left, put, enter, leave, less_first, add_first, is_spent, total, IsRunning, IsQueue};
 
 use crate::limits::MOST_NEIGHBORS;
 use crate::times::{Times, lefts_in};
@@ -96,17 +96,40 @@ fn enter_into(slots: &mut ArrayVec<u8, MOST_NEIGHBORS>, times: &mut Times, slot:
     slots.insert(at, slot);
 }
 
-/// A slot leaves, and the one behind it has its difference too.
-fn leave_from(slots: &mut ArrayVec<u8, MOST_NEIGHBORS>, times: &mut Times, slot: u8)
+/// A slot enters as the last, so many ticks behind the one that was last before.
+fn enter_last(slots: &mut ArrayVec<u8, MOST_NEIGHBORS>, times: &mut Times, slot: u8, gap: u16)
+    requires queue { IsQueue times.old.shown slots.old.items }
+    requires room { length slots.old.items < MOST_NEIGHBORS }
+    requires within { slot < MOST_NEIGHBORS }
+    requires new { holds slot (dues times.old.shown slots.old.items) ≡ false }
+    requires fits { total (dues times.old.shown slots.old.items) + gap < 2 ^ 16 }
+    ensures queue { IsQueue times.new.shown slots.new.items }
+    ensures after { dues times.new.shown slots.new.items
+        ≡ enter slot (total (dues times.old.shown slots.old.items) + gap)
+        (dues times.old.shown slots.old.items) }
+{
+    times.set(slot, gap);
+    slots.push(slot);
+}
+
+/// A slot leaves, and the one behind it has its difference too. Tells how much less is left of the
+/// last slot now.
+fn leave_from(slots: &mut ArrayVec<u8, MOST_NEIGHBORS>, times: &mut Times, slot: u8) -> u16
     requires queue { IsQueue times.old.shown slots.old.items }
     requires there { holds slot (dues times.old.shown slots.old.items) ≡ true }
     ensures queue { IsQueue times.new.shown slots.new.items }
     ensures after { dues times.new.shown slots.new.items ≡ leave slot (dues times.old.shown slots.old.items) }
+    ensures less { total (leave slot (dues times.old.shown slots.old.items)) + result
+        ≡ total (dues times.old.shown slots.old.items) }
 {
     let at = place_in(slots.as_slice(), slot);
     let gap = times.get(slot);
     raise(times, slots.as_slice(), at + 1, gap);
     slots.remove(at);
+    if at < slots.len() {
+        return 0;
+    }
+    gap
 }
 
 /// The slots in use, in the order in which their neighbors expire, each with the difference of its
@@ -114,13 +137,16 @@ fn leave_from(slots: &mut ArrayVec<u8, MOST_NEIGHBORS>, times: &mut Times, slot:
 #[derive(Drop)]
 pub(crate) struct Queue {
     slots: ArrayVec<u8, MOST_NEIGHBORS>,
+    /// The ticks left of the last: the sum of the differences. A slot that expires no earlier enters
+    /// behind it at once.
+    last: u16,
     times: Times,
 }
 
 impl Model for Queue {
     ghost use Rattle.std.specs.Prelude.{List};
     ghost use Rattle.lldp_table.specs.Counted.{Counted};
-    ghost use Rattle.lldp_table.specs.Code.Queue.{Due, dues, IsQueue};
+    ghost use Rattle.lldp_table.specs.Code.Queue.{Due, dues, IsQueueTo};
 
     ghost Value = { Counted (List Due) };
 
@@ -129,7 +155,7 @@ impl Model for Queue {
       accesses = q.times.accesses;
     } };
 
-    ghost invariant = { λ q. IsQueue q.times.shown q.slots.items };
+    ghost invariant = { λ q. IsQueueTo q.times.shown q.slots.items q.last };
 }
 
 impl Queue {
@@ -138,6 +164,7 @@ impl Queue {
     {
         Queue {
             slots: ArrayVec::new(),
+            last: 0,
             times: Times::new(),
         }
     }
@@ -146,6 +173,7 @@ impl Queue {
         ensures { self.new.shown ≡ [] }
     {
         self.slots.clear();
+        self.last = 0;
     }
 
     /// A slot whose neighbor has so many ticks left enters, behind those that expire no later.
@@ -155,6 +183,12 @@ impl Queue {
         requires new { holds slot self.old.shown ≡ false }
         ensures { self.new.shown ≡ enter slot left self.old.shown }
     {
+        if left >= self.last {
+            let gap = left - self.last;
+            enter_last(&mut self.slots, &mut self.times, slot, gap);
+            self.last = left;
+            return;
+        }
         enter_into(&mut self.slots, &mut self.times, slot, left);
     }
 
@@ -163,7 +197,7 @@ impl Queue {
         requires { holds slot self.old.shown ≡ true }
         ensures { self.new.shown ≡ leave slot self.old.shown }
     {
-        leave_from(&mut self.slots, &mut self.times, slot);
+        self.last -= leave_from(&mut self.slots, &mut self.times, slot);
     }
 
     /// A tick: one less for the first, and so for all. Tells whether the first has nothing left.
@@ -179,6 +213,7 @@ impl Queue {
         let first = self.slots[0];
         let left = self.times.get(first) - 1;
         self.times.set(first, left);
+        self.last -= 1;
         left == 0
     }
 

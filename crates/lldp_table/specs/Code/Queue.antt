@@ -72,6 +72,11 @@ pub record IsQueue (times slots : List ℕ) : Type 0 where
   pub distinct : IsDistinct nat_eq slots
   pub fits : total (dues times slots) < 2 ^ 16
 
+-- and the ticks left of the last are known
+pub record IsQueueTo (times slots : List ℕ) (last : ℕ) : Type 0 where
+  pub queue : IsQueue times slots
+  pub last_is : last ≡ total (dues times slots)
+
 -- the queue has exactly these slots, each once
 pub record IsQueued (queue : List Due) (used : List ℕ) : Type 0 where
   pub same : (i : ℕ) → holds i queue ≡ list_any (nat_eq i) used
