@@ -1,11 +1,11 @@
 #!/bin/sh
 # Checks the built program: the transcripts of examples/, the examples and the links of the pages, what the sources
 # say of memory, the completion, the package, misuse of its words and streams, every value of each range, refused
-# memory, and traces of fixed and of random seeds beside the model and the judge of windows.
+# memory, counts of instructions, and traces of fixed and of random seeds beside the model and the judge of windows.
 #     tools/check.sh [PROGRAM]
 # PROGRAM is the one that the gate leaves unless given. It needs sh, bash, python3 and cmp, a C compiler for refused
-# memory, and mypy for the types of the Python package; what had to be skipped is said and not counted. The last line
-# is `N passed, M failed`.
+# memory, valgrind for the counts, and mypy for the types of the Python package; what had to be skipped is said and not
+# counted. The last line is `N passed, M failed`.
 set -u
 cd "$(dirname "$0")/.." || exit 2
 program=$(realpath -- "${1:-crates/lldpa/out/lldpa}")
@@ -308,6 +308,8 @@ misused_streams
 binary_input
 part "refused memory" tools/refuse-memory.sh "$program"
 part "every value of each range" python3 tools/check-ranges.py "$program"
+# No row of the benchmark takes more instructions than before.
+part "instructions" python3 tools/bench_counts.py --program "$program"
 part "answers over a connection" python3 tools/check-listen.py "$program"
 echo "== traces of fixed seeds, beside the model and the judge of windows"
 python3 tools/fuzz.py --program "$program" --seed 1 --traces 4000 --judge-one-in 20

@@ -1,0 +1,61 @@
+"""The picture of the benchmark: bars of lldpa beside C."""
+from __future__ import annotations
+
+import html
+from typing import Any
+
+from bench_rows import NAMES
+
+LEFT, WIDEST, TOP, BAR = 250, 330, 66, 15
+FILLS = ["#3b7dd8", "#a9b4c2", "#d9b26f"]
+
+
+def high(row: dict[str, Any]) -> int:
+    """Takes a row, gives its height: a bar for each figure, and a gap."""
+    return BAR * len(row["time"]) + 10
+
+
+def scale_of(rows: list[dict[str, Any]]) -> float:
+    """Takes the rows, gives the length of C's bar, by which the longest bar of all still fits."""
+    ratios: list[float] = [max(row["time"]) / row["time"][1] for row in rows]
+    return WIDEST / max(ratios)
+
+
+def bars(row: dict[str, Any], y: float, scale: float) -> list[str]:
+    """Takes a row, where it begins and the length of C's bar, gives its lines of the picture."""
+    ours, theirs = row["time"][:2]
+    middle = y + high(row) / 2
+    out = [f'<text x="{LEFT - 10}" y="{middle:.0f}" text-anchor="end">{html.escape(row["title"])}</text>']
+    for k, value in enumerate(row["time"]):
+        width, down = scale * value / theirs, y + 2 + BAR * k
+        out.append(f'<rect x="{LEFT}" y="{down}" width="{width:.0f}" height="13" fill="{FILLS[k]}"/>'
+                   f'<text x="{LEFT + 6 + width:.0f}" y="{down + 11}" font-size="11">{NAMES[k]} {value:.0f} ns</text>')
+    out.append(f'<text x="844" y="{middle:.0f}" text-anchor="end">{ours / theirs:.2f} times C</text>')
+    return out
+
+
+def head(told: dict[str, Any], height: float) -> list[str]:
+    """Takes the table and the picture's height, gives the lines of its title."""
+    return [f'<svg xmlns="http://www.w3.org/2000/svg" width="860" height="{height}" '
+            'font-family="sans-serif" font-size="13">',
+            '<rect width="100%" height="100%" fill="white"/>',
+            '<text x="16" y="24" font-size="16">lldpa beside plain C that does the same work</text>',
+            '<text x="16" y="44" fill="#555">processor time of one thing, on '
+            f'{html.escape(told["machine"])}; C is as long in each row</text>']
+
+
+def picture(told: dict[str, Any]) -> str:
+    """Takes the table, gives its picture: bars for each row that C does too, and lines for the others."""
+    rows_of_c = [row for row in told["rows"] if len(row["time"]) > 1]
+    others = [row for row in told["rows"] if len(row["time"]) == 1]
+    end = TOP + sum(high(row) for row in rows_of_c)
+    foot = [f"{row['title']}: {row['time'][0]:.0f} ns" for row in others] + told["start"] + told["others"]
+    foot += told.get("captures", [])
+    out, y, scale = head(told, end + 34 + 19 * len(foot)), TOP, scale_of(rows_of_c)
+    for row in rows_of_c:
+        out += bars(row, y, scale)
+        y += high(row)
+    out.append(f'<path d="M{LEFT} {TOP - 6} V{end}" stroke="#444"/>')
+    for i, line in enumerate(foot):
+        out.append(f'<text x="16" y="{end + 24 + 19 * i}" fill="#555">{html.escape(line)}</text>')
+    return "\n".join(out) + "\n</svg>\n"

@@ -1,0 +1,169 @@
+"""The rows of the benchmark: frames, the traces made of them, and the words that start each program."""
+from __future__ import annotations
+
+import random
+import subprocess
+from dataclasses import dataclass, field
+from pathlib import Path
+
+NEAREST_BRIDGE = bytes.fromhex("0180c200000e")
+LLDP = bytes.fromhex("88cc")
+PORTS = [f"eth{i}" for i in range(64)]
+LONG = "configure lldp tx-interval 3600\n"
+ONE_PORT = ["--receive-only", "eth0"]
+MANY = ["--receive-only", "--max-neighbors=128"]
+# What the programs of a row are called, in the order in which its figures stand.
+NAMES = ["lldpa", "C", "C by vectors, nothing checked"]
+
+
+# Frames
+
+def tlv(kind: int, body: bytes) -> bytes:
+    """Takes a TLV's type and body, gives its octets."""
+    return (kind << 9 | len(body)).to_bytes(2, "big") + body
+
+
+def frame(chassis: bytes, port: bytes, tlvs: list[bytes], ttl: int = 65535) -> bytes:
+    """Takes the bodies of the first two TLVs, the TLVs after the third and a TTL, gives a frame."""
+    begin = tlv(1, chassis) + tlv(2, port) + tlv(3, ttl.to_bytes(2, "big"))
+    return NEAREST_BRIDGE + b"\x02\0\0\0\0\x99" + LLDP + begin + b"".join(tlvs) + b"\0\0"
+
+
+def name(i: int) -> tuple[bytes, bytes]:
+    """Gives the chassis ID and port ID of sender i."""
+    return b"\x04\x02\x00\x5e" + i.to_bytes(3, "big"), b"\x05swp%d" % (i % 48 + 1)
+
+
+def common_tlvs(rng: random.Random) -> list[bytes]:
+    """Gives what a switch or a host says of itself: now little, now much, 280 octets in the mean."""
+    system = rng.choice([
+        b"Debian GNU/Linux 12 (bookworm) Linux 6.1.0-18-amd64 #1 SMP PREEMPT_DYNAMIC x86_64",
+        b"Cisco IOS Software, C3750E Software (C3750E-UNIVERSALK9-M), Version 15.2(4)E8, RELEASE SOFTWARE (fc3)",
+        b"Juniper Networks, Inc. ex4300-48t Ethernet Switch, kernel JUNOS 18.4R2.7"])
+    said = [tlv(4, b"Interface %d as GigabitEthernet" % rng.randrange(999)),
+            tlv(5, b"sw-%d.lab.example.net" % rng.randrange(999)),
+            tlv(6, system), tlv(7, b"\0\x14\0\x04"), tlv(8, b"\x05\x01\xc0\0\x02\x01\x02\0\0\0\x02\0"),
+            tlv(8, b"\x11\x02" + bytes(rng.randrange(256) for _ in range(16)) + b"\x02\0\0\0\x02\0")]
+    own = [b"\x00\x80\xc2\x01\0\x64", b"\x00\x80\xc2\x03\0\x64\x07VLAN100", b"\x00\x12\x0f\x01\x03\xec\x03\0\x1e",
+           b"\x00\x12\x0f\x04\x05\xdc", b"\x00\x12\x0f\x03\x01\0\0\0\0", b"\x00\x12\xbb\x01\0\x3f\x03",
+           b"\x00\x12\xbb\x02\x01\x40\x65\xae", b"\x00\x12\xbb\x0a" + b"serial-%08d" % rng.randrange(10**8)]
+    return said + [tlv(127, body) for body in own if rng.random() < 0.7]
+
+
+def mix(count: int, names: int) -> list[bytes]:
+    """Gives so many frames of so many senders, by turns."""
+    rng = random.Random(1)
+    return [frame(*name(i % names), common_tlvs(rng)) for i in range(count)]
+
+
+def least(names: int) -> list[bytes]:
+    """Gives a frame of 36 octets of each of so many senders."""
+    return [frame(b"\x04" + i.to_bytes(6, "big"), b"\x05e-%02d" % i, []) for i in range(names)]
+
+
+def greatest(names: int) -> list[bytes]:
+    """Gives a frame of 1,514 octets of each of so many senders."""
+    said = [tlv(127, b"\0\x80\xc2\x63" + bytes(507))] * 2
+    room = [1514 - len(frame(*name(i), said)) for i in range(names)]
+    return [frame(*name(i), [*said, tlv(127, b"\0\x80\xc2\x63" + bytes(room[i] - 6))]) for i in range(names)]
+
+
+# Two segments that the table's tag of a name does not tell apart; seven of them in a row make 128 names of one tag.
+ONE_TAG = bytes([70, 40, 10, 107]), bytes([98, 119, 110, 100])
+
+
+def one_tag() -> list[bytes]:
+    """Gives frames of 128 senders whose names have one tag."""
+    chassis = [b"\x07" + b"".join(ONE_TAG[i >> k & 1] for k in range(7)) for i in range(128)]
+    return [frame(octets, b"\x05swp1", []) for octets in chassis]
+
+
+def own_tags() -> list[bytes]:
+    """Gives frames of 128 senders with names as long, which have tags of their own."""
+    rng = random.Random(2)
+    return [frame(b"\x07" + rng.randbytes(28), b"\x05swp1", []) for _ in range(128)]
+
+
+# Traces
+
+def received(frames: list[bytes], port: str = "eth0") -> str:
+    """Gives the trace in which a port receives these frames."""
+    return "".join(f"rx {port} {octets.hex()}\n" for octets in frames)
+
+
+def held_everywhere() -> str:
+    """Gives the trace after which each of 64 ports holds 128 neighbors."""
+    frames = mix(128, 128)
+    return LONG + "".join(received(frames, port) for port in PORTS)
+
+
+# Rows
+
+@dataclass
+class Row:
+    """A line of the table: a trace, the words that start each program, and what its cost is divided by."""
+
+    title: str
+    words: list[str]
+    before: str
+    line: str
+    lines: int
+    yardsticks: list[list[str]] = field(default_factory=list)
+    per: int = 1
+
+    def traces(self, room: Path, lines: int) -> tuple[Path, Path, int]:
+        """Takes a folder and a number of lines, gives the trace, that of its beginning alone, and how many things
+        stand in it."""
+        whole, begin = room / "trace", room / "begin"
+        repeats = max(1, lines // self.line.count("\n"))
+        begin.write_text(self.before)
+        whole.write_text(self.before + repeats * self.line)
+        return whole, begin, repeats * self.line.count("\n") * self.per
+
+    def sides(self, program: str, yardstick: str) -> list[list[str]]:
+        """Takes both programs, gives the words that start lldpa, and C for each way in which it does the work."""
+        return [[program, *self.words]] + [[yardstick, *words] for words in self.yardsticks]
+
+
+def both(neighbors: int) -> list[list[str]]:
+    """Gives the words of C that reads frames, as usual and by vectors."""
+    return [["read", str(neighbors)], ["vectors", str(neighbors)]]
+
+
+def rows_received() -> list[Row]:
+    """Gives the rows of frames that one port receives. By vectors C looks at 16 octets of a name, which is too few
+    for names of one tag."""
+    many, plain = [*MANY, "eth0"], [["read", "128"]]
+    own, one = own_tags(), one_tag()
+    return [
+        Row("a frame of the mix, 32 held", ONE_PORT, "", received(mix(992, 32)), 100_000, both(32)),
+        Row("a frame of 36 octets", ONE_PORT, "", received(least(32)), 200_000, both(32)),
+        Row("a frame of 1,514 octets", ONE_PORT, "", received(greatest(32)), 30_000, both(32)),
+        Row("a frame of the mix, 128 held", many, "", received(mix(1024, 128)), 100_000, both(128)),
+        Row("a refresh, the last of 128", many, received(own), received(own[-1:]), 200_000, plain),
+        Row("the same, names of one tag", many, received(one), received(one[-1:]), 200_000, plain),
+    ]
+
+
+def rows_of_ports(program: str, room: Path) -> list[Row]:
+    """Takes lldpa and a folder, gives the rows of 64 ports. What C writes is written by lldpa first."""
+    words, held = [*MANY, *PORTS], held_everywhere()
+    default, lines = room / "frame", room / "lines"
+    sent = subprocess.run([program, "eth0"], input=b"tick\n", capture_output=True, check=True).stdout
+    default.write_bytes(bytes.fromhex(sent.decode().split()[2]))
+    asked = (held + "show neighbors\n").encode()
+    shown = subprocess.run([program, *words], input=asked, capture_output=True, check=True).stdout
+    lines.write_bytes(shown)
+    return [
+        Row("a tick of 64 ports, nothing due", PORTS, LONG, "tick\n", 300_000),
+        Row("a tick of 64 ports of 128", words, held, "tick\n", 60_000),
+        Row("a shown line, 64 ports of 128", words, held, "show neighbors\n", 8, [["show", str(lines)]],
+            shown.count(b"\n")),
+        Row("a sent frame, 64 ports", PORTS, "configure lldp tx-interval 1\n", "tick\n", 3_000,
+            [["send", str(default)]], 64),
+    ]
+
+
+def rows(program: str, room: Path) -> list[Row]:
+    """Takes lldpa and a folder for what rows read, gives all rows."""
+    return rows_received() + rows_of_ports(program, room)
