@@ -15,13 +15,14 @@ use std::marker::Model;
 /// The room for one neighbor, which stores the extent of its frame.
 #[derive(Drop)]
 pub(crate) struct Slot {
-    /// Its first octets are stored. Those behind them are left of earlier frames.
-    room: [u8; MOST_OCTETS],
+    /// The tag of its name, which tells most names apart at once. It stands before the octets, whose
+    /// first are the name, since both are looked at together.
+    tag: u32,
+    ttl: u16,
     /// How many octets are stored.
     length: u16,
-    ttl: u16,
-    /// The tag of its name, which tells most names apart at once.
-    tag: u32,
+    /// Its first octets are stored. Those behind them are left of earlier frames.
+    room: [u8; MOST_OCTETS],
 }
 
 impl Model for Slot {
@@ -44,6 +45,13 @@ fn next_body<'a>(tlvs: &mut Tlvs<'a>) -> &'a [u8]
         Some(tlv) => tlv.body,
         None => &[],
     }
+}
+
+/// The chassis ID in an LLDPDU: the body of its first TLV.
+fn chassis_in(octets: &[u8]) -> &[u8]
+    ensures { result.now ≡ (msap_of octets.now).chassis }
+{
+    next_body(&mut Tlvs::new(octets))
 }
 
 /// The MSAP identifier in an LLDPDU: the bodies of its first two TLVs.
@@ -132,10 +140,10 @@ impl Slot {
         ensures { result ≡ blank }
     {
         Slot {
-            room: [0; MOST_OCTETS],
-            length: 0,
-            ttl: 0,
             tag: 0,
+            ttl: 0,
+            length: 0,
+            room: [0; MOST_OCTETS],
         }
     }
 
@@ -167,10 +175,10 @@ impl Slot {
         if self.tag != tag {
             return false;
         }
-        let held = self.msap();
-        if !may_be_same(name.chassis, held.chassis) {
+        if !may_be_same(name.chassis, chassis_in(self.octets())) {
             return false;
         }
+        let held = self.msap();
         name.chassis == held.chassis && name.port == held.port
     }
 
