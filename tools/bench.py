@@ -2,7 +2,7 @@
 """Measures lldpa beside plain C that does the same work (tools/limit.c), all in one run.
 
 Each row is run by each program by turns, several times; the least processor time counts, less that of an empty
-trace. C by vectors, which checks nothing, is the limit. Instructions are counted by valgrind's callgrind where there is
+trace. C by vectors, which checks nothing of the TLVs, is the limit. Instructions are counted by valgrind's callgrind where there is
 one, on a shorter trace. tshark and tcpdump read the frames of the mix too, where they are installed, and the captures
 that lldpa-capture reads. Needs Python and a C compiler.
 

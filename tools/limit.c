@@ -2,8 +2,8 @@
  *
  *   limit read NEIGHBORS < TRACE   reads lines `rx PORT HEX`, decodes the digits by a table, walks the TLVs and
  *                                  refreshes the neighbor of that name among so many; counts ticks
- *   limit vectors NEIGHBORS < TRACE   the same by vectors, and nothing is checked: the digits are read sixteen at a
- *                                  time, no TLV is looked at, and 16 octets of an LLDPDU are the name (x86-64 alone)
+ *   limit vectors NEIGHBORS < TRACE   the same, where the digits are read by SSE, nothing of the TLVs is checked, and
+ *                                  the first 16 octets of an LLDPDU are taken for its name (on x86-64 alone)
  *   limit show LINES < TRACE       writes the lines of that file for each line that begins with `show`
  *   limit send FRAME < TRACE       writes 64 lines `tx eth0 HEX` of that frame, digit by digit, for each line
  */
@@ -25,7 +25,7 @@ struct neighbor {
 
 static uint8_t value_of[256];
 static struct neighbor table[MOST];
-static int held;
+static int held, by_vectors;
 static unsigned long ticks, refused;
 
 static void make_values(void)
@@ -88,68 +88,76 @@ static void take(const uint8_t *pdu, int length, int limit)
 }
 
 #ifdef __SSE2__
-static uint8_t names[MOST][BLOCK];
+/* Those of these octets that are at most so much, as lanes of ones. */
+static __m128i at_most(__m128i octets, int most)
+{
+    return _mm_cmpeq_epi8(_mm_min_epu8(octets, _mm_set1_epi8(most)), octets);
+}
 
-/* Eight octets, each in two, of sixteen digits. Of a letter the low four bits are 9 less than its value. */
-static __m128i octets_of(const char *digits)
+/* Eight octets, each in two, of sixteen digits. Lanes that are no digits are cleared in `good`. */
+static __m128i octets_of(const char *digits, __m128i *good)
 {
     __m128i all = _mm_loadu_si128((const __m128i *)digits);
-    __m128i letter = _mm_and_si128(_mm_srli_epi16(all, 6), _mm_set1_epi8(1));
-    __m128i nine = _mm_add_epi8(letter, _mm_slli_epi16(letter, 3));
-    __m128i values = _mm_add_epi8(_mm_and_si128(all, _mm_set1_epi8(15)), nine);
-    __m128i pairs = _mm_or_si128(_mm_slli_epi16(values, 4), _mm_srli_epi16(values, 8));
-    return _mm_and_si128(pairs, _mm_set1_epi16(255));
+    __m128i numeral = _mm_sub_epi8(all, _mm_set1_epi8('0'));
+    __m128i letter = _mm_sub_epi8(_mm_or_si128(all, _mm_set1_epi8(32)), _mm_set1_epi8('a'));
+    __m128i is_numeral = at_most(numeral, 9), is_letter = at_most(letter, 5);
+    __m128i ten_more = _mm_add_epi8(letter, _mm_set1_epi8(10));
+    __m128i values = _mm_or_si128(_mm_and_si128(numeral, is_numeral), _mm_and_si128(ten_more, is_letter));
+    *good = _mm_and_si128(*good, _mm_or_si128(is_numeral, is_letter));
+    return _mm_and_si128(_mm_or_si128(_mm_slli_epi16(values, 4), _mm_srli_epi16(values, 8)), _mm_set1_epi16(255));
 }
 
-/* Reads so many digits, and as many behind them as fill the last block. */
-static void decode_unchecked(const char *digits, int count, uint8_t *octets)
+/* As `decode`, 32 digits at a time; the last block begins as many before the end. */
+static int decode_by_vectors(const char *digits, int count, uint8_t *octets)
 {
-    for (int i = 0; i < count; i += 2 * BLOCK) {
-        __m128i block = _mm_packus_epi16(octets_of(digits + i), octets_of(digits + i + BLOCK));
-        _mm_storeu_si128((__m128i *)(octets + i / 2), block);
+    __m128i good = _mm_set1_epi8(-1);
+    int last = count - 2 * BLOCK;
+    if (last < 0 || count % 2)
+        return decode(digits, count, octets);
+    for (int i = 0; i < last + 2 * BLOCK; i += 2 * BLOCK) {
+        int at = i < last ? i : last;
+        __m128i high = octets_of(digits + at, &good), low = octets_of(digits + at + BLOCK, &good);
+        _mm_storeu_si128((__m128i *)(octets + at / 2), _mm_packus_epi16(high, low));
     }
+    return _mm_movemask_epi8(good) == 0xffff ? count / 2 : -1;
 }
 
-/* Refreshes the neighbor of this name among so many. */
+/* Whether the first 16 octets are the same. */
+static int may_be_same(const uint8_t *a, const uint8_t *b)
+{
+    __m128i same = _mm_cmpeq_epi8(_mm_loadu_si128((const __m128i *)a), _mm_loadu_si128((const __m128i *)b));
+    return _mm_movemask_epi8(same) == 0xffff;
+}
+#else
+static int decode_by_vectors(const char *digits, int count, uint8_t *octets)
+{
+    return decode(digits, count, octets);
+}
+
+static int may_be_same(const uint8_t *a, const uint8_t *b)
+{
+    return memcmp(a, b, BLOCK) == 0;
+}
+#endif
+
+/* Refreshes the neighbor of this name among so many, and looks at no TLV. */
 static void take_unchecked(const uint8_t *pdu, int length, int limit)
 {
-    __m128i name = _mm_loadu_si128((const __m128i *)pdu);
     int i = 0;
-    while (i < held
-           && _mm_movemask_epi8(_mm_cmpeq_epi8(name, _mm_loadu_si128((const __m128i *)names[i]))) != 0xffff)
+    while (i < held && !may_be_same(table[i].octets, pdu))
         i++;
     if (i == held) {
         if (held == limit)
             return;
         held++;
-        _mm_storeu_si128((__m128i *)names[i], name);
     }
     memcpy(table[i].octets, pdu, length);
     table[i].length = length;
 }
 
-static void read_unchecked(const char *line, int length, int limit)
-{
-    static uint8_t frame[LONGEST / 2 + BLOCK];
-    const char *digits = memchr(line + 3, ' ', length - 3);
-    if (!digits)
-        return;
-    digits++;
-    int count = line + length - digits;
-    decode_unchecked(digits, count, frame);
-    take_unchecked(frame + 14, count / 2 - 14, limit);
-}
-#else
-static void read_unchecked(const char *line, int length, int limit)
-{
-    (void)line, (void)length, (void)limit;
-    exit(2);
-}
-#endif
-
 static void read_line(const char *line, int length, int limit)
 {
-    static uint8_t frame[LONGEST / 2];
+    static uint8_t frame[LONGEST / 2 + BLOCK];
     if (length >= 4 && memcmp(line, "tick", 4) == 0) {
         ticks++;
         for (int i = 0; i < held; i++)
@@ -162,9 +170,9 @@ static void read_line(const char *line, int length, int limit)
     if (!digits)
         return;
     digits++;
-    int count = decode(digits, line + length - digits, frame);
+    int count = (by_vectors ? decode_by_vectors : decode)(digits, line + length - digits, frame);
     if (count >= 14 && memcmp(frame, "\x01\x80\xc2\x00\x00\x0e", 6) == 0 && frame[12] == 0x88 && frame[13] == 0xcc)
-        take(frame + 14, count - 14, limit);
+        (by_vectors ? take_unchecked : take)(frame + 14, count - 14, limit);
     else
         refused++;
 }
@@ -216,14 +224,14 @@ static void send(const uint8_t *frame, size_t length)
 
 int main(int count, char **words)
 {
-    static char room[ROOM + 2 * BLOCK];
+    static char room[ROOM];
     size_t waiting = 0, length = 0;
     char *file = NULL;
     make_values();
     if (count < 3)
         return 2;
-    int unchecked = strcmp(words[1], "vectors") == 0;
-    if (!unchecked && strcmp(words[1], "read") != 0)
+    by_vectors = strcmp(words[1], "vectors") == 0;
+    if (!by_vectors && strcmp(words[1], "read") != 0)
         file = whole_file(words[2], &length);
     int limit = file ? 0 : atoi(words[2]);
     for (;;) {
@@ -232,9 +240,7 @@ int main(int count, char **words)
             break;
         char *line = room, *end = room + waiting + more, *stop;
         while ((stop = memchr(line, '\n', end - line))) {
-            if (unchecked)
-                read_unchecked(line, stop - line, limit);
-            else if (!file)
+            if (!file)
                 read_line(line, stop - line, limit);
             else if (words[1][1] == 'h' && line[0] == 's')
                 show(file, length);
