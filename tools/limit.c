@@ -89,13 +89,13 @@ static void take(const uint8_t *pdu, int length, int limit)
 
 #ifdef __SSE2__
 /* Those of these octets that are at most so much, as lanes of ones. */
-static __m128i at_most(__m128i octets, int most)
+static inline __m128i at_most(__m128i octets, int most)
 {
     return _mm_cmpeq_epi8(_mm_min_epu8(octets, _mm_set1_epi8(most)), octets);
 }
 
 /* Eight octets, each in two, of sixteen digits. Lanes that are no digits are cleared in `good`. */
-static __m128i octets_of(const char *digits, __m128i *good)
+static inline __m128i octets_of(const char *digits, __m128i *good)
 {
     __m128i all = _mm_loadu_si128((const __m128i *)digits);
     __m128i numeral = _mm_sub_epi8(all, _mm_set1_epi8('0'));
