@@ -2,9 +2,9 @@
 """Measures lldpa beside plain C that does the same work (tools/limit.c), all in one run.
 
 Each row is run by each program by turns, several times; the least processor time counts, less that of an empty
-trace. C by vectors, which checks nothing of the TLVs, is the limit. Instructions are counted by valgrind's callgrind where there is
-one, on a shorter trace. tshark and tcpdump read the frames of the mix too, where they are installed, and the captures
-that lldpa-capture reads. Needs Python and a C compiler.
+trace. C by vectors, which checks nothing of the TLVs, is the limit. Instructions are counted by valgrind's callgrind
+where there is one, on a shorter trace; their columns begin with #. tshark and tcpdump read the frames of the mix too,
+where they are installed, and the captures that lldpa-capture reads. Needs Python and a C compiler.
 
 The rows are in bench_rows.py, what counts instructions in bench_counts.py, the readers of captures in
 bench_captures.py, and the picture in bench_picture.py.
@@ -87,7 +87,7 @@ def compiled(room: Path) -> str:
 
 def table(options: argparse.Namespace, room: Path, count: bool) -> list[dict[str, Any]]:
     """Takes the options, a folder and whether to count instructions, gives the rows, printed as they come."""
-    heads = HEADS + [f"in. {head}" for head in HEADS] if count else HEADS
+    heads = HEADS + [f"# {head}" for head in HEADS] if count else HEADS
     print(" " * 34 + "".join(f"{head:>11}" for head in heads))
     yardstick, told = compiled(room), []
     for row in rows(options.program, room):
