@@ -3,7 +3,9 @@ use super::devices::{Burn, Drip, Fuse};
 use super::runs::{
     HEARD, INPUT, OUTPUT, SENT, expect_run, only_receiving, open, sending, statistics,
 };
+use lldp_engine::Agent;
 use lldp_program::trace::RunFault;
+use std::alloc::Global;
 use std::process::Abort;
 use std::test::Fail;
 
@@ -127,24 +129,49 @@ const SENT_OCTETS: usize = 141;
 /// Lines behind them. There is credit for one frame, and seven were sent then.
 const MORE: [&str; 3] = ["update\n", "update\n", "show statistics\n"];
 
-/// Runs the lines with a writer that fails after so many octets, and then those that were not done,
-/// and more.
-fn fails_at(rt: &(impl Abort + AllocGlobal), octets: usize, burn: Burn) -> Result<(), Fail> {
-    let mut agent = open(rt, &sending())?;
+/// Runs the lines with a writer that fails after so many octets.
+fn cut_off_at(
+    rt: &(impl Abort + AllocGlobal),
+    agent: &mut Agent,
+    octets: usize,
+    burn: Burn,
+) -> Result<(), Fail> {
     let input = LINES.concat(rt.alloc())?;
     let output = FRAMES.concat(rt.alloc())?;
     let cut_off = output.as_bytes().get(..octets).unwrap_or(&[]);
     let mut drip = Drip::whole(input.as_bytes());
     let fuse = Fuse::new(1, octets, burn);
     let wanted = (Err(RunFault::Write), cut_off);
-    expect_run(rt, &mut agent, &mut drip, fuse, wanted, octets);
-    let frames = octets / SENT_OCTETS;
+    expect_run(rt, agent, &mut drip, fuse, wanted, octets);
+    Ok(())
+}
+
+/// The lines that were not done where so many frames were written whole, and more.
+fn lines_left(alloc: Global, frames: usize) -> Result<String, Fail> {
     let done = if frames < 5 { frames + 1 } else { 8 };
-    let mut input = LINES[done..].concat(rt.alloc())?;
-    input.push_str(MORE.concat(rt.alloc())?.as_str())?;
-    let mut output = FRAMES[(frames + 1).min(6)..].concat(rt.alloc())?;
+    let mut input = LINES[done..].concat(alloc)?;
+    for line in MORE {
+        input.push_str(line)?;
+    }
+    Ok(input)
+}
+
+/// What those lines write.
+fn frames_left(rt: &(impl Abort + AllocGlobal), frames: usize) -> Result<String, Fail> {
+    let mut output = FRAMES[frames.saturating_add(1).min(6)..].concat(rt.alloc())?;
     output.push_str(SENT)?;
     output.push_str(statistics(rt, 7, 0)?.as_str())?;
+    Ok(output)
+}
+
+/// Runs the lines with a writer that fails after so many octets, and then those that were not done,
+/// and more.
+fn fails_at(rt: &(impl Abort + AllocGlobal), octets: usize, burn: Burn) -> Result<(), Fail> {
+    let mut agent = open(rt, &sending())?;
+    cut_off_at(rt, &mut agent, octets, burn)?;
+    let frames = octets / SENT_OCTETS;
+    let input = lines_left(rt.alloc(), frames)?;
+    let output = frames_left(rt, frames)?;
     let mut drip = Drip::whole(input.as_bytes());
     let wanted = (Ok(()), output.as_bytes());
     expect_run(rt, &mut agent, &mut drip, Fuse::endless(), wanted, octets);
