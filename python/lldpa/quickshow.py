@@ -12,8 +12,8 @@ TEXT = "[ -~]*"
 FURTHER = (r"(?:port\.descr|chassis\.(?:name|descr|caps|mgmt)|unknown\.[1-9][0-9]{0,2}"
            r"|org\.[0-9a-f]{6}\.(?:0|[1-9][0-9]{0,2}))")
 
-# Its groups: what each line begins with, the port's name, the neighbor's chassis ID, the kind of its
-# port ID, that ID, and the further lines without the last line feed.
+# Its groups: what each line begins with, the port's name, the neighbor's chassis ID, the kind of
+# its port ID, that ID, and the further lines without the last line feed.
 USUAL_PORT = re.compile(
     r"^(?P<port>lldp\.([A-Za-z0-9_/:-]{1,15})\.)neighbors=1\n"
     rf"(?P=port)octets={NUMBER}\n"

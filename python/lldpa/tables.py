@@ -34,7 +34,7 @@ class Tables:
         self.add_ports(host, {port: neighbors})
 
     def add_ports(self, host: str, ports: Mapping[str, Sequence[Seen]]) -> None:
-        """The neighbors of each of a host's ports. Raises ValueError where they were told before."""
+        """The neighbors of each of a host's ports. Raises ValueError if they were told before."""
         self.add_host(host)
         for port, neighbors in ports.items():
             end = End(host, port)

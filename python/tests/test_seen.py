@@ -81,7 +81,7 @@ class Neighbors(unittest.TestCase):
 
 
 class QuickWay(unittest.TestCase):
-    """What the quick way takes, the other one reads likewise, and each fault is told by its line."""
+    """What the quick way takes, the other reads likewise, and each fault is told by its line."""
 
     def test_usual_ports_are_found(self) -> None:
         text = "\n".join(rack.show(rack.PORTS)) + "\n"
