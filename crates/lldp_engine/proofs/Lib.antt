@@ -39,7 +39,6 @@ pub mod CauseLemmas
 pub mod HeldLemmas
 pub mod EmptiedLemmas
 pub mod TallyLemmas
-pub mod CounterRows
 pub mod OpeningLemmas
 pub mod InUseLemmas
 pub mod SayingLemmas

@@ -68,3 +68,7 @@ pub drop_at : {X : Type 0} (xs : List X) (k : ℕ) (x : X) → slice_get xs k �
 drop_at [] k x h = cc
 drop_at (y ∷ ys) zero x h = let e : y ≡ x = cc in ap (λ z. z ∷ ys) e
 drop_at (y ∷ ys) (suc k) x h = drop_at ys k x h ∙ ap (λ l. x ∷ l) (drop_step y ys k)
+
+pub map_twice : {X Y Z : Type 0} (f : Y → Z) (g : X → Y) (xs : List X) → map f (map g xs) ≡ map (λ x. f (g x)) xs
+map_twice f g [] = refl
+map_twice f g (x ∷ xs) = ap (λ l. f (g x) ∷ l) (map_twice f g xs)

@@ -6,34 +6,26 @@ use Rattle.lldp_engine.specs.Configuration.{Configuration}
 use Rattle.lldp_engine.specs.Text.{escaped}
 use Rattle.lldp_engine.specs.Addresses.{mac_text, ipv4_text}
 
--- the line of the agent's MAC address
-abbrev pub mac_line : List ℕ → List ℕ
-mac_line mac = codes "local-chassis.mac=" ++ mac_text mac
-
 -- the one capability of a role, which is on
 abbrev pub role_text : Role → List ℕ
 role_text Station = codes "Station:on"
 role_text Bridge = codes "Bridge:on"
 role_text Router = codes "Router:on"
 
--- the capabilities: that of the role, which is on
-abbrev pub role_line : Role → List ℕ
-role_line role = codes "local-chassis.caps=" ++ role_text role
-
--- a management address, with interface number 0 of unknown numbering (1), and no OID
-abbrev pub management_line : List ℕ → List ℕ
-management_line address = codes "local-chassis.mgmt=" ++ ipv4_text address ++ codes ",1,0,"
+-- the agent's management address, with interface number 0 of unknown numbering (1), and no OID
+abbrev pub own_address_text : List ℕ → List ℕ
+own_address_text address = ipv4_text address ++ codes ",1,0,"
 
 -- a line where one was given
 abbrev pub management_lines : Option (List ℕ) → List (List ℕ)
 management_lines None = []
-management_lines (Some address) = management_line address ∷ []
+management_lines (Some address) = (codes "local-chassis.mgmt=" ++ own_address_text address) ∷ []
 
 -- The lines: MAC address, system name, system description, capabilities, management address where one was given.
 abbrev pub chassis_lines : Configuration → List (List ℕ)
 chassis_lines c =
-    mac_line c.mac
+    (codes "local-chassis.mac=" ++ mac_text c.mac)
     ∷ (codes "local-chassis.name=" ++ escaped c.hostname)
     ∷ (codes "local-chassis.descr=" ++ escaped c.description)
-    ∷ role_line c.role
+    ∷ (codes "local-chassis.caps=" ++ role_text c.role)
     ∷ management_lines c.management

@@ -9,3 +9,4 @@ pub mod Digits
 pub mod ShortText
 pub mod Taking
 pub mod SaidSetting
+pub mod ShownValue

@@ -1,9 +1,10 @@
 -- The lines of `show configuration`.
-use Rattle.std.specs.Prelude.{ℕ, List, ◌∷◌, ◌++◌, length, map, codes, decimal}
+use Rattle.std.specs.Prelude.{ℕ, List, [], ◌∷◌, ◌++◌, length, map, codes}
 use Rattle.lldp_engine.specs.declared.port.status.Status.{Status}
 use Rattle.lldp_engine.specs.declared.port.status.Status.TheVariants.{RxAndTx, RxOnly, TxOnly, Disabled}
 use Rattle.lldp_engine.specs.Configuration.{sent_ttl}
 use Rattle.lldp_engine.specs.AgentState.{AgentState, PortState}
+use Rattle.lldp_engine.specs.Keys.{front_of, number_lines}
 
 -- the word of a status
 abbrev pub status_text : Status → List ℕ
@@ -14,19 +15,22 @@ status_text Disabled = codes "disabled"
 
 -- the line of a port's status
 abbrev pub status_line : PortState → List ℕ
-status_line port = codes "configuration." ++ (port.name ++ (codes ".status=" ++ status_text port.status))
+status_line port = front_of (codes "configuration.") port.name ++ (codes "status=" ++ status_text port.status)
 
--- The numbers, then the status of each port in the order of opening. `ttl` is the TTL of an ordinary frame, and
--- `max-neighbors` the limit in force.
+-- each number behind its key: `ttl` is the TTL of an ordinary frame, and `max-neighbors` the limit in force
+abbrev pub numbers_shown : AgentState → List (List ℕ × ℕ)
+numbers_shown agent =
+    let c = agent.configuration in
+    (codes "tx-interval=", c.interval)
+    ∷ (codes "tx-hold=", c.hold)
+    ∷ (codes "ttl=", sent_ttl c)
+    ∷ (codes "reinit-delay=", c.reinit)
+    ∷ (codes "tx-fast-init=", c.fast_init)
+    ∷ (codes "tx-credit-max=", c.credit_max)
+    ∷ (codes "max-neighbors=", c.limit)
+    ∷ (codes "ports=", length agent.ports) ∷ []
+
+-- The numbers, then the status of each port in the order of opening.
 abbrev pub configuration_lines : AgentState → List (List ℕ)
 configuration_lines agent =
-    let c = agent.configuration in
-    (codes "configuration.tx-interval=" ++ decimal c.interval)
-    ∷ (codes "configuration.tx-hold=" ++ decimal c.hold)
-    ∷ (codes "configuration.ttl=" ++ decimal (sent_ttl c))
-    ∷ (codes "configuration.reinit-delay=" ++ decimal c.reinit)
-    ∷ (codes "configuration.tx-fast-init=" ++ decimal c.fast_init)
-    ∷ (codes "configuration.tx-credit-max=" ++ decimal c.credit_max)
-    ∷ (codes "configuration.max-neighbors=" ++ decimal c.limit)
-    ∷ (codes "configuration.ports=" ++ decimal (length agent.ports))
-    ∷ map status_line agent.ports
+    number_lines (codes "configuration.") (numbers_shown agent) ++ map status_line agent.ports

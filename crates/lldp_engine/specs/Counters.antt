@@ -1,10 +1,10 @@
 -- The counters of a port (IEEE 802.1AB-2009, 9.2.6), each modulo 2^32.
 use Rattle.std.specs.Prelude.{ℕ, ◌+◌, ◌%◌, ◌^◌, Bool, true, false, nat_lt, if◌then◌else◌, List, [], ◌∷◌, length, filter}
 use Rattle.std.specs.List.{sum_by}
-use Rattle.lldp_table.specs.Events.{TableEvent, learned, forgot, purged, ticked, limit_set, is_tick, aged_out}
-use Rattle.lldp_table.specs.declared.learned.Learned.TheVariants.{New, Refreshed, Dropped}
+use Rattle.lldp_table.specs.Events.{TableEvent, learned, is_tick, aged_out}
+use Rattle.lldp_table.specs.declared.learned.Learned.TheVariants.{Dropped}
 use Rattle.lldp_transmit.specs.declared.event.Mark.{Mark}
-use Rattle.lldp_transmit.specs.declared.event.Mark.TheVariants.{Quiet, Ordinary, Shutdown}
+use Rattle.lldp_transmit.specs.declared.event.Mark.TheVariants.{Ordinary, Shutdown}
 use Rattle.lldp_engine.specs.declared.port.counters.Counters.{Counters}
 use Rattle.lldp_engine.specs.Heard.{Heard, refused, leaves, tells}
 
@@ -17,20 +17,17 @@ wrapped n = n % 2 ^ 32
 -- it was refused, as it is not sound
 abbrev pub is_refused : Heard → Bool
 is_refused refused = true
-is_refused (leaves msap) = false
-is_refused (tells info) = false
+is_refused heard = false
 
 -- how many of its TLVs were discarded, where it tells of a neighbor that lives
 abbrev pub discarded_tlvs : Heard → ℕ
-discarded_tlvs refused = 0
-discarded_tlvs (leaves msap) = 0
 discarded_tlvs (tells info) = info.discarded
+discarded_tlvs heard = 0
 
 -- how many of its kept TLVs are unrecognized
 abbrev pub unrecognized_tlvs : Heard → ℕ
-unrecognized_tlvs refused = 0
-unrecognized_tlvs (leaves msap) = 0
 unrecognized_tlvs (tells info) = info.unrecognized
+unrecognized_tlvs heard = 0
 
 -- it was refused, or at least one of its TLVs was discarded
 abbrev pub is_error : Heard → Bool
@@ -42,13 +39,8 @@ is_error (tells info) = nat_lt 0 info.discarded
 
 -- a frame that was dropped for want of room
 abbrev pub is_dropped : TableEvent → Bool
-is_dropped (learned msap ttl octets New) = false
-is_dropped (learned msap ttl octets Refreshed) = false
 is_dropped (learned msap ttl octets Dropped) = true
-is_dropped (forgot msap) = false
-is_dropped purged = false
-is_dropped ticked = false
-is_dropped (limit_set limit) = false
+is_dropped event = false
 
 -- at each tick, how many neighbors were live before it and are not after it
 abbrev pub all_aged_out : List TableEvent → ℕ
@@ -60,14 +52,12 @@ all_aged_out (event ∷ past) = (if is_tick event then aged_out past else 0) + a
 -- an ordinary frame went
 abbrev pub is_ordinary : Mark → Bool
 is_ordinary Ordinary = true
-is_ordinary Quiet = false
-is_ordinary Shutdown = false
+is_ordinary mark = false
 
 -- a shutdown frame went
 abbrev pub is_shutdown : Mark → Bool
 is_shutdown Shutdown = true
-is_shutdown Quiet = false
-is_shutdown Ordinary = false
+is_shutdown mark = false
 
 -- ## Of a port
 

@@ -2,10 +2,10 @@
 use Rattle.std.specs.Prelude.{◌≡◌, ℕ, if◌then◌else◌, List, [], ◌∷◌, Result, Ok, Err}
 use Rattle.lldp_engine.specs.declared.command.fault.CommandFault.{CommandFault}
 use Rattle.lldp_engine.specs.declared.command.fault.CommandFault.TheVariants.{Quote, InUse}
-use Rattle.lldp_engine.specs.Event.{hostname, description, interval, hold, limit, status, update}
+use Rattle.lldp_engine.specs.Event.{limit}
 use Rattle.lldp_engine.specs.AgentState.{AgentState, PortState, names_of, fits}
 use Rattle.lldp_engine.specs.Answer.{or_fault, ◌>>=◌}
-use Rattle.lldp_engine.specs.Command.{Command, show, set}
+use Rattle.lldp_engine.specs.Command.{Command, set}
 use Rattle.lldp_engine.specs.Forms.{Form, complete, forms, read_forms}
 use Rattle.lldp_engine.specs.Words.{words_of}
 
@@ -16,14 +16,7 @@ said_by agent words = read_forms (names_of agent) (Ok (forms agent.configuration
 -- A limit is in use where a port holds more neighbors. This comes after all other checks.
 abbrev pub unless_in_use : List PortState → Result Command CommandFault → Result Command CommandFault
 unless_in_use ports (Ok (set (limit n))) = if fits ports n then Ok (set (limit n)) else Err InUse
-unless_in_use ports (Ok (set (hostname t))) = Ok (set (hostname t))
-unless_in_use ports (Ok (set (description t))) = Ok (set (description t))
-unless_in_use ports (Ok (set (interval n))) = Ok (set (interval n))
-unless_in_use ports (Ok (set (hold n))) = Ok (set (hold n))
-unless_in_use ports (Ok (set (status p s))) = Ok (set (status p s))
-unless_in_use ports (Ok (set update)) = Ok (set update)
-unless_in_use ports (Ok (show what)) = Ok (show what)
-unless_in_use ports (Err fault) = Err fault
+unless_in_use ports said = said
 
 -- What words ask of an agent.
 abbrev pub command_said : AgentState → List (List ℕ) → Result Command CommandFault

@@ -2,13 +2,11 @@
 use Rattle.std.specs.Prelude.{◌≡◌, ℕ, ◌<◌, ◌↔◌, Some, slice_get, List, length}
 use Rattle.std.specs.List.{Contains, AllPairs, AllByRecursion}
 use Rattle.lldp_transmit.specs.declared.event.Mark.TheVariants.{Ordinary, Shutdown}
-use Rattle.lldp_transmit.specs.Positions.{IsDueAndOpen, StopsAt}
 use Rattle.lldp_engine.specs.Event.{Event}
 use Rattle.lldp_engine.specs.Frames.{IsSent}
 use Rattle.lldp_engine.specs.AgentState.{AgentState, PortState}
 use Rattle.lldp_engine.specs.Past.{Past, Sending, with_event, happened, past_of, marks_of}
-use Rattle.lldp_engine.specs.Port.Past.{settings_of, causes_after, caused_at}
-use Rattle.lldp_engine.specs.Port.Headline.{HoldsLastStored, HasSentExactly}
+use Rattle.lldp_engine.specs.Port.Headline.{HoldsLastStored, HasSentExactly, DueAndOpen, Stops}
 
 -- Each port's table holds the last stored frames, and each port has sent exactly what was due while the window was
 -- open.
@@ -21,17 +19,22 @@ pub record Promised (past : Past) (agent : AgentState) : Type 0 where
 abbrev pub IsEarlierPort : Sending → Sending → Type 0
 IsEarlierPort a b = a.0 < b.0
 
+-- At this event an ordinary frame is due on port i, and its credit window is open.
+abbrev pub DueAndOpenNow : Past → Event → ℕ → Type 0
+DueAndOpenNow past event i =
+    DueAndOpen past.options (happened past.options i event past.events) (past_of past i)
+
+-- At this event port i stops.
+abbrev pub StopsNow : Past → Event → ℕ → Type 0
+StopsNow past event i = Stops past.options (happened past.options i event past.events) (past_of past i)
+
 -- What is answered at an event is what the definitions say is sent: port i stands there with an ordinary frame exactly
 -- where one is due and its credit window is open, and with a shutdown frame exactly where it stops; nothing else stands
 -- there, and the ports rise.
 pub record AnswersExactly (past : Past) (event : Event) (marks : List Sending) : Type 0 where
   pub are : marks ≡ marks_of (with_event past event)
-  pub ordinary : (i : ℕ) → i < length past.options.names → Contains marks (i, Ordinary)
-      ↔ IsDueAndOpen (settings_of past.options) (causes_after past.options (past_of past i))
-      (caused_at past.options (happened past.options i event past.events) (past_of past i))
-  pub shutdown : (i : ℕ) → i < length past.options.names → Contains marks (i, Shutdown)
-      ↔ StopsAt (settings_of past.options) (causes_after past.options (past_of past i))
-      (caused_at past.options (happened past.options i event past.events) (past_of past i))
+  pub ordinary : (i : ℕ) → i < length past.options.names → Contains marks (i, Ordinary) ↔ DueAndOpenNow past event i
+  pub shutdown : (i : ℕ) → i < length past.options.names → Contains marks (i, Shutdown) ↔ StopsNow past event i
   pub only : AllByRecursion (λ mark. (mark.0 < length past.options.names) × IsSent mark.1) marks
   pub rising : AllPairs IsEarlierPort marks
 

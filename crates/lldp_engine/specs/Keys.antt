@@ -1,10 +1,22 @@
--- What the lines of ports and neighbors begin with.
-use Rattle.std.specs.Prelude.{ℕ, List, ◌++◌, codes, decimal}
+-- What shown lines begin with, and lines of numbers.
+use Rattle.std.specs.Prelude.{ℕ, List, ◌++◌, map, codes, decimal}
+
+-- a word, the name of a port, and a `.`
+abbrev pub front_of : List ℕ → List ℕ → List ℕ
+front_of word name = word ++ name ++ codes "."
 
 -- `lldp.PORT.`
 abbrev pub port_key : List ℕ → List ℕ
-port_key name = codes "lldp." ++ name ++ codes "."
+port_key name = front_of (codes "lldp.") name
 
 -- `lldp.PORT.N.`
 abbrev pub neighbor_key : List ℕ → ℕ → List ℕ
 neighbor_key name number = port_key name ++ decimal number ++ codes "."
+
+-- a number in decimal, behind what its line begins with and its key
+abbrev pub number_line : List ℕ → List ℕ × ℕ → List ℕ
+number_line front number = front ++ (number.0 ++ decimal number.1)
+
+-- a line for each number
+abbrev pub number_lines : List ℕ → List (List ℕ × ℕ) → List (List ℕ)
+number_lines front numbers = map (number_line front) numbers

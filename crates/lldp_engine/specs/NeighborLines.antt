@@ -9,30 +9,19 @@ use Rattle.lldp_engine.specs.Keys.{port_key, neighbor_key}
 use Rattle.lldp_engine.specs.Identifier.{chassis_text, port_text}
 use Rattle.lldp_engine.specs.KeptTlv.{tlv_text}
 
--- the line of a neighbor's chassis ID
-abbrev pub chassis_id_line : List ℕ → ℕ → List ℕ → List ℕ
-chassis_id_line name number id = neighbor_key name number ++ (codes "chassis." ++ chassis_text id)
+-- the line of a kept TLV, behind this key
+abbrev pub kept_line : List ℕ → TlvUnit → List ℕ
+kept_line key tlv = key ++ tlv_text tlv
 
--- the line of its port ID
-abbrev pub port_id_line : List ℕ → ℕ → List ℕ → List ℕ
-port_id_line name number id = neighbor_key name number ++ (codes "port." ++ port_text id)
-
--- the first four lines of a neighbor
-abbrev pub identity_lines : List ℕ → ℕ → Neighbor → List (List ℕ)
-identity_lines name number neighbor =
-    chassis_id_line name number neighbor.msap.chassis
-    ∷ port_id_line name number neighbor.msap.port
-    ∷ (neighbor_key name number ++ (codes "ttl=" ++ decimal neighbor.ttl))
-    ∷ (neighbor_key name number ++ (codes "expires=" ++ decimal neighbor.left)) ∷ []
-
--- the line of a kept TLV
-abbrev pub kept_line : List ℕ → ℕ → TlvUnit → List ℕ
-kept_line name number tlv = neighbor_key name number ++ tlv_text tlv
-
--- The lines of a neighbor: the first four, and one for each kept TLV.
+-- The lines of a neighbor: its identifiers, the time to live that it sent, what is left of that, and each kept TLV.
 abbrev pub neighbor_lines : List ℕ → ℕ → Neighbor → List (List ℕ)
 neighbor_lines name number neighbor =
-    identity_lines name number neighbor ++ map (kept_line name number) (kept_of neighbor.octets)
+    let key = neighbor_key name number in
+    (key ++ (codes "chassis." ++ chassis_text neighbor.msap.chassis))
+    ∷ (key ++ (codes "port." ++ port_text neighbor.msap.port))
+    ∷ (key ++ (codes "ttl=" ++ decimal neighbor.ttl))
+    ∷ (key ++ (codes "expires=" ++ decimal neighbor.left))
+    ∷ map (kept_line key) (kept_of neighbor.octets)
 
 -- the lines of these neighbors, the first of which has this number
 abbrev pub numbered_lines : List ℕ → ℕ → List Neighbor → List (List ℕ)

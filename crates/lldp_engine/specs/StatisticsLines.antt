@@ -1,21 +1,26 @@
 -- The lines of `show statistics`.
-use Rattle.std.specs.Prelude.{ℕ, List, [], ◌∷◌, ◌++◌, codes, decimal}
+use Rattle.std.specs.Prelude.{ℕ, List, [], ◌∷◌, codes}
 use Rattle.std.specs.List.{flat_map}
+use Rattle.lldp_engine.specs.declared.port.counters.Counters.{Counters}
 use Rattle.lldp_engine.specs.AgentState.{PortState}
-use Rattle.lldp_engine.specs.Keys.{port_key}
+use Rattle.lldp_engine.specs.Keys.{port_key, number_lines}
 
--- The lines of a port: each of its nine counters in decimal.
+-- each counter of a port, behind its key
+abbrev pub counters_shown : Counters → List (List ℕ × ℕ)
+counters_shown counters =
+    (codes "sent=", counters.sent)
+    ∷ (codes "shutdowns=", counters.shutdowns)
+    ∷ (codes "received=", counters.received)
+    ∷ (codes "discarded=", counters.discarded)
+    ∷ (codes "errors=", counters.errors)
+    ∷ (codes "tlvs-discarded=", counters.tlvs_discarded)
+    ∷ (codes "unrecognized=", counters.unrecognized)
+    ∷ (codes "ageouts=", counters.ageouts)
+    ∷ (codes "drops=", counters.drops) ∷ []
+
+-- The lines of a port: each of its counters.
 abbrev pub counter_lines : PortState → List (List ℕ)
-counter_lines port =
-    (port_key port.name ++ (codes "sent=" ++ decimal port.counters.sent))
-    ∷ (port_key port.name ++ (codes "shutdowns=" ++ decimal port.counters.shutdowns))
-    ∷ (port_key port.name ++ (codes "received=" ++ decimal port.counters.received))
-    ∷ (port_key port.name ++ (codes "discarded=" ++ decimal port.counters.discarded))
-    ∷ (port_key port.name ++ (codes "errors=" ++ decimal port.counters.errors))
-    ∷ (port_key port.name ++ (codes "tlvs-discarded=" ++ decimal port.counters.tlvs_discarded))
-    ∷ (port_key port.name ++ (codes "unrecognized=" ++ decimal port.counters.unrecognized))
-    ∷ (port_key port.name ++ (codes "ageouts=" ++ decimal port.counters.ageouts))
-    ∷ (port_key port.name ++ (codes "drops=" ++ decimal port.counters.drops)) ∷ []
+counter_lines port = number_lines (port_key port.name) (counters_shown port.counters)
 
 -- Those of each port, in the order of opening.
 abbrev pub statistics_lines : List PortState → List (List ℕ)

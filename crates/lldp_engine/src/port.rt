@@ -111,6 +111,7 @@ impl<A: Allocator> Port<A> {
     }
 
     /// Takes an event, with the tx-interval in force after it. Tells what it sends.
+    #[inline(always)]
     pub(crate) fn take(&mut self, event: &PortEvent<'_>, interval: u16) -> Mark
         requires { FitsLimit (port_event_of event.now) self.old.table }
         ensures after { self.new ≡ port_step (port_event_of event.now) interval self.old }
@@ -118,18 +119,6 @@ impl<A: Allocator> Port<A> {
     {
         let cause = self.cause_of(event);
         let mark = self.transmit.event(cause, interval);
-        self.counters.count_mark(mark);
-        mark
-    }
-
-    /// Takes a tick, as `take` does. It is apart since most ticks find nothing due.
-    #[inline(always)]
-    pub(crate) fn tick(&mut self, interval: u16) -> Mark
-        ensures after { self.new ≡ port_step tick interval self.old }
-        ensures mark { result ≡ port_mark tick interval self.old }
-    {
-        self.age();
-        let mark = self.transmit.event(Cause::Tick, interval);
         self.counters.count_mark(mark);
         mark
     }
@@ -144,6 +133,7 @@ impl<A: Allocator> Port<A> {
     }
 
     /// Takes an event but for its transmitting, and tells what it is for that.
+    #[inline(always)]
     fn cause_of(&mut self, event: &PortEvent<'_>) -> Cause
         requires { FitsLimit (port_event_of event.now) self.old.table }
         ensures after { self.new ≡ port_told (port_event_of event.now) self.old }

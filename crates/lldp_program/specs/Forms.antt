@@ -3,13 +3,13 @@ use Rattle.std.specs.Prelude.{ℕ, List, [], ◌∷◌, length, codes, Result, O
 use Rattle.std.specs.Str.{bytes_eq}
 use Rattle.hex.specs.Hex.{decode_of}
 use Rattle.lldp_engine.specs.declared.command.fault.CommandFault.{CommandFault}
-use Rattle.lldp_engine.specs.declared.command.fault.CommandFault.TheVariants.{Unknown, NoSuchPort, Extra, Quote}
+use Rattle.lldp_engine.specs.declared.command.fault.CommandFault.TheVariants.{Unknown, Quote}
 use Rattle.lldp_engine.specs.Fault.{text_of as command_fault_text}
 use Rattle.lldp_engine.specs.Words.{words_of, is_separator}
 use Rattle.lldp_engine.specs.Answer.{or_fault, on_ok, ◌>>=◌}
 use Rattle.lldp_engine.specs.Number.{number_of}
 use Rattle.lldp_engine.specs.AgentState.{AgentState, names_of}
-use Rattle.lldp_engine.specs.Place.{place_of}
+use Rattle.lldp_engine.specs.NextWords.{word_said, port_said, end_said}
 use Rattle.lldp_engine.specs.Given.{command_said}
 use Rattle.lldp_program.specs.declared.line.LineFault.{LineFault}
 use Rattle.lldp_program.specs.declared.line.LineFault.TheVariants.{TooLong, Hex, Command}
@@ -25,35 +25,29 @@ abbrev pub or_hex : {E : Type 0} → Result (List ℕ) E → Result (List ℕ) L
 or_hex (Ok octets) = Ok octets
 or_hex (Err fault) = Err Hex
 
--- a complete form: a word behind it is Extra
-abbrev pub complete : List (List ℕ) → Work → Result Work LineFault
-complete [] work = Ok work
-complete (word ∷ words) work = Err (Command Extra)
-
 -- `tick` and `tick N`, behind the first word: one tick, or N, from 1 to 65535
 unfoldable pub tick_form : List (List ℕ) → Result Work LineFault
 tick_form [] = Ok (ticks 1)
 tick_form (word ∷ words) = do
   n ← of_command (number_of word 1 65535)
-  complete words (ticks n)
+  end ← of_command (end_said words)
+  Ok (ticks n)
 
 -- `rx PORT HEX`, behind the first word: a frame that came on a port
 unfoldable pub frame_form : AgentState → List (List ℕ) → Result Work LineFault
-frame_form agent [] = Err (Command Unknown)
-frame_form agent (name ∷ []) = do
-  port ← of_command (or_fault (place_of (names_of agent) name) NoSuchPort)
-  Err (Command Unknown)
-frame_form agent (name ∷ digits ∷ words) = do
-  port ← of_command (or_fault (place_of (names_of agent) name) NoSuchPort)
-  octets ← or_hex (decode_of digits)
-  complete words (frame port octets)
+frame_form agent words = do
+  port ← of_command (port_said (names_of agent) words)
+  digits ← of_command (word_said port.1)
+  octets ← or_hex (decode_of digits.0)
+  end ← of_command (end_said digits.1)
+  Ok (frame port.0 octets)
 
 -- `up PORT` and `down PORT`, behind the first word: the link of a port came, or went
 unfoldable pub link_form : AgentState → Bool → List (List ℕ) → Result Work LineFault
-link_form agent up [] = Err (Command Unknown)
-link_form agent up (name ∷ words) = do
-  port ← of_command (or_fault (place_of (names_of agent) name) NoSuchPort)
-  complete words (link port up)
+link_form agent up words = do
+  port ← of_command (port_said (names_of agent) words)
+  end ← of_command (end_said port.1)
+  Ok (link port.0 up)
 
 -- a command, or its fault
 abbrev pub command_form : AgentState → List (List ℕ) → Result Work LineFault

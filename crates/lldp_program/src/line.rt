@@ -4,11 +4,12 @@ ghost use Rattle.std.specs.List.{AllByRecursion};
 ghost use Rattle.hex.specs.Hex.{decode_of};
 ghost use Rattle.lldp_engine.specs.AgentState.{AgentState, IsPort};
 ghost use Rattle.lldp_engine.specs.Answer.{on_ok};
-ghost use Rattle.lldp_program.specs.Forms.{fault_text, is_skipped, or_hex, complete, tick_form, frame_form, link_form, command_form, work_given};
+ghost use Rattle.lldp_program.specs.Forms.{fault_text, is_skipped, or_hex, tick_form, frame_form, link_form, work_given};
 ghost use Rattle.lldp_program.specs.Work.{frame, work_of, AllowsWork};
 
 use lldp_engine::{
-    Agent, Command, CommandFault, Words, decode_digits, number, split, split_at_bare,
+    Agent, Command, CommandFault, Words, decode_digits, end_words, next_port, next_word, number,
+    split, split_at_bare,
 };
 
 /// How many octets a line has at most, its LF left out.
@@ -40,6 +41,14 @@ pub enum Work<'l> {
     Command(Command<'l>),
 }
 
+impl From<CommandFault> for LineFault {
+    ghost from_gives = { λ fault line_fault. line_fault ≡ Command fault };
+
+    fn from(fault: CommandFault) -> LineFault {
+        LineFault::Command(fault)
+    }
+}
+
 impl LineFault {
     /// The line that tells the fault, without LF.
     pub fn text(self) -> &'static [u8]
@@ -66,17 +75,6 @@ fn is_skipped_line(line: &[u8]) -> bool
     true
 }
 
-/// The work, where no word follows it.
-fn completed<'l>(mut words: Words<'_>, work: Work<'l>) -> Result<Work<'l>, LineFault>
-    ensures read { on_ok work_of result ≡ complete words.entry (work_of work.entry) }
-    ensures same { IfOk result (λ done. done ≡ work.entry) }
-{
-    match words.next() {
-        None => Ok(work),
-        Some(_) => Err(LineFault::Command(CommandFault::Extra)),
-    }
-}
-
 /// `tick` and `tick N`, behind their first word.
 #[tactic(auto, unfolding(crate::specs::Forms::tick_form))]
 fn read_tick<'l>(mut words: Words<'_>) -> Result<Work<'l>, LineFault>
@@ -87,10 +85,9 @@ fn read_tick<'l>(mut words: Words<'_>) -> Result<Work<'l>, LineFault>
     let Some(word) = words.next() else {
         return Ok(Work::Ticks(1));
     };
-    match number(word, 1, 65535) {
-        Ok(ticks) => completed(words, Work::Ticks(ticks)),
-        Err(fault) => Err(LineFault::Command(fault)),
-    }
+    let ticks = number(word, 1, 65535)?;
+    end_words(words)?;
+    Ok(Work::Ticks(ticks))
 }
 
 /// The octets that hexadecimal digits spell, at the front of the room.
@@ -121,19 +118,11 @@ fn read_frame<'l>(
     ensures read { on_ok work_of result ≡ frame_form agent.now words.entry }
     ensures allowed { IfOk result (λ work. AllowsWork agent.now (work_of work)) }
 {
-    let Some(name) = words.next() else {
-        return Err(LineFault::Command(CommandFault::Unknown));
-    };
-    let Some(port) = agent.find_port(name) else {
-        return Err(LineFault::Command(CommandFault::NoSuchPort));
-    };
-    let Some(digits) = words.next() else {
-        return Err(LineFault::Command(CommandFault::Unknown));
-    };
-    match decode(digits, room) {
-        Ok(octets) => completed(words, Work::Frame { port, octets }),
-        Err(fault) => Err(fault),
-    }
+    let port = next_port(agent, &mut words)?;
+    let digits = next_word(&mut words)?;
+    let octets = decode(digits, room)?;
+    end_words(words)?;
+    Ok(Work::Frame { port, octets })
 }
 
 /// `up PORT` and `down PORT`, behind their first word.
@@ -142,24 +131,9 @@ fn read_link<'l>(agent: &Agent, mut words: Words<'_>, up: bool) -> Result<Work<'
     ensures read { on_ok work_of result ≡ link_form agent.now up words.entry }
     ensures allowed { IfOk result (λ work. AllowsWork agent.now (work_of work)) }
 {
-    let Some(name) = words.next() else {
-        return Err(LineFault::Command(CommandFault::Unknown));
-    };
-    let Some(port) = agent.find_port(name) else {
-        return Err(LineFault::Command(CommandFault::NoSuchPort));
-    };
-    completed(words, Work::Link { port, up })
-}
-
-/// A command, of its first word and those behind it.
-fn read_order<'l>(agent: &Agent, first: &[u8], words: Words<'l>) -> Result<Work<'l>, LineFault>
-    ensures read { on_ok work_of result ≡ command_form agent.now (first.now ∷ words.entry) }
-    ensures allowed { IfOk result (λ work. AllowsWork agent.now (work_of work)) }
-{
-    match agent.read_words(first, words) {
-        Ok(command) => Ok(Work::Command(command)),
-        Err(fault) => Err(LineFault::Command(fault)),
-    }
+    let port = next_port(agent, &mut words)?;
+    end_words(words)?;
+    Ok(Work::Link { port, up })
 }
 
 /// What follows this front, if the text begins with it.
@@ -181,20 +155,12 @@ fn plain_frame<'l>(agent: &Agent, line: &'l [u8]) -> Option<(u8, &'l [u8])>
     ensures short { IfSome result (λ x. length x.1.now ≤ 4096) }
     ensures exists { IfSome result (λ x. IsPort agent.now x.0) }
 {
-    let Some(rest) = behind(line, b"rx ") else {
-        return None;
-    };
-    let (name, after) = split_at_bare(rest);
-    let Some(digits) = behind(after, b" ") else {
-        return None;
-    };
+    let (name, after) = split_at_bare(behind(line, b"rx ")?);
+    let digits = behind(after, b" ")?;
     if name.is_empty() || digits.is_empty() || digits.len() % 2 != 0 {
         return None;
     }
-    match agent.find_port(name) {
-        Some(port) => Some((port, digits)),
-        None => None,
-    }
+    Some((agent.find_port(name)?, digits))
 }
 
 /// What a line, without its LF, asks of the agent, or its first fault. The octets of a frame stand
@@ -224,13 +190,8 @@ pub fn read_line<'l>(
     if is_skipped_line(line) {
         return Ok(Work::Skip);
     }
-    let mut words = match split(line) {
-        Ok(words) => words,
-        Err(fault) => return Err(LineFault::Command(fault)),
-    };
-    let Some(word) = words.next() else {
-        return Err(LineFault::Command(CommandFault::Unknown));
-    };
+    let mut words = split(line)?;
+    let word = next_word(&mut words)?;
     if word == b"tick".as_slice() {
         read_tick(words)
     } else if word == b"rx".as_slice() {
@@ -240,6 +201,6 @@ pub fn read_line<'l>(
     } else if word == b"down".as_slice() {
         read_link(agent, words, false)
     } else {
-        read_order(agent, word, words)
+        Ok(Work::Command(agent.read_words(word, words)?))
     }
 }

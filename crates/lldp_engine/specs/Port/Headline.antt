@@ -24,14 +24,20 @@ pub record HoldsLastStored (o : Options) (past : List Happened) (table : Content
   pub few : length table.neighbors ≤ table.limit
   pub short : AllByRecursion (λ neighbor. length neighbor.octets ≤ 1500) table.neighbors
 
+-- at this event, after earlier ones, an ordinary frame is due and the credit window is open
+abbrev pub DueAndOpen : Options → Happened → List Happened → Type 0
+DueAndOpen o now earlier = IsDueAndOpen (settings_of o) (causes_after o earlier) (caused_at o now earlier)
+
+-- at this event, after earlier ones, the port stops
+abbrev pub Stops : Options → Happened → List Happened → Type 0
+Stops o now earlier = StopsAt (settings_of o) (causes_after o earlier) (caused_at o now earlier)
+
 -- At an event after earlier ones a port sends an ordinary frame exactly where one is due and the credit window is open:
 -- no run of events that ends there would hold more than txCreditMax and the ticks after its first event. It sends a
 -- shutdown frame exactly where it was active and may no longer transmit.
 pub record SendsExactly (o : Options) (now : Happened) (earlier : List Happened) : Type 0 where
-  pub ordinary : (mark_after o (now ∷ earlier) ≡ Ordinary)
-      ↔ IsDueAndOpen (settings_of o) (causes_after o earlier) (caused_at o now earlier)
-  pub shutdown : (mark_after o (now ∷ earlier) ≡ Shutdown)
-      ↔ StopsAt (settings_of o) (causes_after o earlier) (caused_at o now earlier)
+  pub ordinary : (mark_after o (now ∷ earlier) ≡ Ordinary) ↔ DueAndOpen o now earlier
+  pub shutdown : (mark_after o (now ∷ earlier) ≡ Shutdown) ↔ Stops o now earlier
 
 -- After this past, by what its events were for its transmitting, a port has the right to transmit exactly where its
 -- status gives it, and its link is up exactly where its last link event says so.

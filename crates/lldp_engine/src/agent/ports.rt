@@ -5,7 +5,7 @@ ghost use Rattle.lldp_engine.specs.Options.{options_of, InRange, is_port_name};
 ghost use Rattle.lldp_engine.specs.AgentState.{fits};
 ghost use Rattle.lldp_engine.specs.Past.{sending};
 ghost use Rattle.lldp_engine.specs.Place.{place_from};
-ghost use Rattle.lldp_engine.specs.Port.Event.{each_port, tick};
+ghost use Rattle.lldp_engine.specs.Port.Event.{each_port};
 ghost use Rattle.lldp_engine.specs.Port.EventView.{port_event_of, whose_of};
 ghost use Rattle.lldp_engine.specs.Code.PortStep.{opened_port};
 ghost use Rattle.lldp_engine.specs.Code.Step.{ports_step, marks_step};
@@ -69,26 +69,14 @@ pub(crate) fn take_event<A: Allocator>(
             note(&mut marks, *port, mark);
             marks
         }
-        Whose::EachPort(PortEvent::Tick) => each_ticks(ports, interval),
+        // Most events are ticks: their loop is compiled apart, and no port asks which event it is.
+        Whose::EachPort(PortEvent::Tick) => each_takes(ports, &PortEvent::Tick, interval),
         Whose::EachPort(each) => each_takes(ports, each, interval),
     }
 }
 
-/// Each port takes a tick.
-fn each_ticks<A: Allocator>(ports: &mut [Port<A>], interval: u16) -> Marks
-    requires { length ports.old ≤ 64 }
-    ensures after { ports.new ≡ ports_step (each_port tick) interval 0 ports.old }
-    ensures marks { result.items ≡ marks_step (each_port tick) interval 0 ports.old }
-{
-    let mut marks = ArrayVec::new();
-    for (i, port) in ports.iter_mut().enumerate() {
-        let mark = port.tick(interval);
-        note(&mut marks, i as u8, mark);
-    }
-    marks
-}
-
 /// Each port takes an event.
+#[inline(always)]
 fn each_takes<A: Allocator>(ports: &mut [Port<A>], event: &PortEvent<'_>, interval: u16) -> Marks
     requires few { length ports.old ≤ 64 }
     requires limits { AllFit (port_event_of event.now) ports.old }

@@ -1,29 +1,24 @@
 //! The lines of `show configuration`.
-ghost use Rattle.std.specs.Prelude.{◌≡◌, ◌≤◌, ◌++◌, length, map, decimal};
-ghost use Rattle.lldp_engine.specs.ConfigurationLines.{status_text as status_text_of, status_line, configuration_lines};
+ghost use Rattle.std.specs.Prelude.{◌≡◌, ◌≤◌, length, map};
+ghost use Rattle.std.specs.List.{AllByRecursion};
+ghost use Rattle.lldp_engine.specs.Code.ShownValue.{plain_number};
+ghost use Rattle.lldp_engine.specs.ConfigurationLines.{status_text, status_line, numbers_shown, configuration_lines};
 ghost use Rattle.lldp_engine.specs.Takes.{Takes};
 
 use crate::agent::configuration::Configuration;
 use crate::port::Port;
 use crate::port::status::Status;
+use crate::show::front::front;
 use crate::show::line_sink::LineSink;
+use crate::show::numbers::{Number, put_numbers};
+use crate::show::put_line::put_line;
+use crate::show::value::Value;
 use std::alloc::Allocator;
 
-/// A line that has a number.
-fn put_number<S: LineSink>(sink: &mut S, key: &[u8], n: u32)
-    requires { length key.now ≤ 60 }
-    ensures { S.takes sink.old sink.new (key.now ++ decimal n) }
-{
-    let Some(line) = sink.begin_line() else {
-        return;
-    };
-    line.text(key);
-    line.decimal(n);
-    line.end_line();
-}
+const FRONT: &[u8] = b"configuration.";
 
-fn status_text(status: Status) -> &'static [u8]
-    ensures value { result.now ≡ status_text_of status }
+fn text_of_status(status: Status) -> &'static [u8]
+    ensures value { result.now ≡ status_text status }
     ensures short { length result.now ≤ 9 }
 {
     match status {
@@ -38,14 +33,9 @@ fn status_text(status: Status) -> &'static [u8]
 fn put_status<A: Allocator, S: LineSink>(sink: &mut S, port: &Port<A>)
     ensures { S.takes sink.old sink.new (status_line port.now) }
 {
-    let Some(line) = sink.begin_line() else {
-        return;
-    };
-    line.text(b"configuration.");
-    line.text(port.name());
-    line.text(b".status=");
-    line.text(status_text(port.status()));
-    line.end_line();
+    let front = front(FRONT, port.name());
+    let status = text_of_status(port.status());
+    put_line(sink, front.as_slice(), b"status=", Value::Word(status));
 }
 
 /// The line of each port's status.
@@ -60,6 +50,25 @@ fn put_statuses<A: Allocator, S: LineSink>(sink: &mut S, ports: &[Port<A>])
     }
 }
 
+/// The numbers, in the order in which they are shown.
+fn in_order<A: Allocator>(c: &Configuration, ports: &[Port<A>]) -> [Number; 8]
+    requires { length ports.now ≤ 64 }
+    ensures shown { map plain_number result
+        ≡ numbers_shown (record { configuration = c.now; ports = ports.now }) }
+    ensures short { AllByRecursion (λ number. length number.0.now ≤ 32) result }
+{
+    [
+        (b"tx-interval=", u32::from(c.interval)),
+        (b"tx-hold=", u32::from(c.hold)),
+        (b"ttl=", u32::from(c.ttl())),
+        (b"reinit-delay=", u32::from(c.reinit)),
+        (b"tx-fast-init=", u32::from(c.fast_init)),
+        (b"tx-credit-max=", u32::from(c.credit_max)),
+        (b"max-neighbors=", u32::from(c.limit)),
+        (b"ports=", ports.len() as u32),
+    ]
+}
+
 /// The lines of `show configuration`, of at most 64 ports.
 pub(crate) fn put_configuration<A: Allocator, S: LineSink>(
     sink: &mut S,
@@ -70,17 +79,6 @@ pub(crate) fn put_configuration<A: Allocator, S: LineSink>(
     ensures { Takes S.takes sink.old sink.new
         (configuration_lines (record { configuration = c.now; ports = ports.now })) }
 {
-    put_number(sink, b"configuration.tx-interval=", u32::from(c.interval));
-    put_number(sink, b"configuration.tx-hold=", u32::from(c.hold));
-    put_number(sink, b"configuration.ttl=", u32::from(c.ttl()));
-    put_number(sink, b"configuration.reinit-delay=", u32::from(c.reinit));
-    put_number(sink, b"configuration.tx-fast-init=", u32::from(c.fast_init));
-    put_number(
-        sink,
-        b"configuration.tx-credit-max=",
-        u32::from(c.credit_max),
-    );
-    put_number(sink, b"configuration.max-neighbors=", u32::from(c.limit));
-    put_number(sink, b"configuration.ports=", ports.len() as u32);
+    put_numbers(sink, FRONT, &in_order(c, ports));
     put_statuses(sink, ports);
 }

@@ -1,95 +1,34 @@
 //! The lines of `show neighbors`.
-ghost use Rattle.std.specs.Prelude.{◌≡◌, ◌≤◌, ◌++◌, length, map, decimal};
+ghost use Rattle.std.specs.Prelude.{◌≡◌, ◌≤◌, length, map};
 ghost use Rattle.std.specs.List.{AllByRecursion};
 ghost use Rattle.lldp_pdu.specs.Kept.{IsKeptTlv};
-ghost use Rattle.lldp_pdu.specs.Msap.{IsIdentifier};
-ghost use Rattle.lldp_pdu.specs.View.{tlv_view};
-ghost use Rattle.lldp_engine.specs.Keys.{neighbor_key};
-ghost use Rattle.lldp_engine.specs.NeighborLines.{chassis_id_line, port_id_line, kept_line, neighbor_lines, yes_or_no as yes_or_no_of, too_many_line, count_lines, port_lines, neighbors_lines};
+ghost use Rattle.lldp_engine.specs.NeighborLines.{kept_line, neighbor_lines, yes_or_no, count_lines, port_lines, neighbors_lines};
 ghost use Rattle.lldp_engine.specs.Takes.{Takes};
 
 use crate::port::Port;
-use crate::show::identifier::{write_chassis, write_port};
-use crate::show::kept_tlv::write_kept_tlv;
+use crate::show::front::{neighbor_front, port_front};
 use crate::show::line_sink::LineSink;
-use crate::show::port_lines::{begin_neighbor_line, begin_port_line, put_port_number};
-use lldp_pdu::{Kept, Tlv};
+use crate::show::put_line::put_line;
+use crate::show::value::Value;
+use lldp_pdu::Kept;
 use lldp_table::Entry;
 use std::alloc::Allocator;
 
-fn yes_or_no(condition: bool) -> &'static [u8]
-    ensures value { result.now ≡ yes_or_no_of condition }
+fn word_of(condition: bool) -> &'static [u8]
+    ensures value { result.now ≡ yes_or_no condition }
     ensures short { length result.now ≤ 3 }
 {
     if condition { b"yes" } else { b"no" }
 }
 
-/// The line of a neighbor's chassis ID.
-fn put_chassis_id<S: LineSink>(sink: &mut S, name: &[u8], number: u8, id: &[u8])
-    requires name { length name.now ≤ 15 }
-    requires id { IsIdentifier id.now }
-    ensures { S.takes sink.old sink.new (chassis_id_line name.now number id.now) }
-{
-    let Some(line) = sink.begin_line() else {
-        return;
-    };
-    begin_neighbor_line(line, name, number);
-    line.text(b"chassis.");
-    write_chassis(line, id);
-    line.end_line();
-}
-
-/// The line of a neighbor's port ID.
-fn put_port_id<S: LineSink>(sink: &mut S, name: &[u8], number: u8, id: &[u8])
-    requires name { length name.now ≤ 15 }
-    requires id { IsIdentifier id.now }
-    ensures { S.takes sink.old sink.new (port_id_line name.now number id.now) }
-{
-    let Some(line) = sink.begin_line() else {
-        return;
-    };
-    begin_neighbor_line(line, name, number);
-    line.text(b"port.");
-    write_port(line, id);
-    line.end_line();
-}
-
-/// A line of a neighbor that has a number.
-fn put_neighbor_number<S: LineSink>(sink: &mut S, name: &[u8], number: u8, key: &[u8], n: u16)
-    requires name { length name.now ≤ 15 }
-    requires key { length key.now ≤ 20 }
-    ensures { S.takes sink.old sink.new (neighbor_key name.now number ++ (key.now ++ decimal n)) }
-{
-    let Some(line) = sink.begin_line() else {
-        return;
-    };
-    begin_neighbor_line(line, name, number);
-    line.decimal_value(key, u32::from(n));
-    line.end_line();
-}
-
-/// The line of a kept TLV of a neighbor.
-fn put_kept_tlv<S: LineSink>(sink: &mut S, name: &[u8], number: u8, tlv: Tlv<'_>)
-    requires name { length name.now ≤ 15 }
-    requires kept { IsKeptTlv (tlv_view tlv) }
-    ensures { S.takes sink.old sink.new (kept_line name.now number (tlv_view tlv.entry)) }
-{
-    let Some(line) = sink.begin_line() else {
-        return;
-    };
-    begin_neighbor_line(line, name, number);
-    write_kept_tlv(line, tlv);
-    line.end_line();
-}
-
 /// The lines of a neighbor's kept TLVs.
-fn put_kept<S: LineSink>(sink: &mut S, name: &[u8], number: u8, kept: Kept<'_>)
-    requires name { length name.now ≤ 15 }
+fn put_kept<S: LineSink>(sink: &mut S, front: &[u8], kept: Kept<'_>)
+    requires front { length front.now ≤ 32 }
     requires kept { AllByRecursion IsKeptTlv kept }
-    ensures { Takes S.takes sink.old sink.new (map (kept_line name.now number) kept.entry) }
+    ensures { Takes S.takes sink.old sink.new (map (kept_line front.now) kept.entry) }
 {
     for tlv in kept {
-        put_kept_tlv(sink, name, number, tlv);
+        put_line(sink, front, b"", Value::Kept(tlv));
     }
 }
 
@@ -99,35 +38,46 @@ fn put_neighbor<S: LineSink>(sink: &mut S, name: &[u8], number: u8, neighbor: En
     requires { length name.now ≤ 15 }
     ensures { Takes S.takes sink.old sink.new (neighbor_lines name.now number neighbor.entry) }
 {
-    put_chassis_id(sink, name, number, neighbor.msap().chassis);
-    put_port_id(sink, name, number, neighbor.msap().port);
-    put_neighbor_number(sink, name, number, b"ttl=", neighbor.ttl());
-    put_neighbor_number(sink, name, number, b"expires=", neighbor.left());
-    put_kept(sink, name, number, neighbor.kept());
-}
-
-/// The line that says whether a port has too many neighbors.
-fn put_too_many<S: LineSink>(sink: &mut S, name: &[u8], too_many: bool)
-    requires { length name.now ≤ 15 }
-    ensures { S.takes sink.old sink.new (too_many_line name.now too_many) }
-{
-    let Some(line) = sink.begin_line() else {
-        return;
-    };
-    begin_port_line(line, name);
-    line.text(b"too-many=");
-    line.text(yes_or_no(too_many));
-    line.end_line();
+    let begin = neighbor_front(name, number);
+    let front = begin.as_slice();
+    let msap = neighbor.msap();
+    put_line(sink, front, b"chassis.", Value::Chassis(msap.chassis));
+    put_line(sink, front, b"port.", Value::Port(msap.port));
+    put_line(
+        sink,
+        front,
+        b"ttl=",
+        Value::Number(u32::from(neighbor.ttl())),
+    );
+    put_line(
+        sink,
+        front,
+        b"expires=",
+        Value::Number(u32::from(neighbor.left())),
+    );
+    put_kept(sink, front, neighbor.kept());
 }
 
 /// The lines that stand before those of a port's neighbors.
 fn put_counts<A: Allocator, S: LineSink>(sink: &mut S, port: &Port<A>)
     ensures { Takes S.takes sink.old sink.new (count_lines port.now) }
 {
+    let begin = port_front(port.name());
+    let front = begin.as_slice();
     let table = port.table();
-    put_port_number(sink, port.name(), b"neighbors=", u32::from(table.len()));
-    put_port_number(sink, port.name(), b"octets=", table.octets());
-    put_too_many(sink, port.name(), table.too_many());
+    put_line(
+        sink,
+        front,
+        b"neighbors=",
+        Value::Number(u32::from(table.len())),
+    );
+    put_line(sink, front, b"octets=", Value::Number(table.octets()));
+    put_line(
+        sink,
+        front,
+        b"too-many=",
+        Value::Word(word_of(table.too_many())),
+    );
 }
 
 /// The lines of a port.

@@ -1,27 +1,41 @@
 //! The lines of `show statistics`.
-ghost use Rattle.lldp_engine.specs.StatisticsLines.{counter_lines, statistics_lines};
+ghost use Rattle.std.specs.Prelude.{◌≡◌, ◌≤◌, length, map};
+ghost use Rattle.std.specs.List.{AllByRecursion};
+ghost use Rattle.lldp_engine.specs.Code.ShownValue.{plain_number};
+ghost use Rattle.lldp_engine.specs.StatisticsLines.{counters_shown, counter_lines, statistics_lines};
 ghost use Rattle.lldp_engine.specs.Takes.{Takes};
 
 use crate::port::Port;
+use crate::port::counters::Counters;
+use crate::show::front::port_front;
 use crate::show::line_sink::LineSink;
-use crate::show::port_lines::put_port_number;
+use crate::show::numbers::{Number, put_numbers};
 use std::alloc::Allocator;
 
-/// The lines of a port: its nine counters.
+/// The counters, in the order in which they are shown.
+fn in_order(counters: &Counters) -> [Number; 9]
+    ensures shown { map plain_number result ≡ counters_shown counters.now }
+    ensures short { AllByRecursion (λ number. length number.0.now ≤ 32) result }
+{
+    [
+        (b"sent=", counters.sent),
+        (b"shutdowns=", counters.shutdowns),
+        (b"received=", counters.received),
+        (b"discarded=", counters.discarded),
+        (b"errors=", counters.errors),
+        (b"tlvs-discarded=", counters.tlvs_discarded),
+        (b"unrecognized=", counters.unrecognized),
+        (b"ageouts=", counters.ageouts),
+        (b"drops=", counters.drops),
+    ]
+}
+
+/// The lines of a port.
 fn put_counters<A: Allocator, S: LineSink>(sink: &mut S, port: &Port<A>)
     ensures { Takes S.takes sink.old sink.new (counter_lines port.now) }
 {
-    let name = port.name();
-    let counters = port.counters();
-    put_port_number(sink, name, b"sent=", counters.sent);
-    put_port_number(sink, name, b"shutdowns=", counters.shutdowns);
-    put_port_number(sink, name, b"received=", counters.received);
-    put_port_number(sink, name, b"discarded=", counters.discarded);
-    put_port_number(sink, name, b"errors=", counters.errors);
-    put_port_number(sink, name, b"tlvs-discarded=", counters.tlvs_discarded);
-    put_port_number(sink, name, b"unrecognized=", counters.unrecognized);
-    put_port_number(sink, name, b"ageouts=", counters.ageouts);
-    put_port_number(sink, name, b"drops=", counters.drops);
+    let front = port_front(port.name());
+    put_numbers(sink, front.as_slice(), &in_order(port.counters()));
 }
 
 /// The lines of `show statistics`.

@@ -1,13 +1,8 @@
-use Rattle.std.proofs.Common.{arith, ◌++◌}
-use Rattle.std.specs.Prelude.{codes}
-use Rattle.lldp_engine.specs.Addresses.{ipv4_text}
-use Rattle.lldp_engine.proofs.LineParts.{in_parts, two_parts}
+use Rattle.lldp_engine.proofs.LinesTaken.{takes_none, takes_line}
 use Rattle.lldp_engine.proofs.show.chassis_lines.put_management.Goals as goal
 
-pub returns : goal.returns
-returns g c =
-    let key = codes "local-chassis.mgmt=" in
-    let address = ipv4_text c.args.address.now in
-    let front = in_parts c.in-Some.line.now _ _ key address c.text.ensures.value c.write_ipv4.ensures.value in
-    let written = two_parts _ _ _ _ (key ++ address) _ front c.text-2.ensures.value c.end_line.ensures.value in
-    c.begin_line.follows.holds _ _ _ c.in-Some.is written (omega arith)
+pub returns-in-Some : goal.returns-in-Some
+returns-in-Some g c = rw c.in-Some.is (takes_line _ _ _ _ _ _ c.put_line.ensures (takes_none _ _))
+
+pub returns-in_default : goal.returns-in_default
+returns-in_default g c = rw c.in_default.is (takes_none _ _)

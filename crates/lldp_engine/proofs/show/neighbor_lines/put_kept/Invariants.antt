@@ -8,6 +8,6 @@ use Rattle.lldp_engine.proofs.show.neighbor_lines.put_kept.Given as goal
 -- the lines of the TLVs that are left are left
 abbrev pub invariant-loop-tlv : goal.invariant-loop-tlv
 invariant-loop-tlv g l = record {
-  taken : TakesTo g.S.LineSink.takes l.fn.sink l.sink (map (kept_line l.name l.number) l.tlv-iterator) (map (kept_line l.name l.number) l.fn.kept);
+  taken : TakesTo g.S.LineSink.takes l.fn.sink l.sink (map (kept_line l.fn.front) l.tlv-iterator) (map (kept_line l.fn.front) l.fn.kept);
   kept : AllByRecursion IsKeptTlv l.tlv-iterator;
 }

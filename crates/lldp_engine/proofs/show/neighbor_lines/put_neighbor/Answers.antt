@@ -4,5 +4,5 @@ use Rattle.lldp_engine.proofs.show.neighbor_lines.put_neighbor.Goals as goal
 
 pub returns : goal.returns
 returns g c =
-    takes_line _ _ c.put_chassis_id.new.sink _ _ _ (search rules) (takes_line _ _ c.put_port_id.new.sink _ _ _ (search rules)
-    (takes_line _ _ c.put_neighbor_number.new.sink _ _ _ (search rules) (takes_line _ _ c.put_neighbor_number-2.new.sink _ _ _ (search rules) (search rules))))
+    takes_line _ _ c.put_line.new.sink _ _ _ (search rules) (takes_line _ _ c.put_line-2.new.sink _ _ _ (search rules)
+    (takes_line _ _ c.put_line-3.new.sink _ _ _ (search rules) (takes_line _ _ c.put_line-4.new.sink _ _ _ (search rules) (search rules))))

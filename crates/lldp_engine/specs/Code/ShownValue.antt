@@ -1,0 +1,37 @@
+-- What stands behind the key of a shown line.
+use Rattle.std.specs.Prelude.{ℕ, ◌≤◌, List, length, decimal}
+use Rattle.std.specs.Borrow.{Bor}
+use Rattle.lldp_pdu.specs.Msap.{IsIdentifier}
+use Rattle.lldp_pdu.specs.Kept.{IsKeptTlv}
+use Rattle.lldp_pdu.specs.View.{tlv_view}
+use Rattle.lldp_engine.specs.declared.show.value.Value.{Value}
+use Rattle.lldp_engine.specs.declared.show.value.Value.TheVariants as value
+use Rattle.lldp_engine.specs.Addresses.{mac_text}
+use Rattle.lldp_engine.specs.ChassisLines.{own_address_text}
+use Rattle.lldp_engine.specs.Identifier.{chassis_text, port_text}
+use Rattle.lldp_engine.specs.KeptTlv.{tlv_text}
+use Rattle.lldp_engine.specs.Text.{escaped}
+
+-- how it is written
+abbrev pub value_text : Value → List ℕ
+value_text (value.Number n) = decimal n
+value_text (value.Word text) = text.now
+value_text (value.Text text) = escaped text.now
+value_text (value.Mac octets) = mac_text octets.now
+value_text (value.OwnAddress octets) = own_address_text octets.now
+value_text (value.Chassis id) = chassis_text id.now
+value_text (value.Port id) = port_text id.now
+value_text (value.Kept tlv) = tlv_text (tlv_view tlv)
+
+-- it fits in a line
+abbrev pub FitsLine : Value → Type 0
+FitsLine (value.Word text) = length text.now ≤ 255
+FitsLine (value.Text text) = length text.now ≤ 255
+FitsLine (value.Chassis id) = IsIdentifier id.now
+FitsLine (value.Port id) = IsIdentifier id.now
+FitsLine (value.Kept tlv) = IsKeptTlv (tlv_view tlv)
+FitsLine _ = Unit {0}
+
+-- a key and a number, as plain data
+abbrev pub plain_number : Bor (List ℕ) × ℕ → List ℕ × ℕ
+plain_number number = (number.0.now, number.1)
