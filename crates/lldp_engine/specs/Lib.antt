@@ -23,6 +23,7 @@ pub mod Answer
 pub mod Fault
 pub mod Words
 pub mod Number
+pub mod NextWords
 pub mod Command
 pub mod Forms
 pub mod Given

@@ -19,7 +19,7 @@ use crate::agent::Agent;
 use crate::agent::event::Setting;
 use crate::agent::ports::all_fit;
 use crate::command::fault::CommandFault;
-use crate::command::forms::{is_word, next_word};
+use crate::command::forms::{end_words, is_word, next_word};
 use crate::command::settings::read_setting;
 use crate::command::words::{Words, split};
 use std::alloc::Allocator;
@@ -95,10 +95,8 @@ fn read_whole<'l, A: Allocator>(
     ensures said { IfOk result (λ command. IsSaidCommand agent.now (command_of command)) }
 {
     let command = read_form(agent, first, &mut words)?;
-    match words.next() {
-        None => Ok(command),
-        Some(_) => Err(CommandFault::Extra),
-    }
+    end_words(words)?;
+    Ok(command)
 }
 
 /// The command, unless it sets a limit below what a port holds.

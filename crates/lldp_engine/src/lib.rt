@@ -24,6 +24,7 @@ pub use agent::options::{
 pub use agent::ports::Marks;
 pub use alike::neighbors_are_never_shown_alike;
 pub use command::fault::CommandFault;
+pub use command::forms::{end_words, next_port, next_word};
 pub use command::number::number;
 pub use command::words::{Words, split, split_at_bare, words_are_spelled};
 pub use command::{Command, Show, complete_forms_take_no_word};

@@ -4,7 +4,9 @@ ghost use Rattle.std.specs.Str.{bytes_eq};
 ghost use Rattle.lldp_engine.specs.Options.{is_text as is_printable_text};
 ghost use Rattle.lldp_engine.specs.AgentState.{names_of, IsPort};
 ghost use Rattle.lldp_engine.specs.Forms.{Form, word, port, number, text, status, status_of as status_word};
+ghost use Rattle.lldp_engine.specs.Answer.{on_ok};
 ghost use Rattle.lldp_engine.specs.Given.{Reads};
+ghost use Rattle.lldp_engine.specs.NextWords.{word_said, port_said, end_said};
 
 use crate::agent::Agent;
 use crate::agent::text::is_text;
@@ -21,12 +23,23 @@ pub(crate) fn is_word(word: &[u8], expected: &str) -> bool
 }
 
 /// The next word. One that is missing is `Unknown`.
-pub(crate) fn next_word<'l>(words: &mut Words<'l>) -> Result<&'l [u8], CommandFault>
-    ensures { MatchResult result
+pub fn next_word<'l>(words: &mut Words<'l>) -> Result<&'l [u8], CommandFault>
+    ensures said { on_ok (λ word. (word.now, words.new)) result ≡ word_said words.old }
+    ensures next { MatchResult result
         (λ word. words.old ≡ word.now ∷ words.new)
         (λ fault. (fault ≡ CommandFault.Unknown) × (words.old ≡ [])) }
 {
     words.next().ok_or(CommandFault::Unknown)
+}
+
+/// Sees that no word is left. One that is left is `Extra`.
+pub fn end_words(mut words: Words<'_>) -> Result<(), CommandFault>
+    ensures { result ≡ end_said words.entry }
+{
+    match words.next() {
+        None => Ok(()),
+        Some(_) => Err(CommandFault::Extra),
+    }
 }
 
 /// Takes the next word, which is to be this one.
@@ -69,11 +82,14 @@ pub(crate) fn next_number(
     number_in(word, least, greatest)
 }
 
-/// The next word, which is to be the name of a port.
-pub(crate) fn next_port<A: Allocator>(
+/// The number of the port that the next word names. A word that is missing is `Unknown`, one that
+/// names no port is `NoSuchPort`.
+pub fn next_port<A: Allocator>(
     agent: &Agent<A>,
     words: &mut Words<'_>,
 ) -> Result<u8, CommandFault>
+    ensures said { on_ok (λ p. (p, words.new)) result
+        ≡ port_said (names_of agent.now) words.old }
     ensures reads { (next : ℕ → Form) →
         Reads (names_of agent.now) (port next ∷ []) words.old result (λ p. next p ∷ []) words.new }
     ensures exists { IfOk result (λ p. IsPort agent.now p) }
