@@ -42,7 +42,9 @@ pub enum Work<'l> {
 }
 
 impl From<CommandFault> for LineFault {
-    ghost from_gives = { λ fault line_fault. line_fault ≡ Command fault };
+    ghost use Rattle.lldp_program.specs.declared.line.LineFault.TheVariants as refused;
+
+    ghost from_gives = { λ fault line_fault. line_fault ≡ refused.Command fault };
 
     fn from(fault: CommandFault) -> LineFault {
         LineFault::Command(fault)
@@ -155,12 +157,20 @@ fn plain_frame<'l>(agent: &Agent, line: &'l [u8]) -> Option<(u8, &'l [u8])>
     ensures short { IfSome result (λ x. length x.1.now ≤ 4096) }
     ensures exists { IfSome result (λ x. IsPort agent.now x.0) }
 {
-    let (name, after) = split_at_bare(behind(line, b"rx ")?);
-    let digits = behind(after, b" ")?;
+    let Some(rest) = behind(line, b"rx ") else {
+        return None;
+    };
+    let (name, after) = split_at_bare(rest);
+    let Some(digits) = behind(after, b" ") else {
+        return None;
+    };
     if name.is_empty() || digits.is_empty() || digits.len() % 2 != 0 {
         return None;
     }
-    Some((agent.find_port(name)?, digits))
+    match agent.find_port(name) {
+        Some(port) => Some((port, digits)),
+        None => None,
+    }
 }
 
 /// What a line, without its LF, asks of the agent, or its first fault. The octets of a frame stand
