@@ -8,9 +8,8 @@ use Rattle.lldp_transmit.specs.declared.event.Cause.{Cause}
 use Rattle.lldp_transmit.specs.declared.event.Cause.TheVariants.{Change, Neighbor}
 use Rattle.lldp_transmit.specs.Fronts.{count, since, from_last, up_to_last}
 use Rattle.lldp_transmit.specs.History.{Settings, Event, History, is_tick, is_change, is_neighbor}
-use Rattle.lldp_transmit.specs.Moments.{moment, Moment, moments, ticks, is_active, spends, signals_left, distance, timer_ends}
+use Rattle.lldp_transmit.specs.Moments.{moment, Moment, moments, ticks, is_active, unlabelled, with_activity, spends, signals_left, distance, timer_ends}
 use Rattle.lldp_transmit.specs.Positions.{HasOpened, NoneOpened, AreLeft, IsDistance, IsTimerEnd, IsSignal, IsOpening, starts_in}
-use Rattle.lldp_transmit.proofs.Windows.{begun}
 use Rattle.lldp_transmit.proofs.Splits.{count-append, find_last, any_at, since_at, up_to_at, from_at, up_to_none, since_front, since_none, since_keeps}
 use Rattle.lldp_transmit.proofs.Counters.{is_active-cons}
 use Rattle.lldp_transmit.proofs.Activity.{active_reads, is_tick_only}
@@ -179,8 +178,8 @@ pub signal_reads : (s : Settings) (h : History) (e : Event) → IsTrue (moment s
 unfolding moment
 signal_reads s h e = (forth, back)
   where
-    same : is_active (moment s (moments s h) e ∷ moments s h) ≡ is_active (begun s (moments s h) e ∷ moments s h)
-    same = same_active (moments s h) (begun s (moments s h) e) _ _ _
+    same : is_active (moment s (moments s h) e ∷ moments s h) ≡ is_active (with_activity s (moments s h) (unlabelled e) ∷ moments s h)
+    same = same_active (moments s h) (with_activity s (moments s h) (unlabelled e)) _ _ _
 
     forth : IsTrue (moment s (moments s h) e).signal → IsSignal s (moments s h) (moment s (moments s h) e)
     forth p =

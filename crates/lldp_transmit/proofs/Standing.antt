@@ -7,9 +7,9 @@ use Rattle.lldp_transmit.specs.declared.event.Mark.{Mark}
 use Rattle.lldp_transmit.specs.declared.event.Mark.TheVariants.{Quiet, Ordinary, Shutdown}
 use Rattle.lldp_transmit.specs.Code.Machine.{Machine, opened, stepped}
 use Rattle.lldp_transmit.specs.History.{Settings, Event, History}
-use Rattle.lldp_transmit.specs.Moments.{Moment, moments, moment, mark_of, mark_at, unlabelled, is_active, is_allowed, is_waiting, open_at}
+use Rattle.lldp_transmit.specs.Moments.{Moment, moments, moment, mark_of, mark_at, unlabelled, with_activity, with_signals, is_active, is_allowed, is_waiting, open_at}
 use Rattle.lldp_transmit.specs.Standing.{Stands, AreSettings, machine_of}
-use Rattle.lldp_transmit.proofs.Windows.{one_if, begun, wanted, bucket, IsPaid, open_is, paid_moments, bucket_le, credit_is}
+use Rattle.lldp_transmit.proofs.Windows.{one_if, bucket, IsPaid, open_is, paid_moments, bucket_le, credit_is}
 use Rattle.lldp_transmit.proofs.Counters.{until_start-cons, until_signal-cons, signals_left-cons, is_waiting-cons, is_active-cons, wanted-cons}
 use Rattle.lldp_transmit.proofs.Carrying.{start_of, stop_of, signal_of, opening_of, sent_of, Makes, step_makes}
 use Rattle.lldp_transmit.proofs.Labels.{Counts, starts_is, stops_is, active_is, signals_is, opens_is, sent_is}
@@ -29,8 +29,8 @@ module _ (s : Settings) (past : List Moment) (t : Machine) (e : Event) (h : Coun
   labelled : Labelled t e.cause e.interval (moment s past e)
   unfolding moment
   labelled =
-      let m1 = begun s past e in
-      let m2 = wanted s past e in
+      let m1 = with_activity s past (unlabelled e) in
+      let m2 = with_signals s past m1 in
       let start : m1.start ≡ start_of t e.cause = starts_is s past t e.cause h (unlabelled e) refl in
       let stop : m1.stop ≡ stop_of t e.cause = stops_is s past t e.cause h (unlabelled e) refl in
       let signal : m2.signal ≡ signal_of t e.cause = signals_is s past t e.cause h m1 refl start stop in
@@ -69,7 +69,7 @@ unfolding moment
 none_if_waiting s [] most a w = cc
 none_if_waiting s (e ∷ h) most a w =
     let past = moments s h in
-    let m = wanted s past e in
+    let m = with_signals s past (with_activity s past (unlabelled e)) in
     let n = moment s past e in
     none_left (is_active (m ∷ past)) _ (open_at s past m) _
     (is_active-cons m past ∙ sym (is_active-cons n past) ∙ a)
@@ -124,7 +124,7 @@ stands_left s h r = record { in_range = r; is = refl }
 -- At a stop no ordinary frame goes.
 pub apart : (s : Settings) (past : List Moment) (e : Event) → (moment s past e).stop ≡ true → (moment s past e).sent ≡ false
 unfolding moment
-apart s past e p = grind (arith, common_steps, wanted, is_active-cons)
+apart s past e p = grind (arith, common_steps, is_active-cons)
 
 ordinary_by : (x y : Bool) (r : Mark) → (x ≡ true → y ≡ false) → r ≡ cond x Shutdown (cond y Ordinary Quiet) → ((r ≡ Ordinary) ↔ IsTrue y) × ((r ≡ Shutdown) ↔ IsTrue x)
 ordinary_by true true r a e = cc (a refl)

@@ -6,18 +6,11 @@ use Rattle.std.proofs.Common.{refl, ap, ap₂, sym, ◌∙◌, arith}
 use Rattle.std.proofs.lemmas.Bool.{leb-true, leb-false, le-leb, and_parts, and_from, and_right, false_from_ne_true}
 use Rattle.std.proofs.lemmas.Bool.Decides.{nat_tests}
 use Rattle.lldp_transmit.specs.Fronts.{runs, after_first}
-use Rattle.lldp_transmit.specs.History.{Settings, Event, History, is_tick}
+use Rattle.lldp_transmit.specs.History.{Settings, History, is_tick}
 use Rattle.lldp_transmit.specs.Windows.{IsBounded}
-use Rattle.lldp_transmit.specs.Moments.{moment, Moment, ticks, frames, within, open_at, due, starts, stops, signals, opens, moments, unlabelled}
+use Rattle.lldp_transmit.specs.Moments.{moment, Moment, ticks, frames, within, open_at, due, with_activity, with_signals, moments, unlabelled}
 use Rattle.lldp_transmit.specs.Remaining.{room, credit_left}
 use Rattle.std.proofs.lemmas.Grind.{common_steps}
-
--- the moment of an event while its labels are being written: start and stop are, then signal and opening too
-abbrev pub begun : Settings → List Moment → Event → Moment
-begun s past e = let m = unlabelled e in record m { start = starts s past m; stop = stops s past m }
-
-abbrev pub wanted : Settings → List Moment → Event → Moment
-wanted s past e = let m = begun s past e in record m { signal = signals s past m; opening = opens s past m }
 
 -- one where the test passes
 abbrev pub one_if : Bool → ℕ
@@ -150,7 +143,7 @@ unfolding moment
 paid_moments s [] most = tt
 paid_moments s (e ∷ h) most =
     let paid = paid_moments s h most in
-    let m = wanted s (moments s h) e in
+    let m = with_signals s (moments s h) (with_activity s (moments s h) (unlabelled e)) in
     (frame_paid (due (moments s h) m) (open_at s (moments s h) m) _ (open_is s (moments s h) m most paid), paid)
 
 front_bounded : (s : Settings) (h : History) → 1 ≤ s.credit_max → (run before : List Moment) → moments s h ≡ run ++ before → frames run ≤ s.credit_max + ticks (after_first run)

@@ -141,14 +141,21 @@ unlabelled e = record {
   sent = false;
 }
 
--- The moment of the next event. Its labels are written in this order; each reads the moments before, and the labels
--- written already. Sent: an ordinary frame goes exactly where one is due and the window open.
+-- Activity, by the moments before: whether the port starts or stops there.
+abbrev pub with_activity : Settings → List Moment → Moment → Moment
+with_activity s past m = record m { start = starts s past m; stop = stops s past m }
+
+-- Signals, on top of the activity: whether a frame is wanted from there on, and a burst opened.
+abbrev pub with_signals : Settings → List Moment → Moment → Moment
+with_signals s past m = record m { signal = signals s past m; opening = opens s past m }
+
+-- Frame, on top of the signals: an ordinary one goes where one is due and the window open.
+abbrev pub with_frame : Settings → List Moment → Moment → Moment
+with_frame s past m = record m { sent = due past m && open_at s past m }
+
+-- The moment of the next event: first its activity is written, then its signals, then its frame.
 unfoldable pub moment : Settings → List Moment → Event → Moment
-moment s past e =
-    let m = unlabelled e in
-    let m' = record m { start = starts s past m; stop = stops s past m } in
-    let m'' = record m' { signal = signals s past m'; opening = opens s past m' } in
-    record m'' { sent = due past m'' && open_at s past m'' }
+moment s past e = with_frame s past (with_signals s past (with_activity s past (unlabelled e)))
 
 -- the moments of a history
 abbrev pub moments : Settings → History → List Moment
