@@ -57,7 +57,13 @@ module _ (s : Settings) (past : History) (e : Event) where
         (λ marks t. omega (arith, is_earliest s (e ∷ past) marks t, frames_of_mark (moments s past)))
 
     pub ordinary_with : AreSettings s → (answer ≡ Ordinary) ↔ IsDueAndOpen s past e
-    ordinary_with r = grind (arith, common_steps, exact, sent_reads)
+    ordinary_with r =
+        let sent = (exact s (moments s past) e answer is).0 in
+        let due = sent_reads s past e r.some_credit in
+        (λ q. due.0 (sent.0 q), λ w. sent.1 (due.1 w))
 
     pub shutdown_with : (answer ≡ Shutdown) ↔ StopsAt s past e
-    shutdown_with = grind (arith, common_steps, exact, stop_reads)
+    shutdown_with =
+        let stop = (exact s (moments s past) e answer is).1 in
+        let gone = stop_reads s past e in
+        (λ q. gone.0 (stop.0 q), λ w. stop.1 (gone.1 w))

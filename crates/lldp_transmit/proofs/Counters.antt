@@ -1,7 +1,7 @@
 -- What each counter is after one more moment, by the labels of that moment.
 use Rattle.std.specs.Prelude.{◌≡◌, ℕ, ◌+◌, ◌-◌, Bool, true, false, cond, not, ◌&&◌, ◌||◌, ◌==◌, nat_le, nat_lt, List, [], ◌∷◌}
 use Rattle.std.specs.List.{list_any}
-use Rattle.std.proofs.Common.{refl, arith}
+use Rattle.std.proofs.Common.{refl, sym, ◌∙◌, arith}
 use Rattle.std.proofs.lemmas.Bool.Decides.{nat_tests}
 use Rattle.lldp_transmit.specs.Fronts.{since}
 use Rattle.lldp_transmit.specs.History.{Settings, is_tick}
@@ -35,6 +35,10 @@ wanted-cons m past = is_waiting-cons (record m { sent = false }) past
 
 pub is_active-cons : (m : Moment) (past : List Moment) → is_active (m ∷ past) ≡ (not (ends m) && (m.start || is_active past))
 is_active-cons m past = elim (ends m) as (λ b. list_any (λ x. x.start) (cond b [] (m ∷ since ends past)) ≡ (not b && (m.start || is_active past))) [ true ↦ refl | false ↦ refl ]
+
+-- the labels that are written later don't matter
+pub same_active : (past : List Moment) (m : Moment) (b c d : Bool) → is_active (record m { signal = b; opening = c; sent = d } ∷ past) ≡ is_active (m ∷ past)
+same_active past m b c d = is_active-cons (record m { signal = b; opening = c; sent = d }) past ∙ sym (is_active-cons m past)
 
 pub signals_left-cons : (s : Settings) (m : Moment) (past : List Moment) → signals_left s (m ∷ past) ≡ cond m.start 0 (cond m.opening s.fast_init (signals_left s past) - one_if (spends m))
 signals_left-cons s m past = grind (arith, common_steps, one_if)

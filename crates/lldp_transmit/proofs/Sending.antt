@@ -1,16 +1,17 @@
 -- Waiting, due, open, sent and the credit, read by positions.
-use Rattle.std.specs.Prelude.{◌≡◌, ℕ, ◌+◌, ◌≤◌, ◌<◌, ◌↔◌, ◌⊎◌, Bool, true, false, not, ◌&&◌, ◌||◌, IsTrue, List, [], ◌∷◌, ◌++◌}
+use Rattle.std.specs.Prelude.{◌≡◌, ℕ, ◌+◌, ◌≤◌, ◌<◌, ◌↔◌, ◌⊎◌, Bool, true, false, IsTrue, List, [], ◌∷◌, ◌++◌}
 use Rattle.std.specs.List.{list_all}
-use Rattle.std.proofs.Common.{refl, ap, ap₂, sym, ◌∙◌, arith, inl, inr, subst}
-use Rattle.std.proofs.lemmas.Bool.{and_parts, and_from, leb-true, le-leb, cases_lt}
-use Rattle.lldp_transmit.specs.Fronts.{count, runs, after_first}
+use Rattle.std.proofs.Common.{refl, ap, ◌∙◌, arith, inl, inr, subst}
+use Rattle.std.proofs.lemmas.Bool.{and_from, leb-true, le-leb, cases_lt}
+use Rattle.lldp_transmit.specs.Fronts.{runs, after_first}
 use Rattle.lldp_transmit.specs.History.{Settings, Event, History, is_tick}
 use Rattle.lldp_transmit.specs.Moments.{moment, Moment, moments, ticks, frames, is_active, is_waiting, within, open_at, due}
 use Rattle.lldp_transmit.specs.Remaining.{credit_left}
-use Rattle.lldp_transmit.specs.Positions.{HasWanted, IsDue, IsOpen, IsLeastRoom}
+use Rattle.lldp_transmit.specs.Positions.{HasStarted, HasWanted, IsDue, IsOpen, IsLeastRoom}
 use Rattle.lldp_transmit.proofs.Windows.{one_if, list_all-map, all_fit, fits_enough, bounded, bucket, IsPaid, run_holds, credit_is, bucket_le, paid_moments}
-use Rattle.lldp_transmit.proofs.Activity.{active_reads}
-use Rattle.lldp_transmit.proofs.Counters.{is_active-cons, is_waiting-cons}
+use Rattle.lldp_transmit.proofs.Activity.{active_reads, and_reads}
+use Rattle.lldp_transmit.proofs.Counters.{same_active, is_waiting-cons}
+use Rattle.lldp_transmit.proofs.Splits.{lasts_reads}
 use Rattle.std.proofs.lemmas.Grind.{common_steps}
 
 -- ---- open windows
@@ -82,75 +83,20 @@ least_once s ms credit other c d = grind (arith, common_steps)
 
 -- ---- a frame that waits
 
-wanted : (ms : List Moment) → IsTrue (is_waiting ms) → HasWanted ms
-wanted [] w = cc w
-wanted (m ∷ past) w = go m.sent refl m.signal refl m.start refl (sym (is_waiting-cons m past) ∙ w) (wanted past)
-  where
-    go : (b : Bool) → m.sent ≡ b → (g : Bool) → m.signal ≡ g → (c : Bool) → m.start ≡ c → (not b && (g || (not c && is_waiting past))) ≡ true → (IsTrue (is_waiting past) → HasWanted past) → HasWanted (m ∷ past)
-    go true p g q c r e i = cc e
-    go false p true q c r e i = ([], past, m, refl, q, refl, ap (λ b. one_if b + 0) p)
-    go false p false q true r e i = cc e
-    go false p false q false r e i =
-        let w = i e in
-        (m ∷ w.0, w.1, w.2, ap (λ l. m ∷ l) w.3, w.4, ap₂ (λ b n. one_if b + n) r w.5, ap (λ b. one_if w.2.sent + (one_if b + frames w.0)) p ∙ omega (arith, w.6))
-
-waits_first : (b g x : Bool) → one_if b + 0 ≡ 0 → g ≡ true → (not b && (g || x)) ≡ true
-waits_first true g x e p = absurd (omega arith)
-waits_first false g x e p = ap (λ v. v || x) p
-
-waits_more : (b g c w : Bool) (n f k : ℕ) → one_if c + n ≡ 0 → k + (one_if b + f) ≡ 0 → w ≡ true → (not b && (g || (not c && w))) ≡ true
-waits_more true g c w n f k e d p = absurd (omega arith)
-waits_more false g true w n f k e d p = absurd (omega arith)
-waits_more false true false w n f k e d p = refl
-waits_more false false false w n f k e d p = p
-
-waits_on : (after : List Moment) (m : Moment) (before : List Moment) → IsTrue m.signal → count (λ x. x.start) after ≡ 0 → frames (m ∷ after) ≡ 0 → IsTrue (is_waiting (after ++ m ∷ before))
-waits_on [] m before g c f = is_waiting-cons m before ∙ waits_first m.sent m.signal _ f g
-waits_on (x ∷ after) m before g c f = grind (arith, common_steps, is_waiting-cons, waits_more, one_if, waits_on after m before g (omega arith) (omega arith))
-
 pub waiting_reads : (ms : List Moment) → IsTrue (is_waiting ms) ↔ HasWanted ms
-waiting_reads ms = grind (arith, common_steps, wanted, waits_on)
+waiting_reads = lasts_reads is_waiting (λ m. m.signal) (λ m. m.start) (λ m. m.sent) refl is_waiting-cons
 
 -- ---- a frame that goes
 
-same_active : (past : List Moment) (m : Moment) → is_active (record m { sent = false } ∷ past) ≡ is_active (m ∷ past)
-same_active past m = is_active-cons (record m { sent = false }) past ∙ sym (is_active-cons m past)
-
 -- a frame is due on an active port on which one waits
 pub due_reads : (s : Settings) (h : History) (e : Event) → IsTrue (due (moments s h) (moment s (moments s h) e)) ↔ IsDue (moments s h) (moment s (moments s h) e)
-due_reads s h e = (forth, back)
-  where
-    past : List Moment
-    past = moments s h
-
-    m : Moment
-    m = moment s past e
-
-    forth : IsTrue (due past m) → IsDue past m
-    forth p =
-        let d = and_parts (is_active (record m { sent = false } ∷ past)) (is_waiting (record m { sent = false } ∷ past)) p in
-        ((active_reads s (e ∷ h)).0 (sym (same_active past m) ∙ d.0), (waiting_reads (record m { sent = false } ∷ past)).0 d.1)
-
-    back : IsDue past m → IsTrue (due past m)
-    back (a, w) =
-        and_from (is_active (record m { sent = false } ∷ past)) (is_waiting (record m { sent = false } ∷ past)) (same_active past m ∙ (active_reads s (e ∷ h)).1 a) ((waiting_reads (record m { sent = false } ∷ past)).1 w)
+due_reads s h e =
+    let m = moment s (moments s h) e in
+    let active : IsTrue (is_active (record m { sent = false } ∷ moments s h)) ↔ HasStarted (m ∷ moments s h) = rw (same_active (moments s h) m m.signal m.opening false) (active_reads s (e ∷ h)) in
+    and_reads _ _ _ _ active (waiting_reads (record m { sent = false } ∷ moments s h))
 
 -- An ordinary frame goes exactly where one is due and the window open.
 pub sent_reads : (s : Settings) (h : History) (e : Event) → 1 ≤ s.credit_max →
     IsTrue (moment s (moments s h) e).sent ↔ (IsDue (moments s h) (moment s (moments s h) e) × IsOpen s (moments s h) (moment s (moments s h) e))
 unfolding moment
-sent_reads s h e most = (forth, back)
-  where
-    past : List Moment
-    past = moments s h
-
-    m : Moment
-    m = moment s past e
-
-    forth : IsTrue m.sent → IsDue past m × IsOpen s past m
-    forth p =
-        let parts = and_parts (due past m) (open_at s past m) p in
-        ((due_reads s h e).0 parts.0, (open_reads s past m most).0 parts.1)
-
-    back : IsDue past m × IsOpen s past m → IsTrue m.sent
-    back (d, o) = and_from (due past m) (open_at s past m) ((due_reads s h e).1 d) ((open_reads s past m most).1 o)
+sent_reads s h e most = and_reads _ _ _ _ (due_reads s h e) (open_reads s (moments s h) (moment s (moments s h) e) most)

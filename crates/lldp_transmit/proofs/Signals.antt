@@ -1,18 +1,18 @@
 -- Signals left, distance, end of the timer, signals and openings, read by positions.
-use Rattle.std.specs.Prelude.{◌≡◌, ℕ, zero, suc, ◌+◌, ◌-◌, ◌≤◌, ◌↔◌, ◌⊎◌, Bool, true, false, cond, not, ◌||◌, ◌==◌, nat_lt, IsTrue, List, [], ◌∷◌, ◌++◌}
+use Rattle.std.specs.Prelude.{◌≡◌, ℕ, zero, suc, ◌+◌, ◌-◌, ◌≤◌, ◌↔◌, ◌⊎◌, Bool, true, false, cond, not, ◌&&◌, ◌||◌, ◌==◌, nat_lt, IsTrue, List, [], ◌∷◌}
 use Rattle.std.specs.List.{list_any}
-use Rattle.std.proofs.Common.{refl, ap, sym, ◌∙◌, arith, inl, inr, append_assoc, subst}
+use Rattle.std.proofs.Common.{refl, ap, ap₂, sym, ◌∙◌, arith, inl, inr, subst}
 use Rattle.std.proofs.lemmas.Bool.{and_parts, and_from, or_cases, or_left, or_right, not-true, eqb-true, eq-eqb}
 use Rattle.std.proofs.lemmas.Bool.Decides.{nat_tests}
 use Rattle.lldp_transmit.specs.declared.event.Cause.{Cause}
 use Rattle.lldp_transmit.specs.declared.event.Cause.TheVariants.{Change, Neighbor}
-use Rattle.lldp_transmit.specs.Fronts.{count, since, from_last, up_to_last}
+use Rattle.lldp_transmit.specs.Fronts.{Position, count, since, from_last, up_to_last}
 use Rattle.lldp_transmit.specs.History.{Settings, Event, History, is_tick, is_change, is_neighbor}
 use Rattle.lldp_transmit.specs.Moments.{moment, Moment, moments, ticks, is_active, unlabelled, with_activity, spends, signals_left, distance, timer_ends}
-use Rattle.lldp_transmit.specs.Positions.{HasOpened, NoneOpened, AreLeft, IsDistance, IsTimerEnd, IsSignal, IsOpening, starts_in}
-use Rattle.lldp_transmit.proofs.Splits.{count-append, find_last, any_at, since_at, up_to_at, from_at, up_to_none, since_front, since_none, since_keeps}
-use Rattle.lldp_transmit.proofs.Counters.{is_active-cons}
-use Rattle.lldp_transmit.proofs.Activity.{active_reads, is_tick_only}
+use Rattle.lldp_transmit.specs.Positions.{NoneOpened, AreLeft, IsDistance, IsTimerEnd, IsSignal, IsOpening, starts_in}
+use Rattle.lldp_transmit.proofs.Splits.{count-append, count_never, Lasts, lasts_reads, or_again, find_last, up_to_none, at_last}
+use Rattle.lldp_transmit.proofs.Counters.{same_active}
+use Rattle.lldp_transmit.proofs.Activity.{active_reads, and_reads, is_tick_only}
 
 -- ---- signals left
 
@@ -20,55 +20,45 @@ use Rattle.lldp_transmit.proofs.Activity.{active_reads, is_tick_only}
 abbrev is_opened : List Moment → Bool
 is_opened ms = list_any (λ m. m.opening) (since (λ m. m.start) ms)
 
--- an opening without a start at it or after it is one since the last start
-opened_since : (ms after before : List Moment) (m : Moment) → ms ≡ after ++ m ∷ before → IsTrue m.opening → starts_in (m ∷ after) ≡ 0 → is_opened ms ≡ true
-opened_since ms after before m e p c =
-    ap is_opened (e ∙ sym (append_assoc after (m ∷ []) before))
-    ∙ ap (list_any (λ x. x.opening)) (since_keeps (λ x. x.start) (after ++ m ∷ []) before (count-append (λ x. x.start) after (m ∷ []) ∙ omega arith))
-    ∙ ap (list_any (λ x. x.opening)) (append_assoc after (m ∷ []) (since (λ x. x.start) before))
-    ∙ any_at (λ x. x.opening) after m (since (λ x. x.start) before) p
+opened-cons : (m : Moment) (past : List Moment) → is_opened (m ∷ past) ≡ (not m.start && (m.opening || is_opened past))
+opened-cons m past = elim m.start as (λ b. list_any (λ x. x.opening) (cond b [] (m ∷ since (λ x. x.start) past)) ≡ (not b && (m.opening || is_opened past))) [ true ↦ refl | false ↦ refl ]
+
+-- some opening, and so a last one, has no start at it or after it
+some_opening : (ms : List Moment) → IsTrue (is_opened ms) ↔ Lasts (λ m. m.opening) (λ _. false) (λ m. m.start) ms
+some_opening = lasts_reads is_opened (λ m. m.opening) (λ _. false) (λ m. m.start) refl opened-cons
+
+last_opening : (ms : List Moment) → IsTrue (is_opened ms) ↔ Lasts (λ m. m.opening) (λ m. m.opening) (λ m. m.start) ms
+last_opening = lasts_reads is_opened (λ m. m.opening) (λ m. m.opening) (λ m. m.start) refl (λ m past. opened-cons m past ∙ ap (λ b. not m.start && b) (or_again m.opening (is_opened past)))
 
 -- what the last opening leaves
-left_since : (s : Settings) (ms after before : List Moment) (m : Moment) → ms ≡ after ++ m ∷ before → IsTrue m.opening → count (λ x. x.opening) after ≡ 0 →
-    s.fast_init - count spends (from_last (λ x. x.opening) ms) ≡ s.fast_init - count spends (m ∷ after)
-left_since s ms after before m e p c =
-    let run : from_last (λ x. x.opening) ms ≡ after ++ m ∷ [] = ap (from_last (λ x. x.opening)) e ∙ from_at (λ x. x.opening) after m before p c in
-    let spent : count spends (after ++ m ∷ []) ≡ count spends (m ∷ after) = count-append spends after (m ∷ []) ∙ omega arith in
-    ap (λ n. s.fast_init - n) (ap (count spends) run ∙ spent)
-
-left_opened : (s : Settings) (ms : List Moment) → is_opened ms ≡ true → HasOpened s ms (s.fast_init - count spends (from_last (λ x. x.opening) ms))
-left_opened s ms o =
-    let w = find_last (λ m. m.opening) (since (λ m. m.start) ms) o in
-    let r = since_front (λ m. m.start) ms in
-    let whole : ms ≡ w.0 ++ w.2 ∷ (w.1 ++ r.0) = r.1 ∙ ap (λ l. l ++ r.0) w.3 ∙ append_assoc w.0 (w.2 ∷ w.1) r.0 in
-    let none : starts_in (w.0 ++ w.2 ∷ w.1) ≡ 0 = sym (ap starts_in w.3) ∙ since_none (λ m. m.start) ms in
-    (w.0, w.1 ++ r.0, w.2, whole, w.4, w.5, omega (arith, none, count-append (λ m. m.start) w.0 (w.2 ∷ w.1)), left_since s ms w.0 (w.1 ++ r.0) w.2 whole w.4 w.5)
+left_since : (s : Settings) (ms : List Moment) (p : Position ms) → IsTrue p.there.opening → count (λ x. x.opening) p.after ≡ 0 →
+    s.fast_init - count spends (from_last (λ x. x.opening) ms) ≡ s.fast_init - count spends (p.there ∷ p.after)
+left_since s ms p g c =
+    ap (λ n. s.fast_init - n) (ap (count spends) (at_last (λ x. x.opening) p g c).2 ∙ count-append spends p.after (p.there ∷ []) ∙ omega arith)
 
 none_opened : (ms : List Moment) → is_opened ms ≡ false → NoneOpened ms
-none_opened ms o after before m e p = go (starts_in (m ∷ after)) refl
+none_opened ms o p g = go (starts_in (p.there ∷ p.after)) refl
   where
-    go : (n : ℕ) → starts_in (m ∷ after) ≡ n → 1 ≤ n
-    go zero q = let opened : is_opened ms ≡ true = opened_since ms after before m e p q in cc
+    go : (n : ℕ) → starts_in (p.there ∷ p.after) ≡ n → 1 ≤ n
+    go zero q = let opened : is_opened ms ≡ true = (some_opening ms).1 (p, g, count_never p.after, q) in cc
     go (suc n) q = omega arith
 
 pub left_reads : (s : Settings) (ms : List Moment) (n : ℕ) → (n ≡ signals_left s ms) ↔ AreLeft s ms n
 left_reads s ms n = (λ e. subst (AreLeft s ms) (sym e) (go (is_opened ms) refl), back)
   where
-    go : (b : Bool) → is_opened ms ≡ b → AreLeft s ms (cond b (s.fast_init - count spends (from_last (λ x. x.opening) ms)) 0)
-    go true o = inl (left_opened s ms o)
+    value : Bool → ℕ
+    value b = cond b (s.fast_init - count spends (from_last (λ x. x.opening) ms)) 0
+
+    go : (b : Bool) → is_opened ms ≡ b → AreLeft s ms (value b)
+    go true o = let (p, g, c, z) = (last_opening ms).0 o in inl (p, g, c, z, left_since s ms p g c)
     go false o = inr (none_opened ms o, refl)
 
-    none : (b : Bool) → is_opened ms ≡ b → NoneOpened ms → 0 ≡ cond b (s.fast_init - count spends (from_last (λ x. x.opening) ms)) 0
-    none true o f =
-        let (after, before, m, e, p, c, z, l) = left_opened s ms o in
-        let some : 1 ≤ starts_in (m ∷ after) = f after before m e p in
-        absurd (omega arith)
+    none : (b : Bool) → is_opened ms ≡ b → NoneOpened ms → 0 ≡ value b
+    none true o f = let (p, g, c, z) = (last_opening ms).0 o in absurd (omega (arith, f p g, z))
     none false o f = refl
 
     back : AreLeft s ms n → n ≡ signals_left s ms
-    back (inl (after, before, m, e, p, c, z, l)) =
-        l ∙ sym (left_since s ms after before m e p c)
-        ∙ sym (ap (λ b. cond b (s.fast_init - count spends (from_last (λ x. x.opening) ms)) 0) (opened_since ms after before m e p z))
+    back (inl (p, g, c, z, l)) = l ∙ sym (left_since s ms p g c) ∙ sym (ap value ((last_opening ms).1 (p, g, c, z)))
     back (inr (f, z)) = z ∙ none (is_opened ms) refl f
 
 -- ---- distance
@@ -101,48 +91,28 @@ distance_reads s m before d = (forth, back)
 abbrev is_ended : Settings → List Moment → Bool
 is_ended s past = 1 + ticks (since (λ m. m.signal) past) == distance s (up_to_last (λ m. m.signal) past)
 
--- the timer ends by the last signal
-abbrev EndsAt : Settings → List Moment → Type 0
-EndsAt s past =
-    (after before : List Moment) × (last : Moment) × (past ≡ after ++ last ∷ before)
-    × IsTrue last.signal × (count (λ m. m.signal) after ≡ 0) × IsDistance s last before (1 + ticks after)
-
-ended_at : (s : Settings) (past : List Moment) → is_ended s past ≡ true → EndsAt s past
-ended_at s past e = go (list_any (λ m. m.signal) past) refl
-  where
-    number : 1 + ticks (since (λ m. m.signal) past) ≡ distance s (up_to_last (λ m. m.signal) past)
-    number = eqb-true _ _ e
-
-    go : (b : Bool) → list_any (λ m. m.signal) past ≡ b → EndsAt s past
-    go false q =
-        let none : distance s (up_to_last (λ m. m.signal) past) ≡ 0 = ap (distance s) (up_to_none (λ m. m.signal) past q) in
-        absurd (omega (arith, number, none))
-    go true q =
-        let (after, before, last, e, p, c) = find_last (λ m. m.signal) past q in
-        let later : since (λ m. m.signal) past ≡ after = ap (since (λ m. m.signal)) e ∙ since_at (λ m. m.signal) after last before p c in
-        let at_last : up_to_last (λ m. m.signal) past ≡ last ∷ before = ap (up_to_last (λ m. m.signal)) e ∙ up_to_at (λ m. m.signal) after last before p c in
-        let far : 1 + ticks after ≡ distance s (last ∷ before) = ap (λ l. 1 + ticks l) (sym later) ∙ number ∙ ap (distance s) at_last in
-        (after, before, last, e, p, c, (distance_reads s last before (1 + ticks after)).0 far)
-
-at_ended : (s : Settings) (past : List Moment) → EndsAt s past → is_ended s past ≡ true
-at_ended s past (after, before, last, e, p, c, d) =
-    let later : since (λ m. m.signal) past ≡ after = ap (since (λ m. m.signal)) e ∙ since_at (λ m. m.signal) after last before p c in
-    let at_last : up_to_last (λ m. m.signal) past ≡ last ∷ before = ap (up_to_last (λ m. m.signal)) e ∙ up_to_at (λ m. m.signal) after last before p c in
-    eq-eqb _ _ (ap (λ l. 1 + ticks l) later ∙ (distance_reads s last before (1 + ticks after)).1 d ∙ ap (distance s) (sym at_last))
+-- the same by the last signal
+ended_is : (s : Settings) (past : List Moment) (p : Position past) → IsTrue p.there.signal → count (λ m. m.signal) p.after ≡ 0 → is_ended s past ≡ (1 + ticks p.after == distance s (p.there ∷ p.before))
+ended_is s past p g c =
+    let at = at_last (λ m. m.signal) p g c in ap₂ (λ later last. 1 + ticks later == distance s last) at.0 at.1
 
 pub timer_reads : (s : Settings) (past : List Moment) (m : Moment) → IsTrue (timer_ends s past m) ↔ IsTimerEnd s past m
-timer_reads s past m = (forth, back)
+timer_reads s past m = (λ e. forth e (list_any (λ m. m.signal) past) refl, back)
   where
-    forth : IsTrue (timer_ends s past m) → IsTimerEnd s past m
-    forth p =
-        let a = and_parts _ _ p in
+    forth : IsTrue (timer_ends s past m) → (b : Bool) → list_any (λ m. m.signal) past ≡ b → IsTimerEnd s past m
+    forth e false q =
+        let none : distance s (up_to_last (λ m. m.signal) past) ≡ 0 = ap (distance s) (up_to_none (λ m. m.signal) past q) in
+        let ended : is_ended s past ≡ true = (and_parts (not m.start) (is_ended s past) (and_parts (is_tick m.cause) (not m.start && is_ended s past) e).1).1 in
+        absurd (omega (arith, eqb-true (1 + ticks (since (λ m. m.signal) past)) (distance s (up_to_last (λ m. m.signal) past)) ended, none))
+    forth e true q =
+        let a = and_parts _ _ e in
         let b = and_parts _ _ a.1 in
-        let (after, before, last, e, g, c, d) = ended_at s past b.1 in
-        (is_tick_only m.cause a.0, not-true m.start b.0, after, before, last, e, g, c, d)
+        let (p, g, c, _) = find_last (λ m. m.signal) past q in
+        (is_tick_only m.cause a.0, not-true m.start b.0, p, g, c, (distance_reads s p.there p.before (1 + ticks p.after)).0 (eqb-true _ _ (sym (ended_is s past p g c) ∙ b.1)))
 
     back : IsTimerEnd s past m → IsTrue (timer_ends s past m)
-    back (t, n, after, before, last, e, g, c, d) =
-        and_from _ _ (ap is_tick t) (and_from _ _ (ap not n) (at_ended s past (after, before, last, e, g, c, d)))
+    back (t, n, p, g, c, d) =
+        and_from _ _ (ap is_tick t) (and_from _ _ (ap not n) (ended_is s past p g c ∙ eq-eqb _ _ ((distance_reads s p.there p.before (1 + ticks p.after)).1 d)))
 
 -- ---- signals and openings
 
@@ -171,24 +141,13 @@ wants s past m p =
 wanted : (s : Settings) (past : List Moment) (m : Moment) → Wants s past m → IsTrue (m.start || (is_change m.cause || (is_neighbor m.cause || timer_ends s past m)))
 wanted s past m b = grind (arith, nat_tests, or_left, or_right, timer_reads)
 
-same_active : (past : List Moment) (m : Moment) (b c d : Bool) → is_active (record m { signal = b; opening = c; sent = d } ∷ past) ≡ is_active (m ∷ past)
-same_active past m b c d = is_active-cons (record m { signal = b; opening = c; sent = d }) past ∙ sym (is_active-cons m past)
-
 pub signal_reads : (s : Settings) (h : History) (e : Event) → IsTrue (moment s (moments s h) e).signal ↔ IsSignal s (moments s h) (moment s (moments s h) e)
 unfolding moment
-signal_reads s h e = (forth, back)
-  where
-    same : is_active (moment s (moments s h) e ∷ moments s h) ≡ is_active (with_activity s (moments s h) (unlabelled e) ∷ moments s h)
-    same = same_active (moments s h) (with_activity s (moments s h) (unlabelled e)) _ _ _
-
-    forth : IsTrue (moment s (moments s h) e).signal → IsSignal s (moments s h) (moment s (moments s h) e)
-    forth p =
-        let a = and_parts _ _ p in
-        ((active_reads s (e ∷ h)).0 (same ∙ a.0), wants s (moments s h) (moment s (moments s h) e) a.1)
-
-    back : IsSignal s (moments s h) (moment s (moments s h) e) → IsTrue (moment s (moments s h) e).signal
-    back (a, w) =
-        and_from _ _ (sym same ∙ (active_reads s (e ∷ h)).1 a) (wanted s (moments s h) (moment s (moments s h) e) w)
+signal_reads s h e =
+    let m = moment s (moments s h) e in
+    let same : is_active (m ∷ moments s h) ≡ is_active (with_activity s (moments s h) (unlabelled e) ∷ moments s h) = same_active (moments s h) (with_activity s (moments s h) (unlabelled e)) _ _ _ in
+    let active = active_reads s (e ∷ h) in
+    and_reads _ _ _ _ (λ a. active.0 (same ∙ a), λ w. sym same ∙ active.1 w) (wants s (moments s h) m, wanted s (moments s h) m)
 
 pub opening_reads : (s : Settings) (h : History) (e : Event) → IsTrue (moment s (moments s h) e).opening ↔ IsOpening s (moments s h) (moment s (moments s h) e)
 unfolding moment

@@ -1,70 +1,111 @@
--- Lists at the last element that passes a test.
-use Rattle.std.specs.Prelude.{◌≡◌, ℕ, ◌+◌, Bool, true, false, cond, List, [], ◌∷◌, ◌++◌}
+-- Lists at positions: an element that a computed test finds, and what stands round it.
+use Rattle.std.specs.Prelude.{◌≡◌, ℕ, ◌+◌, ◌↔◌, Bool, true, false, cond, not, ◌&&◌, ◌||◌, IsTrue, List, [], ◌∷◌, ◌++◌}
 use Rattle.std.specs.List.{list_any}
-use Rattle.std.proofs.Common.{refl, ap, ap₂, ◌∙◌, arith, inl, inr}
-use Rattle.std.proofs.lemmas.Bool.{cases_Bool, or_parts, or_left, or_right}
-use Rattle.std.proofs.lemmas.List.Folds.{list_any-append}
-use Rattle.lldp_transmit.specs.Fronts.{count, since, from_last, up_to_last}
+use Rattle.std.proofs.Common.{refl, ap, ap₂, sym, ◌∙◌, arith}
+use Rattle.std.proofs.lemmas.Bool.{or_parts}
+use Rattle.lldp_transmit.specs.Fronts.{Position, count, since, from_last, up_to_last}
 use Rattle.lldp_transmit.proofs.Windows.{one_if}
 use Rattle.std.proofs.lemmas.Grind.{common_steps}
 
-module _ {X : Type 0} (p : X → Bool) where
-  pub count-append : (xs ys : List X) → count p (xs ++ ys) ≡ count p xs + count p ys
-  count-append [] ys = omega arith
-  count-append (x ∷ xs) ys = omega (arith, count-append xs ys)
+-- a position of a longer list: of the newest element, or of an older one
+abbrev pub newest : {X : Type 0} (x : X) (xs : List X) → Position (x ∷ xs)
+newest x xs = record { after = []; there = x; before = xs; is = refl }
 
-  -- the last element that passes, with what comes after it and before it
-  pub find_last : (xs : List X) → list_any p xs ≡ true → (after before : List X) × (x : X) × (xs ≡ after ++ x ∷ before) × (p x ≡ true) × (count p after ≡ 0)
-  find_last [] e = cc e
-  find_last (x ∷ xs) e =
-      elim (cases_Bool (p x)) [
-        | inl q ↦ ([], xs, x, refl, q, refl)
-        | inr q ↦ let w = find_last xs (rw q at e) in (x ∷ w.0, w.1, w.2, ap (λ l. x ∷ l) w.3, w.4, rw q (omega (arith, w.5)))
-      ]
+abbrev pub older : {X : Type 0} {xs : List X} (x : X) → Position xs → Position (x ∷ xs)
+older x p = record { after = x ∷ p.after; there = p.there; before = p.before; is = ap (λ l. x ∷ l) p.is }
+
+pub count-append : {X : Type 0} (p : X → Bool) (xs ys : List X) → count p (xs ++ ys) ≡ count p xs + count p ys
+count-append p [] ys = omega arith
+count-append p (x ∷ xs) ys = omega (arith, count-append p xs ys)
+
+pub count_never : {X : Type 0} (xs : List X) → count (λ _. false) xs ≡ 0
+count_never [] = refl
+count_never (x ∷ xs) = omega (arith, count_never xs)
+
+-- ---- what is picked at some position and lasts
+
+-- an element that is picked: no later one ends it, and neither it nor a later one is blocked
+abbrev pub Lasts : {X : Type 0} → (picks ends blocks : X → Bool) → List X → Type 0
+Lasts picks ends blocks xs =
+    (p : Position xs) × IsTrue (picks p.there) × (count ends p.after ≡ 0) × (count blocks (p.there ∷ p.after) ≡ 0)
+
+picks_first : (b g x : Bool) → one_if b + 0 ≡ 0 → g ≡ true → (not b && (g || x)) ≡ true
+picks_first true g x e p = absurd (omega arith)
+picks_first false g x e p = ap (λ v. v || x) p
+
+picks_later : (b g c w : Bool) (n f k : ℕ) → one_if c + n ≡ 0 → k + (one_if b + f) ≡ 0 → w ≡ true → (not b && (g || (not c && w))) ≡ true
+picks_later true g c w n f k e d p = absurd (omega arith)
+picks_later false g true w n f k e d p = absurd (omega arith)
+picks_later false true false w n f k e d p = refl
+picks_later false false false w n f k e d p = p
+
+-- A test that goes on like this from element to element finds what lasts.
+module _ {X : Type 0} (f : List X → Bool) (picks ends blocks : X → Bool) (empty : f [] ≡ false) (one_more : (x : X) (xs : List X) → f (x ∷ xs) ≡ (not (blocks x) && (picks x || (not (ends x) && f xs)))) where
+  found : (xs : List X) → IsTrue (f xs) → Lasts picks ends blocks xs
+  found [] h = cc empty
+  found (x ∷ xs) h = go (blocks x) refl (picks x) refl (ends x) refl (sym (one_more x xs) ∙ h) (found xs)
+    where
+      go : (b : Bool) → blocks x ≡ b → (g : Bool) → picks x ≡ g → (c : Bool) → ends x ≡ c → (not b && (g || (not c && f xs))) ≡ true → (IsTrue (f xs) → Lasts picks ends blocks xs) → Lasts picks ends blocks (x ∷ xs)
+      go true p g q c r e i = cc e
+      go false p true q c r e i = (newest x xs, q, refl, ap (λ b. one_if b + 0) p)
+      go false p false q true r e i = cc e
+      go false p false q false r e i =
+          let w = i e in (
+            older x w.0,
+            w.1,
+            ap₂ (λ b n. one_if b + n) r w.2,
+            ap (λ b. one_if (blocks w.0.there) + (one_if b + count blocks w.0.after)) p ∙ omega (arith, w.3),
+          )
+
+  lasting : (after : List X) (x : X) (before : List X) → IsTrue (picks x) → count ends after ≡ 0 → count blocks (x ∷ after) ≡ 0 → IsTrue (f (after ++ x ∷ before))
+  lasting [] x before g c b = one_more x before ∙ picks_first (blocks x) (picks x) _ b g
+  lasting (y ∷ after) x before g c b =
+      one_more y (after ++ x ∷ before)
+      ∙ picks_later (blocks y) (picks y) (ends y) _ (count ends after) (count blocks after) (one_if (blocks x)) c b (lasting after x before g (omega arith) (omega arith))
+
+  pub lasts_reads : (xs : List X) → IsTrue (f xs) ↔ Lasts picks ends blocks xs
+  lasts_reads xs = (found xs, λ w. ap f w.0.is ∙ lasting w.0.after w.0.there w.0.before w.1 w.2 w.3)
+
+-- ---- the last element that passes
+
+pub or_again : (a b : Bool) → (a || b) ≡ (a || (not a && b))
+or_again true b = refl
+or_again false b = refl
+
+module _ {X : Type 0} (p : X → Bool) where
+  pub find_last : (xs : List X) → list_any p xs ≡ true → Lasts p p (λ _. false) xs
+  find_last xs = (lasts_reads (list_any p) p p (λ _. false) refl (λ x xs. or_again (p x) (list_any p xs)) xs).0
 
   -- where none passes
   pub none_counted : (xs : List X) → list_any p xs ≡ false → count p xs ≡ 0
   none_counted [] e = refl
   none_counted (x ∷ xs) e = let parts = or_parts _ _ e in ap₂ (λ b n. one_if b + n) parts.0 (none_counted xs parts.1)
 
-  pub any_at : (after : List X) (x : X) (before : List X) → p x ≡ true → list_any p (after ++ x ∷ before) ≡ true
-  any_at after x before q = list_any-append p after (x ∷ before) ∙ or_right (list_any p after) _ (or_left _ _ q)
+  pub up_to_none : (xs : List X) → list_any p xs ≡ false → up_to_last p xs ≡ []
+  up_to_none [] e = refl
+  up_to_none (x ∷ xs) e = let parts = or_parts _ _ e in ap (λ b. cond b (x ∷ xs) (up_to_last p xs)) parts.0 ∙ up_to_none xs parts.1
 
   -- a test that fails at the first of some elements, where none of them passes
   first_fails : (b : Bool) (n : ℕ) → one_if b + n ≡ 0 → b ≡ false
   first_fails true n e = absurd (omega arith)
   first_fails false n e = refl
 
-  pub since_at : (after : List X) (x : X) (before : List X) → p x ≡ true → count p after ≡ 0 → since p (after ++ x ∷ before) ≡ after
+  since_at : (after : List X) (x : X) (before : List X) → p x ≡ true → count p after ≡ 0 → since p (after ++ x ∷ before) ≡ after
   since_at [] x before q e = ap (λ b. cond b [] (x ∷ since p before)) q
   since_at (y ∷ after) x before q e = grind (arith, common_steps, first_fails, since_at after x before q (omega arith))
 
-  pub up_to_at : (after : List X) (x : X) (before : List X) → p x ≡ true → count p after ≡ 0 → up_to_last p (after ++ x ∷ before) ≡ x ∷ before
+  up_to_at : (after : List X) (x : X) (before : List X) → p x ≡ true → count p after ≡ 0 → up_to_last p (after ++ x ∷ before) ≡ x ∷ before
   up_to_at [] x before q e = ap (λ b. cond b (x ∷ before) (up_to_last p before)) q
   up_to_at (y ∷ after) x before q e = grind (arith, common_steps, first_fails, up_to_at after x before q (omega arith))
 
-  pub from_at : (after : List X) (x : X) (before : List X) → p x ≡ true → count p after ≡ 0 → from_last p (after ++ x ∷ before) ≡ after ++ x ∷ []
+  from_at : (after : List X) (x : X) (before : List X) → p x ≡ true → count p after ≡ 0 → from_last p (after ++ x ∷ before) ≡ after ++ x ∷ []
   from_at [] x before q e = ap (λ b. x ∷ cond b [] (from_last p before)) q
   from_at (y ∷ after) x before q e = grind (arith, common_steps, first_fails, from_at after x before q (omega arith))
 
-  pub up_to_none : (xs : List X) → list_any p xs ≡ false → up_to_last p xs ≡ []
-  up_to_none [] e = refl
-  up_to_none (x ∷ xs) e = let parts = or_parts _ _ e in ap (λ b. cond b (x ∷ xs) (up_to_last p xs)) parts.0 ∙ up_to_none xs parts.1
-
-  -- the elements since the last that passes are a front of the list, and none of them passes
-  pub since_front : (xs : List X) → (rest : List X) × (xs ≡ since p xs ++ rest)
-  since_front [] = ([], refl)
-  since_front (x ∷ xs) =
-      elim (cases_Bool (p x)) [
-        | inl q ↦ (x ∷ xs, rw q refl)
-        | inr q ↦ let w = since_front xs in (w.0, rw q (ap (λ l. x ∷ l) w.1))
-      ]
-
-  pub since_none : (xs : List X) → count p (since p xs) ≡ 0
-  since_none [] = refl
-  since_none (x ∷ xs) = elim (cases_Bool (p x)) [ inl q ↦ rw q refl | inr q ↦ rw (q, q) (omega (arith, since_none xs)) ]
-
-  -- a front without any that passes is part of what comes since the last
-  pub since_keeps : (front rest : List X) → count p front ≡ 0 → since p (front ++ rest) ≡ front ++ since p rest
-  since_keeps [] rest e = refl
-  since_keeps (x ∷ front) rest e = grind (arith, common_steps, first_fails, since_keeps front rest (omega arith))
+  -- the computed words at the position of the last element that passes
+  pub at_last : {xs : List X} (w : Position xs) → p w.there ≡ true → count p w.after ≡ 0 → (since p xs ≡ w.after) × (up_to_last p xs ≡ w.there ∷ w.before) × (from_last p xs ≡ w.after ++ w.there ∷ [])
+  at_last w q e = (
+    ap (since p) w.is ∙ since_at w.after w.there w.before q e,
+    ap (up_to_last p) w.is ∙ up_to_at w.after w.there w.before q e,
+    ap (from_last p) w.is ∙ from_at w.after w.there w.before q e,
+  )

@@ -1,7 +1,7 @@
 -- A run that ends now has few stops.
 use Rattle.std.specs.Prelude.{◌≡◌, ℕ, zero, suc, ◌+◌, ◌-◌, ◌*◌, ◌/◌, ◌≤◌, Bool, true, false, cond, not, ◌&&◌, ◌||◌, nat_lt, List, [], ◌∷◌, ◌++◌}
 use Rattle.std.specs.List.{list_any}
-use Rattle.std.proofs.Common.{refl, ap, sym, ◌∙◌, arith, append_assoc}
+use Rattle.std.proofs.Common.{refl, ap, sym, ◌∙◌, arith}
 use Rattle.std.proofs.lemmas.Bool.Decides.{nat_tests}
 use Rattle.std.proofs.lemmas.Nat.{le-div}
 use Rattle.std.proofs.lemmas.Bool.{or_left, and_parts}
@@ -12,7 +12,7 @@ use Rattle.lldp_transmit.specs.Moments.{Moment, moments, moment, ticks, is_activ
 use Rattle.lldp_transmit.specs.Remaining.{until_start}
 use Rattle.lldp_transmit.specs.Windows.{StopsRarely}
 use Rattle.lldp_transmit.proofs.Windows.{earlier, one_if}
-use Rattle.lldp_transmit.proofs.Splits.{none_counted, find_last, since_at}
+use Rattle.lldp_transmit.proofs.Splits.{none_counted}
 use Rattle.lldp_transmit.proofs.Counters.{is_active-cons, until_start-cons, rested_is}
 use Rattle.std.proofs.lemmas.Grind.{common_steps}
 
@@ -47,7 +47,8 @@ any_front : (run before : List Moment) → list_any (λ m. m.stop) run ≡ true 
 any_front run before e = list_any-append (λ m. m.stop) run before ∙ or_left _ _ e
 
 since_front : (run before : List Moment) → list_any (λ m. m.stop) run ≡ true → since (λ m. m.stop) (run ++ before) ≡ since (λ m. m.stop) run
-since_front run before e = grind (arith, common_steps, find_last, append_assoc, since_at)
+since_front [] before e = cc e
+since_front (m ∷ run) before e = grind (arith, common_steps, since_front run before)
 
 enough_ticks : (q : Bool) (r t : ℕ) → q ≡ true → cond q (r - t) 0 ≡ 0 → r ≤ t
 enough_ticks true r t e z = omega arith

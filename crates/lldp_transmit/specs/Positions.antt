@@ -1,8 +1,7 @@
--- The labels said of positions, for whoever wants to believe them without computing. A position of a list of moments is
--- a split of it: the moments after it (newest first), the moment there, and the moments before it.
+-- The labels said of positions in the list of moments, for whoever wants to believe them without computing.
 use Rattle.std.specs.Prelude.{false, ◌≡◌, ℕ, ◌+◌, ◌-◌, ◌≤◌, ◌⊎◌, IsTrue, List, ◌∷◌, ◌++◌}
 use Rattle.lldp_transmit.specs.declared.event.Cause.TheVariants.{Tick, Change, Neighbor}
-use Rattle.lldp_transmit.specs.Fronts.{count, after_first}
+use Rattle.lldp_transmit.specs.Fronts.{Position, count, after_first}
 use Rattle.lldp_transmit.specs.History.{Settings, Event, History}
 use Rattle.lldp_transmit.specs.Moments.{Moment, moment, moments, ticks, frames, is_allowed, is_up, spends}
 
@@ -24,20 +23,16 @@ openings_in ms = count (λ m. m.opening) ms
 
 -- the link is up at each of these moments, which come after those before
 abbrev pub StaysUp : List Moment → List Moment → Type 0
-StaysUp after before =
-    (newer older : List Moment) (m : Moment) → after ≡ newer ++ m ∷ older → IsTrue (is_up ((m ∷ older) ++ before))
+StaysUp after before = (p : Position after) → IsTrue (is_up ((p.there ∷ p.before) ++ before))
 
 -- Active: some start has no stop after it, and the link is up at each later position.
 abbrev pub HasStarted : List Moment → Type 0
 HasStarted ms =
-    (after before : List Moment) × (m : Moment) × (ms ≡ after ++ m ∷ before)
-    × IsTrue m.start × (stops_in after ≡ 0) × StaysUp after (m ∷ before)
+    (p : Position ms) × IsTrue p.there.start × (stops_in p.after ≡ 0) × StaysUp p.after (p.there ∷ p.before)
 
 -- Rested: each stop was at least reinitDelay ticks ago, one more tick counted.
 abbrev pub HasRested : Settings → List Moment → Type 0
-HasRested s past =
-    (after before : List Moment) (m : Moment) → past ≡ after ++ m ∷ before → IsTrue m.stop →
-    s.reinit ≤ 1 + ticks after
+HasRested s past = (p : Position past) → IsTrue p.there.stop → s.reinit ≤ 1 + ticks p.after
 
 -- Start: a tick, at which the port may transmit, its link is up, it was not active, and it has rested, this tick
 -- counted.
@@ -54,15 +49,12 @@ IsStop s past m = HasStarted past × (is_allowed s (m ∷ past) ≡ false)
 -- opening on
 abbrev pub HasOpened : Settings → List Moment → ℕ → Type 0
 HasOpened s ms n =
-    (after before : List Moment) × (m : Moment) × (ms ≡ after ++ m ∷ before)
-    × IsTrue m.opening × (openings_in after ≡ 0) × (starts_in (m ∷ after) ≡ 0)
-    × (n ≡ s.fast_init - count spends (m ∷ after))
+    (p : Position ms) × IsTrue p.there.opening × (openings_in p.after ≡ 0) × (starts_in (p.there ∷ p.after) ≡ 0)
+    × (n ≡ s.fast_init - count spends (p.there ∷ p.after))
 
 -- no burst was opened since the last start: each opening has a start at it or after it
 abbrev pub NoneOpened : List Moment → Type 0
-NoneOpened ms =
-    (after before : List Moment) (m : Moment) → ms ≡ after ++ m ∷ before → IsTrue m.opening →
-    1 ≤ starts_in (m ∷ after)
+NoneOpened ms = (p : Position ms) → IsTrue p.there.opening → 1 ≤ starts_in (p.there ∷ p.after)
 
 -- Burst: n signals are left, none where no burst was opened since the last start.
 abbrev pub AreLeft : Settings → List Moment → ℕ → Type 0
@@ -75,9 +67,9 @@ IsDistance s m before d = (n : ℕ) × AreLeft s (m ∷ before) n × (1 ≤ n �
 -- End of the timer: a tick, no start, that makes as many ticks since the last signal as the distance chosen there.
 abbrev pub IsTimerEnd : Settings → List Moment → Moment → Type 0
 IsTimerEnd s past m =
-    (m.cause ≡ Tick) × (m.start ≡ false) × (after before : List Moment) × (last : Moment)
-    × (past ≡ after ++ last ∷ before)
-    × IsTrue last.signal × (signals_in after ≡ 0) × IsDistance s last before (1 + ticks after)
+    (m.cause ≡ Tick) × (m.start ≡ false)
+    × (p : Position past) × IsTrue p.there.signal × (signals_in p.after ≡ 0)
+    × IsDistance s p.there p.before (1 + ticks p.after)
 
 -- Signal: on an active port, a start, a local change, a new neighbor, or the end of the timer.
 abbrev pub IsSignal : Settings → List Moment → Moment → Type 0
@@ -91,8 +83,7 @@ IsOpening s past m = IsSignal s past m × (m.cause ≡ Neighbor) × AreLeft s pa
 -- Waiting: some signal has no start after it, and no ordinary frame at it or after it.
 abbrev pub HasWanted : List Moment → Type 0
 HasWanted ms =
-    (after before : List Moment) × (m : Moment) × (ms ≡ after ++ m ∷ before)
-    × IsTrue m.signal × (starts_in after ≡ 0) × (frames (m ∷ after) ≡ 0)
+    (p : Position ms) × IsTrue p.there.signal × (starts_in p.after ≡ 0) × (frames (p.there ∷ p.after) ≡ 0)
 
 -- Due: the port is active, and a signal since its start has had no frame up to now, this moment's left out.
 abbrev pub IsDue : List Moment → Moment → Type 0
