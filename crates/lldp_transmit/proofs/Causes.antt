@@ -1,6 +1,6 @@
 -- What is given and taken by causes, and which causes have frames.
 use Rattle.std.specs.Prelude.{◌≡◌, ℕ, ◌⊎◌, ◌↔◌, Bool, true, false, cond, not, ◌&&◌, ◌||◌, IsTrue, List, [], ◌∷◌, ◌++◌, map}
-use Rattle.std.proofs.Common.{refl, ap, sym, ◌∙◌, inl, inr, arith}
+use Rattle.std.proofs.Common.{refl, ap, sym, ◌∙◌, inl, inr, arith, subst}
 use Rattle.lldp_transmit.specs.declared.event.Cause.{Cause}
 use Rattle.lldp_transmit.specs.declared.event.Cause.TheVariants.{Tick, Change, Neighbor, Stop, Allow, Down, Up, Nothing}
 use Rattle.lldp_transmit.specs.declared.event.Mark.{Mark}
@@ -10,6 +10,8 @@ use Rattle.lldp_transmit.specs.Moments.{moment, moments, mark_at, allowed_after,
 use Rattle.lldp_transmit.specs.Code.Machine.{Machine, stepped}
 use Rattle.lldp_transmit.specs.Standing.{AreSettings, machine_of}
 use Rattle.lldp_transmit.proofs.Activity.{active_reads, stop_reads}
+use Rattle.lldp_transmit.specs.Fronts.{Position}
+use Rattle.lldp_transmit.proofs.Splits.{newest, older}
 use Rattle.lldp_transmit.proofs.Counters.{is_active-cons}
 use Rattle.lldp_transmit.proofs.Sending.{sent_reads}
 use Rattle.lldp_transmit.proofs.Standing.{allowed_if_active, exact, marks, stands_left}
@@ -43,70 +45,56 @@ abbrev held : (Cause → Bool → Bool) → Bool → History → Bool
 held f b [] = b
 held f b (e ∷ h) = f e.cause (held f b h)
 
-head : {x y : Event} {xs ys : History} → x ∷ xs ≡ y ∷ ys → x ≡ y
-head q = cc
-
-tail : {x y : Event} {xs ys : History} → x ∷ xs ≡ y ∷ ys → xs ≡ ys
-tail q = cc
+-- what holds at the newest position and at each older one holds at each
+by_position : (P : Event → History → Type 0) (e : Event) (h : History) → P e [] → ((q : Position h) → P q.there (e ∷ q.after)) → (p : Position (e ∷ h)) → P p.there p.after
+by_position P e h first rest p = go p.after p.is
+  where
+    go : (after : History) → e ∷ h ≡ after ++ p.there ∷ p.before → P p.there after
+    go [] q = let head : e ≡ p.there = cc in subst (λ x. P x []) head first
+    go (x ∷ after) q =
+        let head : e ≡ x = cc in
+        subst (λ y. P p.there (y ∷ after)) head (rest (record { after = after; there = p.there; before = p.before; is = cc }))
 
 true_unless : (b : Bool) → (b ≡ false → ⊥) → b ≡ true
 true_unless true n = refl
 true_unless false n = absurd (n refl)
 
-here : (c : Cause) (e : Event) (h : History) → e.cause ≡ c → HasCause c (e ∷ h)
-here c e h q = ([], h, e.interval, ap (λ (c : Cause). event c e.interval ∷ h) q)
-
 later : (c : Cause) (e : Event) (h : History) → HasCause c h → HasCause c (e ∷ h)
-later c e h g = (e ∷ g.0, g.1, g.2, ap (λ (l : History). e ∷ l) g.3)
+later c e h g = (older e g.0, g.1)
 
 -- the newest event has another cause, so an earlier one has this
 earlier : (c : Cause) (e : Event) (h : History) → ¬ (e.cause ≡ c) → HasCause c (e ∷ h) → HasCause c h
-earlier c e h n ([], before, i, q) = absurd (n (ap (λ (e : Event). e.cause) (head q)))
-earlier c e h n (x ∷ after, before, i, q) = (after, before, i, tail q)
+earlier c e h n g = by_position (λ x after. x.cause ≡ c → HasCause c h) e h (λ q. absurd (n q)) (λ p q. (p, q)) g.0 g.1
 
 module _ (f : Cause → Bool → Bool) (gives takes : Cause) (reads : (c : Cause) → Reads f gives takes c) (apart : gives ≡ takes → ⊥) (b : Bool) where
   is_given : (h : History) → held f b h ≡ true → IsGiven gives takes b h
-  is_given [] p =
-      record {
-        since = λ after before n q. absurd (nowhere after before (event takes n) q);
-        once = λ q. absurd (both b p q);
-      }
-    where
-      both : (b : Bool) → b ≡ true → b ≡ false → ⊥
-      both true p q = cc q
-      both false p q = cc p
+  is_given [] p = record { since = λ w q. absurd (nowhere w.after w.before w.there w.is); once = λ q. cc }
   is_given (e ∷ h) p = go (reads e.cause) (is_given h)
     where
-      since_given : e.cause ≡ gives → (after before : History) (n : ℕ) → e ∷ h ≡ after ++ event takes n ∷ before → HasCause gives after
-      since_given c [] before n q = absurd (apart (sym c ∙ ap (λ (e : Event). e.cause) (head q)))
-      since_given c (x ∷ after) before n q = here gives x after (ap (λ (e : Event). e.cause) (sym (head q)) ∙ c)
-
-      since_before : ¬ (e.cause ≡ takes) → IsGiven gives takes b h → (after before : History) (n : ℕ) → e ∷ h ≡ after ++ event takes n ∷ before → HasCause gives after
-      since_before t r [] before n q = absurd (t (ap (λ (e : Event). e.cause) (head q)))
-      since_before t r (x ∷ after) before n q = later gives x after (r.since after before n (tail q))
-
       go : Reads f gives takes e.cause → (held f b h ≡ true → IsGiven gives takes b h) → IsGiven gives takes b (e ∷ h)
-      go (inl (c, y)) i = record { since = since_given c; once = λ q. here gives e h c }
-      go (inr (inl (c, y))) i = absurd (false_true (sym (y (held f b h)) ∙ p))
-        where
-          false_true : false ≡ true → ⊥
-          false_true q = cc q
+      go (inl (c, y)) i =
+          record {
+            since = by_position (λ x after. x.cause ≡ takes → HasCause gives after) e h (λ q. absurd (apart (sym c ∙ q))) (λ w q. (newest e w.after, c));
+            once = λ q. (newest e h, c);
+          }
+      go (inr (inl (c, y))) i = cc (y (held f b h), p)
       go (inr (inr (g, t, y))) i =
           let r = i (sym (y (held f b h)) ∙ p) in
-          record { since = since_before t r; once = λ q. later gives e h (r.once q) }
+          record {
+            since = by_position (λ x after. x.cause ≡ takes → HasCause gives after) e h (λ q. absurd (t q)) (λ w q. later gives e w.after (r.since w q));
+            once = λ q. later gives e h (r.once q);
+          }
 
   is_held : (h : History) → IsGiven gives takes b h → held f b h ≡ true
-  is_held [] g = true_unless b (λ q. let w = g.once q in nowhere w.0 w.1 (event gives w.2) w.3)
+  is_held [] g = true_unless b (λ q. let w = (g.once q).0 in nowhere w.after w.before w.there w.is)
   is_held (e ∷ h) g = go (reads e.cause) (is_held h)
     where
       go : Reads f gives takes e.cause → (IsGiven gives takes b h → held f b h ≡ true) → f e.cause (held f b h) ≡ true
       go (inl (c, y)) i = y (held f b h)
-      go (inr (inl (c, y))) i =
-          let w = g.since [] h e.interval (ap (λ (c : Cause). event c e.interval ∷ h) c) in
-          absurd (nowhere w.0 w.1 (event gives w.2) w.3)
+      go (inr (inl (c, y))) i = let w = (g.since (newest e h) c).0 in absurd (nowhere w.after w.before w.there w.is)
       go (inr (inr (n, t, y))) i =
           y (held f b h) ∙ i (record {
-            since = λ after before k q. earlier gives e after n (g.since (e ∷ after) before k (ap (λ (l : History). e ∷ l) q));
+            since = λ w q. earlier gives e w.after n (g.since (older e w) q);
             once = λ q. earlier gives e h n (g.once q);
           })
 

@@ -1,19 +1,20 @@
 -- When a port may transmit and whether its link is up, and where frames go, said of the causes in its history alone.
-use Rattle.std.specs.Prelude.{◌≡◌, ℕ, ◌⊎◌, Bool, true, false, ◌∷◌, ◌++◌}
+use Rattle.std.specs.Prelude.{◌≡◌, ◌⊎◌, Bool, true, false, ◌∷◌}
 use Rattle.lldp_transmit.specs.declared.event.Cause.{Cause}
 use Rattle.lldp_transmit.specs.declared.event.Cause.TheVariants.{Tick, Change, Neighbor, Stop, Allow, Down, Up}
-use Rattle.lldp_transmit.specs.History.{Settings, Event, History, event}
+use Rattle.lldp_transmit.specs.Fronts.{Position}
+use Rattle.lldp_transmit.specs.History.{Settings, Event, History}
 use Rattle.lldp_transmit.specs.Moments.{moments}
 use Rattle.lldp_transmit.specs.Positions.{HasStarted}
 
 -- some event has this cause
 abbrev pub HasCause : Cause → History → Type 0
-HasCause cause h = (after before : History) × (interval : ℕ) × (h ≡ after ++ event cause interval ∷ before)
+HasCause cause h = (p : Position h) × (p.there.cause ≡ cause)
 
 -- what one cause gives and another takes away is there: each that takes has one that gives after it, and where it was
 -- not there at first, some event has given it
 pub record IsGiven (gives takes : Cause) (at_first : Bool) (h : History) : Type 0 where
-  pub since : (after before : History) (interval : ℕ) → h ≡ after ++ event takes interval ∷ before → HasCause gives after
+  pub since : (p : Position h) → p.there.cause ≡ takes → HasCause gives p.after
   pub once : at_first ≡ false → HasCause gives h
 
 -- Allowed: each Stop has an Allow after it, and a port that was opened without the right has had an Allow.

@@ -1,7 +1,7 @@
 -- How much a port sends, and how soon.
 use Rattle.std.specs.Prelude.{◌≡◌, ℕ, ◌+◌, ◌/◌, ◌≤◌, Bool, IsTrue, ◌&&◌, List, [], ◌∷◌, ◌++◌}
 use Rattle.lldp_transmit.specs.declared.event.Mark.{Mark}
-use Rattle.lldp_transmit.specs.declared.event.Mark.TheVariants.{Quiet, Ordinary, Shutdown}
+use Rattle.lldp_transmit.specs.declared.event.Mark.TheVariants.{Ordinary, Shutdown}
 use Rattle.lldp_transmit.specs.Fronts.{count, after_first}
 use Rattle.lldp_transmit.specs.History.{Settings, Event, History}
 use Rattle.lldp_transmit.specs.Moments.{Moment, moment, moments, ticks, frames, due, open_at}
@@ -10,18 +10,16 @@ use Rattle.lldp_transmit.specs.Moments.{Moment, moment, moments, ticks, frames, 
 
 -- the moments with these marks in place of the ordinary frames
 abbrev pub with_marks : List Bool → List Moment → List Moment
-with_marks [] ms = []
-with_marks (b ∷ bs) [] = []
 with_marks (b ∷ bs) (m ∷ ms) = record m { sent = b } ∷ with_marks bs ms
+with_marks _ _ = []
 
 -- one mark for each moment, and true only where a frame is due and the window open, both read with the marks for the
 -- frames
 abbrev pub AreTimely : Settings → List Bool → List Moment → Type 0
 AreTimely s [] [] = Unit {0}
-AreTimely s [] (m ∷ ms) = ⊥
-AreTimely s (b ∷ bs) [] = ⊥
 AreTimely s (b ∷ bs) (m ∷ ms) =
     (IsTrue b → IsTrue (due (with_marks bs ms) m && open_at s (with_marks bs ms) m)) × AreTimely s bs ms
+AreTimely s _ _ = ⊥
 
 -- how many of the marks are true
 abbrev pub marked : List Bool → ℕ
@@ -61,14 +59,12 @@ pub record WindowsHold (s : Settings) (h : History) : Type 0 where
 -- how many ordinary frames go in a run and, by the answer, now
 abbrev pub frames_with : Mark → List Moment → ℕ
 frames_with Ordinary run = 1 + frames run
-frames_with Quiet run = frames run
-frames_with Shutdown run = frames run
+frames_with _ run = frames run
 
 -- how many stops stand in a run and, where the answer is a shutdown frame, now
 abbrev pub stops_with : Mark → List Moment → ℕ
 stops_with Shutdown run = 1 + count (λ m. m.stop) run
-stops_with Quiet run = count (λ m. m.stop) run
-stops_with Ordinary run = count (λ m. m.stop) run
+stops_with _ run = count (λ m. m.stop) run
 
 -- with this answer each run that ends with the event has at most txCreditMax frames, and one more for each tick after
 -- its first event
