@@ -17,10 +17,6 @@ stops_in ms = count (λ m. m.stop) ms
 abbrev pub signals_in : List Moment → ℕ
 signals_in ms = count (λ m. m.signal) ms
 
--- how many openings of bursts
-abbrev pub openings_in : List Moment → ℕ
-openings_in ms = count (λ m. m.opening) ms
-
 -- the link is up at each of these moments, which come after those before
 abbrev pub StaysUp : List Moment → List Moment → Type 0
 StaysUp after before = (p : Position after) → IsTrue (is_up ((p.there ∷ p.before) ++ before))
@@ -49,8 +45,8 @@ IsStop s past m = HasStarted past × (is_allowed s (m ∷ past) ≡ false)
 -- opening on
 abbrev pub HasOpened : Settings → List Moment → ℕ → Type 0
 HasOpened s ms n =
-    (p : Position ms) × IsTrue p.there.opening × (openings_in p.after ≡ 0) × (starts_in (p.there ∷ p.after) ≡ 0)
-    × (n ≡ s.fast_init - count spends (p.there ∷ p.after))
+    (p : Position ms) × IsTrue p.there.opening × (count (λ m. m.opening) p.after ≡ 0)
+    × (starts_in (p.there ∷ p.after) ≡ 0) × (n ≡ s.fast_init - count spends (p.there ∷ p.after))
 
 -- no burst was opened since the last start: each opening has a start at it or after it
 abbrev pub NoneOpened : List Moment → Type 0

@@ -7,7 +7,7 @@ ghost use Rattle.lldp_transmit.specs.Moments.{Moment, moment, moments, mark_at, 
 ghost use Rattle.lldp_transmit.specs.Remaining.{credit_left};
 ghost use Rattle.lldp_transmit.specs.Positions.{HasStarted, HasRested, IsStart, IsStop, IsTimerEnd, IsSignal, IsOpening, AreLeft, IsDistance, HasWanted, IsDue, IsOpen, IsLeastRoom};
 ghost use Rattle.lldp_transmit.specs.Causes.{MayTransmit, IsLinked, CanSend, CanStop};
-ghost use Rattle.lldp_transmit.specs.declared.limits.TheConstants.{MOST_CREDIT, MOST_FAST_INIT, MOST_REINIT};
+ghost use Rattle.lldp_transmit.specs.declared.limits.TheConstants.{MOST_CREDIT, MOST_FAST, MOST_REINIT};
 ghost use Rattle.lldp_transmit.specs.Code.Machine.{Machine, opened, stepped};
 ghost use Rattle.lldp_transmit.specs.Standing.{AreSettings, Stands};
 ghost use Rattle.lldp_transmit.specs.Windows.{AreTimely, WindowsHold};
@@ -133,8 +133,8 @@ pub fn moments_keep_their_events()
 /// The constants are the greatest numbers that a port can be opened with.
 pub fn constants_are_the_greatest_settings()
     ensures allowed { (allowed : Bool) →
-        AreSettings (settings MOST_CREDIT MOST_FAST_INIT MOST_REINIT allowed) }
+        AreSettings (settings MOST_CREDIT MOST_FAST MOST_REINIT allowed) }
     ensures credit { (s : Settings) → AreSettings s → s.credit_max ≤ MOST_CREDIT }
-    ensures fast_init { (s : Settings) → AreSettings s → s.fast_init ≤ MOST_FAST_INIT }
+    ensures fast_init { (s : Settings) → AreSettings s → s.fast_init ≤ MOST_FAST }
     ensures reinit { (s : Settings) → AreSettings s → s.reinit ≤ MOST_REINIT }
 {}

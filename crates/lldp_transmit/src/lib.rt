@@ -18,5 +18,5 @@ pub use laws::{
     positions_tell_sending, positions_tell_signals, shutdown_frames_go_at_stops,
     steps_carry_standing, windows_hold,
 };
-pub use limits::{MOST_CREDIT, MOST_FAST_INIT, MOST_REINIT};
+pub use limits::{MOST_CREDIT, MOST_FAST, MOST_REINIT};
 pub use machine::Transmit;

@@ -4,7 +4,7 @@
 pub const MOST_CREDIT: u8 = 10;
 
 /// The greatest txFastInit.
-pub const MOST_FAST_INIT: u8 = 8;
+pub const MOST_FAST: u8 = 8;
 
 /// The greatest reinitDelay, in seconds.
 pub const MOST_REINIT: u8 = 10;
