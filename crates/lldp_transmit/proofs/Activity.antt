@@ -119,6 +119,9 @@ rested_reads s past = (forth, λ h. back h (list_any (λ m. m.stop) past) refl)
 
 -- ---- starts and stops
 
+pub through : (A B C : Type 0) → (A ↔ B) → (B ↔ C) → A ↔ C
+through A B C f g = (λ a. g.0 (f.0 a), λ c. f.1 (g.1 c))
+
 -- two tests, each read by itself
 pub and_reads : (a b : Bool) (P Q : Type 0) → (IsTrue a ↔ P) → (IsTrue b ↔ Q) → IsTrue (a && b) ↔ (P × Q)
 and_reads a b P Q f g = (λ h. let p = and_parts a b h in (f.0 p.0, g.0 p.1), λ w. and_from a b (f.1 w.0) (g.1 w.1))

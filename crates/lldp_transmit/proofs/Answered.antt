@@ -12,7 +12,7 @@ use Rattle.lldp_transmit.proofs.Windows.{is_bounded, one_if}
 use Rattle.lldp_transmit.proofs.Stops.{stops_rarely}
 use Rattle.lldp_transmit.proofs.Earliest.{is_earliest}
 use Rattle.lldp_transmit.proofs.Standing.{apart, exact}
-use Rattle.lldp_transmit.proofs.Activity.{stop_reads}
+use Rattle.lldp_transmit.proofs.Activity.{through, stop_reads}
 use Rattle.lldp_transmit.proofs.Sending.{sent_reads}
 use Rattle.std.proofs.lemmas.Grind.{common_steps}
 
@@ -57,13 +57,7 @@ module _ (s : Settings) (past : History) (e : Event) where
         (λ marks t. omega (arith, is_earliest s (e ∷ past) marks t, frames_of_mark (moments s past)))
 
     pub ordinary_with : AreSettings s → (answer ≡ Ordinary) ↔ IsDueAndOpen s past e
-    ordinary_with r =
-        let sent = (exact s (moments s past) e answer is).0 in
-        let due = sent_reads s past e r.some_credit in
-        (λ q. due.0 (sent.0 q), λ w. sent.1 (due.1 w))
+    ordinary_with r = through _ _ _ (exact s (moments s past) e answer is).0 (sent_reads s past e r.some_credit)
 
     pub shutdown_with : (answer ≡ Shutdown) ↔ StopsAt s past e
-    shutdown_with =
-        let stop = (exact s (moments s past) e answer is).1 in
-        let gone = stop_reads s past e in
-        (λ q. gone.0 (stop.0 q), λ w. stop.1 (gone.1 w))
+    shutdown_with = through _ _ _ (exact s (moments s past) e answer is).1 (stop_reads s past e)

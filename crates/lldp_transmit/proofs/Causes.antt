@@ -2,7 +2,7 @@
 use Rattle.std.specs.Prelude.{◌≡◌, ℕ, ◌⊎◌, ◌↔◌, Bool, true, false, cond, not, ◌&&◌, ◌||◌, IsTrue, List, [], ◌∷◌, ◌++◌, map}
 use Rattle.std.proofs.Common.{refl, ap, sym, ◌∙◌, inl, inr, arith, subst}
 use Rattle.lldp_transmit.specs.declared.event.Cause.{Cause}
-use Rattle.lldp_transmit.specs.declared.event.Cause.TheVariants.{Tick, Change, Neighbor, Stop, Allow, Down, Up, Nothing}
+use Rattle.lldp_transmit.specs.declared.event.Cause.TheVariants.{Tick, Change, Neighbor, Stop, Allow, Down, Up}
 use Rattle.lldp_transmit.specs.declared.event.Mark.{Mark}
 use Rattle.lldp_transmit.specs.declared.event.Mark.TheVariants.{Quiet, Ordinary, Shutdown}
 use Rattle.lldp_transmit.specs.History.{Settings, Event, History, event, is_tick, is_down}
@@ -98,6 +98,9 @@ module _ (f : Cause → Bool → Bool) (gives takes : Cause) (reads : (c : Cause
             once = λ q. earlier gives e h n (g.once q);
           })
 
+  given_reads : (h : History) → (held f b h ≡ true) ↔ IsGiven gives takes b h
+  given_reads h = (is_given h, is_held h)
+
 -- ---- the right to transmit, and the link
 
 allowed_held : (s : Settings) (h : History) → is_allowed s (moments s h) ≡ held allowed_after s.allowed h
@@ -110,23 +113,11 @@ unfolding moment
 up_held s [] = refl
 up_held s (e ∷ h) = ap (up_after e.cause) (up_held s h)
 
-allow_is_no_stop : Allow ≡ Stop → ⊥
-allow_is_no_stop q = cc q
-
-up_is_no_down : Up ≡ Down → ⊥
-up_is_no_down q = cc q
-
 pub allowed_reads : (s : Settings) (h : History) → IsTrue (is_allowed s (moments s h)) ↔ MayTransmit s h
-allowed_reads s h = (
-  λ a. is_given allowed_after Allow Stop reads_allowed allow_is_no_stop s.allowed h (sym (allowed_held s h) ∙ a),
-  λ g. allowed_held s h ∙ is_held allowed_after Allow Stop reads_allowed allow_is_no_stop s.allowed h g,
-)
+allowed_reads s h = rw (allowed_held s h) (given_reads allowed_after Allow Stop reads_allowed (λ q. cc) s.allowed h)
 
 pub up_reads : (s : Settings) (h : History) → IsTrue (is_up (moments s h)) ↔ IsLinked h
-up_reads s h = (
-  λ a. is_given up_after Up Down reads_up up_is_no_down true h (sym (up_held s h) ∙ a),
-  λ g. up_held s h ∙ is_held up_after Up Down reads_up up_is_no_down true h g,
-)
+up_reads s h = rw (up_held s h) (given_reads up_after Up Down reads_up (λ q. cc) true h)
 
 -- ---- frames
 
@@ -140,10 +131,7 @@ ordinary_cause t Tick n q = inl refl
 ordinary_cause t Change n q = inr (inl refl)
 ordinary_cause t Neighbor n q = inr (inr refl)
 ordinary_cause t Stop n q = absurd (stop_quiet t.active _ _ q)
-ordinary_cause t Allow n q = cc q
-ordinary_cause t Down n q = cc q
-ordinary_cause t Up n q = cc q
-ordinary_cause t Nothing n q = cc q
+ordinary_cause t _ n q = cc q
 
 -- at a start the link is up, and later a lost link would have ended it
 up_at : (c : Cause) (x l u r : Bool) → (not ((x && not l) || is_down c) && ((is_tick c && (l && (up_after c u && (not x && r)))) || x)) ≡ true → (x ≡ true → u ≡ true) → up_after c u ≡ true

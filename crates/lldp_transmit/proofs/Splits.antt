@@ -5,7 +5,6 @@ use Rattle.std.proofs.Common.{refl, ap, ap₂, sym, ◌∙◌, arith}
 use Rattle.std.proofs.lemmas.Bool.{or_parts}
 use Rattle.lldp_transmit.specs.Fronts.{Position, count, since, from_last, up_to_last}
 use Rattle.lldp_transmit.proofs.Windows.{one_if}
-use Rattle.std.proofs.lemmas.Grind.{common_steps}
 
 -- a position of a longer list: of the newest element, or of an older one
 abbrev pub newest : {X : Type 0} (x : X) (xs : List X) → Position (x ∷ xs)
@@ -90,22 +89,14 @@ module _ {X : Type 0} (p : X → Bool) where
   first_fails true n e = absurd (omega arith)
   first_fails false n e = refl
 
-  since_at : (after : List X) (x : X) (before : List X) → p x ≡ true → count p after ≡ 0 → since p (after ++ x ∷ before) ≡ after
-  since_at [] x before q e = ap (λ b. cond b [] (x ∷ since p before)) q
-  since_at (y ∷ after) x before q e = grind (arith, common_steps, first_fails, since_at after x before q (omega arith))
-
-  up_to_at : (after : List X) (x : X) (before : List X) → p x ≡ true → count p after ≡ 0 → up_to_last p (after ++ x ∷ before) ≡ x ∷ before
-  up_to_at [] x before q e = ap (λ b. cond b (x ∷ before) (up_to_last p before)) q
-  up_to_at (y ∷ after) x before q e = grind (arith, common_steps, first_fails, up_to_at after x before q (omega arith))
-
-  from_at : (after : List X) (x : X) (before : List X) → p x ≡ true → count p after ≡ 0 → from_last p (after ++ x ∷ before) ≡ after ++ x ∷ []
-  from_at [] x before q e = ap (λ b. x ∷ cond b [] (from_last p before)) q
-  from_at (y ∷ after) x before q e = grind (arith, common_steps, first_fails, from_at after x before q (omega arith))
+  round : (after : List X) (x : X) (before : List X) → p x ≡ true → count p after ≡ 0 → (since p (after ++ x ∷ before) ≡ after) × (up_to_last p (after ++ x ∷ before) ≡ x ∷ before) × (from_last p (after ++ x ∷ before) ≡ after ++ x ∷ [])
+  round [] x before q e = rw q (refl, refl, refl)
+  round (y ∷ after) x before q e =
+      let rest = round after x before q (omega arith) in
+      rw (first_fails (p y) (count p after) e) (ap (λ l. y ∷ l) rest.0, rest.1, ap (λ l. y ∷ l) rest.2)
 
   -- the computed words at the position of the last element that passes
   pub at_last : {xs : List X} (w : Position xs) → p w.there ≡ true → count p w.after ≡ 0 → (since p xs ≡ w.after) × (up_to_last p xs ≡ w.there ∷ w.before) × (from_last p xs ≡ w.after ++ w.there ∷ [])
-  at_last w q e = (
-    ap (since p) w.is ∙ since_at w.after w.there w.before q e,
-    ap (up_to_last p) w.is ∙ up_to_at w.after w.there w.before q e,
-    ap (from_last p) w.is ∙ from_at w.after w.there w.before q e,
-  )
+  at_last w q e =
+      let at = round w.after w.there w.before q e in
+      (ap (since p) w.is ∙ at.0, ap (up_to_last p) w.is ∙ at.1, ap (from_last p) w.is ∙ at.2)

@@ -6,18 +6,16 @@ use Rattle.std.proofs.lemmas.Bool.Decides.{nat_tests}
 use Rattle.std.proofs.lemmas.Nat.{le-div}
 use Rattle.std.proofs.lemmas.Bool.{or_left, and_parts}
 use Rattle.std.proofs.lemmas.List.Folds.{list_any-append}
-use Rattle.lldp_transmit.specs.Fronts.{count, since}
+use Rattle.lldp_transmit.specs.Fronts.{since}
 use Rattle.lldp_transmit.specs.History.{Settings, Event, History, is_tick, is_down}
 use Rattle.lldp_transmit.specs.Moments.{Moment, moments, moment, ticks, is_active, is_allowed, is_up, rested, allowed_after, up_after}
+use Rattle.lldp_transmit.specs.Positions.{stops_in}
 use Rattle.lldp_transmit.specs.Remaining.{until_start}
 use Rattle.lldp_transmit.specs.Windows.{StopsRarely}
 use Rattle.lldp_transmit.proofs.Windows.{earlier, one_if}
 use Rattle.lldp_transmit.proofs.Splits.{none_counted}
 use Rattle.lldp_transmit.proofs.Counters.{is_active-cons, until_start-cons, rested_is}
 use Rattle.std.proofs.lemmas.Grind.{common_steps}
-
-abbrev stops : List Moment → ℕ
-stops ms = count (λ m. m.stop) ms
 
 rested_if : (x d l tick w r : Bool) (re n : ℕ) → r ≡ nat_lt n 2 → (x ≡ true → n ≡ 0) →
     (not ((x && not l) || d) && ((tick && (l && (w && (not x && r)))) || x)) ≡ true → cond (x && not l) re (n - one_if tick) ≡ 0
@@ -66,14 +64,14 @@ module _ (s : Settings) where
       let enough : s.reinit ≤ ticks (since (λ m. m.stop) (run ++ before)) = enough_ticks _ _ _ (any_front run before q) zero in
       rw (since_front run before q) at enough
 
-  spaced : (h : History) (run before : List Moment) → moments s h ≡ run ++ before → list_any (λ m. m.stop) run ≡ true → s.reinit * stops run + ticks (since (λ m. m.stop) run) ≤ ticks run + s.reinit
+  spaced : (h : History) (run before : List Moment) → moments s h ≡ run ++ before → list_any (λ m. m.stop) run ≡ true → s.reinit * stops_in run + ticks (since (λ m. m.stop) run) ≤ ticks run + s.reinit
   spaced h [] before i q = cc q
   spaced [] (m ∷ run) before i q = cc i
   spaced (e ∷ h) (m ∷ run) before i q =
       let head : moment s (moments s h) e ≡ m = cc in
       let rest : moments s h ≡ run ++ before = cc in
-      let bound : s.reinit * (one_if m.stop + stops run) + cond m.stop 0 (one_if (is_tick m.cause) + ticks (since (λ x. x.stop) run)) ≤ one_if (is_tick m.cause) + ticks run + s.reinit =
-      spaced_after s.reinit m.stop (list_any (λ x. x.stop) run) (stops run) (ticks (since (λ x. x.stop) run)) (ticks run) (one_if (is_tick m.cause))
+      let bound : s.reinit * (one_if m.stop + stops_in run) + cond m.stop 0 (one_if (is_tick m.cause) + ticks (since (λ x. x.stop) run)) ≤ one_if (is_tick m.cause) + ticks run + s.reinit =
+      spaced_after s.reinit m.stop (list_any (λ x. x.stop) run) (stops_in run) (ticks (since (λ x. x.stop) run)) (ticks run) (one_if (is_tick m.cause))
       (spaced h run before rest) (none_counted (λ x. x.stop) run) (λ p. late h e run before rest (ap (λ x. x.stop) head ∙ p)) q in
       rw (ticks_since m run) bound
 
