@@ -6,6 +6,9 @@
 
 The transcripts stand under examples/: NAME.args has the words, one a line, and NAME.trace the input. NAME.expect
 shows each line of the input behind `> `, a long one by its first octets and `...`, and below it what it writes.
+The last line of NAME.args may be a filter, `| grep TEXT` or `| grep -e TEXT -e TEXT`, as a shell would have it: of what
+is written the lines are shown that have one of the texts. A text is of small letters and hyphens, and some line that is
+shown has it; a filter of another form is a failure.
 Each is run four ways: its first lines, one more each time; without its last LF, which changes nothing; octet by
 octet; and in two pieces, cut at every place (but for inputs of more than 10,000 octets). A piece is written when
 the program has read the one before it. Each run must end with status 0 and say nothing on standard error.
@@ -72,8 +75,23 @@ def difference(written, wanted):
     return f"line {place + 1} of its output is {got[place:place + 1]}, and not {want[place:place + 1]}"
 
 
-def fault_of_run(program, words, run):
-    """What is wrong where the program is fed an input in pieces and is to write a text, or None."""
+def words_and_filter(args):
+    """The words of a file of arguments, and the texts of its filter: none without one, None if it cannot be read."""
+    words = args.splitlines()
+    if not words or not words[-1].startswith("|"):
+        return words, []
+    is_read = re.fullmatch(r"\| grep( [a-z][a-z-]*|( -e [a-z][a-z-]*)+)", words[-1])
+    return words[:-1], [word for word in words[-1].split()[2:] if word != "-e"] if is_read else None
+
+
+def lines_with(written, texts):
+    """The lines that have one of some texts, and all where there are none."""
+    lines = written.splitlines(keepends=True)
+    return b"".join(line for line in lines if not texts or any(text.encode() in line for text in texts))
+
+
+def fault_of_run(program, words, texts, run):
+    """What is wrong where the program is fed an input in pieces and is to show some lines, or None."""
     pieces, wanted = run
     with tempfile.TemporaryFile() as out, tempfile.TemporaryFile() as said:
         ran = subprocess.Popen([program, *words], stdin=subprocess.PIPE, stdout=out, stderr=said)
@@ -87,7 +105,7 @@ def fault_of_run(program, words, run):
             ran.wait()
         out.seek(0)
         said.seek(0)
-        written, told = out.read(), said.read()
+        written, told = lines_with(out.read(), texts), said.read()
     if status != 0 or told:
         return f"it ended with status {status}, and said {told[:300]!r}"
     return None if written == wanted else difference(written, wanted)
@@ -126,24 +144,34 @@ def ways(trace, steps):
         yield "in two pieces", [([trace[:at], trace[at:]], wanted) for at in range(1, len(trace))]
 
 
+def fault_of_filter(texts, steps):
+    """What is wrong with the texts of a filter, or None."""
+    if texts is None:
+        return "its filter is not of the form | grep TEXT or | grep -e TEXT -e TEXT"
+    lines = b"".join(line for _, written in steps for line in written)
+    return next((f"no line that is shown has {text}" for text in texts if text.encode() not in lines), None)
+
+
 def transcripts(only):
-    """The name, words and input of each transcript, and its lines with what they write."""
+    """The name, words, texts of the filter and input of each transcript, and its lines with what they show."""
     for args in sorted((TOP / "examples").glob("*.args")):
         if not only or args.stem in only:
+            words, texts = words_and_filter(args.read_text())
             trace = args.with_suffix(".trace").read_bytes()
             steps = steps_of(trace, args.with_suffix(".expect").read_bytes())
-            yield args.stem, args.read_text().splitlines(), trace, steps
+            fault = None if isinstance(steps, str) else fault_of_filter(texts, steps)
+            yield args.stem, words, texts, trace, fault or steps
 
 
 def run_transcripts(program, only):
     """Runs each transcript in each way. Yields the name of each, and what is wrong, or None."""
     with concurrent.futures.ProcessPoolExecutor() as pool:
-        for name, words, trace, steps in transcripts(only):
+        for name, words, texts, trace, steps in transcripts(only):
             if isinstance(steps, str):
                 yield name, steps
                 continue
             for way, runs in ways(trace, steps):
-                faults = pool.map(functools.partial(fault_of_run, program, words), runs, chunksize=16)
+                faults = pool.map(functools.partial(fault_of_run, program, words, texts), runs, chunksize=16)
                 found = [(len(run[0][0]), fault) for run, fault in zip(runs, faults) if fault is not None]
                 yield f"{name}, {way}", found and f"{found[0][1]} (its first piece has {found[0][0]} octets)"
 

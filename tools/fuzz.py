@@ -20,6 +20,7 @@ import time
 sys.dont_write_bytecode = True
 import model  # noqa: E402
 from compare import FREE_PORT, difference, judged  # noqa: E402
+from examples import words_and_filter  # noqa: E402
 
 TOP = pathlib.Path(__file__).resolve().parent.parent
 
@@ -306,7 +307,7 @@ def examples():
     for shown in re.finditer(r"^\$ lldpa ([^\n]*?) *(?:2>&1)? *<<'EOF'\n(.*?)^EOF$", pages, re.M | re.S):
         yield shlex.split(shown[1]), shown[2].encode().split(b"\n")
     for args in sorted((TOP / "examples").glob("*.args")):
-        yield args.read_text().splitlines(), args.with_suffix(".trace").read_bytes().split(b"\n")
+        yield words_and_filter(args.read_text())[0], args.with_suffix(".trace").read_bytes().split(b"\n")
 
 
 def altered_example(dice, words, lines):

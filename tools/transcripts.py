@@ -1,6 +1,7 @@
 #!/usr/bin/env python3
 """Writes the transcripts of examples/ as theorems over the definitions alone, which the check of lldpa computes: from
-the words of the program to the options that they ask for, and from the octets of the input to those of the output.
+the words of the program to the options that they ask for, and from the octets of the input to those of the output, or
+to its lines that pass the filter of the transcript.
 
     python3 tools/transcripts.py [--check]
 
@@ -18,8 +19,10 @@ MOST_TICKS = 60
 
 HEAD = """\
 -- The transcripts of examples/, computed from the definitions alone. tools/transcripts.py writes this file.
-use Rattle.std.proofs.Common.{◌≡◌, ℕ, List, [], ◌∷◌, ◌++◌, true, false, Some, None, refl, ap, ◌∙◌, codes, Bor, arith}
+use Rattle.std.proofs.Common.{◌≡◌, ℕ, List, [], ◌∷◌, ◌++◌, true, false, Some, None, refl, ap, ◌∙◌, codes, Bor, arith,
+    Bool, ◌||◌, nat_eq, map, filter, flat_map}
 use Rattle.std.specs.Fmt.{digits}
+use Rattle.std.specs.List.{starts_with, list_any}
 use Rattle.hex.specs.Hex.{encode_with, decode_pairs}
 use Rattle.clap.specs.Walk.{Text}
 use Rattle.clap.specs.Simple.{matches_of}
@@ -42,7 +45,7 @@ use Rattle.lldp_engine.specs.Past.{Past, opened, agent_of}
 use Rattle.lldp_engine.specs.Frames.{frame_of}
 use Rattle.lldp_engine.specs.Words.{words_from}
 use Rattle.lldp_program.specs.Forms.{tick_form, frame_form, link_form, form_of, work_given}
-use Rattle.lldp_program.specs.Lines.{lines_of}
+use Rattle.lldp_program.specs.Lines.{lines_of, ended_lines, ended}
 use Rattle.lldp_program.specs.Items.{items_of, items_of_lines, after_all, text_of_all, text}
 use Rattle.lldp_program.specs.Usage.{Asks, program}
 use Rattle.lldp_program.proofs.ItemLemmas.{text_of_all-append}
@@ -72,12 +75,28 @@ joined_lines past (line ∷ lines) =
 text_in_order : (past : Past) (input : List ℕ) → text past input ≡ in_order (texts past input)
 text_in_order past input = joined_lines past (lines_of input)
 
--- The words ask for options without a fault, and an agent opened with them writes these texts, one for each line.
-record Writes (words : List Text) (input : List ℕ) (lines : List (List ℕ)) : Type 0 where
+-- whether a line has this text
+abbrev has : List ℕ → List ℕ → Bool
+has sought [] = false
+has sought (octet ∷ line) = starts_with nat_eq (octet ∷ line) sought || has sought line
+
+-- the lines that have one of some texts, and all where there are none
+abbrev lines_with : List Text → List ℕ → List ℕ
+lines_with [] written = written
+lines_with (sought ∷ more) written =
+    flat_map ended (filter (λ line. list_any (λ one. has one line) (sought ∷ more)) (ended_lines written))
+
+-- The words ask for options without a fault, and an agent opened with them writes these lines that have one of the
+-- texts sought, a text for each line of the input.
+record Shows (sought : List Text) (words : List Text) (input : List ℕ) (lines : List (List ℕ)) : Type 0 where
   options : Options
   asked : (roles : Bor (List (Bor Text))) → Asks (matches_of (program roles) words) options
   sound : opening_fault options ≡ None
-  written : texts (opened options) input ≡ lines
+  written : map (lines_with sought) (texts (opened options) input) ≡ lines
+
+-- the same of all lines
+abbrev Writes : List Text → List ℕ → List (List ℕ) → Type 0
+Writes words input lines = Shows [] words input lines
 
 -- one port, eth0, and all else as the program has it by default
 abbrev usual : Options
@@ -194,14 +213,15 @@ def list_of_words(words):
     return f"({listed([b'lldpa', *(word.encode() for word in words)])})"
 
 
-def theorem(name, words, trace, steps, asks):
+def theorem(name, words, sought, trace, steps, asks):
     """A transcript as a theorem and its proof, of words that ask for their options by a theorem before it."""
     if isinstance(steps, str):
         sys.exit(f"{name}: {steps}")
     lines = re.findall(rb"[^\n]*\n|[^\n]+", trace)
     texts = "".join(written_by(written) + "\n    ∷ " for _, written in steps)
+    stated = f"Shows ({listed(text.encode() for text in sought)})" if sought else "Writes"
     return f"""
-{name} : Writes
+{name} : {stated}
     {list_of_words(words)}
     ({joined(lines)})
     ({texts}[])
@@ -213,12 +233,12 @@ unfolding {OPENED}
 def theorems(shown):
     """The theorems of some transcripts, each list of words before the first transcript that has it."""
     names = {}
-    for name, words, trace, steps in shown:
+    for name, words, sought, trace, steps in shown:
         name = name.replace("-", "_")
         if tuple(words) not in names:
             names[tuple(words)] = f"words_of_{name}"
             yield asked(names[tuple(words)], words)
-        yield theorem(name, words, trace, steps, names[tuple(words)])
+        yield theorem(name, words, sought, trace, steps, names[tuple(words)])
 
 
 def ticks(trace):
@@ -228,7 +248,7 @@ def ticks(trace):
 
 
 if __name__ == "__main__":
-    shown = HEAD + "".join(theorems(one for one in transcripts([]) if ticks(one[2]) <= MOST_TICKS))
+    shown = HEAD + "".join(theorems(one for one in transcripts([]) if ticks(one[3]) <= MOST_TICKS))
     if sys.argv[1:] == ["--check"]:
         sys.exit(0 if FILE.read_text() == shown else "run tools/transcripts.py: examples were changed")
     FILE.write_text(shown)

@@ -97,6 +97,8 @@ class ThereAndBack(unittest.TestCase):
     def test_each_show_of_the_transcripts(self) -> None:
         count = neighbors = 0
         for path in sorted((REPOSITORY / "examples").glob("*.expect")):
+            if "| " in path.with_suffix(".args").read_text():
+                continue  # a filter leaves out lines of its shows
             for lines in shows_of_transcript(path.read_text("latin-1")):
                 with self.subTest(path.name, show=lines[0]):
                     show = read_show(lines)
