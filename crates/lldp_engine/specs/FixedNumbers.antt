@@ -1,6 +1,7 @@
 -- The numbers of ranges, rooms and faults.
 use Rattle.std.specs.Prelude.{◌≡◌, ℕ, ◌<◌, ◌↔◌}
-use Rattle.lldp_engine.specs.declared.agent.options.TheConstants.{MOST_NEIGHBORS, MOST_CREDIT, MOST_FAST, MOST_REINIT, MOST_INTERVAL, MOST_HOLD}
+use Rattle.lldp_transmit.specs.declared.limits.TheConstants.{MOST_CREDIT, MOST_FAST, MOST_REINIT}
+use Rattle.lldp_engine.specs.declared.agent.options.TheConstants.{MOST_NEIGHBORS, MOST_INTERVAL, MOST_HOLD}
 use Rattle.lldp_engine.specs.declared.show.lines.TheConstants.{MOST_LINES}
 use Rattle.lldp_engine.specs.declared.show.writer.TheConstants.{LINE_ROOM, ROOM}
 use Rattle.lldp_engine.specs.declared.command.fault.CommandFault.{CommandFault}

@@ -7,17 +7,10 @@ use crate::agent::open_fault::OpenFault;
 use crate::agent::port_names::{all_port_names, has_same};
 use crate::agent::text::is_text;
 
+pub use lldp_transmit::{MOST_CREDIT, MOST_FAST, MOST_REINIT};
+
 /// The most neighbors that a port may be opened for.
-pub const MOST_NEIGHBORS: u8 = 128;
-
-/// The greatest txCreditMax.
-pub const MOST_CREDIT: u8 = 10;
-
-/// The greatest txFastInit.
-pub const MOST_FAST: u8 = 8;
-
-/// The greatest reinitDelay, in seconds.
-pub const MOST_REINIT: u8 = 10;
+pub const MOST_NEIGHBORS: u8 = lldp_table::MOST_NEIGHBORS as u8;
 
 /// The greatest tx-interval, in seconds.
 pub const MOST_INTERVAL: u16 = 3600;
