@@ -4,7 +4,7 @@ ghost use Rattle.std.specs.Prelude.{◌≡◌};
 ghost use Rattle.std.specs.Option.{option_map};
 ghost use Rattle.lldp_pdu.specs.Capabilities.{caps_of};
 ghost use Rattle.lldp_pdu.specs.ManagementAddress.{address_of};
-ghost use Rattle.lldp_pdu.specs.WellFormed as well_formed;
+ghost use Rattle.lldp_pdu.specs.WellFormed.{is_well_formed};
 ghost use Rattle.lldp_pdu.specs.View.{tlv_view, address_view};
 
 use crate::fields::{Caps, Mgmt};
@@ -52,8 +52,8 @@ pub fn mgmt(body: &[u8]) -> Option<Mgmt<'_>>
 
 /// Whether the body is well formed for the type.
 #[tactic(auto, unfolding(crate::specs::WellFormed::is_well_formed))]
-pub(crate) fn is_well_formed(tlv: &Tlv<'_>) -> bool
-    ensures { result ≡ well_formed.is_well_formed (tlv_view tlv.now) }
+pub(crate) fn body_is_well_formed(tlv: &Tlv<'_>) -> bool
+    ensures { result ≡ is_well_formed (tlv_view tlv.now) }
 {
     let len = tlv.body.len();
     match tlv.kind {

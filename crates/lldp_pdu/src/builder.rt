@@ -11,8 +11,9 @@ ghost use Rattle.lldp_pdu.specs.Info.{info_of};
 ghost use Rattle.lldp_pdu.specs.View.{tlv_view};
 ghost use Rattle.lldp_pdu.specs.Draft.{end_of_lldpdu, with_tlv, put_fault, lldpdu_octets, told_by};
 
-use crate::bodies::is_well_formed;
+use crate::bodies::body_is_well_formed;
 use crate::fault::BuildFault;
+use crate::frame::MOST_OCTETS;
 use crate::seen::Seen;
 use crate::spelling::append_tlv;
 use crate::tlv::Tlv;
@@ -25,7 +26,7 @@ use std::marker::Model;
 /// An LLDPDU that is built: at most 1,500 octets, the End Of LLDPDU among them.
 #[derive(Drop)]
 pub struct Builder {
-    octets: ArrayVec<u8, 1500>,
+    octets: ArrayVec<u8, MOST_OCTETS>,
     met: Seen,
     lives: bool,
 }
@@ -50,8 +51,8 @@ fn is_optional_type(kind: u8) -> bool
 }
 
 /// Appends the End Of LLDPDU (IEEE 802.1AB-2009, 8.5.1).
-fn append_end(octets: &mut ArrayVec<u8, 1500>)
-    requires { array_vec_len octets.old + 2 ≤ 1500 }
+fn append_end(octets: &mut ArrayVec<u8, MOST_OCTETS>)
+    requires { array_vec_len octets.old + 2 ≤ MOST_OCTETS }
     ensures { octets.new.items ≡ octets.old.items ++ spelling end_of_lldpdu }
 {
     append_tlv(octets, END_OF_LLDPDU, &[]);
@@ -109,10 +110,10 @@ impl Builder {
         if tlv.body.len() > 511 {
             return Some(BuildFault::Body);
         }
-        if !is_well_formed(tlv) {
+        if !body_is_well_formed(tlv) {
             return Some(BuildFault::Body);
         }
-        if self.octets.len() + tlv.body.len() + 4 > 1500 {
+        if self.octets.len() + tlv.body.len() + 4 > MOST_OCTETS {
             return Some(BuildFault::Full);
         }
         None
@@ -140,7 +141,7 @@ impl Builder {
     }
 
     /// The LLDPDU, with its End Of LLDPDU. Examining it gives back what was begun and put.
-    pub fn finish(self) -> ArrayVec<u8, 1500>
+    pub fn finish(self) -> ArrayVec<u8, MOST_OCTETS>
         ensures octets { result.items ≡ lldpdu_octets self }
         ensures sound { fault_of result.items ≡ None }
         ensures msap { msap_of result.items ≡ self.msap }

@@ -3,6 +3,9 @@ ghost use Rattle.std.specs.Prelude.{◌≡◌, ◌≤◌, length, IfSome};
 ghost use Rattle.std.specs.Option.{option_copied};
 ghost use Rattle.lldp_pdu.specs.Frame.{lldpdu_of};
 
+/// How many octets an LLDPDU has at most: what an Ethernet frame holds behind its EtherType.
+pub const MOST_OCTETS: usize = 1500;
+
 /// The group address nearest bridge.
 const NEAREST_BRIDGE: [u8; 6] = [0x01, 0x80, 0xc2, 0x00, 0x00, 0x0e];
 

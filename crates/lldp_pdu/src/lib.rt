@@ -21,7 +21,7 @@ pub use builder::Builder;
 pub use examination::{Examined, examine};
 pub use fault::{BuildFault, PduFault};
 pub use fields::{Caps, Mgmt};
-pub use frame::frame_pdu;
+pub use frame::{MOST_OCTETS, frame_pdu};
 pub use info::Info;
 pub use kept::Kept;
 pub use laws::{

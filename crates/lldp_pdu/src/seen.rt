@@ -1,16 +1,16 @@
 //! Which single TLVs were met.
 ghost use Rattle.std.specs.Prelude.{◌≡◌};
-ghost use Rattle.lldp_pdu.specs.Kept as kept;
+ghost use Rattle.lldp_pdu.specs.Kept.{is_single};
 ghost use Rattle.lldp_pdu.specs.Code.Seen.{has_flag, with_flag, is_kept_seen, seen_after};
 ghost use Rattle.lldp_pdu.specs.View.{tlv_view};
 
-use crate::bodies::is_well_formed;
+use crate::bodies::body_is_well_formed;
 use crate::tlv::Tlv;
 use crate::tlv_type::{PORT_DESCRIPTION, SYSTEM_CAPABILITIES};
 
 /// Whether one TLV of the type counts: Port Description to System Capabilities.
-fn is_single(kind: u8) -> bool
-    ensures { result ≡ kept.is_single kind }
+fn counts_once(kind: u8) -> bool
+    ensures { result ≡ is_single kind }
 {
     (PORT_DESCRIPTION..=SYSTEM_CAPABILITIES).contains(&kind)
 }
@@ -29,7 +29,7 @@ impl Seen {
     pub(crate) fn has(&self, kind: u8) -> bool
         ensures { result ≡ has_flag self.now.types kind }
     {
-        is_single(kind) && self.types[usize::from(kind - PORT_DESCRIPTION)]
+        counts_once(kind) && self.types[usize::from(kind - PORT_DESCRIPTION)]
     }
 
     /// A TLV of the type is met.
@@ -37,7 +37,7 @@ impl Seen {
     pub(crate) fn add(&mut self, kind: u8)
         ensures { self.new.types ≡ with_flag self.old.types kind }
     {
-        if is_single(kind) {
+        if counts_once(kind) {
             self.types[usize::from(kind - PORT_DESCRIPTION)] = true;
         }
     }
@@ -47,7 +47,7 @@ impl Seen {
         ensures kept { result ≡ is_kept_seen self.old.types (tlv_view tlv.now) }
         ensures met { self.new.types ≡ seen_after self.old.types (tlv_view tlv.now) }
     {
-        if !is_well_formed(tlv) {
+        if !body_is_well_formed(tlv) {
             return false;
         }
         let was_met = self.has(tlv.kind);

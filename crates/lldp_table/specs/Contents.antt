@@ -7,7 +7,8 @@ use Rattle.lldp_pdu.specs.Lldpdu.{extent, ttl_of, msap_of}
 use Rattle.lldp_pdu.specs.Fault.{fault_of}
 use Rattle.lldp_table.specs.Msap.{same_msap}
 use Rattle.lldp_table.specs.Events.{Neighbor}
-use Rattle.lldp_table.specs.declared.limits.TheConstants.{MOST_NEIGHBORS, MOST_OCTETS}
+use Rattle.lldp_pdu.specs.declared.frame.TheConstants.{MOST_OCTETS}
+use Rattle.lldp_table.specs.declared.limits.TheConstants.{MOST_NEIGHBORS}
 
 -- a table: the limit of opening, that in force, its neighbors in the order in which they were last new, and the ticks
 -- left of its too-many timer

@@ -15,7 +15,8 @@ ghost use Rattle.lldp_table.specs.Code.Steps.{learn_answer, newly_opened, table_
 ghost use Rattle.lldp_table.specs.Standing.{Stands, ForEachCalls, IsTold, AreTold, table_of};
 ghost use Rattle.lldp_table.specs.Positions.{IsLastStored, IsLive, HasRoom, IsNewBefore, WasDropped};
 
-use crate::limits::{MOST_NEIGHBORS, MOST_OCTETS};
+use crate::limits::MOST_NEIGHBORS;
+use lldp_pdu::MOST_OCTETS;
 
 /// What a table that stands for a list of calls makes of one more stands for the list with it.
 pub fn calls_carry_standing()

@@ -23,6 +23,7 @@ pub use laws::{
     ticks_take_expired_neighbors_alone, timers_keep_the_greatest_dropped,
 };
 pub use learned::Learned;
-pub use limits::{MOST_NEIGHBORS, MOST_OCTETS};
+pub use limits::MOST_NEIGHBORS;
+pub use lldp_pdu::MOST_OCTETS;
 pub use room::Room;
 pub use table::Table;

@@ -8,12 +8,12 @@ ghost use Rattle.lldp_table.specs.Code.Steps.{aged};
 ghost use Rattle.lldp_table.specs.Code.Queue.{holds, ticks_left, IsTimed};
 ghost use Rattle.lldp_table.specs.Code.Layout.{blank, msap_at, octets_at, neighbors_at, with_next};
 
-use crate::limits::{MOST_NEIGHBORS, MOST_OCTETS};
+use crate::limits::MOST_NEIGHBORS;
 use crate::queue::{Queue, place_in};
 use crate::room::Room;
 use crate::slot::Slot;
 use arrayvec::ArrayVec;
-use lldp_pdu::Msap;
+use lldp_pdu::{MOST_OCTETS, Msap};
 use std::alloc::Allocator;
 
 /// The place of the slot whose frame has this MSAP identifier, whose tag is given.

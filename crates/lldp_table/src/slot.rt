@@ -6,10 +6,9 @@ ghost use Rattle.lldp_pdu.specs.Lldpdu.{msap_of, tlv_at};
 ghost use Rattle.lldp_pdu.specs.View.{msap_view};
 ghost use Rattle.lldp_table.specs.Msap.{same_msap};
 ghost use Rattle.lldp_table.specs.Code.Layout.{blank};
-ghost use Rattle.lldp_table.specs.Code.Stored.{mixed as mixed_in, tag_of as tag_of_name};
+ghost use Rattle.lldp_table.specs.Code.Stored.{mixed, tag_of};
 
-use crate::limits::MOST_OCTETS;
-use lldp_pdu::{Msap, Tlvs};
+use lldp_pdu::{MOST_OCTETS, Msap, Tlvs};
 use std::marker::Model;
 
 /// The room for one neighbor, which stores the extent of its frame.
@@ -81,8 +80,8 @@ fn pair(a: u8, b: u8) -> u32
 }
 
 /// Four octets mixed into a tag. Only one multiplication waits for the tag.
-fn mixed_with_four(tag: u32, four: [u8; 4]) -> u32
-    ensures { result ≡ mixed_in tag four }
+fn mix_four(tag: u32, four: [u8; 4]) -> u32
+    ensures { result ≡ mixed tag four }
 {
     let [a, b, c, d] = four;
     let new = pair(a, b)
@@ -92,8 +91,8 @@ fn mixed_with_four(tag: u32, four: [u8; 4]) -> u32
 }
 
 /// These octets mixed into a tag, one after the other.
-fn mixed_singly(tag: u32, octets: &[u8]) -> u32
-    ensures { result ≡ mixed_in tag octets.now }
+fn mix_singly(tag: u32, octets: &[u8]) -> u32
+    ensures { result ≡ mixed tag octets.now }
 {
     let mut mix = tag;
     for octet in octets {
@@ -103,23 +102,23 @@ fn mixed_singly(tag: u32, octets: &[u8]) -> u32
 }
 
 /// These octets mixed into a tag: four at a time, and then the few that are left.
-fn mixed(tag: u32, octets: &[u8]) -> u32
-    ensures { result ≡ mixed_in tag octets.now }
+fn mix_octets(tag: u32, octets: &[u8]) -> u32
+    ensures { result ≡ mixed tag octets.now }
 {
     let mut mix = tag;
     let mut rest = octets;
     while let [a, b, c, d, others @ ..] = rest {
-        mix = mixed_with_four(mix, [*a, *b, *c, *d]);
+        mix = mix_four(mix, [*a, *b, *c, *d]);
         rest = others;
     }
-    mixed_singly(mix, rest)
+    mix_singly(mix, rest)
 }
 
 /// The tag of a name: a mix of all its octets.
-pub(crate) fn tag_of(name: &Msap<'_>) -> u32
-    ensures { result ≡ tag_of_name (msap_view name.now) }
+pub(crate) fn mix_name(name: &Msap<'_>) -> u32
+    ensures { result ≡ tag_of (msap_view name.now) }
 {
-    mixed(mixed(0, name.chassis), name.port)
+    mix_octets(mix_octets(0, name.chassis), name.port)
 }
 
 /// Whether these may be the same octets, by their number and the last eight of them.
@@ -169,7 +168,7 @@ impl Slot {
 
     /// Whether its frame has this name, whose tag is given.
     pub(crate) fn is_named(&self, name: &Msap<'_>, tag: u32) -> bool
-        requires { tag ≡ tag_of_name (msap_view name.now) }
+        requires { tag ≡ tag_of (msap_view name.now) }
         ensures { result ≡ same_msap (msap_view name.now) (msap_of self.now.octets) }
     {
         if self.tag != tag {
@@ -185,7 +184,7 @@ impl Slot {
     /// Stores a frame, whose name has this tag, in place of the one before.
     pub(crate) fn store(&mut self, octets: &[u8], ttl: u16, tag: u32)
         requires short { length octets.now ≤ MOST_OCTETS }
-        requires tag { tag ≡ tag_of_name (msap_of octets.now) }
+        requires tag { tag ≡ tag_of (msap_of octets.now) }
         ensures octets { self.new.octets ≡ octets.now }
         ensures ttl { self.new.ttl ≡ ttl }
     {

@@ -9,13 +9,13 @@ ghost use Rattle.lldp_table.specs.Standing.{Stands, ForEachCalls};
 
 use crate::entry::Entry;
 use crate::learned::Learned;
-use crate::limits::{MOST_NEIGHBORS, MOST_OCTETS};
+use crate::limits::MOST_NEIGHBORS;
 use crate::order::{age_out, lefts_of, octets_of, place_of, write_next};
 use crate::queue::Queue;
 use crate::room::Room;
-use crate::slot::{Slot, tag_of};
+use crate::slot::{Slot, mix_name};
 use arrayvec::ArrayVec;
-use lldp_pdu::{Info, Msap};
+use lldp_pdu::{Info, MOST_OCTETS, Msap};
 use std::alloc::{AllocError, Allocator};
 use std::marker::Model;
 
@@ -89,7 +89,7 @@ impl<A: Allocator> Table<A> {
             Stands opened (learn info.now.msap info.now.ttl info.now.octets ∷ calls) self.new.shown) }
     {
         let name = info.msap();
-        let tag = tag_of(&name);
+        let tag = mix_name(&name);
         let ttl = info.ttl();
         let octets = info.octets();
         let used = self.used as usize;
@@ -133,7 +133,7 @@ impl<A: Allocator> Table<A> {
             self.slots.as_slice(),
             &self.order[..used],
             msap,
-            tag_of(msap),
+            mix_name(msap),
         ) {
             None => false,
             Some(at) => {

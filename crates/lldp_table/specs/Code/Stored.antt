@@ -2,7 +2,7 @@
 use Rattle.std.specs.Prelude.{◌≡◌, ℕ, ◌≤◌, ◌+◌, ◌*◌, ◌^◌, ◌%◌, List, [], ◌∷◌, take}
 use Rattle.lldp_pdu.specs.Msap.{MsapId}
 use Rattle.lldp_pdu.specs.Lldpdu.{msap_of}
-use Rattle.lldp_table.specs.declared.limits.TheConstants.{MOST_OCTETS}
+use Rattle.lldp_pdu.specs.declared.frame.TheConstants.{MOST_OCTETS}
 
 -- the octets of a frame's extent and its TTL
 pub record Stored : Type 0 where

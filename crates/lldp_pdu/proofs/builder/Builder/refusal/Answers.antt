@@ -34,19 +34,19 @@ returns-then-tlv-gt511 c =
     (flagged c.args.self.now (tlv_view c.args.tlv.now) c.self.inside.octets.items c.self.inside.met.types c.self.inside.lives false c.self.view_is c.self.invariant c.if-has.ensures)
     (lt-ltb 511 (length c.args.tlv.now.body.now) (omega arith)) refl refl)
 
-pub returns-then-not-is_well_formed : goal.returns-then-not-is_well_formed
-returns-then-not-is_well_formed c =
+pub returns-then-not-body_is_well_formed : goal.returns-then-not-body_is_well_formed
+returns-then-not-body_is_well_formed c =
     sym (put_fault_is c.args.self.now (tlv_view c.args.tlv.now) true false false false false _ (sym c.if-not-is_optional_type.ensures)
     (sym c.if-is_shutdown.ensures)
     (flagged c.args.self.now (tlv_view c.args.tlv.now) c.self.inside.octets.items c.self.inside.met.types c.self.inside.lives false c.self.view_is c.self.invariant c.if-has.ensures)
-    (le-ltb 511 (length c.args.tlv.now.body.now) (omega arith)) (sym c.if-not-is_well_formed.ensures) refl)
+    (le-ltb 511 (length c.args.tlv.now.body.now) (omega arith)) (sym c.if-not-body_is_well_formed.ensures) refl)
 
-pub returns-then-len-tlv-gt1500 : goal.returns-then-len-tlv-gt1500
-returns-then-len-tlv-gt1500 c =
+pub returns-then-len-tlv-gt-MOST_OCTETS : goal.returns-then-len-tlv-gt-MOST_OCTETS
+returns-then-len-tlv-gt-MOST_OCTETS c =
     sym (put_fault_is c.args.self.now (tlv_view c.args.tlv.now) true false false false true true (sym c.if-not-is_optional_type.ensures)
     (sym c.if-is_shutdown.ensures)
     (flagged c.args.self.now (tlv_view c.args.tlv.now) c.self.inside.octets.items c.self.inside.met.types c.self.inside.lives false c.self.view_is c.self.invariant c.if-has.ensures)
-    (le-ltb 511 (length c.args.tlv.now.body.now) (omega arith)) (sym c.if-not-is_well_formed.ensures)
+    (le-ltb 511 (length c.args.tlv.now.body.now) (omega arith)) (sym c.if-not-body_is_well_formed.ensures)
     (let n = long c.args.self.now (tlv_view c.args.tlv.now) c.self.inside.octets.items c.self.inside.met.types c.self.inside.lives c.self.view_is c.self.invariant in lt-ltb 1500 _ (omega (arith, n))))
 
 pub returns : goal.returns
@@ -54,5 +54,5 @@ returns c =
     sym (put_fault_is c.args.self.now (tlv_view c.args.tlv.now) true false false false true false (sym c.if-not-is_optional_type.ensures)
     (sym c.if-is_shutdown.ensures)
     (flagged c.args.self.now (tlv_view c.args.tlv.now) c.self.inside.octets.items c.self.inside.met.types c.self.inside.lives false c.self.view_is c.self.invariant c.if-has.ensures)
-    (le-ltb 511 (length c.args.tlv.now.body.now) (omega arith)) (sym c.if-not-is_well_formed.ensures)
+    (le-ltb 511 (length c.args.tlv.now.body.now) (omega arith)) (sym c.if-not-body_is_well_formed.ensures)
     (let n = long c.args.self.now (tlv_view c.args.tlv.now) c.self.inside.octets.items c.self.inside.met.types c.self.inside.lives c.self.view_is c.self.invariant in le-ltb 1500 _ (omega (arith, n))))
