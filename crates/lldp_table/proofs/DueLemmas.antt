@@ -15,10 +15,6 @@ use Rattle.lldp_table.proofs.QueueLemmas.{at_first, behind, enter-last, total-co
 use Rattle.lldp_table.proofs.QueueOrderLemmas.{slots-enter, slots-leave}
 use Rattle.std.proofs.lemmas.Grind.{common_steps}
 
--- no slot at a place
-pub beyond : (f : List Due → List Due) → f [] ≡ [] → (k : ℕ) (queue : List Due) → length queue ≤ k → queue ≡ take k queue ++ f (drop k queue)
-beyond f e k queue h = grind (arith, common_steps, append-nil, take_all, drop_of_length-le)
-
 module _ (times : List ℕ) where
   pub slots_of-dues : (slots : List ℕ) → slots_of (dues times slots) ≡ slots
   slots_of-dues [] = refl
