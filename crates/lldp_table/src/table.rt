@@ -230,14 +230,17 @@ impl<A: Allocator> Table<A> {
         self.too_many > 0
     }
 
-    /// The ticks left of each neighbor, in the order of the table. It goes over all of them once.
+    /// The ticks left of each neighbor, one a second, in the order in which they were last new. It
+    /// goes over all of them once.
     pub fn lefts(&self) -> ArrayVec<u16, MOST_NEIGHBORS>
         ensures { result.items ≡ map (λ neighbor. neighbor.left) self.now.shown.neighbors }
     {
         lefts_of(&self.queue, &self.order[..self.used as usize])
     }
 
-    /// The neighbor at place `i` of the order, from 0, by what `lefts` gave for it.
+    /// The neighbor at place `i` of the order, from 0 and below `len`. `left` is what `lefts` gives at
+    /// that place while nothing changes the table; so all of them are read without going over all
+    /// for each.
     pub fn entry_with(&self, i: u8, left: u16) -> Entry<'_>
         requires within { i < length self.now.shown.neighbors }
         requires left { slice_index (map (λ neighbor. neighbor.left) self.now.shown.neighbors) i ≡ left }
