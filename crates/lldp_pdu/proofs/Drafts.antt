@@ -24,8 +24,8 @@ use Rattle.lldp_pdu.specs.Code.BuilderView.{draft_of, AllKept, IsDraft, Builds}
 use Rattle.lldp_pdu.proofs.Cuts.{cut-spellings}
 use Rattle.lldp_pdu.proofs.Opening.{fault_from, sound_checks}
 use Rattle.lldp_pdu.proofs.Keeping.{flags_none, flags_more, flags_as}
-use Rattle.lldp_pdu.proofs.Telling.{cut_alone, ttl_tlvs, msap_tlvs}
-use Rattle.lldp_pdu.proofs.Whole.{kept_is, discarded_is, info_is}
+use Rattle.lldp_pdu.proofs.Telling.{cut_alone, ttl_tlvs, msap_tlvs, kept_tlvs_of}
+use Rattle.lldp_pdu.proofs.Whole.{discarded_is, info_is}
 use Rattle.std.proofs.lemmas.Grind.{common_steps}
 
 -- ---- the TLVs of a draft
@@ -192,7 +192,7 @@ finished d octets h e =
     let t : ttl_of octets ≡ d.ttl = ttl_tlvs octets ∙ ap (λ (us : List TlvUnit). seconds (tlv_at us 2).body) us ∙ seconds_back d.ttl h.ttl in
     let m : msap_of octets ≡ d.msap = msap_tlvs octets ∙ ap (λ (us : List TlvUnit). record { chassis = (tlv_at us 0).body; port = (tlv_at us 1).body }) us in
     let later : later_tlvs octets ≡ d.tlvs = later_from octets (all_tlvs d ++ end_of_lldpdu ∷ []) us ∙ before_end_more d.tlvs h.tlvs in
-    let kept : kept_of octets ≡ d.tlvs = kept_is octets ∙ ap (kept_after []) later ∙ kept_same [] d.tlvs h.kept in
+    let kept : kept_of octets ≡ d.tlvs = kept_tlvs_of octets ∙ ap (kept_after []) later ∙ kept_same [] d.tlvs h.kept in
     let extent_is : extent octets ≡ spellings (all_tlvs d) = extent_from octets (all_tlvs d ++ end_of_lldpdu ∷ []) us ∙ front (before_end_more d.tlvs h.tlvs) in
     let complete : ended_incomplete octets ≡ false = complete_from octets (all_tlvs d ++ end_of_lldpdu ∷ []) us (end_there (all_tlvs d)) in
     let lost : discarded_of octets ≡ 0 = discarded_is octets ∙ rw (complete, later, others_none [] d.tlvs h.kept) refl in

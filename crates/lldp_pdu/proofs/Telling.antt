@@ -188,7 +188,7 @@ kept_tlvs : (earlier us : List TlvUnit) → AllByRecursion IsLater us → AllByR
 kept_tlvs earlier [] h = tt
 kept_tlvs earlier (u ∷ us) h = grind (arith, common_steps, later_kind, and_parts, kept_tlvs (u ∷ earlier) us h.1)
 
-kept_tlvs_of : (octets : List ℕ) → kept_of octets ≡ kept_after [] (later_tlvs octets)
+pub kept_tlvs_of : (octets : List ℕ) → kept_of octets ≡ kept_after [] (later_tlvs octets)
 unfolding kept_of
 kept_tlvs_of octets = refl
 

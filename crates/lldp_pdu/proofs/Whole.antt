@@ -17,7 +17,7 @@ use Rattle.lldp_pdu.proofs.Cuts.{cut_is_cut, AreOctets-from_index, AreOctets-rig
 use Rattle.lldp_pdu.proofs.Opening.{ttl_from}
 use Rattle.lldp_pdu.proofs.Surveying.{extent_is_front}
 use Rattle.lldp_pdu.proofs.Keeping.{kept_seen-none, count_lost-none}
-use Rattle.lldp_pdu.proofs.Telling.{cut_alone, tlvs_before_end, msap_tlvs}
+use Rattle.lldp_pdu.proofs.Telling.{cut_alone, tlvs_before_end, msap_tlvs, kept_tlvs_of}
 
 module _ (octets after : List ℕ) (msap : MsapId) (ttl : ℕ) (o : OpensWith octets msap ttl after) where
   pub ttl_is : ttl_of octets ≡ ttl
@@ -85,10 +85,6 @@ stands octets after found msap ttl lost unknown bytes o s =
     }
 
 -- what was found is what the octets tell
-pub kept_is : (octets : List ℕ) → kept_of octets ≡ kept_after [] (later_tlvs octets)
-unfolding kept_of
-kept_is octets = refl
-
 pub discarded_is : (octets : List ℕ) → discarded_of octets ≡ length (others_after [] (later_tlvs octets)) + cond (ended_incomplete octets) 1 0
 unfolding discarded_of
 discarded_is octets = refl
@@ -103,7 +99,7 @@ tells octets after found shown msap ttl lost unknown bytes o s e =
     let st = stands octets after found msap ttl lost unknown bytes o s in
     let vs = before_end (cut after).tlvs in
     let later = later_is octets after msap ttl o in
-    let kept : kept_of octets ≡ kept_seen none_seen vs = kept_is octets ∙ ap (kept_after []) later ∙ sym (kept_seen-none vs) in
+    let kept : kept_of octets ≡ kept_seen none_seen vs = kept_tlvs_of octets ∙ ap (kept_after []) later ∙ sym (kept_seen-none vs) in
     let kept_found : kept_seen none_seen (cut found).tlvs ≡ kept_of octets = ap (λ (c : Cut). kept_seen none_seen c.tlvs) st.optional ∙ sym kept in
     let lost_is : lost ≡ discarded_of octets =
     s.discarded ∙ rw (count_lost-none vs, ← incomplete_is octets after msap ttl o, ← later) (sym (discarded_is octets)) in

@@ -1,9 +1,13 @@
 //! The kept TLVs of an LLDPDU.
-ghost use Rattle.std.specs.Prelude.{◌≡◌, ℕ, List, length};
+ghost use Rattle.std.specs.Prelude.{◌≡◌, ℕ, ◌+◌, ◌*◌, ◌<◌, ◌≤◌, List, length, drop, None};
 ghost use Rattle.std.specs.Iterator.{item_count, YieldsFirstBy};
+ghost use Rattle.std.specs.List.{AllByRecursion};
 ghost use Rattle.lldp_pdu.specs.Tlv.{TlvUnit};
 ghost use Rattle.lldp_pdu.specs.Cut.{cut};
 ghost use Rattle.lldp_pdu.specs.Code.Seen.{none_seen, kept_seen};
+ghost use Rattle.lldp_pdu.specs.Fault.{fault_of};
+ghost use Rattle.lldp_pdu.specs.Kept.{kept_of, IsKeptTlv};
+ghost use Rattle.lldp_pdu.specs.Lldpdu.{extent, ttl_of};
 ghost use Rattle.lldp_pdu.specs.View.{tlv_view};
 
 use crate::seen::Seen;
@@ -28,7 +32,30 @@ impl<'a> Model for Kept<'a> {
     ghost view = { λ k. kept_seen k.seen.types (cut k.tlvs).tlvs };
 }
 
+/// The octets behind the first TLV.
+fn behind_first(octets: &[u8]) -> &[u8]
+    ensures { (cut result.now).tlvs ≡ drop 1 (cut octets.now).tlvs }
+{
+    let mut tlvs = Tlvs::new(octets);
+    match tlvs.next() {
+        Some(_) => tlvs.rest(),
+        None => octets,
+    }
+}
+
 impl<'a> Kept<'a> {
+    /// Those of an extent, as `Info::octets` gives it.
+    pub fn of_extent(octets: &'a [u8]) -> Kept<'a>
+        requires sound { fault_of octets.now ≡ None }
+        requires lives { 0 < ttl_of octets.now }
+        requires whole { extent octets.now ≡ octets.now }
+        ensures value { result ≡ kept_of octets.now }
+        ensures each { AllByRecursion IsKeptTlv (kept_of octets.now) }
+        ensures few { 12 + 2 * length (kept_of octets.now) ≤ length octets.now }
+    {
+        Kept::of(behind_first(behind_first(behind_first(octets))))
+    }
+
     /// Those of the TLVs of the octets.
     pub(crate) fn of(octets: &'a [u8]) -> Kept<'a>
         ensures { result ≡ kept_seen none_seen (cut octets.now).tlvs }

@@ -7,7 +7,7 @@ ghost use Rattle.lldp_pdu.specs.View.{msap_view};
 ghost use Rattle.lldp_table.specs.Contents.{IsExtent};
 
 use crate::slot::Slot;
-use lldp_pdu::{Examined, Kept, Msap, examine};
+use lldp_pdu::{Kept, Msap};
 use std::marker::Model;
 
 /// A neighbor that a table holds.
@@ -63,11 +63,7 @@ impl<'a> Entry<'a> {
         ensures each { AllByRecursion IsKeptTlv (kept_of self.now.octets) }
         ensures few { 12 + 2 * length (kept_of self.now.octets) ≤ length self.now.octets }
     {
-        match examine(self.octets()) {
-            Ok(Examined::Info(info)) => info.kept(),
-            Ok(Examined::Shutdown(_)) => unreachable!(),
-            Err(_) => unreachable!(),
-        }
+        Kept::of_extent(self.octets())
     }
 
     /// The stored octets, the extent of its last stored LLDPDU: at most 1,500.
