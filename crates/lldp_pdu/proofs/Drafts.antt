@@ -25,7 +25,7 @@ use Rattle.lldp_pdu.proofs.Cuts.{cut-spellings}
 use Rattle.lldp_pdu.proofs.Opening.{fault_from, sound_checks}
 use Rattle.lldp_pdu.proofs.Keeping.{flags_none, flags_more, flags_as}
 use Rattle.lldp_pdu.proofs.Telling.{cut_alone, ttl_tlvs, msap_tlvs, kept_tlvs_of}
-use Rattle.lldp_pdu.proofs.Whole.{discarded_is, info_is}
+use Rattle.lldp_pdu.proofs.Whole.{discarded_is}
 use Rattle.std.proofs.lemmas.Grind.{common_steps}
 
 -- ---- the TLVs of a draft
@@ -202,7 +202,7 @@ finished d octets h e =
           ∙ rw (later, no_mandatory d.tlvs h.tlvs) (ap (λ (b : Bool). cond b (Some Repeated) None) (and_right (ltb 0 d.ttl) false refl));
       msap = m;
       ttl = t;
-      told = info_is octets ∙ same m t extent_is kept lost (ap count_unrecognized kept);
+      told = same m t extent_is kept lost (ap count_unrecognized kept);
     }
   where
     front : before_end (d.tlvs ++ end_of_lldpdu ∷ []) ≡ d.tlvs → spellings (before_end (all_tlvs d ++ end_of_lldpdu ∷ [])) ≡ spellings (all_tlvs d)

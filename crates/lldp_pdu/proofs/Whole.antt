@@ -89,9 +89,6 @@ pub discarded_is : (octets : List ℕ) → discarded_of octets ≡ length (other
 unfolding discarded_of
 discarded_is octets = refl
 
-pub info_is : (octets : List ℕ) → info_of octets ≡ record { msap = msap_of octets; ttl = ttl_of octets; octets = extent octets; kept = kept_of octets; discarded = discarded_of octets; unrecognized = count_unrecognized (kept_of octets) }
-info_is octets = refl
-
 pub tells : (octets after found shown : List ℕ) (msap : MsapId) (ttl lost unknown : ℕ) → ((i : ℕ) → get_or octets i 0 < 256) → OpensWith octets msap ttl after → IsSurveyOf after found lost unknown
     → shown ≡ take (length octets - length after + length found) octets
     → ◌≡◌ {A = LldpInfo} (record { msap = msap; ttl = ttl; octets = shown; kept = kept_seen none_seen (cut found).tlvs; discarded = lost; unrecognized = unknown }) (info_of octets)
@@ -104,7 +101,7 @@ tells octets after found shown msap ttl lost unknown bytes o s e =
     let lost_is : lost ≡ discarded_of octets =
     s.discarded ∙ rw (count_lost-none vs, ← incomplete_is octets after msap ttl o, ← later) (sym (discarded_is octets)) in
     let unknown_is : unknown ≡ count_unrecognized (kept_of octets) = s.unrecognized ∙ ap count_unrecognized (sym kept) in
-    same (sym (msap_is octets after msap ttl o)) (sym (ttl_is octets after msap ttl o)) (e ∙ st.extent_is) kept_found lost_is unknown_is ∙ sym (info_is octets)
+    same (sym (msap_is octets after msap ttl o)) (sym (ttl_is octets after msap ttl o)) (e ∙ st.extent_is) kept_found lost_is unknown_is
   where
     same : {m m' : MsapId} {t t' : ℕ} {x x' : List ℕ} {k k' : List TlvUnit} {l l' u u' : ℕ} → m ≡ m' → t ≡ t' → x ≡ x' → k ≡ k' → l ≡ l' → u ≡ u'
         → ◌≡◌ {A = LldpInfo} (record { msap = m; ttl = t; octets = x; kept = k; discarded = l; unrecognized = u }) (record { msap = m'; ttl = t'; octets = x'; kept = k'; discarded = l'; unrecognized = u' })

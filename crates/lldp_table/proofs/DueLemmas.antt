@@ -5,7 +5,7 @@ use Rattle.std.specs.List.Sorted.{IsPermutation}
 use Rattle.std.proofs.Math.ListN.{drop_of_length-le}
 use Rattle.std.proofs.Math.Seq.{drop-cons, take-append_seam, drop-append_seam}
 use Rattle.std.proofs.lemmas.Bool.{cases_Bool, eqb-true, eqb-false, eq-eqb, le-leb, lt-leb, ltb-true, cond-true, cond-false}
-use Rattle.std.proofs.lemmas.List.{take_all, take_more, take-append-drop, append_assoc, append-nil, map-append, take-map, drop-map, get_or-set_same, get_or-set_other}
+use Rattle.std.proofs.lemmas.List.{take_more, take-append-drop, append_assoc, map-append, take-map, drop-map, get_or-set_same, get_or-set_other}
 use Rattle.std.proofs.lemmas.List.Elements.{All-from_recursion, recursion_from_All}
 use Rattle.std.proofs.lemmas.List.Sorted.{All-permutation}
 use Rattle.std.proofs.lemmas.Map.Keys.{IsDistinct-head, IsDistinct-tail, IsDistinct-cons}
