@@ -7,7 +7,6 @@ use Rattle.lldp_pdu.specs.Lldpdu.{extent, ttl_of, msap_of}
 use Rattle.lldp_pdu.specs.Fault.{fault_of}
 use Rattle.lldp_table.specs.Msap.{same_msap}
 use Rattle.lldp_table.specs.Events.{Neighbor}
-use Rattle.lldp_pdu.specs.declared.frame.TheConstants.{MOST_OCTETS}
 use Rattle.lldp_table.specs.declared.limits.TheConstants.{MOST_NEIGHBORS}
 
 -- a table: the limit of opening, that in force, its neighbors in the order in which they were last new, and the ticks
@@ -29,7 +28,7 @@ holds_name table name = list_any (is_named name) table.neighbors
 -- what a learned frame told: at most 1,500 octets, which alone are a sound LLDPDU with this MSAP identifier and this
 -- TTL, not 0, and are whole its extent
 pub record IsExtent (msap : MsapId) (ttl : ℕ) (octets : List ℕ) : Type 0 where
-  pub short : length octets ≤ MOST_OCTETS
+  pub short : length octets ≤ 1500
   pub lives : 0 < ttl
   pub chassis : IsIdentifier msap.chassis
   pub port : IsIdentifier msap.port
