@@ -18,7 +18,7 @@ use Rattle.clap.specs.declared.parser.matches.ArgMatches.{ArgMatches}
 use Rattle.clap.proofs.WalkLemmas.{byte_read}
 use Rattle.clap.proofs.OnLiterals.{clap_on_literals}
 use Rattle.lldp_program.specs.declared.arguments.Listening.{Listening}
-use Rattle.lldp_program.specs.Arguments.{MayGiveNumber}
+use Rattle.lldp_program.specs.Arguments.{GivesNumber}
 use Rattle.lldp_program.specs.Usage.{AreRoles, AsksListening, IsParse, MayFail, WritesNumber, program, role_rule, text_rule}
 
 pub reads_byte : (E : Type 0) (G : List ℕ → Result ℕ E → Type 0) (t : List ℕ) (r : Option ℕ) → ReadsOne G t r
@@ -83,7 +83,7 @@ listens E G None connections r n many none read only counted is = let bad = none
 listens E G (Some t) connections r n many none read only counted is = (number_written E G t r (read t refl) only n is, counted)
 
 -- no port was read: so there is no text, since every given one has a number
-pub listens_not : (E : Type 0) (G : List ℕ → Result ℕ E → Type 0) (m : ArgMatches) (connections : Option Text) (r : Option ℕ) → MayGiveNumber 65535 (codes "listen") m
+pub listens_not : (E : Type 0) (G : List ℕ → Result ℕ E → Type 0) (m : ArgMatches) (connections : Option Text) (r : Option ℕ) → (one_text (found_of m) (codes "listen") ≡ None) ⊎ GivesNumber 65535 (codes "listen") m
     → ((t : List ℕ) → one_text (found_of m) (codes "listen") ≡ Some t → ReadsOne G t r) → ((u : List ℕ) (x : Result ℕ E) → G u x → ParsesUnsigned 16 10 u x) → r ≡ None
     → AsksListening (one_text (found_of m) (codes "listen")) connections None
 listens_not E G m connections r (inl none) read only is = rw none refl

@@ -1,12 +1,12 @@
 //! What the program's arguments ask for.
 ghost use Rattle.std.specs.Prelude.{◌≡◌, ◌≤◌, ◌⊎◌, ℕ, List, IfOk, IfErr, Some, None, false, codes, map, option_map};
 ghost use Rattle.std.specs.Borrow.{Bor};
-ghost use Rattle.clap.specs.Words.{IsPlainArg, app_of, first_value, found_of, kind_of, one_text, rows_of, rule_of};
+ghost use Rattle.clap.specs.Words.{app_of, first_value, found_of, kind_of, one_text, rows_of, rule_of};
 ghost use Rattle.clap.specs.Walk.{byte_or_zero};
 ghost use Rattle.clap.specs.declared.error.kind.ErrorKind.TheVariants as ErrorKind;
 ghost use Rattle.lldp_program.specs.Usage.{AreRoles, Asks, AsksListening, AsksManagement, HasBadAddress, IsParse, WritesNoIpv4, WritesNumber, MayFail, listen_rule, management_rule, number_rule, ports_rule, program, receive_only_rule, role_named, role_rule, text_rule, valued_rule};
 ghost use Rattle.lldp_engine.specs.Options.{InRange, options_of as plain_options};
-ghost use Rattle.lldp_program.specs.Arguments.{GivesNumber, GivesOptions, GivesText, HasValue, IsArgument, ReadsOptions, greatest_of};
+ghost use Rattle.lldp_program.specs.Arguments.{GivesNumber, GivesText, IsProgramParse};
 
 use crate::addresses::{read_ipv4, read_mac};
 use crate::help::{ABOUT, MORE, USAGE, VERSION};
@@ -78,9 +78,7 @@ fn number<'a>(
     default: &'a str,
     help: &'a str,
 ) -> Arg<'a>
-    requires greatest { greatest_of name.now ≡ Some greatest }
-    ensures fits { IsArgument name.entry.now result }
-    ensures rule { rule_of result ≡ number_rule name.entry.now greatest default.entry.now }
+    ensures { rule_of result ≡ number_rule name.entry.now greatest default.entry.now }
 {
     valued(alloc, name, default)
         .value_name("N")
@@ -96,19 +94,14 @@ fn text<'a>(
     default: &'a str,
     help: &'a str,
 ) -> Arg<'a>
-    requires text { greatest_of name.now ≡ None }
-    ensures fits { IsArgument name.entry.now result }
-    ensures rule { rule_of result ≡ text_rule name.entry.now default.entry.now }
+    ensures { rule_of result ≡ text_rule name.entry.now default.entry.now }
 {
     valued(alloc, name, default).value_name(value).help(help)
 }
 
 /// An option that takes a value, or has this one.
 fn valued<'a>(alloc: Global, name: &'a str, default: &'a str) -> Arg<'a>
-    ensures id { result.id ≡ name.entry }
-    ensures plain { IsPlainArg result × (result.global ≡ false) }
-    ensures value { HasValue result }
-    ensures rule { rule_of result ≡ valued_rule name.entry.now default.entry.now }
+    ensures { rule_of result ≡ valued_rule name.entry.now default.entry.now }
 {
     Arg::new(alloc, name)
         .long(name)
@@ -117,8 +110,7 @@ fn valued<'a>(alloc: Global, name: &'a str, default: &'a str) -> Arg<'a>
 }
 
 fn management<'a>(alloc: Global) -> Arg<'a>
-    ensures fits { IsArgument (codes "management") result }
-    ensures rule { rule_of result ≡ management_rule }
+    ensures { rule_of result ≡ management_rule }
 {
     Arg::new(alloc, MANAGEMENT)
         .long(MANAGEMENT)
@@ -127,8 +119,7 @@ fn management<'a>(alloc: Global) -> Arg<'a>
 }
 
 fn role<'a>(alloc: Global) -> Arg<'a>
-    ensures fits { IsArgument (codes "role") result }
-    ensures rule { (roles : Bor (List (Bor (List ℕ)))) × AreRoles roles
+    ensures { (roles : Bor (List (Bor (List ℕ)))) × AreRoles roles
         × (rule_of result ≡ role_rule roles) }
 {
     valued(alloc, ROLE, "station")
@@ -138,8 +129,7 @@ fn role<'a>(alloc: Global) -> Arg<'a>
 }
 
 fn receive_only<'a>(alloc: Global) -> Arg<'a>
-    ensures fits { IsArgument (codes "receive-only") result }
-    ensures rule { rule_of result ≡ receive_only_rule }
+    ensures { rule_of result ≡ receive_only_rule }
 {
     Arg::new(alloc, RECEIVE_ONLY)
         .long(RECEIVE_ONLY)
@@ -148,8 +138,7 @@ fn receive_only<'a>(alloc: Global) -> Arg<'a>
 }
 
 fn listen<'a>(alloc: Global) -> Arg<'a>
-    ensures fits { IsArgument (codes "listen") result }
-    ensures rule { rule_of result ≡ listen_rule }
+    ensures { rule_of result ≡ listen_rule }
 {
     Arg::new(alloc, LISTEN)
         .long(LISTEN)
@@ -159,8 +148,7 @@ fn listen<'a>(alloc: Global) -> Arg<'a>
 }
 
 fn ports<'a>(alloc: Global) -> Arg<'a>
-    ensures fits { IsArgument (codes "PORT") result }
-    ensures rule { rule_of result ≡ ports_rule }
+    ensures { rule_of result ≡ ports_rule }
 {
     Arg::new(alloc, PORT).num_args(0..).hide(true)
 }
@@ -168,7 +156,7 @@ fn ports<'a>(alloc: Global) -> Arg<'a>
 /// Reads the words, of which the first is the program's name. Fails also where they ask for help or
 /// the version.
 pub fn parse<'a, S: AsStr>(alloc: Global, words: &'a [S]) -> Result<ArgMatches<'a>, Error>
-    ensures options { IfOk result GivesOptions }
+    ensures options { IfOk result IsProgramParse }
     ensures words { IfOk result (λ m. IsParse (map S.text words.entry.now) (rows_of (found_of m))) }
     ensures kinds { IfErr result (λ e. (kind_of e ≡ ErrorKind.OutOfMemory)
         ⊎ MayFail (map S.text words.entry.now) (kind_of e)) }
@@ -178,8 +166,7 @@ pub fn parse<'a, S: AsStr>(alloc: Global, words: &'a [S]) -> Result<ArgMatches<'
 
 /// The program's options and ports.
 fn command<'a>(alloc: Global) -> Result<Command<'a>, AllocError>
-    ensures options { IfOk result ReadsOptions }
-    ensures app { IfOk result (λ c. (roles : Bor (List (Bor (List ℕ)))) × AreRoles roles
+    ensures { IfOk result (λ c. (roles : Bor (List (Bor (List ℕ)))) × AreRoles roles
         × (app_of c ≡ program roles)) }
 {
     Command::new(alloc, "lldpa")
@@ -228,7 +215,7 @@ fn command<'a>(alloc: Global) -> Result<Command<'a>, AllocError>
 
 /// The options that the words gave. The MAC is read before the management address.
 pub fn options_of<'m>(matches: &'m ArgMatches<'_>) -> Result<Options<'m>, AddressFault>
-    requires given { GivesOptions matches.now }
+    requires parse { IsProgramParse matches.now }
     ensures range { IfOk result (λ options. InRange (plain_options options)) }
     ensures asks { IfOk result (λ options.
         Asks (rows_of (found_of matches.now)) (plain_options options)) }
@@ -253,7 +240,7 @@ pub fn options_of<'m>(matches: &'m ArgMatches<'_>) -> Result<Options<'m>, Addres
 
 /// Where the words ask to listen, and for how many connections. None where they do not.
 pub fn listening_of(matches: &ArgMatches<'_>) -> Option<Listening>
-    requires given { GivesOptions matches.now }
+    requires parse { IsProgramParse matches.now }
     ensures { AsksListening (one_text (found_of matches.now) (codes "listen"))
         (one_text (found_of matches.now) (codes "connections")) result }
 {

@@ -4,7 +4,7 @@ ghost use Rattle.std.specs.Io.KnownBytes.{Keeps};
 ghost use Rattle.clap.specs.Values.{kind_of};
 ghost use Rattle.clap.specs.Words.{found_of, rows_of};
 ghost use Rattle.lldp_engine.specs.Options.{Options, fault_of};
-ghost use Rattle.lldp_program.specs.Arguments.{GivesOptions};
+ghost use Rattle.lldp_program.specs.Arguments.{IsProgramParse};
 ghost use Rattle.lldp_program.specs.Program.{FailedBy, HasAnswered, RanAs, RanStreams};
 ghost use Rattle.lldp_program.specs.Usage.{Asks};
 
@@ -74,7 +74,7 @@ fn run_matches<R: Read, W: Write, E: Write>(
     writer: &mut W,
     faults: &mut E,
 ) -> u8
-    requires given { GivesOptions matches.now }
+    requires parse { IsProgramParse matches.now }
     ensures status { result ≤ REFUSED }
     ensures ran { result ≢ REFUSED →
         (options : Options) × Asks (rows_of (found_of matches.now)) options

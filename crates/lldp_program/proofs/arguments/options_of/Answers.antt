@@ -6,17 +6,38 @@ use Rattle.clap.specs.Matches.{found_of}
 use Rattle.clap.proofs.WalkLemmas.{first_value-rows, one_text-rows, raw_values-rows}
 use Rattle.lldp_program.specs.Usage.{role_named, AsksMac, AsksManagement, HasBadAddress, WritesNoIpv4, WritesNoMac}
 use Rattle.lldp_program.specs.declared.arguments.AddressFault.TheVariants.{Management}
+use Rattle.lldp_program.proofs.ArgumentLemmas.{gives_number, gives_text}
 use Rattle.lldp_program.proofs.UsageLemmas.{ports_named}
 use Rattle.lldp_program.proofs.arguments.options_of.Goals as goal
 
+pub given-requires : goal.given-requires
+given-requires c = record { given = gives_text c.requires.parse (codes "mac") _ _ (refl, refl) }
+
+pub given-requires-2 : goal.given-requires-2
+given-requires-2 c = record { given = gives_text c.requires.parse (codes "hostname") _ _ (refl, refl) }
+
+pub given-requires-3 : goal.given-requires-3
+given-requires-3 c = record { given = gives_text c.requires.parse (codes "role") _ _ (refl, refl) }
+
+pub number_of-requires : goal.number_of-requires
+number_of-requires c = record { given = (128, omega arith, gives_number c.requires.parse (codes "max-neighbors") _ _ (refl, refl)) }
+
+pub number_of-requires-2 : goal.number_of-requires-2
+number_of-requires-2 c = record { given = (10, omega arith, gives_number c.requires.parse (codes "tx-credit-max") _ _ (refl, refl)) }
+
+pub number_of-requires-3 : goal.number_of-requires-3
+number_of-requires-3 c = record { given = (8, omega arith, gives_number c.requires.parse (codes "tx-fast-init") _ _ (refl, refl)) }
+
+pub number_of-requires-4 : goal.number_of-requires-4
+number_of-requires-4 c = record { given = (10, omega arith, gives_number c.requires.parse (codes "reinit-delay") _ _ (refl, refl)) }
+
 pub returns-clause-range : goal.returns-clause-range
 returns-clause-range c =
-    let given = c.requires.given in
     record {
-      neighbors = c.number_of.ensures.range 128 (omega arith) given.max_neighbors;
-      credit = c.number_of-2.ensures.range 10 (omega arith) given.credit_max;
-      fast = c.number_of-3.ensures.range 8 (omega arith) given.fast_init;
-      wait = c.number_of-4.ensures.range 10 (omega arith) given.reinit;
+      neighbors = c.number_of.ensures.range 128 (omega arith) (gives_number c.requires.parse (codes "max-neighbors") _ _ (refl, refl));
+      credit = c.number_of-2.ensures.range 10 (omega arith) (gives_number c.requires.parse (codes "tx-credit-max") _ _ (refl, refl));
+      fast = c.number_of-3.ensures.range 8 (omega arith) (gives_number c.requires.parse (codes "tx-fast-init") _ _ (refl, refl));
+      wait = c.number_of-4.ensures.range 10 (omega arith) (gives_number c.requires.parse (codes "reinit-delay") _ _ (refl, refl));
     }
 
 pub returns-clause-asks : goal.returns-clause-asks

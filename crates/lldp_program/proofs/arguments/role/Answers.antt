@@ -4,11 +4,11 @@ use Rattle.clap.specs.declared.builder.arg.Arg.{Arg}
 use Rattle.lldp_program.proofs.UsageLemmas.{role_ruled}
 use Rattle.lldp_program.proofs.arguments.role.Goals as goal
 
-pub returns-clause-rule : goal.returns-clause-rule
-returns-clause-rule c =
+pub returns : goal.returns
+returns c =
     let given = c.value_parser.ensures.given in
     role_ruled given.0 _ (rule_of c.help.result) given.2 refl
     (ap rule_of c.help.ensures ∙ (ap rule_of c.value_parser.ensures.others
     ∙ (ap (λ p. record (rule_of c.value_name.result) { parser = p }) given.1
     ∙ (ap (λ (a : Arg). record (rule_of a) { parser = Some given.0 }) c.value_name.ensures
-    ∙ ap (λ (r : Rule). record r { value_names = 1; parser = Some given.0 }) c.valued.ensures.rule))))
+    ∙ ap (λ (r : Rule). record r { value_names = 1; parser = Some given.0 }) c.valued.ensures))))
