@@ -73,17 +73,13 @@ pub record HasRun {T : Type 0} (to_come left old new : Option (List ℕ)) (befor
 
 -- the failed reads after a run: one more where it answers Read, else as many as before
 abbrev pub read_failures_after : {T : Type 0} → ℕ → Result T RunFault → ℕ
-read_failures_after failures (Ok done) = failures
 read_failures_after failures (Err Read) = one_more failures
-read_failures_after failures (Err Write) = failures
-read_failures_after failures (Err InputTooLong) = failures
+read_failures_after failures _ = failures
 
 -- the failed writes after a run: one more where it answers Write, else as many as before
 abbrev pub write_failures_after : {T : Type 0} → ℕ → Result T RunFault → ℕ
-write_failures_after failures (Ok done) = failures
-write_failures_after failures (Err Read) = failures
 write_failures_after failures (Err Write) = one_more failures
-write_failures_after failures (Err InputTooLong) = failures
+write_failures_after failures _ = failures
 
 -- the past with more events, newest first
 abbrev pub followed : Past → List Event → Past
