@@ -7,7 +7,7 @@ use Rattle.std.specs.List.{flat_map}
 use Rattle.lldp_engine.specs.declared.command.Show.{Show}
 use Rattle.lldp_engine.specs.Past.{Past}
 use Rattle.lldp_engine.specs.Standing.{Stands}
-use Rattle.lldp_engine.specs.Lines.{lines_of as show_lines}
+use Rattle.lldp_engine.specs.Lines.{lines_of}
 use Rattle.lldp_engine.specs.AgentState.{AgentState}
 use Rattle.lldp_engine.proofs.HeadlineLemmas.{promised as keeps_promise}
 use Rattle.lldp_program.specs.declared.line.LineFault.{LineFault}
@@ -111,9 +111,9 @@ one_item item before agent r o p text gives h = record {
 }
 
 -- the lines of a show that the agent has are those that its past gives
-pub show_runs : (items : List Item) (show : Show) (agent : AgentState) (r : Result (Unit {0}) DeviceFault) (o p : Output) → items ≡ shows show ∷ [] → Writes (flat_map ended (show_lines show agent)) r o p → RunsItems (λ _. items) r agent agent o p
+pub show_runs : (items : List Item) (show : Show) (agent : AgentState) (r : Result (Unit {0}) DeviceFault) (o p : Output) → items ≡ shows show ∷ [] → Writes (flat_map ended (lines_of show agent)) r o p → RunsItems (λ _. items) r agent agent o p
 show_runs items show agent r o p is h =
-    rw is (one_item (shows show) agent agent r o p _ (λ past stands. (stands, ap (λ seen. flat_map ended (show_lines show seen)) stands.is)) h)
+    rw is (one_item (shows show) agent agent r o p _ (λ past stands. (stands, ap (λ seen. flat_map ended (lines_of show seen)) stands.is)) h)
 
 pub fault_runs : (items : List Item) (fault : LineFault) (text : List ℕ) (agent : AgentState) (r : Result (Unit {0}) DeviceFault) (o p : Output) → items ≡ refused fault ∷ [] → text ≡ fault_text fault → Writes (ended text) r o p → RunsItems (λ _. items) r agent agent o p
 fault_runs items fault text agent r o p is said h =

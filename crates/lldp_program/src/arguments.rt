@@ -5,7 +5,7 @@ ghost use Rattle.clap.specs.Words.{app_of, first_value, found_of, kind_of, one_t
 ghost use Rattle.clap.specs.Walk.{byte_or_zero};
 ghost use Rattle.clap.specs.declared.error.kind.ErrorKind.TheVariants as ErrorKind;
 ghost use Rattle.lldp_program.specs.Usage.{AreRoles, Asks, AsksListening, AsksManagement, HasBadAddress, IsParse, WritesNoIpv4, WritesNumber, MayFail, listen_rule, management_rule, number_rule, ports_rule, program, receive_only_rule, role_named, role_rule, text_rule, valued_rule};
-ghost use Rattle.lldp_engine.specs.Options.{InRange, options_of as plain_options};
+ghost use Rattle.lldp_engine.specs.Options.{InRange, options_of};
 ghost use Rattle.lldp_program.specs.Arguments.{GivesNumber, GivesText, IsProgramParse};
 
 use crate::addresses::{read_ipv4, read_mac};
@@ -214,11 +214,11 @@ fn command<'a>(alloc: Global) -> Result<Command<'a>, AllocError>
 }
 
 /// The options that the words gave. The MAC is read before the management address.
-pub fn options_of<'m>(matches: &'m ArgMatches<'_>) -> Result<Options<'m>, AddressFault>
+pub fn read_options<'m>(matches: &'m ArgMatches<'_>) -> Result<Options<'m>, AddressFault>
     requires parse { IsProgramParse matches.now }
-    ensures range { IfOk result (λ options. InRange (plain_options options)) }
+    ensures range { IfOk result (λ options. InRange (options_of options)) }
     ensures asks { IfOk result (λ options.
-        Asks (rows_of (found_of matches.now)) (plain_options options)) }
+        Asks (rows_of (found_of matches.now)) (options_of options)) }
     ensures refused { IfErr result (HasBadAddress (rows_of (found_of matches.now))) }
 {
     let Some(mac) = read_mac(given(matches, MAC)) else {

@@ -3,7 +3,7 @@ ghost use Rattle.std.specs.Prelude.{◌≡◌, ◌≤◌, ◌<◌, ◌+◌, ◌*
 ghost use Rattle.std.specs.List.{flat_map, AllByRecursion};
 ghost use Rattle.lldp_engine.specs.AgentState.{names_of, IsPort};
 ghost use Rattle.lldp_engine.specs.Frames.{IsSent};
-ghost use Rattle.lldp_engine.specs.Lines.{lines_of as show_lines};
+ghost use Rattle.lldp_engine.specs.Lines.{lines_of};
 ghost use Rattle.lldp_engine.specs.declared.show.writer.TheConstants.{ROOM};
 ghost use Rattle.lldp_program.specs.Devices.{failures_after};
 ghost use Rattle.lldp_program.specs.Lines.{ended};
@@ -149,7 +149,7 @@ impl<W: Sink> Output<'_, W> {
     /// Writes the lines of a show.
     pub fn write_show(&mut self, agent: &Agent, show: Show) -> Result<(), DeviceFault>
         ensures { Between W.taken W.failures W.place self.old self.new
-            (Writes (flat_map ended (show_lines show agent.now)) result) }
+            (Writes (flat_map ended (lines_of show agent.now)) result) }
     {
         self.begin();
         agent.show_lines(&show, self);

@@ -8,7 +8,7 @@ ghost use Rattle.lldp_program.specs.Arguments.{IsProgramParse};
 ghost use Rattle.lldp_program.specs.Program.{FailedBy, HasAnswered, RanAs, RanStreams};
 ghost use Rattle.lldp_program.specs.Usage.{Asks};
 
-use crate::arguments::{AddressFault, Listening, listening_of, options_of, parse};
+use crate::arguments::{AddressFault, Listening, listening_of, parse, read_options};
 use crate::device::{Flush, FromReader, Source, ToWriter};
 use crate::serve::{ServeFault, serve};
 use crate::trace::run_trace;
@@ -86,7 +86,7 @@ fn run_matches<R: Read, W: Write, E: Write>(
         Keeps (R.remaining reader.old) (R.remaining reader.new)
         × Keeps (W.contents writer.old) (W.contents writer.new) }
 {
-    let options = match options_of(matches) {
+    let options = match read_options(matches) {
         Ok(options) => options,
         Err(fault) => return refuse_address(fault, faults),
     };

@@ -8,7 +8,7 @@ use Rattle.lldp_program.specs.Usage.{role_named, AsksMac, AsksManagement, HasBad
 use Rattle.lldp_program.specs.declared.arguments.AddressFault.TheVariants.{Management}
 use Rattle.lldp_program.proofs.ArgumentLemmas.{gives_number, gives_text}
 use Rattle.lldp_program.proofs.UsageLemmas.{ports_named}
-use Rattle.lldp_program.proofs.arguments.options_of.Goals as goal
+use Rattle.lldp_program.proofs.arguments.read_options.Goals as goal
 
 pub given-requires : goal.given-requires
 given-requires c = record { given = gives_text c.requires.parse (codes "mac") _ _ (refl, refl) }
