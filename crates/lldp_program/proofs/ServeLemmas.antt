@@ -1,6 +1,5 @@
 -- What one more connection leaves.
-use Rattle.std.proofs.Common.{◌≡◌, ◌≤◌, ◌++◌, ℕ, List, [], ◌∷◌, Option, Some, None, Result, Ok, Err, ap, sym, refl, append_assoc, append-nil, arith, length, ◌+◌, ◌∙◌}
-use Rattle.std.proofs.lemmas.Option.{same_Some}
+use Rattle.std.proofs.Common.{◌≡◌, ◌≤◌, ◌++◌, ℕ, List, [], ◌∷◌, Option, Some, None, Result, Ok, Err, ap, sym, refl, append_assoc, arith, ◌∙◌}
 use Rattle.lldp_engine.specs.AgentState.{AgentState}
 use Rattle.lldp_engine.specs.Past.{Past}
 use Rattle.lldp_engine.specs.Standing.{Stands}
@@ -46,17 +45,3 @@ pub logged_visit : {C : Type 0} → (visits : List (Visit C)) (visit : Visit C) 
 logged_visit visits visit first told accepting running before accepts runs =
     runs ∙ ap (logged (ran visit ∷ [])) (accepts ∙ ap (logged (accepted visit.connection ∷ [])) before ∙ logged_then (calls_of visits) (accepted visit.connection ∷ []) first)
     ∙ logged_then (accepted visit.connection ∷ calls_of visits) (ran visit ∷ []) first
-
-two_a_visit : {C : Type 0} → (visits : List (Visit C)) → length (calls_of visits) ≡ length (results_of visits) + length (results_of visits)
-two_a_visit [] = refl
-two_a_visit (visit ∷ earlier) = let more = two_a_visit earlier in omega (arith, more)
-
--- what a door that tells its calls was asked at Ok: two calls a connection, no fewer and no more
-pub asked_at_ok : {C : Type 0} → (to_come taken : C → Option (List ℕ)) (calls : List (Call C)) (connections faulty : ℕ) (before after : AgentState)
-    → HasAsked to_come taken (Some []) (Some calls) connections before after (Ok faulty) → length calls ≡ connections + connections
-asked_at_ok to_come taken calls connections faulty before after h =
-    let same : calls ≡ calls_of h.visits ++ [] = same_Some _ _ h.asked in
-    let two = two_a_visit h.visits in
-    let whole : length calls ≡ length (calls_of h.visits) = ap length (same ∙ append-nil (calls_of h.visits)) in
-    let many = h.told.0 in
-    omega (arith, two, whole, many)
