@@ -3,11 +3,11 @@ ghost use Rattle.std.specs.Prelude.{◌≡◌, ℕ, ◌<◌, ◌≤◌, length, 
 ghost use Rattle.std.specs.List.{AllByRecursion};
 ghost use Rattle.std.specs.Option.{option_map};
 ghost use Rattle.lldp_table.specs.Standing.{Stands as TableStands};
-ghost use Rattle.lldp_engine.specs.Options.{options_of, InRange, IsRefusal, fault_of as first_fault};
+ghost use Rattle.lldp_engine.specs.Options.{options_of, InRange, IsRefusal, fault_of};
 ghost use Rattle.lldp_engine.specs.EventView.{event_of};
 ghost use Rattle.lldp_engine.specs.AgentState.{names_of, name_of, IsPort, Allows};
 ghost use Rattle.lldp_engine.specs.Configuration.{configured};
-ghost use Rattle.lldp_engine.specs.Place.{place_of as place};
+ghost use Rattle.lldp_engine.specs.Place.{place_of};
 ghost use Rattle.lldp_engine.specs.Past.{Past, opened, with_event, past_of, marks_of};
 ghost use Rattle.lldp_engine.specs.Port.Past.{status_after, up_after, calls_after, counters_after};
 ghost use Rattle.lldp_engine.specs.Frames.{IsSent};
@@ -29,8 +29,8 @@ use crate::agent::configuration::Configuration;
 use crate::agent::event::{Event, Setting};
 use crate::agent::open_fault::OpenFault;
 use crate::agent::options::{MOST_HOLD, MOST_INTERVAL, Options};
-use crate::agent::ports::{Marks, all_fit, open_ports, place_of, take_event};
-use crate::agent::text::is_text;
+use crate::agent::ports::{Marks, all_fit, find_place, open_ports, take_event};
+use crate::agent::text::is_printable_text;
 use crate::port::Port;
 use crate::port::counters::Counters;
 use crate::port::status::Status;
@@ -64,7 +64,7 @@ impl<A: Allocator> Agent<A> {
     where
         A: Clone,
         requires { InRange (options_of options.now) }
-        ensures checked { IfOk result (λ _. first_fault (options_of options.now) ≡ None) }
+        ensures checked { IfOk result (λ _. fault_of (options_of options.now) ≡ None) }
         ensures opened { IfOk result (λ agent. Stands (opened (options_of options.now)) agent) }
         ensures refused { IfErr result (λ fault. IsRefusal (options_of options.now) fault) }
     {
@@ -117,12 +117,12 @@ impl<A: Allocator> Agent<A> {
 
     /// The place of the port of that name, from 0.
     pub fn find_port(&self, name: &[u8]) -> Option<u8>
-        ensures place { result ≡ place (names_of self.now) name.now }
+        ensures place { result ≡ place_of (names_of self.now) name.now }
         ensures exists { IfSome result (λ port. IsPort self.now port) }
         ensures past { (past : Past) → Stands past self.now →
-            result ≡ place past.options.names name.now }
+            result ≡ place_of past.options.names name.now }
     {
-        place_of(self.ports.as_slice(), name)
+        find_place(self.ports.as_slice(), name)
     }
 
     /// The status of a port.
@@ -185,7 +185,7 @@ impl<A: Allocator> Agent<A> {
         ensures { IsTrue result ↔ Allows self.now (event_of (Event.Set setting.now)) }
     {
         match setting {
-            Setting::Hostname(text) | Setting::Description(text) => is_text(text),
+            Setting::Hostname(text) | Setting::Description(text) => is_printable_text(text),
             Setting::Interval(seconds) => (1..=MOST_INTERVAL).contains(seconds),
             Setting::Hold(times) => (1..=MOST_HOLD).contains(times),
             Setting::Limit(neighbors) => self.allows_limit(*neighbors),

@@ -4,7 +4,7 @@ ghost use Rattle.lldp_engine.specs.AgentState.{AgentState};
 ghost use Rattle.lldp_engine.specs.Answer.{on_ok};
 ghost use Rattle.lldp_engine.specs.Command.{Command as CommandSaid, show, command_of, AllowsCommand};
 ghost use Rattle.lldp_engine.specs.Forms.{Form, complete, going_on};
-ghost use Rattle.lldp_engine.specs.Given.{said_by, unless_in_use as unless_limit_in_use, command_said, command_given, Says};
+ghost use Rattle.lldp_engine.specs.Given.{said_by, unless_in_use, command_said, command_given, Says};
 ghost use Rattle.lldp_engine.specs.Code.SaidSetting.{IsSaidCommand};
 ghost use Rattle.lldp_engine.specs.Past.{Past, agent_of};
 ghost use Rattle.lldp_engine.specs.Standing.{Stands};
@@ -100,13 +100,13 @@ fn read_whole<'l, A: Allocator>(
 }
 
 /// The command, unless it sets a limit below what a port holds.
-fn unless_in_use<'l, A: Allocator>(
+fn refuse_in_use<'l, A: Allocator>(
     agent: &Agent<A>,
     command: Command<'l>,
 ) -> Result<Command<'l>, CommandFault>
     requires { IsSaidCommand agent.now (command_of command) }
     ensures unused { on_ok command_of result
-        ≡ unless_limit_in_use agent.now.ports (Ok (command_of command.entry)) }
+        ≡ unless_in_use agent.now.ports (Ok (command_of command.entry)) }
     ensures allowed { IfOk result (λ c. AllowsCommand agent.now (command_of c)) }
 {
     match command {
@@ -131,7 +131,7 @@ impl<A: Allocator> Agent<A> {
         ensures allowed { IfOk result (λ command. AllowsCommand self.now (command_of command)) }
     {
         let command = read_whole(self, first, behind)?;
-        unless_in_use(self, command)
+        refuse_in_use(self, command)
     }
 
     /// The command that a line gives, or the first fault: a bad quote anywhere, then those of

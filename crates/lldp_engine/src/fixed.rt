@@ -1,8 +1,8 @@
 //! What stands fixed: texts and values octet by octet, and the numbers of ranges.
 ghost use Rattle.std.specs.Prelude.{◌≡◌, ℕ, List};
 ghost use Rattle.lldp_pdu.specs.Capabilities.{caps_fields};
-ghost use Rattle.lldp_engine.specs.declared.agent.options.Role.{Role as AgentRole};
-ghost use Rattle.lldp_engine.specs.Options.{Options as Opened};
+ghost use Rattle.lldp_engine.specs.declared.agent.options.Role.{Role};
+ghost use Rattle.lldp_engine.specs.Options.{Options};
 ghost use Rattle.lldp_engine.specs.AgentState.{AgentState, PortState};
 ghost use Rattle.lldp_engine.specs.Capabilities.{capabilities_text};
 ghost use Rattle.lldp_engine.specs.ChassisLines.{role_text};
@@ -18,7 +18,7 @@ ghost use Rattle.lldp_engine.specs.FixedValues.{AreWritten, AreIdentified, AreAd
 pub fn ranges_end_at_fixed_numbers()
     ensures constants { AreConstants }
     ensures settings { (agent : AgentState) (n : ℕ) → MaySet agent n }
-    ensures defaults { (options : Opened) → OpensWith options }
+    ensures defaults { (options : Options) → OpensWith options }
 {}
 
 /// Of the 256 octets these are separators, quotes, octets of ports' names, of texts and of numbers.
@@ -46,6 +46,6 @@ pub fn values_have_fixed_octets()
 
 /// The show line of a role has the capabilities that its frame says.
 pub fn roles_are_shown_as_sent()
-    ensures { (role : AgentRole) →
+    ensures { (role : Role) →
         role_text role ≡ capabilities_text (caps_fields (capabilities_of role)) }
 {}

@@ -1,8 +1,8 @@
 //! Laws of agents, for every past.
 ghost use Rattle.std.specs.Prelude.{◌≡◌, ◌↔◌, ℕ, Bool, List};
-ghost use Rattle.lldp_engine.specs.declared.port.status.Status.{Status as PortStatus};
-ghost use Rattle.lldp_engine.specs.Options.{Options as Opened};
-ghost use Rattle.lldp_engine.specs.Event.{Event as Happening, HasOctets};
+ghost use Rattle.lldp_engine.specs.declared.port.status.Status.{Status};
+ghost use Rattle.lldp_engine.specs.Options.{Options};
+ghost use Rattle.lldp_engine.specs.Event.{Event, HasOctets};
 ghost use Rattle.lldp_engine.specs.AgentState.{AgentState, Allows};
 ghost use Rattle.lldp_engine.specs.Past.{Past, with_event, configuration_after, port_past, marks_of};
 ghost use Rattle.lldp_engine.specs.Port.Past.{Happened, status_after, up_after};
@@ -22,10 +22,10 @@ pub mod whose;
 /// An event that is allowed carries standing from each past to that past with the event, and its
 /// marks are those of that past.
 pub fn steps_carry_standing()
-    ensures marks { (past : Past) (event : Happening) (agent : AgentState) → Stands past agent →
+    ensures marks { (past : Past) (event : Event) (agent : AgentState) → Stands past agent →
         Allows agent event → HasOctets event →
         agent_marks event agent ≡ marks_of (with_event past event) }
-    ensures stands { (past : Past) (event : Happening) (agent : AgentState) → Stands past agent →
+    ensures stands { (past : Past) (event : Event) (agent : AgentState) → Stands past agent →
         Allows agent event → HasOctets event →
         Stands (with_event past event) (agent_after event agent) }
 {}
@@ -41,18 +41,18 @@ pub fn standing_agents_are_promised()
 /// transmit exactly where its status gives it, so that a status that gives the right gives it back;
 /// and its link is up exactly where its last link event says so.
 pub fn rights_follow_statuses()
-    ensures { (options : Opened) (past : List Happened) → FollowsStatus options past }
+    ensures { (options : Options) (past : List Happened) → FollowsStatus options past }
 {}
 
 /// The status and the link of a port and the configuration, said of positions: each is what the
 /// last event that set it set, and no event after that one sets it; where none does, it is as it
 /// was opened.
 pub fn last_events_decide()
-    ensures status { (options : Opened) (port : ℕ) (events : List Happening) (status : PortStatus) →
+    ensures status { (options : Options) (port : ℕ) (events : List Event) (status : Status) →
         (status ≡ status_after options (port_past options port events))
         ↔ IsLastStatus options port events status }
-    ensures link { (options : Opened) (port : ℕ) (events : List Happening) (up : Bool) →
+    ensures link { (options : Options) (port : ℕ) (events : List Event) (up : Bool) →
         (up ≡ up_after (port_past options port events)) ↔ IsLastLink port events up }
-    ensures configuration { (options : Opened) (events : List Happening) →
+    ensures configuration { (options : Options) (events : List Event) →
         IsLastConfiguration options events (configuration_after options events) }
 {}

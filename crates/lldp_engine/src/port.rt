@@ -14,7 +14,7 @@ pub(crate) mod status;
 
 use crate::agent::options::Options;
 use crate::port::counters::Counters;
-use crate::port::status::{Status, status_at_opening};
+use crate::port::status::{Status, opening_status};
 use arrayvec::ArrayVec;
 use causes::{cause_of_link_event, cause_of_status};
 use event::PortEvent;
@@ -63,7 +63,7 @@ impl<A: Allocator> Port<A> {
         requires range { InRange (options_of options.now) }
         ensures { IfOk result (λ port. port ≡ opened_port (options_of options.now) name.now) }
     {
-        let status = status_at_opening(options);
+        let status = opening_status(options);
         let table = Table::open(alloc, options.max_neighbors)?;
         Ok(Port {
             name: name_of(name),

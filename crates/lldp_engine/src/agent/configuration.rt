@@ -39,9 +39,9 @@ pub(crate) struct Configuration {
 }
 
 impl Model for Configuration {
-    ghost use Rattle.lldp_engine.specs.Configuration.{Configuration as Configured};
+    ghost use Rattle.lldp_engine.specs.Configuration.{Configuration};
 
-    ghost Value = { Configured };
+    ghost Value = { Configuration };
 
     ghost view = { λ c. record {
       mac = c.mac;

@@ -4,9 +4,8 @@ ghost use Rattle.std.specs.List.{list_all};
 ghost use Rattle.lldp_engine.specs.Options.{InRange, options_of, is_port_name, fault_of};
 
 use crate::agent::open_fault::OpenFault;
-use crate::agent::port_names::{all_port_names, has_same};
-use crate::agent::text::is_text;
-
+use crate::agent::port_names::{all_port_names, names_repeat};
+use crate::agent::text::is_printable_text;
 pub use lldp_transmit::{MOST_CREDIT, MOST_FAST, MOST_REINIT};
 
 /// The most neighbors that a port may be opened for.
@@ -74,9 +73,9 @@ impl<'a> Options<'a> {
             Some(OpenFault::TooManyPorts)
         } else if !all_port_names(self.ports) {
             Some(OpenFault::PortName)
-        } else if has_same(self.ports) {
+        } else if names_repeat(self.ports) {
             Some(OpenFault::SamePort)
-        } else if !is_text(self.hostname.as_bytes()) {
+        } else if !is_printable_text(self.hostname.as_bytes()) {
             Some(OpenFault::Text)
         } else {
             None

@@ -2,27 +2,27 @@
 ghost use Rattle.std.specs.Prelude.{◌≡◌, map};
 ghost use Rattle.std.specs.List.{list_any, list_all};
 ghost use Rattle.std.specs.Str.{bytes_eq};
-ghost use Rattle.lldp_engine.specs.Options.{is_name_octet as names_octet, is_port_name as names_port, has_same as has_same_name};
+ghost use Rattle.lldp_engine.specs.Options.{is_name_octet, is_port_name, has_same};
 
-fn is_name_octet(octet: u8) -> bool
-    ensures { result ≡ names_octet octet }
+fn may_stand_in_name(octet: u8) -> bool
+    ensures { result ≡ is_name_octet octet }
 {
     matches!(octet, b'a'..=b'z' | b'A'..=b'Z' | b'/'..=b':' | b'-' | b'_')
 }
 
 fn all_name_octets(name: &[u8]) -> bool
-    ensures { result ≡ list_all names_octet name.now }
+    ensures { result ≡ list_all is_name_octet name.now }
 {
     for octet in name {
-        if !is_name_octet(*octet) {
+        if !may_stand_in_name(*octet) {
             return false;
         }
     }
     true
 }
 
-fn is_port_name(name: &str) -> bool
-    ensures { result ≡ names_port name.now }
+fn can_name_port(name: &str) -> bool
+    ensures { result ≡ is_port_name name.now }
 {
     if name.len() == 0 || name.len() > 15 {
         return false;
@@ -32,10 +32,10 @@ fn is_port_name(name: &str) -> bool
 
 /// Whether each is the name of a port.
 pub(crate) fn all_port_names(names: &[&str]) -> bool
-    ensures { result ≡ list_all names_port (map (λ n. n.now) names.now) }
+    ensures { result ≡ list_all is_port_name (map (λ n. n.now) names.now) }
 {
     for name in names {
-        if !is_port_name(name) {
+        if !can_name_port(name) {
             return false;
         }
     }
@@ -54,8 +54,8 @@ fn contains(names: &[&str], name: &str) -> bool
 }
 
 /// Whether a name stands twice.
-pub(crate) fn has_same(names: &[&str]) -> bool
-    ensures { result ≡ has_same_name (map (λ n. n.now) names.now) }
+pub(crate) fn names_repeat(names: &[&str]) -> bool
+    ensures { result ≡ has_same (map (λ n. n.now) names.now) }
 {
     for (i, name) in names.iter().enumerate() {
         if contains(&names[i + 1..], name) {

@@ -106,7 +106,7 @@ pub(crate) fn all_fit<A: Allocator>(ports: &[Port<A>], most: u8) -> bool
 }
 
 /// The place of the port of that name, from 0.
-pub(crate) fn place_of<A: Allocator>(ports: &[Port<A>], name: &[u8]) -> Option<u8>
+pub(crate) fn find_place<A: Allocator>(ports: &[Port<A>], name: &[u8]) -> Option<u8>
     requires { length ports.now ≤ 64 }
     ensures { result ≡ place_from 0 (map (λ p. p.name) ports.now) name.now }
 {

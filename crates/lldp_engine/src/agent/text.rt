@@ -1,7 +1,7 @@
 //! Texts: hostnames and descriptions.
 ghost use Rattle.std.specs.Prelude.{◌≡◌, ◌≤◌, IsTrue, nat_le, ◌&&◌, length};
 ghost use Rattle.std.specs.List.{list_all};
-ghost use Rattle.lldp_engine.specs.Options.{is_text as is_printable_text};
+ghost use Rattle.lldp_engine.specs.Options.{is_text};
 
 fn all_printable(text: &[u8]) -> bool
     ensures { result ≡ list_all (λ c. nat_le 32 c && nat_le c 126) text.now }
@@ -15,8 +15,8 @@ fn all_printable(text: &[u8]) -> bool
 }
 
 /// Whether these are at most 255 octets, each from the space to the tilde.
-pub(crate) fn is_text(text: &[u8]) -> bool
-    ensures value { result ≡ is_printable_text text.now }
+pub(crate) fn is_printable_text(text: &[u8]) -> bool
+    ensures value { result ≡ is_text text.now }
     ensures short { IsTrue result → length text.now ≤ 255 }
 {
     if text.len() > 255 {

@@ -1,17 +1,16 @@
 //! The words of a command, one after the other, as the forms have them.
 ghost use Rattle.std.specs.Prelude.{◌≡◌, ℕ, ◌≤◌, List, [], ◌∷◌, true, IfOk, MatchResult};
 ghost use Rattle.std.specs.Str.{bytes_eq};
-ghost use Rattle.lldp_engine.specs.Options.{is_text as is_printable_text};
+ghost use Rattle.lldp_engine.specs.Options.{is_text};
 ghost use Rattle.lldp_engine.specs.AgentState.{names_of, IsPort};
-ghost use Rattle.lldp_engine.specs.Forms.{Form, word, port, number, text, status, status_of as status_word};
+ghost use Rattle.lldp_engine.specs.Forms.{Form, word, port, number, text, status, status_of};
 ghost use Rattle.lldp_engine.specs.Answer.{on_ok};
 ghost use Rattle.lldp_engine.specs.Given.{Reads};
 ghost use Rattle.lldp_engine.specs.NextWords.{word_said, port_said, end_said};
 
 use crate::agent::Agent;
-use crate::agent::text::is_text;
+use crate::agent::text::is_printable_text;
 use crate::command::fault::CommandFault;
-use crate::command::number::number as number_in;
 use crate::command::words::Words;
 use crate::port::status::Status;
 use std::alloc::Allocator;
@@ -58,10 +57,10 @@ pub(crate) fn expect_word(words: &mut Words<'_>, expected: &str) -> Result<(), C
 pub(crate) fn next_text<'l>(words: &mut Words<'l>) -> Result<&'l [u8], CommandFault>
     ensures reads { (names : List (List ℕ)) (next : List ℕ → Form) →
         Reads names (text next ∷ []) words.old result (λ t. next t.now ∷ []) words.new }
-    ensures is_text { IfOk result (λ t. is_printable_text t.now ≡ true) }
+    ensures is_text { IfOk result (λ t. is_text t.now ≡ true) }
 {
     let word = next_word(words)?;
-    if !is_text(word) {
+    if !is_printable_text(word) {
         return Err(CommandFault::Text);
     }
     Ok(word)
@@ -79,15 +78,12 @@ pub(crate) fn next_number(
     ensures in_range { IfOk result (λ n. (least ≤ n) × (n ≤ greatest)) }
 {
     let word = next_word(words)?;
-    number_in(word, least, greatest)
+    crate::command::number::number(word, least, greatest)
 }
 
 /// The number of the port that the next word names. A word that is missing is `Unknown`, one that
 /// names no port is `NoSuchPort`.
-pub fn next_port<A: Allocator>(
-    agent: &Agent<A>,
-    words: &mut Words<'_>,
-) -> Result<u8, CommandFault>
+pub fn next_port<A: Allocator>(agent: &Agent<A>, words: &mut Words<'_>) -> Result<u8, CommandFault>
     ensures said { on_ok (λ p. (p, words.new)) result
         ≡ port_said (names_of agent.now) words.old }
     ensures reads { (next : ℕ → Form) →
@@ -99,8 +95,8 @@ pub fn next_port<A: Allocator>(
 }
 
 /// The status that a word names.
-fn status_of(word: &[u8]) -> Option<Status>
-    ensures { result ≡ status_word word.now }
+fn read_status(word: &[u8]) -> Option<Status>
+    ensures { result ≡ status_of word.now }
 {
     if is_word(word, "rx-and-tx") {
         Some(Status::RxAndTx)
@@ -121,5 +117,5 @@ pub(crate) fn next_status(words: &mut Words<'_>) -> Result<Status, CommandFault>
         Reads names (status next ∷ []) words.old result (λ s. next s ∷ []) words.new }
 {
     let name = next_word(words)?;
-    status_of(name).ok_or(CommandFault::Unknown)
+    read_status(name).ok_or(CommandFault::Unknown)
 }

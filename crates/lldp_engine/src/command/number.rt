@@ -3,7 +3,7 @@ ghost use Rattle.std.specs.Prelude.{◌≡◌, ◌≤◌, ◌^◌, ◌<◌, ◌�
 ghost use Rattle.std.specs.List.{AllPass};
 ghost use Rattle.std.specs.Char.{is_ascii_digit};
 ghost use Rattle.std.specs.Str.Parse.{digits_value};
-ghost use Rattle.lldp_engine.specs.Number.{number_of, is_number as writes_number};
+ghost use Rattle.lldp_engine.specs.Number.{number_of, is_number};
 
 use crate::command::fault::CommandFault;
 
@@ -16,15 +16,15 @@ fn all_digits(word: &[u8]) -> bool
     word.iter().all(|c| c.is_ascii_digit())
 }
 
-fn is_number(word: &[u8]) -> bool
-    ensures { result ≡ writes_number word.now }
+fn writes_number(word: &[u8]) -> bool
+    ensures { result ≡ is_number word.now }
 {
     !word.is_empty() && all_digits(word)
 }
 
 /// The value of the digits, or `TOO_LARGE` where it is greater.
 fn value_of(digits: &[u8]) -> u32
-    requires { IsTrue (writes_number digits.now) }
+    requires { IsTrue (is_number digits.now) }
     ensures { result ≡ min (digits_value 10 digits.now) 65536 }
 {
     let mut value = 0u32;
@@ -39,7 +39,7 @@ pub fn number(word: &[u8], least: u16, greatest: u16) -> Result<u16, CommandFaul
     ensures value { result ≡ number_of word.now least greatest }
     ensures in_range { IfOk result (λ n. (least ≤ n) × (n ≤ greatest)) }
 {
-    if !is_number(word) {
+    if !writes_number(word) {
         return Err(CommandFault::Number);
     }
     let value = value_of(word);

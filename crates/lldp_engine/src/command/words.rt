@@ -4,14 +4,14 @@ ghost use Rattle.std.specs.Option.{option_map};
 ghost use Rattle.std.specs.List.{AllPass, AllByRecursion};
 ghost use Rattle.std.specs.Iterator.{YieldsFirstRef, item_count};
 ghost use Rattle.lldp_engine.specs.Answer.{or_fault};
-ghost use Rattle.lldp_engine.specs.Words.{words_of, is_separator as separates, is_bare, is_unquote, may_end_word, begins_bare, begins_gap, AreWords};
+ghost use Rattle.lldp_engine.specs.Words.{words_of, is_separator, is_bare, is_unquote, may_end_word, begins_bare, begins_gap, AreWords};
 
 use crate::command::fault::CommandFault;
 use memchr::{memchr, memchr3};
 use std::marker::Model;
 
-fn is_separator(octet: u8) -> bool
-    ensures { result ≡ separates octet }
+fn separates(octet: u8) -> bool
+    ensures { result ≡ is_separator octet }
 {
     octet == b' ' || octet == b'\t'
 }
@@ -27,20 +27,20 @@ fn ended_word<'l>(
         (λ fault. (fault ≡ CommandFault.Quote) × (may_end_word rest.now ≡ false)) }
 {
     match rest.first() {
-        Some(octet) if !is_separator(*octet) => Err(CommandFault::Quote),
+        Some(octet) if !separates(*octet) => Err(CommandFault::Quote),
         _ => Ok(Some((word, rest))),
     }
 }
 
 /// The separators at the front, and what follows them.
 fn split_at_word(line: &[u8]) -> (&[u8], &[u8])
-    ensures gap { AllPass separates result.0.now }
+    ensures gap { AllPass is_separator result.0.now }
     ensures whole { line.now ≡ result.0.now ++ result.1.now }
     ensures stops { begins_gap result.1.now ≡ false }
 {
     let start = line
         .iter()
-        .position(|c| !is_separator(*c))
+        .position(|c| !separates(*c))
         .unwrap_or(line.len());
     line.split_at(start)
 }

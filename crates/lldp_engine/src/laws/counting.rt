@@ -1,6 +1,6 @@
 //! Laws of what is counted.
 ghost use Rattle.std.specs.Prelude.{◌≡◌, ℕ, ◌<◌, ◌%◌, ◌^◌, List, Some, None};
-ghost use Rattle.lldp_pdu.specs.declared.fault.PduFault.{PduFault as PduRefused};
+ghost use Rattle.lldp_pdu.specs.declared.fault.PduFault.{PduFault};
 ghost use Rattle.lldp_pdu.specs.Frame.{lldpdu_of};
 ghost use Rattle.lldp_pdu.specs.Fault.{fault_of};
 ghost use Rattle.lldp_pdu.specs.Lldpdu.{ttl_of};
@@ -25,7 +25,7 @@ pub fn ports_count_what_they_sent()
 /// discarded TLVs an error alone. Without a fault, and with a TTL above 0, its discarded TLVs and
 /// those of its kept TLVs that are unrecognized are added.
 pub fn ports_count_each_lldpdu_once()
-    ensures refused { (past : Past) (i : ℕ) (octets pdu : List ℕ) (fault : PduRefused) →
+    ensures refused { (past : Past) (i : ℕ) (octets pdu : List ℕ) (fault : PduFault) →
         Hears past i → lldpdu_of octets ≡ Some pdu → fault_of pdu ≡ Some fault →
         Adds past i octets 1 1 0 0 }
     ensures leaves { (past : Past) (i : ℕ) (octets pdu : List ℕ) → Hears past i →

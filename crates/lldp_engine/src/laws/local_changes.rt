@@ -2,7 +2,7 @@
 ghost use Rattle.std.specs.Prelude.{◌≡◌, ◌≢◌, ℕ, ◌+◌, Bool, List, Some, length};
 ghost use Rattle.lldp_table.specs.Events.{Neighbor as Held};
 ghost use Rattle.lldp_transmit.specs.declared.event.Cause.TheVariants.{Tick, Change, Neighbor, Nothing};
-ghost use Rattle.lldp_engine.specs.declared.port.status.Status.{Status as PortStatus};
+ghost use Rattle.lldp_engine.specs.declared.port.status.Status.{Status};
 ghost use Rattle.lldp_engine.specs.Event.{tick, frame, link, set, hostname, description, interval, hold, limit, status, update};
 ghost use Rattle.lldp_engine.specs.Past.{Past, with_event};
 ghost use Rattle.lldp_engine.specs.PortAt.{neighbors_at};
@@ -25,7 +25,7 @@ pub fn settings_are_local_changes()
 
 /// No status, no link event and no frame is a local change.
 pub fn statuses_links_and_frames_are_no_changes()
-    ensures status { (past : Past) (i port : ℕ) (given : PortStatus) →
+    ensures status { (past : Past) (i port : ℕ) (given : Status) →
         ¬ (IsFor past (set (status port given)) i Change) }
     ensures link { (past : Past) (i port : ℕ) (up : Bool) →
         ¬ (IsFor past (link port up) i Change) }

@@ -1,6 +1,6 @@
 //! Laws of which ports may send.
 ghost use Rattle.std.specs.Prelude.{ℕ, ◌⊎◌, IsTrue};
-ghost use Rattle.lldp_transmit.specs.declared.event.Mark.{Mark as Sent};
+ghost use Rattle.lldp_transmit.specs.declared.event.Mark.{Mark};
 ghost use Rattle.lldp_transmit.specs.declared.event.Mark.TheVariants.{Ordinary, Shutdown};
 ghost use Rattle.lldp_engine.specs.declared.port.status.Status.TheVariants.{RxAndTx, RxOnly, TxOnly, Disabled};
 ghost use Rattle.lldp_engine.specs.Event.{set, status};
@@ -20,6 +20,6 @@ pub fn ports_send_by_their_status()
 
 /// Ports that were opened to receive only send nothing until a status command.
 pub fn ports_opened_to_receive_only_are_silent()
-    ensures { (past : Past) (i : ℕ) (mark : Sent) → IsTrue past.options.receive_only →
+    ensures { (past : Past) (i : ℕ) (mark : Mark) → IsTrue past.options.receive_only →
         NoneSets (λ given. set (status i given)) past.events → ¬ (Sends past i mark) }
 {}

@@ -1,7 +1,7 @@
 //! Laws of what takes a neighbor away.
 ghost use Rattle.std.specs.Prelude.{◌≡◌, ℕ, List, [], Some, None, IfSome};
 ghost use Rattle.std.specs.Option.{option_map};
-ghost use Rattle.lldp_pdu.specs.declared.fault.PduFault.{PduFault as PduRefused};
+ghost use Rattle.lldp_pdu.specs.declared.fault.PduFault.{PduFault};
 ghost use Rattle.lldp_pdu.specs.Frame.{lldpdu_of};
 ghost use Rattle.lldp_pdu.specs.Fault.{fault_of};
 ghost use Rattle.lldp_pdu.specs.Lldpdu.{ttl_of, msap_of};
@@ -23,7 +23,7 @@ pub fn lldpdus_speak_of_one_neighbor()
         lldpdu_of octets ≡ Some pdu → fault_of pdu ≡ None → ttl_of pdu ≡ 0 →
         neighbors_at (with_event past (frame i octets)) i
         ≡ option_map (others_than (msap_of pdu)) (neighbors_at past i) }
-    ensures refused { (past : Past) (i : ℕ) (octets pdu : List ℕ) (fault : PduRefused) →
+    ensures refused { (past : Past) (i : ℕ) (octets pdu : List ℕ) (fault : PduFault) →
         lldpdu_of octets ≡ Some pdu → fault_of pdu ≡ Some fault →
         table_at (with_event past (frame i octets)) i ≡ table_at past i }
 {}

@@ -1,7 +1,7 @@
 //! Laws of whose an event is.
 ghost use Rattle.std.specs.Prelude.{◌≡◌, ◌≢◌, ℕ, Bool, List, All};
 ghost use Rattle.std.specs.Option.{option_map};
-ghost use Rattle.lldp_engine.specs.declared.port.status.Status.{Status as PortStatus};
+ghost use Rattle.lldp_engine.specs.declared.port.status.Status.{Status};
 ghost use Rattle.lldp_engine.specs.Options.{InRange};
 ghost use Rattle.lldp_engine.specs.Event.{tick, frame, link, set, hostname, description, interval, hold, limit, status, update};
 ghost use Rattle.lldp_engine.specs.Past.{Past, with_event, agent_of};
@@ -15,7 +15,7 @@ pub fn events_of_one_port_leave_the_others()
         other ≢ port → LeavesPort past (frame port octets) other }
     ensures link { (past : Past) (port other : ℕ) (up : Bool) → InRange past.options →
         other ≢ port → LeavesPort past (link port up) other }
-    ensures status { (past : Past) (port other : ℕ) (given : PortStatus) → InRange past.options →
+    ensures status { (past : Past) (port other : ℕ) (given : Status) → InRange past.options →
         other ≢ port → LeavesPort past (set (status port given)) other }
 {}
 

@@ -1,7 +1,7 @@
 //! MAC, IPv4 and IPv6 addresses.
 ghost use Rattle.std.specs.Prelude.{◌≡◌, ◌+◌, ◌*◌, ◌≤◌, ◌++◌, length};
 ghost use Rattle.lldp_engine.specs.declared.show.writer.TheConstants.{ROOM};
-ghost use Rattle.lldp_engine.specs.Addresses.{mac_text, ipv4_text, ipv6_text, address_kind as kind_of_address};
+ghost use Rattle.lldp_engine.specs.Addresses.{mac_text, ipv4_text, ipv6_text, address_kind};
 
 use crate::show::writer::Writer;
 
@@ -19,8 +19,8 @@ const FAMILY_IPV4: u8 = 1;
 const FAMILY_IPV6: u8 = 2;
 
 /// What an address of so many octets is.
-pub(crate) fn address_kind(family: u8, len: usize) -> AddressKind
-    ensures { result ≡ kind_of_address family len }
+pub(crate) fn kind_of_address(family: u8, len: usize) -> AddressKind
+    ensures { result ≡ address_kind family len }
 {
     if family == FAMILY_IPV4 && len == 4 {
         AddressKind::Ipv4

@@ -1,7 +1,7 @@
 //! System Capabilities.
 ghost use Rattle.std.specs.Prelude.{◌≡◌, ◌+◌, ◌*◌, ◌<◌, ◌≤◌, ◌++◌, length};
 ghost use Rattle.lldp_engine.specs.declared.show.writer.TheConstants.{ROOM};
-ghost use Rattle.lldp_engine.specs.Capabilities.{capability_name as name_of, is_set as is_set_of, on_or_off as on_or_off_of, capability_text, capabilities_text};
+ghost use Rattle.lldp_engine.specs.Capabilities.{capability_name, is_set, on_or_off, capability_text, capabilities_text};
 
 use crate::show::writer::Writer;
 use lldp_pdu::Caps;
@@ -10,9 +10,9 @@ use lldp_pdu::Caps;
 const BITS: u8 = 16;
 
 /// The name of a bit.
-fn capability_name(bit: u8) -> &'static [u8]
+fn name_of_bit(bit: u8) -> &'static [u8]
     requires { bit < 16 }
-    ensures value { result.now ≡ name_of bit }
+    ensures value { result.now ≡ capability_name bit }
     ensures short { length result.now ≤ 8 }
 {
     match bit {
@@ -35,15 +35,15 @@ fn capability_name(bit: u8) -> &'static [u8]
     }
 }
 
-fn is_set(bits: u16, bit: u8) -> bool
+fn has_bit(bits: u16, bit: u8) -> bool
     requires { bit < 16 }
-    ensures { result ≡ is_set_of bits bit }
+    ensures { result ≡ is_set bits bit }
 {
     (bits >> bit) & 1 == 1
 }
 
-fn on_or_off(on: bool) -> &'static [u8]
-    ensures value { result.now ≡ on_or_off_of on }
+fn word_of_switch(on: bool) -> &'static [u8]
+    ensures value { result.now ≡ on_or_off on }
     ensures short { length result.now ≤ 3 }
 {
     if on { b"on" } else { b"off" }
@@ -56,9 +56,9 @@ fn write_capability(line: &mut Writer, caps: Caps, bit: u8)
     ensures value { line.new ≡ line.old ++ capability_text caps bit }
     ensures len { length line.new ≤ length line.old + 12 }
 {
-    line.text(capability_name(bit));
+    line.text(name_of_bit(bit));
     line.text(b":");
-    line.text(on_or_off(is_set(caps.enabled, bit)));
+    line.text(word_of_switch(has_bit(caps.enabled, bit)));
 }
 
 /// Writes the available capabilities.
@@ -69,7 +69,7 @@ pub(crate) fn write_capabilities(line: &mut Writer, caps: Caps)
 {
     let mut written = 0;
     for bit in 0..BITS {
-        if is_set(caps.available, bit) {
+        if has_bit(caps.available, bit) {
             line.separator(b',', written);
             write_capability(line, caps, bit);
             written += 1;

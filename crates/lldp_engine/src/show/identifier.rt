@@ -2,10 +2,10 @@
 ghost use Rattle.std.specs.Prelude.{◌≡◌, ◌+◌, ◌*◌, ◌≤◌, ◌++◌, length, codes, slice_index, drop};
 ghost use Rattle.lldp_pdu.specs.Msap.{IsIdentifier};
 ghost use Rattle.lldp_engine.specs.declared.show.writer.TheConstants.{ROOM};
-ghost use Rattle.lldp_engine.specs.Addresses.{address_kind as kind_of_address};
-ghost use Rattle.lldp_engine.specs.Identifier.{chassis_kind as kind_of_chassis, port_kind as kind_of_port, unhandled_text, network_text, identifier_text, chassis_text, port_text};
+ghost use Rattle.lldp_engine.specs.Addresses.{address_kind};
+ghost use Rattle.lldp_engine.specs.Identifier.{chassis_kind, port_kind, unhandled_text, network_text, identifier_text, chassis_text, port_text};
 
-use crate::show::addresses::{AddressKind, address_kind, write_ipv4, write_ipv6, write_mac};
+use crate::show::addresses::{AddressKind, kind_of_address, write_ipv4, write_ipv6, write_mac};
 use crate::show::writer::Writer;
 
 /// What an identifier is.
@@ -22,8 +22,8 @@ pub(crate) enum IdentifierKind {
     Other,
 }
 
-fn chassis_kind(subtype: u8) -> IdentifierKind
-    ensures { result ≡ kind_of_chassis subtype }
+fn kind_of_chassis(subtype: u8) -> IdentifierKind
+    ensures { result ≡ chassis_kind subtype }
 {
     match subtype {
         1 => IdentifierKind::Component,
@@ -37,8 +37,8 @@ fn chassis_kind(subtype: u8) -> IdentifierKind
     }
 }
 
-fn port_kind(subtype: u8) -> IdentifierKind
-    ensures { result ≡ kind_of_port subtype }
+fn kind_of_port(subtype: u8) -> IdentifierKind
+    ensures { result ≡ port_kind subtype }
 {
     match subtype {
         1 => IdentifierKind::InterfaceAlias,
@@ -68,12 +68,12 @@ fn write_network(line: &mut Writer, body: &[u8])
     requires fits { IsIdentifier body.now }
     requires room { length line.old + 1050 ≤ ROOM }
     ensures value { line.new ≡ line.old
-        ++ network_text (kind_of_address (slice_index body.now 1) (length (drop 2 body.now)))
+        ++ network_text (address_kind (slice_index body.now 1) (length (drop 2 body.now)))
         body.now }
     ensures len { length line.new ≤ length line.old + 1050 }
 {
     let address = &body[2..];
-    match address_kind(body[1], address.len()) {
+    match kind_of_address(body[1], address.len()) {
         AddressKind::Ipv4 => {
             line.text(b"ip=");
             write_ipv4(line, address);
@@ -121,7 +121,7 @@ pub(crate) fn write_chassis(line: &mut Writer, body: &[u8])
     ensures value { line.new ≡ line.old ++ chassis_text body.now }
     ensures len { length line.new ≤ length line.old + 1050 }
 {
-    write_identifier(line, chassis_kind(body[0]), body);
+    write_identifier(line, kind_of_chassis(body[0]), body);
 }
 
 /// Writes a port ID.
@@ -131,5 +131,5 @@ pub(crate) fn write_port(line: &mut Writer, body: &[u8])
     ensures value { line.new ≡ line.old ++ port_text body.now }
     ensures len { length line.new ≤ length line.old + 1050 }
 {
-    write_identifier(line, port_kind(body[0]), body);
+    write_identifier(line, kind_of_port(body[0]), body);
 }

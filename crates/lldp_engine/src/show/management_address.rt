@@ -2,10 +2,10 @@
 ghost use Rattle.std.specs.Prelude.{◌≡◌, ◌+◌, ◌≤◌, ◌++◌, length};
 ghost use Rattle.lldp_pdu.specs.View.{address_view};
 ghost use Rattle.lldp_engine.specs.declared.show.writer.TheConstants.{ROOM};
-ghost use Rattle.lldp_engine.specs.Addresses.{address_kind as kind_of_address};
+ghost use Rattle.lldp_engine.specs.Addresses.{address_kind};
 ghost use Rattle.lldp_engine.specs.ManagementAddress.{address_text, management_text};
 
-use crate::show::addresses::{AddressKind, address_kind, write_ipv4, write_ipv6};
+use crate::show::addresses::{AddressKind, kind_of_address, write_ipv4, write_ipv6};
 use crate::show::writer::Writer;
 use lldp_pdu::Mgmt;
 
@@ -14,10 +14,10 @@ fn write_address(line: &mut Writer, family: u8, octets: &[u8])
     requires room { length line.old + 80 ≤ ROOM }
     requires short { length octets.now ≤ 31 }
     ensures value { line.new ≡ line.old
-        ++ address_text (kind_of_address family (length octets.now)) family octets.now }
+        ++ address_text (address_kind family (length octets.now)) family octets.now }
     ensures len { length line.new ≤ length line.old + 80 }
 {
-    match address_kind(family, octets.len()) {
+    match kind_of_address(family, octets.len()) {
         AddressKind::Ipv4 => write_ipv4(line, octets),
         AddressKind::Ipv6 => write_ipv6(line, octets),
         AddressKind::Unknown => {

@@ -1,7 +1,7 @@
 //! Lines that are written piece by piece, one behind another.
 ghost use Rattle.std.specs.Prelude.{◌≡◌, ◌+◌, ◌*◌, ◌≤◌, ◌∷◌, ◌++◌, [], length, decimal};
 ghost use Rattle.hex.specs.Hex.{encode_lower};
-ghost use Rattle.lldp_engine.specs.Text.{escape, escaped as escaped_text, separator as separator_text};
+ghost use Rattle.lldp_engine.specs.Text.{escape, escaped, separator};
 
 use crate::digits::encode_digits;
 use arrayvec::ArrayVec;
@@ -89,13 +89,13 @@ impl Writer {
     }
 
     /// What stands between the items of a list: nothing before the first.
-    pub(crate) fn separator(&mut self, separator: u8, before: usize)
+    pub(crate) fn separator(&mut self, between: u8, before: usize)
         requires { length self.old + 1 ≤ ROOM }
-        ensures value { self.new ≡ self.old ++ separator_text separator before }
+        ensures value { self.new ≡ self.old ++ separator between before }
         ensures len { length self.new ≤ length self.old + 1 }
     {
         if before > 0 {
-            self.octet(separator);
+            self.octet(between);
         }
     }
 
@@ -137,7 +137,7 @@ impl Writer {
     /// Escaped text.
     pub(crate) fn escaped(&mut self, octets: &[u8])
         requires { length self.old + 4 * length octets.now ≤ ROOM }
-        ensures value { self.new ≡ self.old ++ escaped_text octets.now }
+        ensures value { self.new ≡ self.old ++ escaped octets.now }
         ensures len { length self.new ≤ length self.old + 4 * length octets.now }
     {
         for octet in octets {
@@ -158,7 +158,7 @@ impl Writer {
     /// A key and escaped text.
     pub(crate) fn escaped_value(&mut self, key: &[u8], text: &[u8])
         requires { length self.old + length key.now + 4 * length text.now ≤ ROOM }
-        ensures value { self.new ≡ self.old ++ (key.now ++ escaped_text text.now) }
+        ensures value { self.new ≡ self.old ++ (key.now ++ escaped text.now) }
         ensures len { length self.new ≤ length self.old + length key.now + 4 * length text.now }
     {
         self.text(key);
