@@ -19,8 +19,7 @@ MOST_TICKS = 60
 
 HEAD = """\
 -- The transcripts of examples/, computed from the definitions alone. tools/transcripts.py writes this file.
-use Rattle.std.proofs.Common.{◌≡◌, ℕ, List, [], ◌∷◌, ◌++◌, true, false, Some, None, refl, ap, ◌∙◌, codes, Bor, arith,
-    Bool, ◌||◌, nat_eq, map, filter, flat_map}
+use Rattle.std.proofs.Common.{◌≡◌, ℕ, List, [], ◌∷◌, ◌++◌, true, false, Some, None, refl, ap, ◌∙◌, codes, Bor, arith, Bool, ◌||◌, nat_eq, map, filter, flat_map}
 use Rattle.std.specs.Fmt.{digits}
 use Rattle.std.specs.List.{starts_with, list_any}
 use Rattle.hex.specs.Hex.{encode_with, decode_pairs}
