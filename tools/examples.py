@@ -12,6 +12,8 @@ shown has it; a filter of another form is a failure.
 Each is run four ways: its first lines, one more each time; without its last LF, which changes nothing; octet by
 octet; and in two pieces, cut at every place (but for inputs of more than 10,000 octets). A piece is written when
 the program has read the one before it. Each run must end with status 0 and say nothing on standard error.
+receive-counters.rows names counters of eth0 in its first line. Each row has the name of a transcript and the values of
+these counters, which are compared where `show statistics` stands behind its lines; other counters are not looked at.
 
 The examples of the pages and of the manual page are blocks whose first line begins with `$ `. Each such line
 is a command, with its input up to the line EOF where it ends with <<'EOF' or <<EOF; what stands below is what it
@@ -20,7 +22,8 @@ error. The number of a port behind --listen stands for a free one. A block that 
 it started is ended. A block whose commands begin with sudo is left to tools/try-package.sh, for which --as-root lists
 these commands; a block with commands of both kinds has failed.
 
-With names only those transcripts are run. The last line counts each way of each transcript, and each block.
+With names only those transcripts and their rows are run. The last line counts each way of each transcript, each row
+and each block.
 """
 import array
 import concurrent.futures
@@ -42,6 +45,10 @@ TOP = pathlib.Path(__file__).resolve().parent.parent
 
 # what a command that needs root begins with
 AS_ROOT = "$ sudo "
+
+# what some counters are after the lines of transcripts
+ROWS = TOP / "examples" / "receive-counters.rows"
+SHOW = b"show statistics\n"
 
 # for how long one run may take
 SECONDS = 60
@@ -176,6 +183,32 @@ def run_transcripts(program, only):
                 yield f"{name}, {way}", found and f"{found[0][1]} (its first piece has {found[0][0]} octets)"
 
 
+def rows(only):
+    """The name of each row, its counters with their values, and its transcript, or a text that says what is wrong."""
+    counters, *table = [line.split() for line in ROWS.read_text().splitlines()]
+    shown = {one[0]: one for one in transcripts([])}
+    for name, *values in table:
+        if only and name not in only:
+            continue
+        fault = None
+        if name not in shown:
+            fault = "no transcript has this name"
+        elif len(values) != len(counters) - 1 or not all(re.fullmatch("[0-9]+", value) for value in values):
+            fault = f"it does not have {len(counters) - 1} numbers"
+        yield name, list(zip(counters[1:], values)), fault or shown[name]
+
+
+def run_rows(program, only):
+    """Runs the transcript of each row with its show. Yields the name of each row, and what is wrong, or None."""
+    for name, values, found in rows(only):
+        fault = found
+        if not isinstance(found, str):
+            texts = [f"lldp.eth0.{counter}=" for counter, _ in values]
+            wanted = "".join(f"{text}{value}\n" for text, (_, value) in zip(texts, values))
+            fault = fault_of_run(program, found[1], texts, ([found[3] + SHOW], wanted.encode()))
+        yield f"{name} in {ROWS.name}", fault
+
+
 def blocks():
     """The name and the lines of each block of the pages and of the manual page."""
     for path in [path for folder in (".", "docs", "examples") for path in sorted((TOP / folder).glob("*.md"))]:
@@ -279,7 +312,7 @@ def main():
         return 0
     program, only = pathlib.Path(sys.argv[1]).resolve(), sys.argv[2:]
     passed = failed = 0
-    for runs in (run_transcripts(program, only), [] if only else run_blocks(program)):
+    for runs in (run_transcripts(program, only), run_rows(program, only), [] if only else run_blocks(program)):
         for name, fault in runs:
             passed, failed = passed + (not fault), failed + bool(fault)
             if fault:

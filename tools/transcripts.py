@@ -1,7 +1,8 @@
 #!/usr/bin/env python3
 """Writes the transcripts of examples/ as theorems over the definitions alone, which the check of lldpa computes: from
 the words of the program to the options that they ask for, and from the octets of the input to those of the output, or
-to its lines that pass the filter of the transcript.
+to its lines that pass the filter of the transcript. Each row of receive-counters.rows is a theorem too, of the options
+and the input of its transcript: which lines of its counters `show statistics` behind that input gives.
 
     python3 tools/transcripts.py [--check]
 
@@ -12,7 +13,7 @@ import pathlib
 import re
 import sys
 
-from examples import transcripts
+from examples import ROWS, rows, transcripts
 
 FILE = pathlib.Path(__file__).resolve().parent.parent / "crates/lldpa/proofs/Transcripts.antt"
 MOST_TICKS = 60
@@ -21,6 +22,7 @@ HEAD = """\
 -- The transcripts of examples/, computed from the definitions alone. tools/transcripts.py writes this file.
 use Rattle.std.proofs.Common.{◌≡◌, ℕ, List, [], ◌∷◌, ◌++◌, true, false, Some, None, refl, ap, ◌∙◌, codes, Bor, arith, Bool, ◌||◌, nat_eq, map, filter, flat_map}
 use Rattle.std.specs.Fmt.{digits}
+use Rattle.std.specs.Prelude.{decimal}
 use Rattle.std.specs.List.{starts_with, list_any}
 use Rattle.hex.specs.Hex.{encode_with, decode_pairs}
 use Rattle.clap.specs.Walk.{Text}
@@ -112,6 +114,25 @@ usual =
       reinit = 2;
       receive_only = false;
     }
+"""
+
+# what a row says of its transcript, of the counters that stand between
+COUNTED = f"""
+-- the counters that {ROWS.name} looks at
+abbrev counters : List Text
+counters = %s
+
+-- the lines of some counters with some values
+abbrev valued : List Text → List ℕ → List ℕ
+valued [] values = []
+valued (counter ∷ more) [] = []
+valued (counter ∷ more) (value ∷ values) = counter ++ decimal value ++ codes "\\n" ++ valued more values
+
+-- the lines of the counters, of what the agent of a transcript writes with `show statistics` behind its input
+abbrev counted : {{sought words : List Text}} {{input : List ℕ}} {{lines : List (List ℕ)}}
+    → Shows sought words input lines → List ℕ
+counted {{input = input}} shown =
+    lines_with counters (text (opened shown.options) (input ++ codes "show statistics\\n"))
 """
 
 # each definition that opens by name alone
@@ -240,6 +261,26 @@ def theorems(shown):
         yield theorem(name, words, sought, trace, steps, names[tuple(words)])
 
 
+def theorems_of_rows():
+    """The theorems of the rows, behind what they say of their transcripts."""
+    table = list(rows([]))
+    yield COUNTED % listed(f"lldp.eth0.{counter}=".encode() for counter, _ in table[0][1])
+    for name, values, found in table:
+        if isinstance(found, str):
+            sys.exit(f"{name} in {ROWS.name}: {found}")
+        if ticks(found[3]) <= MOST_TICKS:
+            yield theorem_of_row(name.replace("-", "_"), [value for _, value in values])
+
+
+def theorem_of_row(name, values):
+    """A row as a theorem and its proof."""
+    return f"""
+counters_of_{name} : counted {name} ≡ valued counters ({octets(values)})
+unfolding {OPENED} {name}
+counters_of_{name} = refl
+"""
+
+
 def ticks(trace):
     """How many ticks a trace has; a line of more than 65,535 is refused."""
     numbers = [int(n or 1) for n in re.findall(rb"^tick *(\d*)$", trace, re.M)]
@@ -248,6 +289,7 @@ def ticks(trace):
 
 if __name__ == "__main__":
     shown = HEAD + "".join(theorems(one for one in transcripts([]) if ticks(one[3]) <= MOST_TICKS))
+    shown += "".join(theorems_of_rows())
     if sys.argv[1:] == ["--check"]:
         sys.exit(0 if FILE.read_text() == shown else "run tools/transcripts.py: examples were changed")
     FILE.write_text(shown)

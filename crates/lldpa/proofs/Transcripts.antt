@@ -1,6 +1,7 @@
 -- The transcripts of examples/, computed from the definitions alone. tools/transcripts.py writes this file.
 use Rattle.std.proofs.Common.{◌≡◌, ℕ, List, [], ◌∷◌, ◌++◌, true, false, Some, None, refl, ap, ◌∙◌, codes, Bor, arith, Bool, ◌||◌, nat_eq, map, filter, flat_map}
 use Rattle.std.specs.Fmt.{digits}
+use Rattle.std.specs.Prelude.{decimal}
 use Rattle.std.specs.List.{starts_with, list_any}
 use Rattle.hex.specs.Hex.{encode_with, decode_pairs}
 use Rattle.clap.specs.Walk.{Text}
@@ -1568,57 +1569,6 @@ unfolding digits encode_with decode_pairs
     frame_of words_from tick_form frame_form link_form form_of work_given
 ports_apart = record { options = record usual { credit_max = 1; mac = 0 ∷ 0 ∷ 94 ∷ 0 ∷ 83 ∷ 1 ∷ []; hostname = codes "h"; management = Some (192 ∷ 0 ∷ 2 ∷ 1 ∷ []); role = Bridge; names = codes "p1" ∷ codes "p2" ∷ [] }; asked = words_of_ports_apart; sound = refl; written = refl }
 
-receive_counters : Shows (codes "received" ∷ codes "discarded" ∷ codes "errors" ∷ codes "unrecognized" ∷ codes "ageouts" ∷ codes "drops" ∷ [])
-    (codes "lldpa" ∷ codes "--receive-only" ∷ codes "--max-neighbors" ∷ codes "2" ∷ codes "eth0" ∷ [])
-    (codes "# neither an LLDPDU of no octets nor one with two Chassis ID TLVs is stored\n"
-    ++ codes "rx eth0 0180c200000e00112233445588cc\n"
-    ++ codes "rx eth0 0180c200000e00112233445588cc02070400112233445504050565746830060200780207040011223344550000\n"
-    ++ codes "# one that is stored without two of its TLVs, and one without the last\n"
-    ++ codes "rx eth0 0180c200000e00112233445588cc02070400112233445504050565746830060200780e0500040004000e04000400140e04001400040000\n"
-    ++ codes "rx eth0 0180c200000e00112233445588cc02070400112233445504050565746830060200780a14616263\n"
-    ++ codes "# an organizational TLV and four of reserved types\n"
-    ++ codes "rx eth0 0180c200000e00112233445588cc0207040011223344550405056574683006020078fe0400120f0112001400160018000000\n"
-    ++ codes "# a neighbor that leaves, and one that expires\n"
-    ++ codes "rx eth0 0180c200000e00112233445588cc02070400112233445504050565746830060200000000\n"
-    ++ codes "rx eth0 0180c200000e00112233445588cc02070400112233445504050565746830060200010000\n"
-    ++ codes "tick\n"
-    ++ codes "# two that find room, and two that find none\n"
-    ++ codes "rx eth0 0180c200000e00112233445588cc02070400112233445504050565746830060200780000\n"
-    ++ codes "rx eth0 0180c200000e00112233445588cc02070400112233445504050565746831060200780000\n"
-    ++ codes "rx eth0 0180c200000e00112233445588cc02070400112233445504050565746832060200090000\n"
-    ++ codes "rx eth0 0180c200000e00112233445588cc02070400112233445504050565746833060200050000\n"
-    ++ codes "show statistics\n")
-    ([]
-    ∷ []
-    ∷ []
-    ∷ []
-    ∷ []
-    ∷ []
-    ∷ []
-    ∷ []
-    ∷ []
-    ∷ []
-    ∷ []
-    ∷ []
-    ∷ []
-    ∷ []
-    ∷ []
-    ∷ []
-    ∷ []
-    ∷ (codes "lldp.eth0.received=11\n"
-    ++ codes "lldp.eth0.discarded=2\n"
-    ++ codes "lldp.eth0.errors=4\n"
-    ++ codes "lldp.eth0.tlvs-discarded=3\n"
-    ++ codes "lldp.eth0.unrecognized=5\n"
-    ++ codes "lldp.eth0.ageouts=1\n"
-    ++ codes "lldp.eth0.drops=2\n")
-    ∷ [])
-unfolding digits encode_with decode_pairs
-    cut_within cut is_lldp_frame extent ended_incomplete ttl_of msap_of later_tlvs fault_of is_well_formed
-    kept_of discarded_of live neighbors events_of too_many_left moment machine_of heard_of counters_of port_after agent_of
-    frame_of words_from tick_form frame_form link_form form_of work_given
-receive_counters = record { options = record usual { receive_only = true; max_neighbors = 2 }; asked = words_of_full_table; sound = refl; written = refl }
-
 refresh_sends_nothing : Writes
     (codes "lldpa" ∷ codes "eth0" ∷ [])
     (codes "tick\n"
@@ -2220,3 +2170,75 @@ unfolding digits encode_with decode_pairs
     kept_of discarded_of live neighbors events_of too_many_left moment machine_of heard_of counters_of port_after agent_of
     frame_of words_from tick_form frame_form link_form form_of work_given
 wait_runs_on_while_down = record { options = usual; asked = words_of_disabled_hears_nothing; sound = refl; written = refl }
+
+-- the counters that receive-counters.rows looks at
+abbrev counters : List Text
+counters = codes "lldp.eth0.sent=" ∷ codes "lldp.eth0.shutdowns=" ∷ codes "lldp.eth0.received=" ∷ codes "lldp.eth0.discarded=" ∷ codes "lldp.eth0.errors=" ∷ codes "lldp.eth0.tlvs-discarded=" ∷ codes "lldp.eth0.unrecognized=" ∷ codes "lldp.eth0.ageouts=" ∷ codes "lldp.eth0.drops=" ∷ []
+
+-- the lines of some counters with some values
+abbrev valued : List Text → List ℕ → List ℕ
+valued [] values = []
+valued (counter ∷ more) [] = []
+valued (counter ∷ more) (value ∷ values) = counter ++ decimal value ++ codes "\n" ++ valued more values
+
+-- the lines of the counters, of what the agent of a transcript writes with `show statistics` behind its input
+abbrev counted : {sought words : List Text} {input : List ℕ} {lines : List (List ℕ)}
+    → Shows sought words input lines → List ℕ
+counted {input = input} shown =
+    lines_with counters (text (opened shown.options) (input ++ codes "show statistics\n"))
+
+counters_of_expiry : counted expiry ≡ valued counters (0 ∷ 0 ∷ 1 ∷ 0 ∷ 0 ∷ 0 ∷ 0 ∷ 1 ∷ 0 ∷ [])
+unfolding digits encode_with decode_pairs
+    cut_within cut is_lldp_frame extent ended_incomplete ttl_of msap_of later_tlvs fault_of is_well_formed
+    kept_of discarded_of live neighbors events_of too_many_left moment machine_of heard_of counters_of port_after agent_of
+    frame_of words_from tick_form frame_form link_form form_of work_given expiry
+counters_of_expiry = refl
+
+counters_of_shutdown_received : counted shutdown_received ≡ valued counters (0 ∷ 0 ∷ 3 ∷ 0 ∷ 0 ∷ 0 ∷ 0 ∷ 0 ∷ 0 ∷ [])
+unfolding digits encode_with decode_pairs
+    cut_within cut is_lldp_frame extent ended_incomplete ttl_of msap_of later_tlvs fault_of is_well_formed
+    kept_of discarded_of live neighbors events_of too_many_left moment machine_of heard_of counters_of port_after agent_of
+    frame_of words_from tick_form frame_form link_form form_of work_given shutdown_received
+counters_of_shutdown_received = refl
+
+counters_of_full_table : counted full_table ≡ valued counters (0 ∷ 0 ∷ 5 ∷ 0 ∷ 0 ∷ 0 ∷ 0 ∷ 0 ∷ 2 ∷ [])
+unfolding digits encode_with decode_pairs
+    cut_within cut is_lldp_frame extent ended_incomplete ttl_of msap_of later_tlvs fault_of is_well_formed
+    kept_of discarded_of live neighbors events_of too_many_left moment machine_of heard_of counters_of port_after agent_of
+    frame_of words_from tick_form frame_form link_form form_of work_given full_table
+counters_of_full_table = refl
+
+counters_of_room_after_expiry : counted room_after_expiry ≡ valued counters (0 ∷ 0 ∷ 2 ∷ 0 ∷ 0 ∷ 0 ∷ 0 ∷ 1 ∷ 0 ∷ [])
+unfolding digits encode_with decode_pairs
+    cut_within cut is_lldp_frame extent ended_incomplete ttl_of msap_of later_tlvs fault_of is_well_formed
+    kept_of discarded_of live neighbors events_of too_many_left moment machine_of heard_of counters_of port_after agent_of
+    frame_of words_from tick_form frame_form link_form form_of work_given room_after_expiry
+counters_of_room_after_expiry = refl
+
+counters_of_overrunning_tlv : counted overrunning_tlv ≡ valued counters (0 ∷ 0 ∷ 1 ∷ 0 ∷ 1 ∷ 1 ∷ 0 ∷ 0 ∷ 0 ∷ [])
+unfolding digits encode_with decode_pairs
+    cut_within cut is_lldp_frame extent ended_incomplete ttl_of msap_of later_tlvs fault_of is_well_formed
+    kept_of discarded_of live neighbors events_of too_many_left moment machine_of heard_of counters_of port_after agent_of
+    frame_of words_from tick_form frame_form link_form form_of work_given overrunning_tlv
+counters_of_overrunning_tlv = refl
+
+counters_of_repeated_chassis : counted repeated_chassis ≡ valued counters (0 ∷ 0 ∷ 1 ∷ 1 ∷ 1 ∷ 0 ∷ 0 ∷ 0 ∷ 0 ∷ [])
+unfolding digits encode_with decode_pairs
+    cut_within cut is_lldp_frame extent ended_incomplete ttl_of msap_of later_tlvs fault_of is_well_formed
+    kept_of discarded_of live neighbors events_of too_many_left moment machine_of heard_of counters_of port_after agent_of
+    frame_of words_from tick_form frame_form link_form form_of work_given repeated_chassis
+counters_of_repeated_chassis = refl
+
+counters_of_bad_capabilities : counted bad_capabilities ≡ valued counters (0 ∷ 0 ∷ 1 ∷ 0 ∷ 1 ∷ 2 ∷ 0 ∷ 0 ∷ 0 ∷ [])
+unfolding digits encode_with decode_pairs
+    cut_within cut is_lldp_frame extent ended_incomplete ttl_of msap_of later_tlvs fault_of is_well_formed
+    kept_of discarded_of live neighbors events_of too_many_left moment machine_of heard_of counters_of port_after agent_of
+    frame_of words_from tick_form frame_form link_form form_of work_given bad_capabilities
+counters_of_bad_capabilities = refl
+
+counters_of_all_kinds_of_tlvs : counted all_kinds_of_tlvs ≡ valued counters (0 ∷ 0 ∷ 1 ∷ 0 ∷ 0 ∷ 0 ∷ 3 ∷ 0 ∷ 0 ∷ [])
+unfolding digits encode_with decode_pairs
+    cut_within cut is_lldp_frame extent ended_incomplete ttl_of msap_of later_tlvs fault_of is_well_formed
+    kept_of discarded_of live neighbors events_of too_many_left moment machine_of heard_of counters_of port_after agent_of
+    frame_of words_from tick_form frame_form link_form form_of work_given all_kinds_of_tlvs
+counters_of_all_kinds_of_tlvs = refl
