@@ -23,7 +23,7 @@ from pathlib import Path
 from typing import Any
 
 from bench_captures import AUDIT, audit_of_cabling, capture_rows, other_readers, seconds
-from bench_counts import counted, counted_start
+from bench_counts import counted, counted_start, library
 from bench_picture import picture
 from bench_rows import PORTS, Row, rows
 
@@ -106,7 +106,7 @@ def measured(options: argparse.Namespace, room: Path) -> dict[str, Any]:
     print(f"machine: {machine()}")
     told: dict[str, Any] = {"machine": machine(), "rows": table(options, room, count)}
     if count:
-        told["start_instructions"] = counted_start(options.program, room)
+        told["start_instructions"], told["library"] = counted_start(options.program, room), library()
     told["start"], told["others"] = start(options.program, room), other_readers(room, options.times)
     told["captures"] = capture_rows(room, options.times)
     if options.only in AUDIT:
@@ -123,7 +123,7 @@ def counted_anew(options: argparse.Namespace, room: Path, told: dict[str, Any]) 
         ran = counted(row, room, row.sides(options.program, yardstick))
         kept[row.title]["instructions"] = ran
         print(f"{row.title:34}{columns(ran)}", flush=True)
-    told["start_instructions"] = counted_start(options.program, room)
+    told["start_instructions"], told["library"] = counted_start(options.program, room), library()
     print(f"start with 64 ports of 128: {told['start_instructions']}")
 
 
