@@ -10,17 +10,6 @@ from .show import Counters, Neighbor, Show
 
 Labels = Mapping[str, str]
 
-HELP_OF_COUNTERS = {
-    "sent": "Ordinary frames sent.",
-    "shutdowns": "Shutdown frames sent.",
-    "received": "LLDP frames that came while the port was receiving and up.",
-    "discarded": "LLDPDUs refused.",
-    "errors": "LLDPDUs refused or with a discarded TLV.",
-    "tlvs_discarded": "TLVs discarded.",
-    "unrecognized": "TLVs kept whose meaning is not known.",
-    "ageouts": "Neighbors that aged out.",
-    "drops": "LLDPDUs dropped for want of room in the table.",
-}
 KERNEL_DROPS = re.compile(r"bridge\.([^.]+)\.kernel-drops=([0-9]+)")
 
 
@@ -68,7 +57,7 @@ def counter_lines(counters: Mapping[str, Counters]) -> Iterator[str]:
     for counter in fields(Counters):
         samples = [({"port": port}, getattr(of, counter.name)) for port, of in counters.items()]
         name = f"lldpa_{counter.name}_total"
-        yield from lines_of(name, "counter", HELP_OF_COUNTERS[counter.name], samples)
+        yield from lines_of(name, "counter", counter.metadata["counts"], samples)
 
 
 def kernel_drops(bridge: Iterable[str]) -> list[tuple[Labels, int]]:

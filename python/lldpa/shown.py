@@ -97,18 +97,24 @@ class Port:
     neighbors: Tuple[Neighbor, ...] = ()
 
 
+def counter(counts: str) -> int:
+    """A field that counts this."""
+    described: int = field(metadata={"counts": counts})
+    return described
+
+
 @dataclass(frozen=True)
 class Counters:
-    """A port's counters. Each begins at 0 again behind 4,294,967,295."""
-    sent: int
-    shutdowns: int
-    received: int
-    discarded: int
-    errors: int
-    tlvs_discarded: int
-    unrecognized: int
-    ageouts: int
-    drops: int
+    """A port's counters, and what each counts. Each begins at 0 again behind 4,294,967,295."""
+    sent: int = counter("Ordinary frames sent.")
+    shutdowns: int = counter("Shutdown frames sent.")
+    received: int = counter("LLDP frames that came while the port was receiving and up.")
+    discarded: int = counter("LLDPDUs refused.")
+    errors: int = counter("LLDPDUs refused or with a discarded TLV.")
+    tlvs_discarded: int = counter("TLVs discarded.")
+    unrecognized: int = counter("TLVs kept whose meaning is not known.")
+    ageouts: int = counter("Neighbors that aged out.")
+    drops: int = counter("LLDPDUs dropped for want of room in the table.")
 
 
 @dataclass(frozen=True)

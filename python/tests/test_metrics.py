@@ -6,10 +6,12 @@ import re
 import shutil
 import subprocess
 import unittest
+from dataclasses import fields
 from typing import Dict, Tuple
 
 from lldpa import read_show
 from lldpa.metrics import escaped, metrics
+from lldpa.show import Counters
 from served import CTL, Served, frame, numbered, tlv
 
 SAMPLE = re.compile(r'([a-z_]+)\{((?:[a-z_]+="(?:[^"\\\n]|\\["\\n])*",?)*)\} ([0-9]+)')
@@ -56,8 +58,8 @@ class Metrics(unittest.TestCase):
         series = self.shown()
         told = {(name, labels[0][1]): value for (name, labels), value in series.items()
                 if len(labels) == 1}
-        counters = {"sent": 0, "shutdowns": 0, "received": 4, "discarded": 0, "errors": 0,
-                    "tlvs_discarded": 0, "unrecognized": 0, "ageouts": 0, "drops": 1}
+        counters = {counter.name: 0 for counter in fields(Counters)}
+        counters.update(received=4, drops=1)
         for name, value in counters.items():
             self.assertEqual(told.pop((f"lldpa_{name}_total", "eth0")), value, name)
         for name in counters:

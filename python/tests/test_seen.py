@@ -3,12 +3,13 @@ from __future__ import annotations
 
 import random
 import unittest
+from dataclasses import fields
 from typing import Callable, Union
 
 import rack
 from lldpa.quickshow import USUAL_PORT
 from lldpa.seen import Ports, quick_ports, read_ports, slow_ports
-from lldpa.show import ShowFault, read_show
+from lldpa.show import Counters, ShowFault, read_show
 
 SHOW = """\
 lldp.ge-0/0/1.neighbors=2
@@ -43,9 +44,7 @@ lldp.c.1.expires=7
 lldp.c.1.port.descr=uplink = 7
 """
 
-COUNTERS = "".join(f"lldp.b.{key}=0\n" for key in (
-    "sent", "shutdowns", "received", "discarded", "errors", "tlvs-discarded", "unrecognized",
-    "ageouts", "drops"))
+COUNTERS = "".join(f"lldp.b.{counter.name.replace('_', '-')}=0\n" for counter in fields(Counters))
 
 # what damages a show: lines of other places, digits and marks that are gone or twice
 PIECES = ["=", ".", "\n", "1", "0", "lldp.", "b", "\\", "\x7f", "neighbors", "ttl", "lldp.c."]
