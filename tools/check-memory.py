@@ -24,7 +24,7 @@ import sys
 TOP = pathlib.Path(__file__).resolve().parent.parent
 CRATES = TOP / "crates"
 EDITS = TOP / "tools" / "memory-edits"
-BELOW_THE_PROGRAM = ("lldp_pdu", "lldp_table", "lldp_transmit", "lldp_engine")
+BELOW_THE_PROGRAM = ("lldp_pdu", "lldp_table", "lldp_transmit", "lldp_text", "lldp_engine")
 ROOM = "lldp_table/src/room.rt"
 MOST_LINES_OF_ROOM = 100
 ROOM_TAKES = "Vec::with_capacity(alloc, capacity)?"

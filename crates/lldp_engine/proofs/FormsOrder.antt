@@ -1,7 +1,7 @@
 -- Where a complete form stands among the forms is of no matter to a further word.
 use Rattle.std.proofs.Common.{◌≡◌, ℕ, List, [], ◌∷◌, ◌++◌, Result, Ok, Err, refl, ap}
-use Rattle.lldp_engine.specs.declared.command.fault.CommandFault.{CommandFault}
-use Rattle.lldp_engine.specs.declared.command.fault.CommandFault.TheVariants.{Extra}
+use Rattle.lldp_text.specs.declared.fault.CommandFault.{CommandFault}
+use Rattle.lldp_text.specs.declared.fault.CommandFault.TheVariants.{Extra}
 use Rattle.lldp_engine.specs.Command.{Command}
 use Rattle.lldp_engine.specs.Forms.{Form, complete, after_word, and_form, going_on}
 

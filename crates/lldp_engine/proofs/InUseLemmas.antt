@@ -7,18 +7,18 @@ use Rattle.std.specs.Str.{bytes_eq}
 use Rattle.std.proofs.lemmas.Bool.{both_ways, leb-true, leb-false, le-leb, lt-leb}
 use Rattle.std.proofs.lemmas.Bool.Decides.{Decides-by_and}
 use Rattle.std.proofs.lemmas.List.Folds.{list_all_at}
-use Rattle.lldp_engine.specs.declared.command.fault.CommandFault.{CommandFault}
-use Rattle.lldp_engine.specs.declared.command.fault.CommandFault.TheVariants.{Unknown, NoSuchPort, Number, Range, Text, Extra, Quote, InUse}
-use Rattle.lldp_engine.specs.Options.{is_text}
-use Rattle.lldp_engine.specs.Number.{is_number, number_of}
+use Rattle.lldp_text.specs.declared.fault.CommandFault.{CommandFault}
+use Rattle.lldp_text.specs.declared.fault.CommandFault.TheVariants.{Unknown, NoSuchPort, Number, Range, Text, Extra, Quote, InUse}
+use Rattle.lldp_text.specs.Text.{is_text}
+use Rattle.lldp_text.specs.Number.{is_number, number_of}
 use Rattle.lldp_engine.specs.Place.{place_of}
 use Rattle.lldp_engine.specs.Event.{hostname, description, interval, hold, limit, status as set_status, update}
 use Rattle.lldp_engine.specs.AgentState.{AgentState, PortState, AllowsSetting, names_of, fits}
-use Rattle.lldp_engine.specs.Answer.{or_fault, on_ok, ◌>>=◌}
+use Rattle.lldp_text.specs.Answer.{or_fault, on_ok, ◌>>=◌}
 use Rattle.lldp_engine.specs.Command.{Command, show, set}
 use Rattle.lldp_engine.specs.Forms.{Form, complete, word, port, number, text, status, status_of, after_word, and_form, going_on, completed, read_forms, forms}
 use Rattle.lldp_engine.specs.Given.{said_by, unless_in_use, command_said, command_given}
-use Rattle.lldp_engine.specs.Words.{words_of}
+use Rattle.lldp_text.specs.Words.{words_of}
 use Rattle.lldp_engine.specs.InUse.{HoldsMore, HoldAtMost, WouldLimitBelow}
 
 -- ## The forms never tell it

@@ -12,16 +12,6 @@ pub mod AnswerLemmas
 pub mod LastSetLemmas
 pub mod SoundLemmas
 pub mod FormsOrder
-pub mod NumberDigits
-pub mod WordsBounds
-pub mod WordsGrammar
-pub mod WordsReading
-pub mod DigitLemmas
-pub mod LaneLemmas
-pub mod TextJoined
-pub mod AddressesPairs
-pub mod CapabilitiesWritten
-pub mod KeptTlvFields
 pub mod LineParts
 pub mod LinesTaken
 pub mod OneLineKept
@@ -43,6 +33,3 @@ pub mod OpeningLemmas
 pub mod InUseLemmas
 pub mod SayingLemmas
 pub mod NumberingLemmas
-pub mod ReadBack
-pub mod AddressesBack
-pub mod IdentifiersBack

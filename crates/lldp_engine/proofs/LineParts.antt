@@ -1,6 +1,6 @@
 -- A line that is written part by part.
 use Rattle.std.proofs.Common.{◌≡◌, ℕ, List, [], ◌∷◌, ◌++◌, append_assoc}
-use Rattle.lldp_engine.specs.Text.{ended}
+use Rattle.lldp_text.specs.Text.{ended}
 
 pub two_parts : (old mid text new a b : List ℕ) → mid ≡ old ++ a → text ≡ mid ++ b → new ≡ text ++ 10 ∷ [] → new ≡ old ++ ended (a ++ b)
 two_parts old mid text new a b h k e = rw (e, k, h) (simp append_assoc)

@@ -2,8 +2,8 @@
 use Rattle.std.proofs.Common.{◌≡◌, ℕ, zero, suc, ◌≤◌, List, [], ◌∷◌, length, true, false, Option, Some, None, ap, sym, subst}
 use Rattle.std.specs.Prelude.{slice_get}
 use Rattle.lldp_engine.specs.Takes.{Takes}
-use Rattle.lldp_engine.specs.declared.show.writer.TheConstants.{LINE_ROOM}
-use Rattle.lldp_engine.specs.Text.{ended}
+use Rattle.lldp_text.specs.declared.writing.TheConstants.{LINE_ROOM}
+use Rattle.lldp_text.specs.Text.{ended}
 use Rattle.lldp_engine.specs.declared.show.one_line.OneLine.{OneLine}
 use Rattle.lldp_engine.specs.Code.OneLineState.{KeepsOne}
 

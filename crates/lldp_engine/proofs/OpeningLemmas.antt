@@ -11,7 +11,8 @@ use Rattle.std.proofs.lemmas.List.Sums.{AllPass-from_list_all, list_all-from_All
 use Rattle.std.proofs.lemmas.Slice.Eq.{bytes_eq-Decides}
 use Rattle.lldp_engine.specs.declared.agent.open_fault.OpenFault.{OpenFault}
 use Rattle.lldp_engine.specs.declared.agent.open_fault.OpenFault.TheVariants.{Memory, NoPorts, TooManyPorts, PortName, SamePort, Text}
-use Rattle.lldp_engine.specs.Options.{Options, is_name_octet, is_port_name, is_text, has_same, fault_of}
+use Rattle.lldp_engine.specs.Options.{Options, is_name_octet, is_port_name, has_same, fault_of}
+use Rattle.lldp_text.specs.Text.{is_text}
 use Rattle.lldp_engine.specs.FixedNumbers.{number_of_refusal}
 use Rattle.lldp_engine.specs.Opening.{IsName, IsText, Passes, IsFirstFault}
 

@@ -1,9 +1,9 @@
 -- What is said where one form is left that takes a word.
 use Rattle.std.proofs.Common.{◌≡◌, ℕ, Bool, true, false, List, [], ◌∷◌, Option, Some, None, Result, Ok, Err, refl}
 use Rattle.std.specs.Prelude.{if◌then◌else◌}
-use Rattle.lldp_engine.specs.declared.command.fault.CommandFault.{CommandFault}
-use Rattle.lldp_engine.specs.declared.command.fault.CommandFault.TheVariants.{Unknown, NoSuchPort, Number, Range, Text, Extra, Quote, InUse}
-use Rattle.lldp_engine.specs.Answer.{or_fault, on_ok, ◌>>=◌}
+use Rattle.lldp_text.specs.declared.fault.CommandFault.{CommandFault}
+use Rattle.lldp_text.specs.declared.fault.CommandFault.TheVariants.{Unknown, NoSuchPort, Number, Range, Text, Extra, Quote, InUse}
+use Rattle.lldp_text.specs.Answer.{or_fault, on_ok, ◌>>=◌}
 use Rattle.lldp_engine.specs.Command.{Command, set}
 use Rattle.lldp_engine.specs.Forms.{Form, complete, word, status, and_form, read_forms, status_of}
 use Rattle.lldp_engine.specs.Event.{status as set_status}

@@ -4,7 +4,7 @@ use Rattle.std.specs.List.{AllByRecursion}
 use Rattle.std.proofs.lemmas.Bool.Decides.{nat_tests}
 use Rattle.lldp_transmit.specs.declared.event.Mark.{Mark}
 use Rattle.lldp_transmit.specs.declared.event.Mark.TheVariants.{Quiet, Ordinary, Shutdown}
-use Rattle.lldp_engine.specs.Options.{is_text}
+use Rattle.lldp_text.specs.Text.{is_text}
 use Rattle.lldp_engine.specs.Event.{Event, set, hostname, description}
 use Rattle.lldp_engine.specs.Configuration.{Configuration, configured}
 use Rattle.lldp_engine.specs.AgentState.{AgentState, PortState, Allows}

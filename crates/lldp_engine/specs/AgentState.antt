@@ -5,7 +5,7 @@ use Rattle.lldp_table.specs.Contents.{Contents}
 use Rattle.lldp_transmit.specs.Code.Machine.{Machine}
 use Rattle.lldp_engine.specs.declared.port.status.Status.{Status}
 use Rattle.lldp_engine.specs.declared.port.counters.Counters.{Counters}
-use Rattle.lldp_engine.specs.Options.{is_text}
+use Rattle.lldp_text.specs.Text.{is_text}
 use Rattle.lldp_engine.specs.Configuration.{Configuration}
 use Rattle.lldp_engine.specs.Event.{Event, tick, frame, link, set, Setting, hostname, description, interval, hold, limit, status, update}
 

@@ -3,8 +3,8 @@ use Rattle.std.specs.Prelude.{ℕ, List, [], ◌∷◌, ◌++◌, Option, Some, 
 use Rattle.lldp_engine.specs.declared.agent.options.Role.{Role}
 use Rattle.lldp_engine.specs.declared.agent.options.Role.TheVariants.{Station, Bridge, Router}
 use Rattle.lldp_engine.specs.Configuration.{Configuration}
-use Rattle.lldp_engine.specs.Text.{escaped}
-use Rattle.lldp_engine.specs.Addresses.{mac_text, ipv4_text}
+use Rattle.lldp_text.specs.Text.{escaped}
+use Rattle.lldp_text.specs.Addresses.{mac_text, ipv4_text}
 
 -- the one capability of a role, which is on
 abbrev pub role_text : Role → List ℕ

@@ -5,7 +5,6 @@ pub mod Counting
 pub mod PortStep
 pub mod Step
 pub mod OneLineState
-pub mod Digits
 pub mod ShortText
 pub mod Taking
 pub mod SaidSetting

@@ -3,26 +3,13 @@ use Rattle.std.specs.Prelude.{◌≡◌, ℕ, ◌<◌, ◌↔◌}
 use Rattle.lldp_transmit.specs.declared.limits.TheConstants.{MOST_CREDIT, MOST_FAST, MOST_REINIT}
 use Rattle.lldp_engine.specs.declared.agent.options.TheConstants.{MOST_NEIGHBORS, MOST_INTERVAL, MOST_HOLD}
 use Rattle.lldp_engine.specs.declared.show.lines.TheConstants.{MOST_LINES}
-use Rattle.lldp_engine.specs.declared.show.writer.TheConstants.{LINE_ROOM, ROOM}
-use Rattle.lldp_engine.specs.declared.command.fault.CommandFault.{CommandFault}
-use Rattle.lldp_engine.specs.declared.command.fault.CommandFault.TheVariants.{Unknown, NoSuchPort, Number, Range, Text, Extra, Quote, InUse}
+use Rattle.lldp_text.specs.declared.writing.TheConstants.{LINE_ROOM, ROOM}
 use Rattle.lldp_engine.specs.declared.agent.open_fault.OpenFault.{OpenFault}
 use Rattle.lldp_engine.specs.declared.agent.open_fault.OpenFault.TheVariants as refusal
 use Rattle.lldp_engine.specs.Options.{Options}
 use Rattle.lldp_engine.specs.Event.{interval, hold}
 use Rattle.lldp_engine.specs.AgentState.{AgentState, AllowsSetting}
 use Rattle.lldp_engine.specs.Configuration.{configuration_at_opening}
-
--- the number of a fault of a command
-abbrev pub number_of_fault : CommandFault → ℕ
-number_of_fault Unknown = 1
-number_of_fault NoSuchPort = 2
-number_of_fault Number = 3
-number_of_fault Range = 4
-number_of_fault Text = 5
-number_of_fault Extra = 6
-number_of_fault Quote = 7
-number_of_fault InUse = 8
 
 -- the number of a refusal of opening
 abbrev pub number_of_refusal : OpenFault → ℕ

@@ -1,13 +1,8 @@
--- Which octets play which part, of all 256.
+-- Which octets name ports, of all 256.
 use Rattle.std.specs.Prelude.{◌≡◌, ℕ, List, [], ◌∷◌}
-use Rattle.std.specs.List.{filter, range_with_len}
-use Rattle.lldp_engine.specs.Options.{is_name_octet, is_text}
-use Rattle.lldp_engine.specs.Words.{is_separator, is_quote}
-use Rattle.lldp_engine.specs.Number.{is_number}
-
--- the octets from 0 to 255
-abbrev pub octets : List ℕ
-octets = range_with_len 0 256
+use Rattle.std.specs.List.{filter}
+use Rattle.lldp_text.specs.FixedOctets.{octets}
+use Rattle.lldp_engine.specs.Options.{is_name_octet}
 
 -- Ports are named by `-`, `/`, the digits, `:`, `A` to `Z`, `_` and `a` to `z`.
 abbrev pub octets_of_names : List ℕ
@@ -18,14 +13,6 @@ octets_of_names =
     ∷ 0x69 ∷ 0x6a ∷ 0x6b ∷ 0x6c ∷ 0x6d ∷ 0x6e ∷ 0x6f ∷ 0x70 ∷ 0x71 ∷ 0x72 ∷ 0x73 ∷ 0x74 ∷ 0x75 ∷ 0x76 ∷ 0x77 ∷ 0x78
     ∷ 0x79 ∷ 0x7a ∷ []
 
--- Each part is played by these octets and no others.
-pub record PlayParts : Type 0 where
-  -- a tab and a space
-  pub separators : filter is_separator octets ≡ 0x09 ∷ 0x20 ∷ []
-  -- `"`
-  pub quotes : filter is_quote octets ≡ 0x22 ∷ []
-  pub names : filter is_name_octet octets ≡ octets_of_names
-  -- from the space on, 95 octets, up to the tilde
-  pub texts : filter (λ octet. is_text (octet ∷ [])) octets ≡ range_with_len 0x20 95
-  -- from `0` on, ten octets
-  pub numbers : filter (λ octet. is_number (octet ∷ [])) octets ≡ range_with_len 0x30 10
+-- These octets and no others.
+abbrev pub NamePorts : Type 0
+NamePorts = filter is_name_octet octets ≡ octets_of_names

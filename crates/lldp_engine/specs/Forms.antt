@@ -1,16 +1,16 @@
 -- The forms of the commands, and how words are compared with them.
 use Rattle.std.specs.Prelude.{ℕ, if◌then◌else◌, List, [], ◌∷◌, codes, Option, Some, None, Result, Ok, Err}
 use Rattle.std.specs.Str.{bytes_eq}
-use Rattle.lldp_engine.specs.declared.command.fault.CommandFault.{CommandFault}
-use Rattle.lldp_engine.specs.declared.command.fault.CommandFault.TheVariants.{Unknown, NoSuchPort, Text, Extra}
+use Rattle.lldp_text.specs.declared.fault.CommandFault.{CommandFault}
+use Rattle.lldp_text.specs.declared.fault.CommandFault.TheVariants.{Unknown, NoSuchPort, Text, Extra}
 use Rattle.lldp_engine.specs.declared.command.Show.TheVariants.{Neighbors, Statistics, Chassis, Configuration}
 use Rattle.lldp_engine.specs.declared.port.status.Status.{Status}
 use Rattle.lldp_engine.specs.declared.port.status.Status.TheVariants.{RxAndTx, RxOnly, TxOnly, Disabled}
-use Rattle.lldp_engine.specs.Options.{is_text}
-use Rattle.lldp_engine.specs.Number.{number_of}
+use Rattle.lldp_text.specs.Text.{is_text}
+use Rattle.lldp_text.specs.Number.{number_of}
 use Rattle.lldp_engine.specs.Place.{place_of}
 use Rattle.lldp_engine.specs.Event.{hostname, description, interval, hold, limit, status as port_status, update}
-use Rattle.lldp_engine.specs.Answer.{or_fault, on_ok}
+use Rattle.lldp_text.specs.Answer.{or_fault, on_ok}
 use Rattle.lldp_engine.specs.Command.{Command, show, set}
 
 -- What a command may still say: nothing more; a fixed word and what follows it; or an argument, which the rest may

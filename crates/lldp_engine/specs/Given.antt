@@ -1,13 +1,13 @@
 -- What a line asks of an agent, by its words and the forms.
 use Rattle.std.specs.Prelude.{◌≡◌, ℕ, if◌then◌else◌, List, [], ◌∷◌, Result, Ok, Err}
-use Rattle.lldp_engine.specs.declared.command.fault.CommandFault.{CommandFault}
-use Rattle.lldp_engine.specs.declared.command.fault.CommandFault.TheVariants.{Quote, InUse}
+use Rattle.lldp_text.specs.declared.fault.CommandFault.{CommandFault}
+use Rattle.lldp_text.specs.declared.fault.CommandFault.TheVariants.{Quote, InUse}
 use Rattle.lldp_engine.specs.Event.{limit}
 use Rattle.lldp_engine.specs.AgentState.{AgentState, PortState, names_of, fits}
-use Rattle.lldp_engine.specs.Answer.{or_fault, ◌>>=◌}
+use Rattle.lldp_text.specs.Answer.{or_fault, ◌>>=◌}
 use Rattle.lldp_engine.specs.Command.{Command, set}
 use Rattle.lldp_engine.specs.Forms.{Form, complete, forms, read_forms}
-use Rattle.lldp_engine.specs.Words.{words_of}
+use Rattle.lldp_text.specs.Words.{words_of}
 
 -- What words say to an agent, by the forms.
 abbrev pub said_by : AgentState → List (List ℕ) → Result Command CommandFault

@@ -5,7 +5,7 @@ use Rattle.lldp_engine.specs.AgentState.{AgentState}
 use Rattle.lldp_engine.specs.Event.{limit}
 use Rattle.lldp_engine.specs.Command.{set}
 use Rattle.lldp_engine.specs.Given.{said_by}
-use Rattle.lldp_engine.specs.Words.{words_of}
+use Rattle.lldp_text.specs.Words.{words_of}
 
 -- Some port holds more neighbors than this.
 abbrev pub HoldsMore : AgentState → ℕ → Type 0

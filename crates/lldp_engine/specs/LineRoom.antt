@@ -1,8 +1,8 @@
 -- The room that a sink of lines lends.
 use Rattle.std.specs.Prelude.{◌≡◌, ℕ, ◌+◌, ◌≤◌, List, ◌++◌, length, Option, Some, None}
 use Rattle.std.specs.Borrow.{Fml, RattleType, MutBor, LendsSo}
-use Rattle.lldp_engine.specs.contracts.show.writer.Writer.{the_row as writer_row}
-use Rattle.lldp_engine.specs.Text.{ended}
+use Rattle.lldp_text.specs.contracts.writing.Writer.{the_row as writer_row}
+use Rattle.lldp_text.specs.Text.{ended}
 
 -- What is written into the lent writer is a line that the sink takes: at most 2,048 octets and an LF, behind what
 -- stands there. A sink that lends none takes whatever line as it is.

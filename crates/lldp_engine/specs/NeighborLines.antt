@@ -6,8 +6,8 @@ use Rattle.lldp_pdu.specs.Kept.{kept_of}
 use Rattle.lldp_table.specs.Events.{Neighbor}
 use Rattle.lldp_engine.specs.AgentState.{PortState}
 use Rattle.lldp_engine.specs.Keys.{port_key, neighbor_key}
-use Rattle.lldp_engine.specs.Identifier.{chassis_text, port_text}
-use Rattle.lldp_engine.specs.KeptTlv.{tlv_text}
+use Rattle.lldp_text.specs.Identifier.{chassis_text, port_text}
+use Rattle.lldp_text.specs.KeptTlv.{tlv_text}
 
 -- the line of a kept TLV, behind this key
 abbrev pub kept_line : List ℕ → TlvUnit → List ℕ

@@ -1,8 +1,8 @@
 -- What stands next among the words of a line.
 use Rattle.std.specs.Prelude.{ℕ, List, [], ◌∷◌, Result, Ok, Err}
-use Rattle.lldp_engine.specs.declared.command.fault.CommandFault.{CommandFault}
-use Rattle.lldp_engine.specs.declared.command.fault.CommandFault.TheVariants.{Unknown, NoSuchPort, Extra}
-use Rattle.lldp_engine.specs.Answer.{or_fault, ◌>>=◌}
+use Rattle.lldp_text.specs.declared.fault.CommandFault.{CommandFault}
+use Rattle.lldp_text.specs.declared.fault.CommandFault.TheVariants.{Unknown, NoSuchPort, Extra}
+use Rattle.lldp_text.specs.Answer.{or_fault, ◌>>=◌}
 use Rattle.lldp_engine.specs.Place.{place_of}
 
 -- the next word, and those behind it

@@ -3,10 +3,7 @@ use Rattle.std.specs.Prelude.{◌≡◌, ℕ, ◌+◌, ◌<◌, List, [], ◌∷
 use Rattle.std.specs.List.{Contains}
 use Rattle.lldp_table.specs.Events.{Neighbor}
 use Rattle.lldp_engine.specs.AgentState.{PortState}
-use Rattle.lldp_engine.specs.Frames.{unit}
-use Rattle.lldp_engine.specs.Text.{escaped}
-use Rattle.lldp_engine.specs.Identifier.{chassis_text, port_text}
-use Rattle.lldp_engine.specs.KeptTlv.{tlv_text}
+use Rattle.lldp_text.specs.Identifier.{chassis_text, port_text}
 use Rattle.lldp_engine.specs.NeighborLines.{neighbor_lines, port_lines}
 use Rattle.lldp_engine.specs.FixedTexts.{line_of}
 
@@ -30,12 +27,3 @@ first_lines name number neighbor =
     ∷ line_of name (decimal number ++ (0x2e ∷ 0x70 ∷ 0x6f ∷ 0x72 ∷ 0x74 ∷ 0x2e ∷ []) ++ port_text neighbor.msap.port)
     ∷ line_of name (decimal number ++ (0x2e ∷ 0x74 ∷ 0x74 ∷ 0x6c ∷ 0x3d ∷ []) ++ decimal neighbor.ttl)
     ∷ line_of name (decimal number ++ (0x2e ∷ 0x65 ∷ 0x78 ∷ 0x70 ∷ 0x69 ∷ 0x72 ∷ 0x65 ∷ 0x73 ∷ 0x3d ∷ []) ++ decimal neighbor.left) ∷ []
-
--- The keys of kept TLVs.
-pub record HasKeys (body : List ℕ) : Type 0 where
-  -- port.descr=
-  pub port : tlv_text (unit 4 body) ≡ (0x70 ∷ 0x6f ∷ 0x72 ∷ 0x74 ∷ 0x2e ∷ 0x64 ∷ 0x65 ∷ 0x73 ∷ 0x63 ∷ 0x72 ∷ 0x3d ∷ []) ++ escaped body
-  -- chassis.name=
-  pub name : tlv_text (unit 5 body) ≡ (0x63 ∷ 0x68 ∷ 0x61 ∷ 0x73 ∷ 0x73 ∷ 0x69 ∷ 0x73 ∷ 0x2e ∷ 0x6e ∷ 0x61 ∷ 0x6d ∷ 0x65 ∷ 0x3d ∷ []) ++ escaped body
-  -- chassis.descr=
-  pub description : tlv_text (unit 6 body) ≡ (0x63 ∷ 0x68 ∷ 0x61 ∷ 0x73 ∷ 0x73 ∷ 0x69 ∷ 0x73 ∷ 0x2e ∷ 0x64 ∷ 0x65 ∷ 0x73 ∷ 0x63 ∷ 0x72 ∷ 0x3d ∷ []) ++ escaped body

@@ -2,6 +2,7 @@
 use Rattle.std.specs.Prelude.{◌≡◌, ℕ, ◌≤◌, ◌==◌, ◌&&◌, ◌||◌, not, nat_le, nat_lt, Bool, false, if◌then◌else◌, List, [], ◌∷◌, length, map, Option, Some, None}
 use Rattle.std.specs.List.{list_any, list_all}
 use Rattle.std.specs.Str.{bytes_eq}
+use Rattle.lldp_text.specs.Text.{is_text}
 use Rattle.lldp_engine.specs.declared.agent.options.Options.{Options as CodeOptions}
 use Rattle.lldp_engine.specs.declared.agent.options.Role.{Role}
 use Rattle.lldp_engine.specs.declared.agent.open_fault.OpenFault.{OpenFault}
@@ -58,10 +59,6 @@ is_port_name name = nat_lt 0 (length name) && (nat_le (length name) 15 && list_a
 abbrev pub has_same : List (List ℕ) → Bool
 has_same [] = false
 has_same (name ∷ names) = list_any (λ other. bytes_eq other name) names || has_same names
-
--- a text has at most 255 octets, each from the space to the tilde
-abbrev pub is_text : List ℕ → Bool
-is_text text = nat_le (length text) 255 && list_all (λ c. nat_le 32 c && nat_le c 126) text
 
 -- the fault of the first check that fails, each over the whole list of ports
 abbrev pub fault_of : Options → Option OpenFault

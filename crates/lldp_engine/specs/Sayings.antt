@@ -1,18 +1,17 @@
 -- What words say, form by form, with whatever word stands where a form takes one.
-use Rattle.std.specs.Prelude.{◌≡◌, ℕ, if◌then◌else◌, List, [], ◌∷◌, Some, None, Ok, Err}
-use Rattle.lldp_engine.specs.declared.command.fault.CommandFault.TheVariants.{Unknown, NoSuchPort, Number, Range, Text, Extra}
+use Rattle.std.specs.Prelude.{◌≡◌, ℕ, if◌then◌else◌, List, [], ◌∷◌, Some, Ok, Err}
+use Rattle.lldp_text.specs.declared.fault.CommandFault.TheVariants.{Unknown, NoSuchPort, Text, Extra}
 use Rattle.lldp_engine.specs.declared.command.Show.TheVariants.{Neighbors, Statistics, Chassis, Configuration}
 use Rattle.lldp_engine.specs.declared.port.status.Status.TheVariants.{RxAndTx, RxOnly, TxOnly, Disabled}
-use Rattle.lldp_engine.specs.Options.{is_text}
-use Rattle.lldp_engine.specs.Number.{number_of}
+use Rattle.lldp_text.specs.Text.{is_text}
+use Rattle.lldp_text.specs.Number.{number_of}
 use Rattle.lldp_engine.specs.Place.{place_of}
 use Rattle.lldp_engine.specs.Event.{hostname, description, interval, hold, limit, status, update}
 use Rattle.lldp_engine.specs.AgentState.{AgentState, names_of}
-use Rattle.lldp_engine.specs.Answer.{or_fault, on_ok, ◌>>=◌}
+use Rattle.lldp_text.specs.Answer.{or_fault, on_ok, ◌>>=◌}
 use Rattle.lldp_engine.specs.Command.{show, set}
 use Rattle.lldp_engine.specs.Forms.{status_of}
 use Rattle.lldp_engine.specs.Given.{said_by}
-use Rattle.lldp_engine.specs.Words.{words_of}
 
 -- show
 abbrev pub show_word : List ℕ
@@ -103,15 +102,8 @@ pub record AreSaid (agent : AgentState) (word other : List ℕ) : Type 0 where
   pub missing : said_by agent (configure_word ∷ []) ≡ Err Unknown
   pub none : said_by agent [] ≡ Err Unknown
 
--- Numbers at the ends of a range, and the words of statuses.
+-- The words of statuses.
 pub record AreRead : Type 0 where
-  -- 0, 1, 3600, 3601, 0001 and 1a
-  pub below : number_of (0x30 ∷ []) 1 3600 ≡ Err Range
-  pub least : number_of (0x31 ∷ []) 1 3600 ≡ Ok 1
-  pub greatest : number_of (0x33 ∷ 0x36 ∷ 0x30 ∷ 0x30 ∷ []) 1 3600 ≡ Ok 3600
-  pub above : number_of (0x33 ∷ 0x36 ∷ 0x30 ∷ 0x31 ∷ []) 1 3600 ≡ Err Range
-  pub zeros : number_of (0x30 ∷ 0x30 ∷ 0x30 ∷ 0x31 ∷ []) 1 3600 ≡ Ok 1
-  pub letter : number_of (0x31 ∷ 0x61 ∷ []) 1 3600 ≡ Err Number
   -- rx-and-tx
   pub rx_and_tx : status_of (0x72 ∷ 0x78 ∷ 0x2d ∷ 0x61 ∷ 0x6e ∷ 0x64 ∷ 0x2d ∷ 0x74 ∷ 0x78 ∷ []) ≡ Some RxAndTx
   -- rx-only
@@ -120,15 +112,3 @@ pub record AreRead : Type 0 where
   pub tx_only : status_of (0x74 ∷ 0x78 ∷ 0x2d ∷ 0x6f ∷ 0x6e ∷ 0x6c ∷ 0x79 ∷ []) ≡ Some TxOnly
   -- disabled
   pub disabled : status_of (0x64 ∷ 0x69 ∷ 0x73 ∷ 0x61 ∷ 0x62 ∷ 0x6c ∷ 0x65 ∷ 0x64 ∷ []) ≡ Some Disabled
-
--- Lines, word by word.
-pub record AreSplit : Type 0 where
-  -- a space, `a`, a tab, `bc`, a space, `"d e"`, a space, `""`
-  pub words : words_of (0x20 ∷ 0x61 ∷ 0x09 ∷ 0x62 ∷ 0x63 ∷ 0x20 ∷ 0x22 ∷ 0x64 ∷ 0x20 ∷ 0x65 ∷ 0x22 ∷ 0x20 ∷ 0x22 ∷ 0x22 ∷ [])
-      ≡ Some ((0x61 ∷ []) ∷ (0x62 ∷ 0x63 ∷ []) ∷ (0x64 ∷ 0x20 ∷ 0x65 ∷ []) ∷ [] ∷ [])
-  -- a comma and a semicolon separate nothing: `a,b;c`
-  pub others : words_of (0x61 ∷ 0x2c ∷ 0x62 ∷ 0x3b ∷ 0x63 ∷ []) ≡ Some ((0x61 ∷ 0x2c ∷ 0x62 ∷ 0x3b ∷ 0x63 ∷ []) ∷ [])
-  -- `a"b`, `"a` and `"a"b`
-  pub inside : words_of (0x61 ∷ 0x22 ∷ 0x62 ∷ []) ≡ None
-  pub unclosed : words_of (0x22 ∷ 0x61 ∷ []) ≡ None
-  pub behind : words_of (0x22 ∷ 0x61 ∷ 0x22 ∷ 0x62 ∷ []) ≡ None

@@ -23,18 +23,17 @@ pub(crate) mod open_fault;
 pub(crate) mod options;
 pub(crate) mod port_names;
 pub(crate) mod ports;
-pub(crate) mod text;
 
 use crate::agent::configuration::Configuration;
 use crate::agent::event::{Event, Setting};
 use crate::agent::open_fault::OpenFault;
 use crate::agent::options::{MOST_HOLD, MOST_INTERVAL, Options};
 use crate::agent::ports::{Marks, all_fit, find_place, open_ports, take_event};
-use crate::agent::text::is_printable_text;
 use crate::port::Port;
 use crate::port::counters::Counters;
 use crate::port::status::Status;
 use lldp_table::{Room, Table};
+use lldp_text::is_printable_text;
 use std::alloc::{Allocator, Global};
 use std::marker::Model;
 

@@ -1,7 +1,7 @@
 //! The commands, and how a line gives one.
 ghost use Rattle.std.specs.Prelude.{◌≡◌, ℕ, List, ◌∷◌, ◌++◌, Ok, IfOk, codes};
 ghost use Rattle.lldp_engine.specs.AgentState.{AgentState};
-ghost use Rattle.lldp_engine.specs.Answer.{on_ok};
+ghost use Rattle.lldp_text.specs.Answer.{on_ok};
 ghost use Rattle.lldp_engine.specs.Command.{Command as CommandSaid, show, command_of, AllowsCommand};
 ghost use Rattle.lldp_engine.specs.Forms.{Form, complete, going_on};
 ghost use Rattle.lldp_engine.specs.Given.{said_by, unless_in_use, command_said, command_given, Says};
@@ -9,19 +9,15 @@ ghost use Rattle.lldp_engine.specs.Code.SaidSetting.{IsSaidCommand};
 ghost use Rattle.lldp_engine.specs.Past.{Past, agent_of};
 ghost use Rattle.lldp_engine.specs.Standing.{Stands};
 
-pub(crate) mod fault;
 pub(crate) mod forms;
-pub(crate) mod number;
 pub(crate) mod settings;
-pub(crate) mod words;
 
 use crate::agent::Agent;
 use crate::agent::event::Setting;
 use crate::agent::ports::all_fit;
-use crate::command::fault::CommandFault;
 use crate::command::forms::{end_words, is_word, next_word};
 use crate::command::settings::read_setting;
-use crate::command::words::{Words, split};
+use lldp_text::{CommandFault, Words, split};
 use std::alloc::Allocator;
 
 /// What a show command shows.

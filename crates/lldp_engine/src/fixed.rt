@@ -1,17 +1,16 @@
-//! What stands fixed: texts and values octet by octet, and the numbers of ranges.
-ghost use Rattle.std.specs.Prelude.{◌≡◌, ℕ, List};
+//! What stands fixed: words octet by octet, and the numbers of ranges.
+ghost use Rattle.std.specs.Prelude.{◌≡◌, ℕ};
 ghost use Rattle.lldp_pdu.specs.Capabilities.{caps_fields};
 ghost use Rattle.lldp_engine.specs.declared.agent.options.Role.{Role};
 ghost use Rattle.lldp_engine.specs.Options.{Options};
 ghost use Rattle.lldp_engine.specs.AgentState.{AgentState, PortState};
-ghost use Rattle.lldp_engine.specs.Capabilities.{capabilities_text};
+ghost use Rattle.lldp_text.specs.Capabilities.{capabilities_text};
 ghost use Rattle.lldp_engine.specs.ChassisLines.{role_text};
 ghost use Rattle.lldp_engine.specs.Frames.{capabilities_of};
 ghost use Rattle.lldp_engine.specs.StatisticsLines.{counter_lines};
 ghost use Rattle.lldp_engine.specs.FixedNumbers.{AreConstants, MaySet, OpensWith};
-ghost use Rattle.lldp_engine.specs.FixedOctets.{PlayParts};
-ghost use Rattle.lldp_engine.specs.FixedTexts.{TellFaults, WriteWords, lines_of_counters};
-ghost use Rattle.lldp_engine.specs.FixedValues.{AreWritten, AreIdentified, AreAddressed};
+ghost use Rattle.lldp_engine.specs.FixedOctets.{NamePorts};
+ghost use Rattle.lldp_engine.specs.FixedTexts.{WriteWords, lines_of_counters};
 
 /// Each range ends at its number: that of the code, that of what commands may set, and that which
 /// an agent opens with.
@@ -21,27 +20,19 @@ pub fn ranges_end_at_fixed_numbers()
     ensures defaults { (options : Options) → OpensWith options }
 {}
 
-/// Of the 256 octets these are separators, quotes, octets of ports' names, of texts and of numbers.
-pub fn octets_play_fixed_parts()
-    ensures { PlayParts }
+/// Of the 256 octets these name ports.
+pub fn ports_are_named_by_fixed_octets()
+    ensures { NamePorts }
 {}
 
-/// Each fault is told by its line, and the words of shows stand octet by octet.
-pub fn texts_have_fixed_octets()
-    ensures faults { TellFaults }
-    ensures words { WriteWords }
+/// The words of shows stand octet by octet.
+pub fn words_of_shows_have_fixed_octets()
+    ensures { WriteWords }
 {}
 
 /// Each counter of a port is shown behind its own key, in this order.
 pub fn counters_are_shown_behind_their_keys()
     ensures { (port : PortState) → counter_lines port ≡ lines_of_counters port }
-{}
-
-/// Addresses, capabilities, texts and identifiers stand octet by octet.
-pub fn values_have_fixed_octets()
-    ensures written { AreWritten }
-    ensures identified { (text : List ℕ) → AreIdentified text }
-    ensures addressed { AreAddressed }
 {}
 
 /// The show line of a role has the capabilities that its frame says.

@@ -1,6 +1,6 @@
 //! When a limit is in use.
 ghost use Rattle.std.specs.Prelude.{◌≡◌, ◌↔◌, ◌≤◌, ℕ, List, Err};
-ghost use Rattle.lldp_engine.specs.declared.command.fault.CommandFault.TheVariants.{InUse};
+ghost use Rattle.lldp_text.specs.declared.fault.CommandFault.TheVariants.{InUse};
 ghost use Rattle.lldp_engine.specs.AgentState.{AgentState, AllowsSetting};
 ghost use Rattle.lldp_engine.specs.Event.{limit};
 ghost use Rattle.lldp_engine.specs.Given.{command_given};

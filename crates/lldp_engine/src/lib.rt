@@ -3,9 +3,7 @@
 #![tactic(auto)]
 
 mod agent;
-mod alike;
 mod command;
-mod digits;
 mod fixed;
 mod in_use;
 mod laws;
@@ -22,16 +20,11 @@ pub use agent::options::{
     MOST_CREDIT, MOST_FAST, MOST_HOLD, MOST_INTERVAL, MOST_NEIGHBORS, MOST_REINIT, Options, Role,
 };
 pub use agent::ports::Marks;
-pub use alike::neighbors_are_never_shown_alike;
-pub use command::fault::CommandFault;
 pub use command::forms::{end_words, next_port, next_word};
-pub use command::number::number;
-pub use command::words::{Words, split, split_at_bare, words_are_spelled};
 pub use command::{Command, Show, complete_forms_take_no_word};
-pub use digits::{decode_digits, encode_digits};
 pub use fixed::{
-    counters_are_shown_behind_their_keys, octets_play_fixed_parts, ranges_end_at_fixed_numbers,
-    roles_are_shown_as_sent, texts_have_fixed_octets, values_have_fixed_octets,
+    counters_are_shown_behind_their_keys, ports_are_named_by_fixed_octets,
+    ranges_end_at_fixed_numbers, roles_are_shown_as_sent, words_of_shows_have_fixed_octets,
 };
 pub use in_use::limits_below_what_ports_hold_are_in_use;
 pub use laws::counting::{ports_count_each_lldpdu_once, ports_count_what_they_sent};
@@ -49,6 +42,10 @@ pub use laws::whose::{
 pub use laws::{
     last_events_decide, rights_follow_statuses, standing_agents_are_promised, steps_carry_standing,
 };
+pub use lldp_text::{
+    CommandFault, LINE_ROOM, Line, ROOM, Words, Writer, decode_digits, encode_digits, number,
+    split, split_at_bare,
+};
 pub use lldp_transmit::Mark;
 pub use opening::openings_tell_first_faults;
 pub use port::counters::Counters;
@@ -56,4 +53,3 @@ pub use port::status::Status;
 pub use sayings::{forms_say_their_commands, neighbors_are_numbered_from_1};
 pub use show::line_sink::LineSink;
 pub use show::lines::MOST_LINES;
-pub use show::writer::{LINE_ROOM, Line, ROOM, Writer};

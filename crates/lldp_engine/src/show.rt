@@ -1,19 +1,13 @@
 //! The lines of shows.
 
-pub(crate) mod addresses;
-pub(crate) mod capabilities;
 pub(crate) mod chassis_lines;
 pub(crate) mod configuration_lines;
 pub(crate) mod front;
-pub(crate) mod identifier;
-pub(crate) mod kept_tlv;
 pub(crate) mod line_sink;
 pub(crate) mod lines;
-pub(crate) mod management_address;
 pub(crate) mod neighbor_lines;
 pub(crate) mod numbers;
 pub(crate) mod one_line;
 pub(crate) mod put_line;
 pub(crate) mod statistics_lines;
 pub(crate) mod value;
-pub(crate) mod writer;

@@ -7,8 +7,8 @@ use Rattle.hex.specs.Hex.{decode_of, is_hex_digit}
 use Rattle.hex.proofs.HexLemmas.{decode_of-ok}
 use Rattle.lldp_engine.specs.AgentState.{AgentState, names_of}
 use Rattle.lldp_engine.specs.Place.{place_of}
-use Rattle.lldp_engine.specs.Words.{is_bare, is_separator, words_of, AreWords}
-use Rattle.lldp_engine.proofs.WordsGrammar.{read_from_spelled}
+use Rattle.lldp_text.specs.Words.{is_bare, is_separator, words_of, AreWords}
+use Rattle.lldp_text.proofs.WordsGrammar.{read_from_spelled}
 use Rattle.lldp_program.specs.Forms.{work_given, form_of, frame_form}
 use Rattle.lldp_program.specs.Work.{frame}
 

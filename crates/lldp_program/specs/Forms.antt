@@ -2,12 +2,12 @@
 use Rattle.std.specs.Prelude.{ℕ, List, [], ◌∷◌, length, codes, Result, Ok, Err, nat_lt, ◌==◌, Bool, true, false, if◌then◌else◌}
 use Rattle.std.specs.Str.{bytes_eq}
 use Rattle.hex.specs.Hex.{decode_of}
-use Rattle.lldp_engine.specs.declared.command.fault.CommandFault.{CommandFault}
-use Rattle.lldp_engine.specs.declared.command.fault.CommandFault.TheVariants.{Unknown, Quote}
-use Rattle.lldp_engine.specs.Fault.{text_of as command_fault_text}
-use Rattle.lldp_engine.specs.Words.{words_of, is_separator}
-use Rattle.lldp_engine.specs.Answer.{or_fault, on_ok, ◌>>=◌}
-use Rattle.lldp_engine.specs.Number.{number_of}
+use Rattle.lldp_text.specs.declared.fault.CommandFault.{CommandFault}
+use Rattle.lldp_text.specs.declared.fault.CommandFault.TheVariants.{Unknown, Quote}
+use Rattle.lldp_text.specs.Fault.{text_of as command_fault_text}
+use Rattle.lldp_text.specs.Words.{words_of, is_separator}
+use Rattle.lldp_text.specs.Answer.{or_fault, on_ok, ◌>>=◌}
+use Rattle.lldp_text.specs.Number.{number_of}
 use Rattle.lldp_engine.specs.AgentState.{AgentState, names_of}
 use Rattle.lldp_engine.specs.NextWords.{word_said, port_said, end_said}
 use Rattle.lldp_engine.specs.Given.{command_said}

@@ -3,7 +3,7 @@ ghost use Rattle.std.specs.Prelude.{◌≡◌, ◌≤◌, length, ℕ, List, ◌
 ghost use Rattle.std.specs.List.{AllByRecursion};
 ghost use Rattle.hex.specs.Hex.{decode_of};
 ghost use Rattle.lldp_engine.specs.AgentState.{AgentState, IsPort};
-ghost use Rattle.lldp_engine.specs.Answer.{on_ok};
+ghost use Rattle.lldp_text.specs.Answer.{on_ok};
 ghost use Rattle.lldp_program.specs.Forms.{fault_text, is_skipped, or_hex, tick_form, frame_form, link_form, work_given};
 ghost use Rattle.lldp_program.specs.Work.{frame, work_of, AllowsWork};
 

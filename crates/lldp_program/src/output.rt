@@ -4,7 +4,7 @@ ghost use Rattle.std.specs.List.{flat_map, AllByRecursion};
 ghost use Rattle.lldp_engine.specs.AgentState.{names_of, IsPort};
 ghost use Rattle.lldp_engine.specs.Frames.{IsSent};
 ghost use Rattle.lldp_engine.specs.Lines.{lines_of};
-ghost use Rattle.lldp_engine.specs.declared.show.writer.TheConstants.{ROOM};
+ghost use Rattle.lldp_text.specs.declared.writing.TheConstants.{ROOM};
 ghost use Rattle.lldp_program.specs.Devices.{failures_after};
 ghost use Rattle.lldp_program.specs.Lines.{ended};
 ghost use Rattle.lldp_program.specs.Code.Output.{WrittenBy, Puts, Flushes, Writes, begun};

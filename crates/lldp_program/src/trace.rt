@@ -1,7 +1,7 @@
 //! A run over a trace.
 ghost use Rattle.std.specs.Prelude.{◌≡◌, ◌<◌, ◌≤◌, ◌+◌, ◌^◌, [], ◌∷◌, length, take, drop, replicate, IfOk};
 ghost use Rattle.lldp_engine.specs.AgentState.{Allows};
-ghost use Rattle.lldp_engine.specs.Answer.{on_ok};
+ghost use Rattle.lldp_text.specs.Answer.{on_ok};
 ghost use Rattle.lldp_engine.specs.Event.{tick};
 ghost use Rattle.lldp_engine.specs.EventView.{event_of};
 ghost use Rattle.lldp_engine.specs.Past.{Past};

@@ -23,7 +23,7 @@ use Rattle.lldp_engine.specs.Counters.{counters_of}
 use Rattle.lldp_engine.specs.Port.Past.{port_after}
 use Rattle.lldp_engine.specs.Past.{Past, opened, agent_of}
 use Rattle.lldp_engine.specs.Frames.{frame_of}
-use Rattle.lldp_engine.specs.Words.{words_from}
+use Rattle.lldp_text.specs.Words.{words_from}
 use Rattle.lldp_program.specs.Forms.{tick_form, frame_form, link_form, form_of, work_given}
 use Rattle.lldp_program.specs.Lines.{lines_of, ended_lines, ended}
 use Rattle.lldp_program.specs.Items.{items_of, items_of_lines, after_all, text_of_all, text}

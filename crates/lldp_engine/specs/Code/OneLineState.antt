@@ -1,7 +1,7 @@
 -- What the sink of one line holds.
 use Rattle.std.specs.Prelude.{◌≡◌, ℕ, suc, zero, ◌≤◌, List, length, Bool, true, false}
 use Rattle.lldp_engine.specs.declared.show.one_line.OneLine.{OneLine}
-use Rattle.lldp_engine.specs.Text.{ended}
+use Rattle.lldp_text.specs.Text.{ended}
 
 -- what it holds after a line came, by how many came before the one that is wanted, and whether that one had come
 abbrev pub after_line : ℕ → Bool → List ℕ → List ℕ → OneLine

@@ -6,11 +6,11 @@ use Rattle.lldp_pdu.specs.Kept.{IsKeptTlv}
 use Rattle.lldp_pdu.specs.View.{tlv_view}
 use Rattle.lldp_engine.specs.declared.show.value.Value.{Value}
 use Rattle.lldp_engine.specs.declared.show.value.Value.TheVariants as value
-use Rattle.lldp_engine.specs.Addresses.{mac_text}
+use Rattle.lldp_text.specs.Addresses.{mac_text}
 use Rattle.lldp_engine.specs.ChassisLines.{own_address_text}
-use Rattle.lldp_engine.specs.Identifier.{chassis_text, port_text}
-use Rattle.lldp_engine.specs.KeptTlv.{tlv_text}
-use Rattle.lldp_engine.specs.Text.{escaped}
+use Rattle.lldp_text.specs.Identifier.{chassis_text, port_text}
+use Rattle.lldp_text.specs.KeptTlv.{tlv_text}
+use Rattle.lldp_text.specs.Text.{escaped}
 
 -- how it is written
 abbrev pub value_text : Value → List ℕ

@@ -5,7 +5,7 @@ ghost use Rattle.lldp_engine.specs.Options.{InRange, options_of, is_port_name, f
 
 use crate::agent::open_fault::OpenFault;
 use crate::agent::port_names::{all_port_names, names_repeat};
-use crate::agent::text::is_printable_text;
+use lldp_text::is_printable_text;
 pub use lldp_transmit::{MOST_CREDIT, MOST_FAST, MOST_REINIT};
 
 /// The most neighbors that a port may be opened for.

@@ -1,18 +1,16 @@
 //! The words of a command, one after the other, as the forms have them.
 ghost use Rattle.std.specs.Prelude.{◌≡◌, ℕ, ◌≤◌, List, [], ◌∷◌, true, IfOk, MatchResult};
 ghost use Rattle.std.specs.Str.{bytes_eq};
-ghost use Rattle.lldp_engine.specs.Options.{is_text};
+ghost use Rattle.lldp_text.specs.Text.{is_text};
 ghost use Rattle.lldp_engine.specs.AgentState.{names_of, IsPort};
 ghost use Rattle.lldp_engine.specs.Forms.{Form, word, port, number, text, status, status_of};
-ghost use Rattle.lldp_engine.specs.Answer.{on_ok};
+ghost use Rattle.lldp_text.specs.Answer.{on_ok};
 ghost use Rattle.lldp_engine.specs.Given.{Reads};
 ghost use Rattle.lldp_engine.specs.NextWords.{word_said, port_said, end_said};
 
 use crate::agent::Agent;
-use crate::agent::text::is_printable_text;
-use crate::command::fault::CommandFault;
-use crate::command::words::Words;
 use crate::port::status::Status;
+use lldp_text::{CommandFault, Words, is_printable_text};
 use std::alloc::Allocator;
 
 pub(crate) fn is_word(word: &[u8], expected: &str) -> bool
@@ -78,7 +76,7 @@ pub(crate) fn next_number(
     ensures in_range { IfOk result (λ n. (least ≤ n) × (n ≤ greatest)) }
 {
     let word = next_word(words)?;
-    crate::command::number::number(word, least, greatest)
+    lldp_text::number(word, least, greatest)
 }
 
 /// The number of the port that the next word names. A word that is missing is `Unknown`, one that

@@ -8,11 +8,10 @@ ghost use Rattle.lldp_engine.specs.Code.SaidSetting.{IsSaid};
 use crate::agent::Agent;
 use crate::agent::event::Setting;
 use crate::agent::options::{MOST_HOLD, MOST_INTERVAL};
-use crate::command::fault::CommandFault;
 use crate::command::forms::{
     expect_word, is_word, next_number, next_port, next_status, next_text, next_word,
 };
-use crate::command::words::Words;
+use lldp_text::{CommandFault, Words};
 use std::alloc::Allocator;
 
 /// What follows `configure system`.

@@ -1,10 +1,10 @@
 //! What takes the lines of a show.
 ghost use Rattle.std.specs.Prelude.{◌≡◌, ◌+◌, ◌≤◌, ℕ, List, length, true, IfSome};
 ghost use Rattle.std.specs.Borrow.{sem};
-ghost use Rattle.lldp_engine.specs.declared.show.writer.TheConstants.{LINE_ROOM, ROOM};
+ghost use Rattle.lldp_text.specs.declared.writing.TheConstants.{LINE_ROOM, ROOM};
 ghost use Rattle.lldp_engine.specs.LineRoom.{LendsRoom};
 
-use crate::show::writer::Writer;
+use lldp_text::Writer;
 
 /// What takes the lines of a show, one after another. A sink that can fail keeps its fault, and is
 /// done from then on.

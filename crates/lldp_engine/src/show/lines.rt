@@ -14,7 +14,7 @@ use crate::show::line_sink::LineSink;
 use crate::show::neighbor_lines::put_neighbors;
 use crate::show::one_line::OneLine;
 use crate::show::statistics_lines::put_statistics;
-use crate::show::writer::Line;
+use lldp_text::Line;
 use std::alloc::Allocator;
 
 /// No show has more lines: each of 64 ports has 3 and those of 128 neighbors, each of which has 4

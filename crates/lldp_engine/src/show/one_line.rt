@@ -2,13 +2,13 @@
 ghost use Rattle.std.specs.Prelude.{◌≡◌, ◌≤◌, ℕ, List, [], true, false, None, Some, length};
 ghost use Rattle.std.specs.Option.{option_map};
 ghost use Rattle.lldp_engine.specs.Lines.{octets_of};
-ghost use Rattle.lldp_engine.specs.declared.show.writer.TheConstants.{LINE_ROOM};
-ghost use Rattle.lldp_engine.specs.Text.{ended};
+ghost use Rattle.lldp_text.specs.declared.writing.TheConstants.{LINE_ROOM};
+ghost use Rattle.lldp_text.specs.Text.{ended};
 ghost use Rattle.lldp_engine.specs.Code.OneLineState.{KeepsOne};
 
 use crate::show::line_sink::LineSink;
-use crate::show::writer::{Line, Writer};
 use arrayvec::ArrayVec;
+use lldp_text::{Line, Writer};
 
 /// How many lines come before the one that is wanted, whether that one came, and the last line that
 /// was written, with its line feed.

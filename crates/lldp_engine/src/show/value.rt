@@ -2,13 +2,10 @@
 ghost use Rattle.std.specs.Prelude.{◌≡◌, ◌+◌, ◌≤◌, ◌++◌, length};
 ghost use Rattle.lldp_engine.specs.ChassisLines.{own_address_text};
 ghost use Rattle.lldp_engine.specs.Code.ShownValue.{value_text, FitsLine};
-ghost use Rattle.lldp_engine.specs.declared.show.writer.TheConstants.{ROOM};
+ghost use Rattle.lldp_text.specs.declared.writing.TheConstants.{ROOM};
 
-use crate::show::addresses::{write_ipv4, write_mac};
-use crate::show::identifier::{write_chassis, write_port};
-use crate::show::kept_tlv::write_kept_tlv;
-use crate::show::writer::Writer;
 use lldp_pdu::Tlv;
+use lldp_text::{Writer, write_chassis, write_ipv4, write_kept_tlv, write_mac, write_port};
 
 /// What stands behind the key of a shown line.
 #[derive(Clone, Copy)]

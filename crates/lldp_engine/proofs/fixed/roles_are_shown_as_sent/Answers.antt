@@ -2,7 +2,7 @@ use Rattle.std.proofs.Common.{◌≡◌, refl}
 use Rattle.lldp_pdu.specs.Capabilities.{caps_fields}
 use Rattle.lldp_engine.specs.declared.agent.options.Role.{Role}
 use Rattle.lldp_engine.specs.declared.agent.options.Role.TheVariants.{Station, Bridge, Router}
-use Rattle.lldp_engine.specs.Capabilities.{capabilities_text}
+use Rattle.lldp_text.specs.Capabilities.{capabilities_text}
 use Rattle.lldp_engine.specs.ChassisLines.{role_text}
 use Rattle.lldp_engine.specs.Frames.{capabilities_of}
 use Rattle.lldp_engine.proofs.fixed.roles_are_shown_as_sent.Goals as goal

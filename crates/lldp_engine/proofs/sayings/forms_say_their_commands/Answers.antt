@@ -1,11 +1,10 @@
 use Rattle.std.proofs.Common.{refl}
-use Rattle.lldp_engine.specs.Options.{is_text}
-use Rattle.lldp_engine.specs.Number.{number_of}
+use Rattle.lldp_text.specs.Text.{is_text}
+use Rattle.lldp_text.specs.Number.{number_of}
 use Rattle.lldp_engine.specs.Place.{place_of}
 use Rattle.lldp_engine.specs.AgentState.{names_of}
 use Rattle.lldp_engine.specs.Command.{set}
 use Rattle.lldp_engine.specs.Event.{hostname, description, interval, hold, limit}
-use Rattle.lldp_engine.specs.Words.{words_from}
 use Rattle.lldp_engine.proofs.SayingLemmas.{text_said, made_said, status_said}
 use Rattle.lldp_engine.proofs.sayings.forms_say_their_commands.Goals as goal
 
@@ -29,24 +28,8 @@ returns-clause-said c = λ agent word other. record {
 
 pub returns-clause-read : goal.returns-clause-read
 returns-clause-read c = record {
-  below = refl;
-  least = refl;
-  greatest = refl;
-  above = refl;
-  zeros = refl;
-  letter = refl;
   rx_and_tx = refl;
   rx_only = refl;
   tx_only = refl;
   disabled = refl;
-}
-
-pub returns-clause-split : goal.returns-clause-split
-unfolding words_from
-returns-clause-split c = record {
-  words = refl;
-  others = refl;
-  inside = refl;
-  unclosed = refl;
-  behind = refl;
 }

@@ -1,4 +1,4 @@
-use Rattle.std.proofs.Common.{refl, append_assoc}
+use Rattle.std.proofs.Common.{append_assoc}
 use Rattle.lldp_engine.proofs.NumberingLemmas.{numbers}
 use Rattle.lldp_engine.proofs.sayings.neighbors_are_numbered_from_1.Goals as goal
 
@@ -7,10 +7,3 @@ returns-clause-numbers c = numbers
 
 pub returns-clause-first : goal.returns-clause-first
 returns-clause-first c = λ name number neighbor. simp append_assoc
-
-pub returns-clause-keys : goal.returns-clause-keys
-returns-clause-keys c = λ body. record {
-  port = refl;
-  name = refl;
-  description = refl;
-}

@@ -1,6 +1,0 @@
-use Rattle.std.proofs.Common.{arith}
-use Rattle.lldp_engine.proofs.LaneLemmas.{empty_mask}
-use Rattle.lldp_engine.proofs.digits.are_small.Goals as goal
-
-pub returns : goal.returns
-returns c = empty_mask _ c.args.values c.fits-values.0 (omega arith)

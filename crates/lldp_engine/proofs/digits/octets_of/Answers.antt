@@ -1,6 +1,0 @@
-use Rattle.std.proofs.Common.{refl}
-use Rattle.lldp_engine.proofs.LaneLemmas.{octet_at}
-use Rattle.lldp_engine.proofs.digits.octets_of.Goals as goal
-
-pub returns-clause-pairs : goal.returns-clause-pairs
-returns-clause-pairs c = octet_at _ c.args.values c.fits-values.0 c.fits-values.1 refl

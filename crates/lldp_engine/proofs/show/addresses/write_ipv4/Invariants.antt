@@ -1,6 +1,0 @@
-use Rattle.std.proofs.Common.{◌≡◌, ◌+◌, ◌*◌, ◌≤◌, ◌++◌, length, take}
-use Rattle.lldp_engine.specs.Addresses.{ipv4_text}
-use Rattle.lldp_engine.proofs.show.addresses.write_ipv4.Given as goal
-
-abbrev pub invariant-loop-i : goal.invariant-loop-i
-invariant-loop-i l = (l.line ≡ l.fn.line ++ ipv4_text (take l.i l.octets)) × (length l.line ≤ length l.fn.line + 11 * l.i)

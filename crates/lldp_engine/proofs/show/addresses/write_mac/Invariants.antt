@@ -1,6 +1,0 @@
-use Rattle.std.proofs.Common.{◌≡◌, ◌+◌, ◌*◌, ◌≤◌, ◌++◌, length, take}
-use Rattle.lldp_engine.specs.Addresses.{mac_text}
-use Rattle.lldp_engine.proofs.show.addresses.write_mac.Given as goal
-
-abbrev pub invariant-loop-i : goal.invariant-loop-i
-invariant-loop-i l = (l.line ≡ l.fn.line ++ mac_text (take l.i l.octets)) × (length l.line ≤ length l.fn.line + 3 * l.i)

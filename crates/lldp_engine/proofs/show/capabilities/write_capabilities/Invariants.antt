@@ -1,8 +1,0 @@
-use Rattle.std.proofs.Common.{◌+◌, ◌*◌, ◌≤◌, length}
-use Rattle.lldp_engine.specs.Capabilities.{is_set, capability_text}
-use Rattle.lldp_engine.proofs.CapabilitiesWritten.{Written}
-use Rattle.lldp_engine.proofs.show.capabilities.write_capabilities.Given as goal
-
-abbrev pub invariant-loop-bit : goal.invariant-loop-bit
-invariant-loop-bit l =
-    Written (is_set l.caps.available) (capability_text l.caps) l.fn.line l.line l.written l.bit × (length l.line ≤ length l.fn.line + 13 * l.bit) × (l.written ≤ l.bit)

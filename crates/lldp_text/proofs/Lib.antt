@@ -1,0 +1,13 @@
+pub mod NumberDigits
+pub mod WordsBounds
+pub mod WordsGrammar
+pub mod WordsReading
+pub mod DigitLemmas
+pub mod LaneLemmas
+pub mod TextJoined
+pub mod AddressesPairs
+pub mod CapabilitiesWritten
+pub mod KeptTlvFields
+pub mod ReadBack
+pub mod AddressesBack
+pub mod IdentifiersBack

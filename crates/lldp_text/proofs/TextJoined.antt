@@ -1,0 +1,28 @@
+-- How joined texts grow.
+use Rattle.std.proofs.Common.{◌≡◌, ℕ, ◌+◌, ◌<◌, List, [], ◌∷◌, ◌++◌, length, get_or, take, map, refl, ap, sym, ◌∙◌, append_assoc, arith}
+use Rattle.std.specs.List.{join_with_byte}
+use Rattle.std.proofs.lemmas.List.{take_more, length-take-le, length-map, map-append}
+use Rattle.lldp_text.specs.Text.{separator}
+
+-- one item more
+pub join_push : (c : ℕ) (xs : List (List ℕ)) (x : List ℕ) → join_with_byte c (xs ++ x ∷ []) ≡ join_with_byte c xs ++ (separator c (length xs) ++ x)
+join_push c [] x = refl
+join_push c (y ∷ []) x = refl
+join_push c (y ∷ z ∷ zs) x = ap (λ l. y ++ (c ∷ l)) (join_push c (z ∷ zs) x) ∙ sym (append_assoc y (c ∷ join_with_byte c (z ∷ zs)) (separator c (length (z ∷ zs)) ++ x))
+
+-- a text with a separator and an item behind it
+pub grown : (old cur mid new j s x j' : List ℕ) → cur ≡ old ++ j → mid ≡ cur ++ s → new ≡ mid ++ x → j' ≡ j ++ (s ++ x) → new ≡ old ++ j'
+grown old cur mid new j s x j' a b c d = rw (c, b, a, d) (simp append_assoc)
+
+-- the items up to place i, and that at i
+pub joined_more : {A : Type 0} (c : ℕ) (f : A → List ℕ) (xs : List A) (i : ℕ) (d : A) → i < length xs → join_with_byte c (map f (take (i + 1) xs)) ≡ join_with_byte c (map f (take i xs)) ++ (separator c i ++ f (get_or xs i d))
+joined_more c f xs i d h =
+    let len : length (map f (take i xs)) ≡ i = length-map (take i xs) f ∙ length-take-le i xs (omega arith) in
+    ap (λ l. join_with_byte c (map f l)) (take_more xs i d h)
+    ∙ ap (join_with_byte c) (map-append f (take i xs) (get_or xs i d ∷ []))
+    ∙ join_push c (map f (take i xs)) (f (get_or xs i d))
+    ∙ ap (λ n. join_with_byte c (map f (take i xs)) ++ (separator c n ++ f (get_or xs i d))) len
+
+-- a text with a key and a value behind it
+pub behind : (old mid new k v v' : List ℕ) → mid ≡ old ++ k → new ≡ mid ++ v → v ≡ v' → new ≡ old ++ (k ++ v')
+behind old mid new k v v' a b c = rw (b, a, c) (append_assoc old k v')

@@ -1,0 +1,21 @@
+-- What is shown of a neighbor tells who it is.
+use Rattle.std.specs.Prelude.{◌≡◌, ℕ, List}
+use Rattle.lldp_pdu.specs.Tlv.{AreOctets}
+use Rattle.lldp_pdu.specs.Msap.{IsIdentifier, MsapId}
+use Rattle.lldp_text.specs.Identifier.{chassis_text, port_text}
+
+-- Of octets, as those of any received TLV, no two lists are written alike.
+abbrev pub TellsApart : (List ℕ → Type 0) → (List ℕ → List ℕ) → Type 0
+TellsApart Has text = (one other : List ℕ) → AreOctets one → AreOctets other → Has one → Has other → text one ≡ text other → one ≡ other
+
+-- A name as frames give it: octets, and 2 to 256 of them in each identifier.
+pub record IsNameOfOctets (name : MsapId) : Type 0 where
+  pub chassis_octets : AreOctets name.chassis
+  pub port_octets : AreOctets name.port
+  pub chassis : IsIdentifier name.chassis
+  pub port : IsIdentifier name.port
+
+-- The two identifiers are shown alike.
+pub record AreShownAlike (one other : MsapId) : Type 0 where
+  pub chassis : chassis_text one.chassis ≡ chassis_text other.chassis
+  pub port : port_text one.port ≡ port_text other.port

@@ -1,0 +1,2 @@
+-- What is shaped like the code: digits, sixteen octets at a time.
+pub mod Digits

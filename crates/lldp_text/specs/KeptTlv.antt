@@ -1,0 +1,45 @@
+-- How kept TLVs are written in show lines.
+use Rattle.std.specs.Prelude.{◌≡◌, ℕ, ◌≤◌, length, Some, ◌==◌, if◌then◌else◌, List, ◌++◌, take, drop, codes, decimal, slice_index}
+use Rattle.hex.specs.Hex.{encode_lower}
+use Rattle.lldp_pdu.specs.Tlv.{TlvUnit}
+use Rattle.lldp_pdu.specs.TlvType.{port_description_type, system_name_type, system_description_type, system_capabilities_type, management_address_type, organizationally_specific_type}
+use Rattle.lldp_pdu.specs.Capabilities.{caps_fields}
+use Rattle.lldp_pdu.specs.ManagementAddress.{address_of, address_fields}
+use Rattle.lldp_text.specs.Text.{escaped}
+use Rattle.lldp_text.specs.Capabilities.{capabilities_text}
+use Rattle.lldp_text.specs.ManagementAddress.{management_text}
+
+-- the System Capabilities
+abbrev pub system_capabilities_text : List ℕ → List ℕ
+system_capabilities_text body = codes "chassis.caps=" ++ capabilities_text (caps_fields body)
+
+-- a Management Address
+abbrev pub management_tlv_text : List ℕ → List ℕ
+management_tlv_text body = codes "chassis.mgmt=" ++ management_text (address_fields body (slice_index body 0))
+
+-- an organizationally specific TLV: an OUI of three octets, a subtype, and the octets after it
+abbrev pub organizational_text : List ℕ → List ℕ
+organizational_text body =
+    codes "org." ++ encode_lower (take 3 body) ++ codes "." ++ decimal (slice_index body 3) ++ codes "="
+    ++ encode_lower (drop 4 body)
+
+-- a TLV of a reserved type
+abbrev pub unknown_text : TlvUnit → List ℕ
+unknown_text tlv = codes "unknown." ++ decimal tlv.kind ++ codes "=" ++ encode_lower tlv.body
+
+-- A kept TLV as key and value, by its type; those of the reserved types are unknown.
+abbrev pub tlv_text : TlvUnit → List ℕ
+tlv_text tlv =
+    if tlv.kind == port_description_type then codes "port.descr=" ++ escaped tlv.body
+    else if tlv.kind == system_name_type then codes "chassis.name=" ++ escaped tlv.body
+    else if tlv.kind == system_description_type then codes "chassis.descr=" ++ escaped tlv.body
+    else if tlv.kind == system_capabilities_type then system_capabilities_text tlv.body
+    else if tlv.kind == management_address_type then management_tlv_text tlv.body
+    else if tlv.kind == organizationally_specific_type then organizational_text tlv.body
+    else unknown_text tlv
+
+-- the body has a management address, of at most 31 octets, with an OID of at most 128
+pub record HasAddress (body : List ℕ) : Type 0 where
+  pub address : address_of body ≡ Some (address_fields body (slice_index body 0))
+  pub short : length (address_fields body (slice_index body 0)).address ≤ 31
+  pub oid : length (address_fields body (slice_index body 0)).oid ≤ 128

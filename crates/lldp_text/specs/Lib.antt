@@ -1,0 +1,16 @@
+pub mod Answer
+pub mod Fault
+pub mod Text
+pub mod Words
+pub mod Number
+pub mod Addresses
+pub mod Capabilities
+pub mod ManagementAddress
+pub mod Identifier
+pub mod KeptTlv
+pub mod Alike
+pub mod FixedOctets
+pub mod FixedTexts
+pub mod FixedValues
+pub mod Reading
+pub mod Code

@@ -1,0 +1,19 @@
+-- Numbers among the words of a command.
+use Rattle.std.specs.Prelude.{ℕ, Bool, ◌&&◌, nat_lt, nat_le, if◌then◌else◌, List, length, Result, Ok, Err}
+use Rattle.std.specs.List.{list_all}
+use Rattle.std.specs.Char.{is_ascii_digit}
+use Rattle.std.specs.Str.Parse.{digits_value}
+use Rattle.lldp_text.specs.declared.fault.CommandFault.{CommandFault}
+use Rattle.lldp_text.specs.declared.fault.CommandFault.TheVariants.{Number, Range}
+
+-- One or more decimal digits; zeros may lead.
+abbrev pub is_number : List ℕ → Bool
+is_number word = nat_lt 0 (length word) && list_all is_ascii_digit word
+
+-- A number that lies in the range, both ends included.
+abbrev pub in_range : ℕ → ℕ → ℕ → Result ℕ CommandFault
+in_range least greatest n = if nat_le least n && nat_le n greatest then Ok n else Err Range
+
+-- The number that a word writes, however many digits it has, or the first fault.
+abbrev pub number_of : List ℕ → ℕ → ℕ → Result ℕ CommandFault
+number_of word least greatest = if is_number word then in_range least greatest (digits_value 10 word) else Err Number

@@ -1,0 +1,78 @@
+//! System Capabilities.
+ghost use Rattle.std.specs.Prelude.{◌≡◌, ◌+◌, ◌*◌, ◌<◌, ◌≤◌, ◌++◌, length};
+ghost use Rattle.lldp_text.specs.declared.writing.TheConstants.{ROOM};
+ghost use Rattle.lldp_text.specs.Capabilities.{capability_name, is_set, on_or_off, capability_text, capabilities_text};
+
+use crate::writing::Writer;
+use lldp_pdu::Caps;
+
+/// How many bits there are.
+const BITS: u8 = 16;
+
+/// The name of a bit.
+fn name_of_bit(bit: u8) -> &'static [u8]
+    requires { bit < 16 }
+    ensures value { result.now ≡ capability_name bit }
+    ensures short { length result.now ≤ 8 }
+{
+    match bit {
+        0 => b"Other",
+        1 => b"Repeater",
+        2 => b"Bridge",
+        3 => b"Wlan",
+        4 => b"Router",
+        5 => b"Tel",
+        6 => b"Docsis",
+        7 => b"Station",
+        8 => b"Cvlan",
+        9 => b"Svlan",
+        10 => b"Tpmr",
+        11 => b"bit11",
+        12 => b"bit12",
+        13 => b"bit13",
+        14 => b"bit14",
+        _ => b"bit15",
+    }
+}
+
+fn has_bit(bits: u16, bit: u8) -> bool
+    requires { bit < 16 }
+    ensures { result ≡ is_set bits bit }
+{
+    (bits >> bit) & 1 == 1
+}
+
+fn word_of_switch(on: bool) -> &'static [u8]
+    ensures value { result.now ≡ on_or_off on }
+    ensures short { length result.now ≤ 3 }
+{
+    if on { b"on" } else { b"off" }
+}
+
+/// Writes one capability, and whether it is enabled.
+fn write_capability(line: &mut Writer, caps: Caps, bit: u8)
+    requires room { length line.old + 12 ≤ ROOM }
+    requires known { bit < 16 }
+    ensures value { line.new ≡ line.old ++ capability_text caps bit }
+    ensures len { length line.new ≤ length line.old + 12 }
+{
+    line.text(name_of_bit(bit));
+    line.text(b":");
+    line.text(word_of_switch(has_bit(caps.enabled, bit)));
+}
+
+/// Writes the available capabilities.
+pub(crate) fn write_capabilities(line: &mut Writer, caps: Caps)
+    requires room { length line.old + 208 ≤ ROOM }
+    ensures value { line.new ≡ line.old ++ capabilities_text caps }
+    ensures len { length line.new ≤ length line.old + 208 }
+{
+    let mut written = 0;
+    for bit in 0..BITS {
+        if has_bit(caps.available, bit) {
+            line.separator(b',', written);
+            write_capability(line, caps, bit);
+            written += 1;
+        }
+    }
+}

@@ -1,0 +1,183 @@
+//! Hexadecimal digits, sixteen octets at a time and without a branch for each.
+//!
+//! What is read and written is said by the definitions of the crate `hex`. This module is fast and
+//! nothing else: where it answers no, and wherever fewer than sixteen octets are to be read or
+//! written, `hex` itself decides and does the work.
+//!
+//! **Reading.** Thirty-two digits `c` stand in the lanes of one vector, and each lane becomes the
+//! value of its digit, or 16 or more where `c` is no digit. Lanes wrap round at 256. Two values are
+//! computed, and the lesser one is taken:
+//!
+//! | `c` | `c - 58` | less 6, never below 0 | less 240 |
+//! |---|---|---|---|
+//! | 0 to 47 | 198 to 245 | 192 to 239 | 208 to 255 |
+//! | `0` to `9`, 48 to 57 | 246 to 255 | 240 to 249 | **0 to 9** |
+//! | 58 to 255 | 0 to 197 | 0 to 191 | 16 to 207 |
+//!
+//! | `c` with its bit 32 set | `c - 97` | at most 245 | and 10 |
+//! |---|---|---|---|
+//! | `a` to `f`, 97 to 102, and so `A` to `F` | 0 to 5 | 0 to 5 | **10 to 15** |
+//! | every other | 6 to 255 | 6 to 245 | 16 to 255 |
+//!
+//! No `c` is below 16 in both. A pair of values, high and low, is then one number of 16 bits, `high
+//! + 256 * low`; times 4097 it is `high + 256 * (16 * high + low)` and what is cut off, so its
+//! upper half is the octet.
+//!
+//! **What was met.** The values of all blocks are joined by `|`, lane by lane. The union is below
+//! 16 exactly where each part is, so one look at the end tells whether there was any octet that is
+//! no digit. Until then wrong octets may have been written, which nobody reads.
+//!
+//! **Writing.** A value up to 9 is its distance from `0`, a greater one that and 39 more, which is
+//! its distance from `a`. The digits of the upper and of the lower four bits are put by turns.
+//!
+//! **The last block** begins sixteen octets before the end, wherever that is, and so may lie over
+//! the one before it. The octets under both are read from the same digits, or written from the same
+//! octets, a second time, with the same result. So nothing is left over that would have to be done
+//! octet by octet.
+ghost use Rattle.std.specs.Prelude.{◌≡◌, ℕ, ◌↔◌, ◌<◌, ◌≤◌, ◌+◌, ◌*◌, length, true, slice_index, IsOk, IsTrue};
+ghost use Rattle.std.specs.List.{AllPass};
+ghost use Rattle.hex.specs.Hex.{decode_pairs, encode_lower, is_hex_digit, lower_digits};
+ghost use Rattle.lldp_text.specs.Code.Digits.{IsValue, AreSmall, ArePairs, AreDigits};
+
+use std::simd::prelude::*;
+
+/// How many octets are read or written at a time.
+const BLOCK: usize = 16;
+
+/// The value of each digit, and 16 or more for any other octet.
+#[inline(always)]
+fn values_of(digits: u8x32) -> u8x32
+    ensures len { length result ≡ 32 }
+    ensures values { (k : ℕ) → k < 32 → IsValue (slice_index digits k) (slice_index result k) }
+{
+    let moved = (digits - u8x32::splat(b'9' + 1)).saturating_sub(u8x32::splat(6));
+    let numeral = moved - u8x32::splat(240);
+    let from_a = (digits | u8x32::splat(0x20)) - u8x32::splat(b'a');
+    let letter = from_a.simd_min(u8x32::splat(245)) + u8x32::splat(10);
+    numeral.simd_min(letter)
+}
+
+/// The octets of pairs of values.
+#[inline(always)]
+fn octets_of(values: u8x32) -> u8x16
+    ensures len { length result ≡ 16 }
+    ensures pairs { (k : ℕ) → k < 16 → slice_index values (2 * k) < 16 →
+        slice_index values (2 * k + 1) < 16
+        → slice_index result k ≡ slice_index values (2 * k) * 16 + slice_index values (2 * k + 1) }
+{
+    let pairs = u16x16::from_le_bytes(values) * u16x16::splat(4097);
+    (pairs >> u16x16::splat(8)).cast::<u8>()
+}
+
+/// The bits that either has.
+#[inline(always)]
+fn either(a: u8x32, b: u8x32) -> u8x32
+    ensures { AreSmall result ↔ (AreSmall a × AreSmall b) }
+{
+    a | b
+}
+
+/// Whether each lane is the value of a digit.
+#[inline(always)]
+fn are_small(values: u8x32) -> bool
+    ensures { IsTrue result ↔ AreSmall values }
+{
+    values.simd_ge(u8x32::splat(16)).to_bitmask() == 0
+}
+
+/// Reads sixteen octets, of the digits from there on. Gives the values that were met.
+#[inline(always)]
+fn decode_block(digits: &[u8], octets: &mut [u8], at: usize) -> u8x32
+    requires fits { at + 16 ≤ length octets.old }
+    requires digits { length digits.now ≡ 2 * length octets.old }
+    ensures len { length octets.new ≡ length octets.old }
+    ensures pairs { AreSmall result → (i : ℕ) → at ≤ i → i < at + 16 →
+        ArePairs digits.now octets.new i }
+    ensures small { AllPass is_hex_digit digits.now → AreSmall result }
+    ensures rest { (i : ℕ) → i < at → slice_index octets.new i ≡ slice_index octets.old i }
+{
+    let values = values_of(u8x32::from_slice(&digits[2 * at..]));
+    octets_of(values).copy_to_slice(&mut octets[at..]);
+    values
+}
+
+/// Reads pairs of digits, and answers whether it did: exactly where there are sixteen octets or
+/// more and each digit is one. Where it answers no, nothing is promised of the octets.
+pub fn decode_digits(digits: &[u8], octets: &mut [u8]) -> bool
+    requires { length digits.now ≡ 2 * length octets.old }
+    ensures octets { result ≡ true → decode_pairs 0 digits.now ≡ Ok octets.new }
+    ensures answer { IsTrue result ↔ ((16 ≤ length octets.old) × IsOk (decode_pairs 0 digits.now)) }
+{
+    if octets.len() < BLOCK {
+        return false;
+    }
+    let last = octets.len() - BLOCK;
+    let mut met = u8x32::splat(0);
+    let mut at = 0;
+    'blocks: while at < last {
+        met = either(met, decode_block(digits, octets, at));
+        at += BLOCK;
+    }
+    are_small(either(met, decode_block(digits, octets, last)))
+}
+
+/// The digits of values.
+#[inline(always)]
+fn digits_of(values: u8x16) -> u8x16
+    ensures { (k : ℕ) → k < 16 → slice_index values k < 16 →
+        slice_index result k ≡ slice_index lower_digits (slice_index values k) }
+{
+    let letters = values.simd_gt(u8x16::splat(9));
+    let more = letters.select(u8x16::splat(b'a' - b'0' - 10), u8x16::splat(0));
+    values + u8x16::splat(b'0') + more
+}
+
+/// One of the first and one of the second, by turns.
+#[inline(always)]
+fn by_turns(first: u8x16, second: u8x16) -> u8x32
+    ensures len { length result ≡ 32 }
+    ensures turns { (k : ℕ) → k < 16 →
+        (slice_index result (2 * k) ≡ slice_index first k)
+        × (slice_index result (2 * k + 1) ≡ slice_index second k) }
+{
+    first.shuffle(
+        second,
+        [
+            0, 16, 1, 17, 2, 18, 3, 19, 4, 20, 5, 21, 6, 22, 7, 23, 8, 24, 9, 25, 10, 26, 11, 27,
+            12, 28, 13, 29, 14, 30, 15, 31,
+        ],
+    )
+}
+
+/// Writes the digits of sixteen octets, of those from there on.
+#[inline(always)]
+fn encode_block(octets: &[u8], digits: &mut [u8], at: usize)
+    requires fits { at + 16 ≤ length octets.now }
+    requires digits { length digits.old ≡ 2 * length octets.now }
+    ensures len { length digits.new ≡ length digits.old }
+    ensures pairs { (i : ℕ) → at ≤ i → i < at + 16 → AreDigits octets.now digits.new i }
+    ensures rest { (k : ℕ) → k < 2 * at → slice_index digits.new k ≡ slice_index digits.old k }
+{
+    let block = u8x16::from_slice(&octets[at..]);
+    let high = digits_of(block >> u8x16::splat(4));
+    let low = digits_of(block & u8x16::splat(15));
+    by_turns(high, low).copy_to_slice(&mut digits[2 * at..]);
+}
+
+/// Writes each octet as two digits.
+pub fn encode_digits(octets: &[u8], digits: &mut [u8])
+    requires { length digits.old ≡ 2 * length octets.now }
+    ensures { digits.new ≡ encode_lower octets.now }
+{
+    if octets.len() < BLOCK {
+        let _ = hex::encode_to_slice(octets, digits);
+        return;
+    }
+    let last = octets.len() - BLOCK;
+    let mut at = 0;
+    'blocks: while at < last {
+        encode_block(octets, digits, at);
+        at += BLOCK;
+    }
+    encode_block(octets, digits, last);
+}

@@ -1,0 +1,52 @@
+//! Why a command is refused.
+ghost use Rattle.std.specs.Prelude.{◌≡◌, ◌≤◌, length};
+ghost use Rattle.lldp_text.specs.Fault.{text_of, number_of_fault};
+
+/// Why a command is refused. Of several faults of a line the first in reading order is told: a bad
+/// quote anywhere, then the first word from the left that no form has, then a word too many, then a
+/// limit in use.
+#[derive(Clone, Copy, Debug, PartialEq, Eq)]
+pub enum CommandFault {
+    /// A word is missing, or no form has it there.
+    Unknown = 1,
+    /// No port has that name.
+    NoSuchPort = 2,
+    /// The word is not one or more decimal digits.
+    Number = 3,
+    /// The number is not in its range.
+    Range = 4,
+    /// The text has more than 255 octets, or one that is not printable ASCII.
+    Text = 5,
+    /// A word follows a complete form.
+    Extra = 6,
+    /// A quote stands inside a word, is not closed, or is closed with no separator behind it.
+    Quote = 7,
+    /// Some port holds more neighbors than the limit.
+    InUse = 8,
+}
+
+impl CommandFault {
+    /// The number of the fault, 1 to 8.
+    pub fn number(self) -> u8
+        ensures { result ≡ number_of_fault self }
+    {
+        self as u8
+    }
+
+    /// The line that tells the fault, without its end.
+    pub fn text(self) -> &'static [u8]
+        ensures text { result.now ≡ text_of self }
+        ensures short { length result.now ≤ 2048 }
+    {
+        match self {
+            CommandFault::Unknown => b"error: unknown command",
+            CommandFault::NoSuchPort => b"error: no such port",
+            CommandFault::Number => b"error: not a number",
+            CommandFault::Range => b"error: out of range",
+            CommandFault::Text => b"error: bad text",
+            CommandFault::Extra => b"error: extra word",
+            CommandFault::Quote => b"error: bad quote",
+            CommandFault::InUse => b"error: too many held",
+        }
+    }
+}

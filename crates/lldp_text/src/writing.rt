@@ -1,0 +1,184 @@
+//! Lines that are written piece by piece, one behind another.
+ghost use Rattle.std.specs.Prelude.{◌≡◌, ◌+◌, ◌*◌, ◌≤◌, ◌∷◌, ◌++◌, [], length, decimal};
+ghost use Rattle.hex.specs.Hex.{encode_lower};
+ghost use Rattle.lldp_text.specs.Text.{escape, escaped, separator};
+
+use crate::digits::encode_digits;
+use arrayvec::ArrayVec;
+use std::marker::Model;
+
+/// A line, at most 2,048 octets, without its line feed.
+pub type Line = ArrayVec<u8, 2048>;
+
+/// The room that a line takes at most, with its line feed.
+pub const LINE_ROOM: usize = 2049;
+
+/// How many octets stand in a writer at most.
+pub const ROOM: usize = 8192;
+
+/// Octets that are written one behind another. Each method asks for the room that it needs, so no
+/// octet is cut off. Clearing leaves the octets where they are, which an `ArrayVec` would blank.
+#[derive(Drop)]
+pub struct Writer {
+    room: [u8; ROOM],
+    len: usize,
+}
+
+impl Model for Writer {
+    ghost use Rattle.std.specs.Prelude.{ℕ, List, ◌≤◌, take};
+
+    ghost Value = { List ℕ };
+
+    ghost view = { λ w. take w.len w.room };
+
+    ghost invariant = { λ w. w.len ≤ 8192 };
+}
+
+impl Writer {
+    /// One in which nothing stands.
+    pub fn new() -> Self
+        ensures { result ≡ [] }
+    {
+        Writer {
+            room: [0; ROOM],
+            len: 0,
+        }
+    }
+
+    /// How many octets more there is room for.
+    pub fn room_left(&self) -> usize
+        ensures { length self.now + result ≡ ROOM }
+    {
+        ROOM - self.len
+    }
+
+    /// Forgets what was written.
+    pub fn clear(&mut self)
+        ensures { self.new ≡ [] }
+    {
+        self.len = 0;
+    }
+
+    /// Ends a line by its line feed.
+    pub fn end_line(&mut self)
+        requires { length self.old + 1 ≤ ROOM }
+        ensures value { self.new ≡ self.old ++ 10 ∷ [] }
+        ensures len { length self.new ≡ length self.old + 1 }
+    {
+        self.octet(b'\n');
+    }
+
+    /// One octet.
+    pub fn octet(&mut self, octet: u8)
+        requires { length self.old + 1 ≤ ROOM }
+        ensures value { self.new ≡ self.old ++ octet ∷ [] }
+        ensures len { length self.new ≡ length self.old + 1 }
+    {
+        self.text(&[octet]);
+    }
+
+    /// Octets that stand as they are.
+    pub fn text(&mut self, octets: &[u8])
+        requires { length self.old + length octets.now ≤ ROOM }
+        ensures value { self.new ≡ self.old ++ octets.now }
+        ensures len { length self.new ≡ length self.old + length octets.now }
+    {
+        let end = self.len + octets.len();
+        self.room[self.len..end].copy_from_slice(octets);
+        self.len = end;
+    }
+
+    /// What stands between the items of a list: nothing before the first.
+    pub fn separator(&mut self, between: u8, before: usize)
+        requires { length self.old + 1 ≤ ROOM }
+        ensures value { self.new ≡ self.old ++ separator between before }
+        ensures len { length self.new ≤ length self.old + 1 }
+    {
+        if before > 0 {
+            self.octet(between);
+        }
+    }
+
+    /// Octets in hexadecimal.
+    pub fn hex(&mut self, octets: &[u8])
+        requires { length self.old + 2 * length octets.now ≤ ROOM }
+        ensures value { self.new ≡ self.old ++ encode_lower octets.now }
+        ensures len { length self.new ≡ length self.old + 2 * length octets.now }
+    {
+        let end = self.len + 2 * octets.len();
+        encode_digits(octets, &mut self.room[self.len..end]);
+        self.len = end;
+    }
+
+    /// One octet in hexadecimal.
+    pub fn hex_octet(&mut self, octet: u8)
+        requires { length self.old + 2 ≤ ROOM }
+        ensures value { self.new ≡ self.old ++ encode_lower (octet ∷ []) }
+        ensures len { length self.new ≡ length self.old + 2 }
+    {
+        self.hex(&[octet]);
+    }
+
+    fn escape(&mut self, octet: u8)
+        requires { length self.old + 4 ≤ ROOM }
+        ensures value { self.new ≡ self.old ++ escape octet }
+        ensures len { length self.new ≤ length self.old + 4 }
+    {
+        if octet == b'\\' {
+            self.text(b"\\\\");
+        } else if octet >= b' ' && octet <= b'~' {
+            self.octet(octet);
+        } else {
+            self.text(b"\\x");
+            self.hex_octet(octet);
+        }
+    }
+
+    /// Escaped text.
+    pub fn escaped(&mut self, octets: &[u8])
+        requires { length self.old + 4 * length octets.now ≤ ROOM }
+        ensures value { self.new ≡ self.old ++ escaped octets.now }
+        ensures len { length self.new ≤ length self.old + 4 * length octets.now }
+    {
+        for octet in octets {
+            self.escape(*octet);
+        }
+    }
+
+    /// A number in decimal.
+    pub fn decimal(&mut self, n: u32)
+        requires { length self.old + 10 ≤ ROOM }
+        ensures value { self.new ≡ self.old ++ decimal n }
+        ensures len { length self.new ≤ length self.old + 10 }
+    {
+        let mut digits = itoa::Buffer::new();
+        self.text(digits.format(n).as_bytes());
+    }
+
+    /// A key and escaped text.
+    pub fn escaped_value(&mut self, key: &[u8], text: &[u8])
+        requires { length self.old + length key.now + 4 * length text.now ≤ ROOM }
+        ensures value { self.new ≡ self.old ++ (key.now ++ escaped text.now) }
+        ensures len { length self.new ≤ length self.old + length key.now + 4 * length text.now }
+    {
+        self.text(key);
+        self.escaped(text);
+    }
+
+    /// A key and a number.
+    pub fn decimal_value(&mut self, key: &[u8], n: u32)
+        requires { length self.old + length key.now + 10 ≤ ROOM }
+        ensures value { self.new ≡ self.old ++ (key.now ++ decimal n) }
+        ensures len { length self.new ≤ length self.old + length key.now + 10 }
+    {
+        self.text(key);
+        self.decimal(n);
+    }
+
+    /// All that was written.
+    pub fn as_slice(&self) -> &[u8]
+        ensures { result.now ≡ self.now }
+    {
+        &self.room[..self.len]
+    }
+}
