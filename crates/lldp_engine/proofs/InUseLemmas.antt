@@ -16,7 +16,7 @@ use Rattle.lldp_engine.specs.Event.{hostname, description, interval, hold, limit
 use Rattle.lldp_engine.specs.AgentState.{AgentState, PortState, AllowsSetting, names_of, fits}
 use Rattle.lldp_text.specs.Answer.{or_fault, on_ok, ◌>>=◌}
 use Rattle.lldp_engine.specs.Command.{Command, show, set}
-use Rattle.lldp_engine.specs.Forms.{Form, complete, word, port, number, text, status, status_of, after_word, and_form, going_on, completed, read_forms, forms}
+use Rattle.lldp_engine.specs.Forms.{Form, complete, word, port, number, text, status, status_of, after_word, fault_or, if_any, forms_left, first_fault, going_on, completed, read_forms, forms}
 use Rattle.lldp_engine.specs.Given.{said_by, unless_in_use, command_said, command_given}
 use Rattle.lldp_text.specs.Words.{words_of}
 use Rattle.lldp_engine.specs.InUse.{HoldsMore, HoldAtMost, WouldLimitBelow}
@@ -69,22 +69,34 @@ word_other names (number least greatest next) w = made_other next (number_of w l
 word_other names (text next) w = if_other (is_text w) (Ok (next w)) (Err Text) refl refl
 word_other names (status next) w = made_other next (or_fault (status_of w) Unknown) (status_other (status_of w))
 
-form_other : (one : Result Form CommandFault) (others : Result (List Form) CommandFault) → is_other one ≡ true → is_other others ≡ true → is_other (and_form one others) ≡ true
-form_other (Ok next) (Ok others) h i = refl
-form_other (Ok next) (Err fault) h i = refl
-form_other (Err fault) (Ok others) h i = refl
-form_other (Err Extra) (Err other) h i = i
-form_other (Err Unknown) (Err other) h i = refl
-form_other (Err NoSuchPort) (Err other) h i = refl
-form_other (Err Number) (Err other) h i = refl
-form_other (Err Range) (Err other) h i = refl
-form_other (Err Text) (Err other) h i = refl
-form_other (Err Quote) (Err other) h i = refl
-form_other (Err InUse) (Err other) h i = h
+fault_other : (names : List (List ℕ)) (left : List Form) (w : List ℕ) → is_other {A = Command} (Err (first_fault names left w)) ≡ true
+fault_other names [] w = refl
+fault_other names (form ∷ others) w = first_other (after_word names form w) (first_fault names others w) (word_other names form w) (fault_other names others w)
+  where
+    first_other : (one : Result Form CommandFault) (others : CommandFault) → is_other one ≡ true → is_other {A = Command} (Err others) ≡ true → is_other {A = Command} (Err (fault_or one others)) ≡ true
+    first_other (Ok next) others h i = i
+    first_other (Err Extra) others h i = i
+    first_other (Err Unknown) others h i = refl
+    first_other (Err NoSuchPort) others h i = refl
+    first_other (Err Number) others h i = refl
+    first_other (Err Range) others h i = refl
+    first_other (Err Text) others h i = refl
+    first_other (Err Quote) others h i = refl
+    first_other (Err InUse) others h i = h
+
+any_other : (left : List Form) (fault : CommandFault) → is_other {A = Command} (Err fault) ≡ true → is_other (if_any left fault) ≡ true
+any_other (form ∷ others) fault h = refl
+any_other [] Unknown h = refl
+any_other [] NoSuchPort h = refl
+any_other [] Number h = refl
+any_other [] Range h = refl
+any_other [] Text h = refl
+any_other [] Extra h = refl
+any_other [] Quote h = refl
+any_other [] InUse h = h
 
 forms_other : (names : List (List ℕ)) (left : List Form) (w : List ℕ) → is_other (going_on names left w) ≡ true
-forms_other names [] w = refl
-forms_other names (form ∷ others) w = form_other (after_word names form w) (going_on names others w) (word_other names form w) (forms_other names others w)
+forms_other names left w = any_other (forms_left names left w) (first_fault names left w) (fault_other names left w)
 
 end_other : (left : List Form) → is_other (completed left) ≡ true
 end_other [] = refl

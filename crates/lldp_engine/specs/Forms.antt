@@ -64,19 +64,35 @@ after_word names (number least greatest next) w = on_ok next (number_of w least 
 after_word names (text next) w = if is_text w then Ok (next w) else Err Text
 after_word names (status next) w = on_ok next (or_fault (status_of w) Unknown)
 
--- One form more: those that go on with the word are kept. Where none does, the first fault is told, but Extra is the
--- weakest: it yields to every other fault.
-abbrev pub and_form : Result Form CommandFault → Result (List Form) CommandFault → Result (List Form) CommandFault
-and_form (Ok next) (Ok others) = Ok (next ∷ others)
-and_form (Ok next) (Err fault) = Ok (next ∷ [])
-and_form (Err fault) (Ok others) = Ok others
-and_form (Err Extra) (Err other) = Err other
-and_form (Err fault) (Err other) = Err fault
+-- what is left of one form more, if it goes on
+abbrev pub and_left : Result Form CommandFault → List Form → List Form
+and_left (Ok next) others = next ∷ others
+and_left (Err fault) others = others
 
--- What is left of the forms behind a word, or its fault. Where no form is left every word is one too many.
+-- the fault of one form more, if it is told before the others'
+abbrev pub fault_or : Result Form CommandFault → CommandFault → CommandFault
+fault_or (Ok next) others = others
+fault_or (Err Extra) others = others
+fault_or (Err fault) others = fault
+
+-- forms, or this fault where there is none
+abbrev pub if_any : List Form → CommandFault → Result (List Form) CommandFault
+if_any [] fault = Err fault
+if_any (form ∷ others) fault = Ok (form ∷ others)
+
+-- what is left of the forms that go on with a word
+abbrev pub forms_left : List (List ℕ) → List Form → List ℕ → List Form
+forms_left names [] w = []
+forms_left names (form ∷ others) w = and_left (after_word names form w) (forms_left names others w)
+
+-- The fault of a word that no form goes on with: that of the first form, but Extra yields to every other.
+abbrev pub first_fault : List (List ℕ) → List Form → List ℕ → CommandFault
+first_fault names [] w = Extra
+first_fault names (form ∷ others) w = fault_or (after_word names form w) (first_fault names others w)
+
+-- The forms go on with a word where one of them does.
 abbrev pub going_on : List (List ℕ) → List Form → List ℕ → Result (List Form) CommandFault
-going_on names [] w = Err Extra
-going_on names (form ∷ others) w = and_form (after_word names form w) (going_on names others w)
+going_on names left w = if_any (forms_left names left w) (first_fault names left w)
 
 -- What is said where no word is left.
 abbrev pub completed : List Form → Result Command CommandFault

@@ -4,12 +4,19 @@ use Rattle.std.specs.Borrow.{Fml, RattleType, MutBor, LendsSo}
 use Rattle.lldp_text.specs.contracts.writing.Writer.{the_row as writer_row}
 use Rattle.lldp_text.specs.Text.{ended}
 
--- What is written into the lent writer is a line that the sink takes: at most 2,048 octets and an LF, behind what
--- stands there. A sink that lends none takes whatever line as it is.
+-- From a lent writer a sink takes the line that is written behind what stands there: at most 2,048 octets and an LF.
+abbrev pub TakesWritten : {S : Type 0} → (S → S → List ℕ → Type 0) → S → Option (MutBor (List ℕ)) → S → List ℕ → Type 0
+TakesWritten takes old lent new text =
+    (writer : MutBor (List ℕ)) (line : List ℕ) → lent ≡ Some writer → text ≡ writer.now ++ ended line
+    → length text ≤ length writer.now + 2049 → takes old new line
+
+-- A sink that lends none takes whatever line.
+abbrev pub TakesAny : {S : Type 0} → (S → S → List ℕ → Type 0) → S → Option (MutBor (List ℕ)) → S → Type 0
+TakesAny takes old lent new = (line : List ℕ) → lent ≡ None → takes old new line
+
+-- A sink lends a writer and takes what is written there, or lends none.
 abbrev pub LendsRoom : (Sink : RattleType) → (Sink.Denot → Sink.Denot → List ℕ → Type 0) → MutBor Sink.Denot →
     Option (MutBor (List ℕ)) → Fml
 LendsRoom Sink takes sink lent =
-    LendsSo Sink writer_row sink lent
-    (λ new text. (writer : MutBor (List ℕ)) (line : List ℕ) → lent ≡ Some writer → text ≡ writer.now ++ ended line
-    → length text ≤ length writer.now + 2049 → takes sink.now new line)
-    (λ new. (line : List ℕ) → lent ≡ None → takes sink.now new line)
+    LendsSo Sink writer_row sink lent (λ new text. TakesWritten takes sink.now lent new text)
+    (λ new. TakesAny takes sink.now lent new)
