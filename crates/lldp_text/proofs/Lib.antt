@@ -5,6 +5,7 @@ pub mod WordsReading
 pub mod DigitLemmas
 pub mod LaneLemmas
 pub mod TextJoined
+pub mod PlainText
 pub mod AddressesPairs
 pub mod CapabilitiesWritten
 pub mod KeptTlvFields

@@ -1,7 +1,8 @@
 //! Lines that are written piece by piece, one behind another.
 ghost use Rattle.std.specs.Prelude.{◌≡◌, ◌+◌, ◌*◌, ◌≤◌, ◌∷◌, ◌++◌, [], length, decimal};
 ghost use Rattle.hex.specs.Hex.{encode_lower};
-ghost use Rattle.lldp_text.specs.Text.{escape, escaped, separator};
+ghost use Rattle.std.specs.List.{list_all};
+ghost use Rattle.lldp_text.specs.Text.{is_plain, escape, escaped, separator};
 
 use crate::digits::encode_digits;
 use arrayvec::ArrayVec;
@@ -32,6 +33,18 @@ impl Model for Writer {
     ghost view = { λ w. take w.len w.room };
 
     ghost invariant = { λ w. w.len ≤ 8192 };
+}
+
+/// Whether each of these octets stands as it is in escaped text. All are looked at, since without a
+/// branch for each they are looked at many at a time.
+fn are_plain(octets: &[u8]) -> bool
+    ensures { result ≡ list_all is_plain octets.now }
+{
+    let mut all = true;
+    for octet in octets {
+        all &= *octet >= b' ' && *octet <= b'~' && *octet != b'\\';
+    }
+    all
 }
 
 impl Writer {
@@ -134,8 +147,20 @@ impl Writer {
         }
     }
 
-    /// Escaped text.
+    /// Escaped text. Most texts stand as they are, and are written at once.
     pub fn escaped(&mut self, octets: &[u8])
+        requires { length self.old + 4 * length octets.now ≤ ROOM }
+        ensures value { self.new ≡ self.old ++ escaped octets.now }
+        ensures len { length self.new ≤ length self.old + 4 * length octets.now }
+    {
+        if are_plain(octets) {
+            self.text(octets);
+        } else {
+            self.escape_each(octets);
+        }
+    }
+
+    fn escape_each(&mut self, octets: &[u8])
         requires { length self.old + 4 * length octets.now ≤ ROOM }
         ensures value { self.new ≡ self.old ++ escaped octets.now }
         ensures len { length self.new ≤ length self.old + 4 * length octets.now }
