@@ -20,8 +20,8 @@ use Rattle.lldp_engine.specs.Past.{Past, with_event, happened, past_of}
 use Rattle.lldp_engine.specs.AgentState.{PortState}
 use Rattle.lldp_engine.specs.PortAt.{port_at, table_at, neighbors_at, LeavesTables}
 use Rattle.lldp_engine.specs.Deaf.{HasStatus, Hears}
-use Rattle.lldp_engine.specs.Others.{others_than}
-use Rattle.lldp_engine.specs.Older.{one_tick_older}
+use Rattle.lldp_engine.specs.Neighbors.{others_than}
+use Rattle.lldp_engine.specs.Neighbors.{one_tick_older}
 use Rattle.lldp_engine.specs.Port.Event.{PortEvent, tick, frame, status, limit}
 use Rattle.lldp_engine.specs.Port.Effects.{call_of, status_then, call_at}
 use Rattle.lldp_engine.specs.Port.Past.{Happened, status_after, up_after, calls_after}

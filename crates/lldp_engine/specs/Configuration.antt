@@ -2,7 +2,7 @@
 use Rattle.std.specs.Prelude.{ℕ, ◌+◌, ◌*◌, min, List, Option, codes}
 use Rattle.lldp_engine.specs.declared.agent.options.Role.{Role}
 use Rattle.lldp_engine.specs.Options.{Options}
-use Rattle.lldp_engine.specs.Event.{Event, tick, frame, link, set, Setting, hostname, description, interval, hold, limit, status, update}
+use Rattle.lldp_engine.specs.Event.{Event, set, Setting, hostname, description, interval, hold, limit, status, update}
 
 -- what the options gave for good; then what commands change: the hostname, the description, the tx-interval
 -- (msgTxInterval) in seconds, the tx-hold (msgTxHold) and the limit of neighbors
@@ -50,10 +50,8 @@ with_setting update c = c
 
 -- only a command changes how an agent is configured
 abbrev pub configured : Event → Configuration → Configuration
-configured tick c = c
-configured (frame port octets) c = c
-configured (link port up) c = c
 configured (set setting) c = with_setting setting c
+configured event c = c
 
 -- the time to live that is sent (txTTL): one second more than the tx-interval times the tx-hold, at most 65,535
 abbrev pub sent_ttl : Configuration → ℕ

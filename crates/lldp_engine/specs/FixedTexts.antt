@@ -1,6 +1,9 @@
--- Fixed texts, octet by octet.
+-- Fixed texts, octet by octet, and which octets name ports.
 use Rattle.std.specs.Prelude.{◌≡◌, ℕ, true, false, List, [], ◌∷◌, ◌++◌, decimal}
+use Rattle.std.specs.List.{filter}
+use Rattle.lldp_text.specs.FixedTexts.{octets}
 use Rattle.lldp_engine.specs.declared.port.status.Status.TheVariants.{RxAndTx, RxOnly, TxOnly, Disabled}
+use Rattle.lldp_engine.specs.Options.{is_name_octet}
 use Rattle.lldp_engine.specs.ConfigurationLines.{status_text}
 use Rattle.lldp_engine.specs.NeighborLines.{yes_or_no}
 use Rattle.lldp_engine.specs.AgentState.{PortState}
@@ -19,6 +22,19 @@ pub record WriteWords : Type 0 where
   pub tx_only : status_text TxOnly ≡ 0x74 ∷ 0x78 ∷ 0x2d ∷ 0x6f ∷ 0x6e ∷ 0x6c ∷ 0x79 ∷ []
   -- disabled
   pub disabled : status_text Disabled ≡ 0x64 ∷ 0x69 ∷ 0x73 ∷ 0x61 ∷ 0x62 ∷ 0x6c ∷ 0x65 ∷ 0x64 ∷ []
+
+-- Ports are named by `-`, `/`, the digits, `:`, `A` to `Z`, `_` and `a` to `z`.
+abbrev pub octets_of_names : List ℕ
+octets_of_names =
+    0x2d ∷ 0x2f ∷ 0x30 ∷ 0x31 ∷ 0x32 ∷ 0x33 ∷ 0x34 ∷ 0x35 ∷ 0x36 ∷ 0x37 ∷ 0x38 ∷ 0x39 ∷ 0x3a ∷ 0x41 ∷ 0x42 ∷ 0x43
+    ∷ 0x44 ∷ 0x45 ∷ 0x46 ∷ 0x47 ∷ 0x48 ∷ 0x49 ∷ 0x4a ∷ 0x4b ∷ 0x4c ∷ 0x4d ∷ 0x4e ∷ 0x4f ∷ 0x50 ∷ 0x51 ∷ 0x52 ∷ 0x53
+    ∷ 0x54 ∷ 0x55 ∷ 0x56 ∷ 0x57 ∷ 0x58 ∷ 0x59 ∷ 0x5a ∷ 0x5f ∷ 0x61 ∷ 0x62 ∷ 0x63 ∷ 0x64 ∷ 0x65 ∷ 0x66 ∷ 0x67 ∷ 0x68
+    ∷ 0x69 ∷ 0x6a ∷ 0x6b ∷ 0x6c ∷ 0x6d ∷ 0x6e ∷ 0x6f ∷ 0x70 ∷ 0x71 ∷ 0x72 ∷ 0x73 ∷ 0x74 ∷ 0x75 ∷ 0x76 ∷ 0x77 ∷ 0x78
+    ∷ 0x79 ∷ 0x7a ∷ []
+
+-- These octets and no others.
+abbrev pub NamePorts : Type 0
+NamePorts = filter is_name_octet octets ≡ octets_of_names
 
 -- lldp.NAME. and what follows
 abbrev pub line_of : List ℕ → List ℕ → List ℕ

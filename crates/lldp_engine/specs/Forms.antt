@@ -98,11 +98,7 @@ going_on names left w = if_any (forms_left names left w) (first_fault names left
 abbrev pub completed : List Form → Result Command CommandFault
 completed [] = Err Unknown
 completed (complete command ∷ others) = Ok command
-completed (word expected next ∷ others) = completed others
-completed (port next ∷ others) = completed others
-completed (number least greatest next ∷ others) = completed others
-completed (text next ∷ others) = completed others
-completed (status next ∷ others) = completed others
+completed (form ∷ others) = completed others
 
 -- The words are compared with the forms from left to right; the first that no form goes on with gives the fault.
 abbrev pub read_forms : List (List ℕ) → Result (List Form) CommandFault → List (List ℕ) → Result Command CommandFault

@@ -14,10 +14,9 @@ pub mod Standing
 pub mod LastSet
 pub mod Headline
 pub mod PortAt
-pub mod Older
 pub mod Deaf
 pub mod CauseOf
-pub mod Others
+pub mod Neighbors
 pub mod Tally
 pub mod NextWords
 pub mod Command
@@ -34,7 +33,6 @@ pub mod LineRoom
 pub mod Lines
 pub mod Code
 pub mod FixedTexts
-pub mod FixedOctets
 pub mod FixedNumbers
 pub mod Opening
 pub mod InUse

@@ -9,8 +9,7 @@ ghost use Rattle.lldp_engine.specs.ChassisLines.{role_text};
 ghost use Rattle.lldp_engine.specs.Frames.{capabilities_of};
 ghost use Rattle.lldp_engine.specs.StatisticsLines.{counter_lines};
 ghost use Rattle.lldp_engine.specs.FixedNumbers.{AreConstants, MaySet, OpensWith};
-ghost use Rattle.lldp_engine.specs.FixedOctets.{NamePorts};
-ghost use Rattle.lldp_engine.specs.FixedTexts.{WriteWords, lines_of_counters};
+ghost use Rattle.lldp_engine.specs.FixedTexts.{WriteWords, NamePorts, lines_of_counters};
 
 /// Each range ends at its number: that of the code, that of what commands may set, and that which
 /// an agent opens with.
@@ -20,14 +19,10 @@ pub fn ranges_end_at_fixed_numbers()
     ensures defaults { (options : Options) → OpensWith options }
 {}
 
-/// Of the 256 octets these name ports.
-pub fn ports_are_named_by_fixed_octets()
-    ensures { NamePorts }
-{}
-
-/// The words of shows stand octet by octet.
-pub fn words_of_shows_have_fixed_octets()
-    ensures { WriteWords }
+/// The words of shows stand octet by octet, and of the 256 octets these name ports.
+pub fn words_and_names_have_fixed_octets()
+    ensures words { WriteWords }
+    ensures names { NamePorts }
 {}
 
 /// Each counter of a port is shown behind its own key, in this order.

@@ -23,8 +23,8 @@ pub use agent::ports::Marks;
 pub use command::forms::{end_words, next_port, next_word};
 pub use command::{Command, Show, complete_forms_take_no_word};
 pub use fixed::{
-    counters_are_shown_behind_their_keys, ports_are_named_by_fixed_octets,
-    ranges_end_at_fixed_numbers, roles_are_shown_as_sent, words_of_shows_have_fixed_octets,
+    counters_are_shown_behind_their_keys, ranges_end_at_fixed_numbers, roles_are_shown_as_sent,
+    words_and_names_have_fixed_octets,
 };
 pub use in_use::limits_below_what_ports_hold_are_in_use;
 pub use laws::counting::{ports_count_each_lldpdu_once, ports_count_what_they_sent};

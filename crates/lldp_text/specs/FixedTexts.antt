@@ -1,7 +1,11 @@
--- Fixed texts, octet by octet.
-use Rattle.std.specs.Prelude.{◌≡◌, ℕ, true, false, List, [], ◌∷◌}
+-- Texts, and words and numbers that are read, octet by octet; and which octets play which part.
+use Rattle.std.specs.Prelude.{◌≡◌, ℕ, true, false, List, [], ◌∷◌, Some, None, Ok, Err}
+use Rattle.std.specs.List.{filter, range_with_len}
 use Rattle.lldp_text.specs.declared.fault.CommandFault.TheVariants.{Unknown, NoSuchPort, Number, Range, Text, Extra, Quote, InUse}
 use Rattle.lldp_text.specs.Fault.{text_of}
+use Rattle.lldp_text.specs.Text.{is_text}
+use Rattle.lldp_text.specs.Number.{number_of, is_number}
+use Rattle.lldp_text.specs.Words.{words_of, is_separator, is_quote}
 use Rattle.lldp_text.specs.Capabilities.{capability_names, on_or_off}
 
 -- The lines that tell the faults of commands.
@@ -52,3 +56,40 @@ pub record WriteWords : Type 0 where
   pub on : on_or_off true ≡ 0x6f ∷ 0x6e ∷ []
   -- off
   pub off : on_or_off false ≡ 0x6f ∷ 0x66 ∷ 0x66 ∷ []
+
+-- Numbers at the ends of a range.
+pub record AreRead : Type 0 where
+  -- 0, 1, 3600, 3601, 0001 and 1a
+  pub below : number_of (0x30 ∷ []) 1 3600 ≡ Err Range
+  pub least : number_of (0x31 ∷ []) 1 3600 ≡ Ok 1
+  pub greatest : number_of (0x33 ∷ 0x36 ∷ 0x30 ∷ 0x30 ∷ []) 1 3600 ≡ Ok 3600
+  pub above : number_of (0x33 ∷ 0x36 ∷ 0x30 ∷ 0x31 ∷ []) 1 3600 ≡ Err Range
+  pub zeros : number_of (0x30 ∷ 0x30 ∷ 0x30 ∷ 0x31 ∷ []) 1 3600 ≡ Ok 1
+  pub letter : number_of (0x31 ∷ 0x61 ∷ []) 1 3600 ≡ Err Number
+
+-- Lines, word by word.
+pub record AreSplit : Type 0 where
+  -- a space, `a`, a tab, `bc`, a space, `"d e"`, a space, `""`
+  pub words : words_of (0x20 ∷ 0x61 ∷ 0x09 ∷ 0x62 ∷ 0x63 ∷ 0x20 ∷ 0x22 ∷ 0x64 ∷ 0x20 ∷ 0x65 ∷ 0x22 ∷ 0x20 ∷ 0x22 ∷ 0x22 ∷ [])
+      ≡ Some ((0x61 ∷ []) ∷ (0x62 ∷ 0x63 ∷ []) ∷ (0x64 ∷ 0x20 ∷ 0x65 ∷ []) ∷ [] ∷ [])
+  -- a comma and a semicolon separate nothing: `a,b;c`
+  pub others : words_of (0x61 ∷ 0x2c ∷ 0x62 ∷ 0x3b ∷ 0x63 ∷ []) ≡ Some ((0x61 ∷ 0x2c ∷ 0x62 ∷ 0x3b ∷ 0x63 ∷ []) ∷ [])
+  -- `a"b`, `"a` and `"a"b`
+  pub inside : words_of (0x61 ∷ 0x22 ∷ 0x62 ∷ []) ≡ None
+  pub unclosed : words_of (0x22 ∷ 0x61 ∷ []) ≡ None
+  pub behind : words_of (0x22 ∷ 0x61 ∷ 0x22 ∷ 0x62 ∷ []) ≡ None
+
+-- the octets from 0 to 255
+abbrev pub octets : List ℕ
+octets = range_with_len 0 256
+
+-- Each part is played by these octets and no others.
+pub record PlayParts : Type 0 where
+  -- a tab and a space
+  pub separators : filter is_separator octets ≡ 0x09 ∷ 0x20 ∷ []
+  -- `"`
+  pub quotes : filter is_quote octets ≡ 0x22 ∷ []
+  -- from the space on, 95 octets, up to the tilde
+  pub texts : filter (λ octet. is_text (octet ∷ [])) octets ≡ range_with_len 0x20 95
+  -- from `0` on, ten octets
+  pub numbers : filter (λ octet. is_number (octet ∷ [])) octets ≡ range_with_len 0x30 10

@@ -9,8 +9,6 @@ pub mod ManagementAddress
 pub mod Identifier
 pub mod KeptTlv
 pub mod Alike
-pub mod FixedOctets
 pub mod FixedTexts
 pub mod FixedValues
-pub mod Reading
 pub mod Code

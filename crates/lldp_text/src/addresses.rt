@@ -40,7 +40,7 @@ pub fn write_mac(line: &mut Writer, octets: &[u8])
 {
     for (i, octet) in octets.iter().enumerate() {
         line.separator(b':', i);
-        line.hex_octet(*octet);
+        line.hex(&[*octet]);
     }
 }
 

@@ -1,9 +1,7 @@
 //! What stands fixed, octet by octet: the parts that octets play, texts, values, words and numbers.
 ghost use Rattle.std.specs.Prelude.{ℕ, List};
-ghost use Rattle.lldp_text.specs.FixedOctets.{PlayParts};
-ghost use Rattle.lldp_text.specs.FixedTexts.{TellFaults, WriteWords};
+ghost use Rattle.lldp_text.specs.FixedTexts.{PlayParts, TellFaults, WriteWords, AreRead, AreSplit};
 ghost use Rattle.lldp_text.specs.FixedValues.{AreWritten, AreIdentified, AreAddressed, HasKeys};
-ghost use Rattle.lldp_text.specs.Reading.{AreRead, AreSplit};
 
 /// Of the 256 octets these are separators, quotes, octets of texts and of numbers.
 pub fn octets_play_fixed_parts()

@@ -78,16 +78,7 @@ impl Writer {
         ensures value { self.new ≡ self.old ++ 10 ∷ [] }
         ensures len { length self.new ≡ length self.old + 1 }
     {
-        self.octet(b'\n');
-    }
-
-    /// One octet.
-    pub fn octet(&mut self, octet: u8)
-        requires { length self.old + 1 ≤ ROOM }
-        ensures value { self.new ≡ self.old ++ octet ∷ [] }
-        ensures len { length self.new ≡ length self.old + 1 }
-    {
-        self.text(&[octet]);
+        self.text(b"\n");
     }
 
     /// Octets that stand as they are.
@@ -108,7 +99,7 @@ impl Writer {
         ensures len { length self.new ≤ length self.old + 1 }
     {
         if before > 0 {
-            self.octet(between);
+            self.text(&[between]);
         }
     }
 
@@ -123,15 +114,6 @@ impl Writer {
         self.len = end;
     }
 
-    /// One octet in hexadecimal.
-    pub fn hex_octet(&mut self, octet: u8)
-        requires { length self.old + 2 ≤ ROOM }
-        ensures value { self.new ≡ self.old ++ encode_lower (octet ∷ []) }
-        ensures len { length self.new ≡ length self.old + 2 }
-    {
-        self.hex(&[octet]);
-    }
-
     fn escape(&mut self, octet: u8)
         requires { length self.old + 4 ≤ ROOM }
         ensures value { self.new ≡ self.old ++ escape octet }
@@ -140,10 +122,10 @@ impl Writer {
         if octet == b'\\' {
             self.text(b"\\\\");
         } else if octet >= b' ' && octet <= b'~' {
-            self.octet(octet);
+            self.text(&[octet]);
         } else {
             self.text(b"\\x");
-            self.hex_octet(octet);
+            self.hex(&[octet]);
         }
     }
 
@@ -154,17 +136,8 @@ impl Writer {
         ensures len { length self.new ≤ length self.old + 4 * length octets.now }
     {
         if are_plain(octets) {
-            self.text(octets);
-        } else {
-            self.escape_each(octets);
+            return self.text(octets);
         }
-    }
-
-    fn escape_each(&mut self, octets: &[u8])
-        requires { length self.old + 4 * length octets.now ≤ ROOM }
-        ensures value { self.new ≡ self.old ++ escaped octets.now }
-        ensures len { length self.new ≤ length self.old + 4 * length octets.now }
-    {
         for octet in octets {
             self.escape(*octet);
         }
@@ -188,16 +161,6 @@ impl Writer {
     {
         self.text(key);
         self.escaped(text);
-    }
-
-    /// A key and a number.
-    pub fn decimal_value(&mut self, key: &[u8], n: u32)
-        requires { length self.old + length key.now + 10 ≤ ROOM }
-        ensures value { self.new ≡ self.old ++ (key.now ++ decimal n) }
-        ensures len { length self.new ≤ length self.old + length key.now + 10 }
-    {
-        self.text(key);
-        self.decimal(n);
     }
 
     /// All that was written.

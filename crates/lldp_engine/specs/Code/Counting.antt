@@ -3,7 +3,7 @@ use Rattle.std.specs.Prelude.{ℕ, ◌+◌, ◌-◌, Bool, nat_lt, length, Optio
 use Rattle.std.specs.Int.{from_bool}
 use Rattle.lldp_pdu.specs.Msap.{MsapId}
 use Rattle.lldp_table.specs.declared.learned.Learned.{Learned}
-use Rattle.lldp_table.specs.declared.learned.Learned.TheVariants.{New, Refreshed, Dropped}
+use Rattle.lldp_table.specs.declared.learned.Learned.TheVariants.{Dropped}
 use Rattle.lldp_table.specs.Contents.{Contents}
 use Rattle.lldp_table.specs.Code.Steps.{learn_answer, after_tick}
 use Rattle.lldp_transmit.specs.declared.event.Mark.{Mark}
@@ -48,9 +48,8 @@ with_tlvs c discarded unrecognized =
 
 -- the table answered this to it
 abbrev pub with_answer : Counters → Learned → Counters
-with_answer c New = c
-with_answer c Refreshed = c
 with_answer c Dropped = record c { drops = wrapped (c.drops + 1) }
+with_answer c answer = c
 
 -- so many neighbors aged out
 abbrev pub with_aged_out : Counters → ℕ → Counters

@@ -4,7 +4,7 @@ use Rattle.std.specs.Prelude.{◌&&◌, not, Bool, true, false, if◌then◌else
 use Rattle.lldp_pdu.specs.Msap.{MsapId}
 use Rattle.lldp_table.specs.Events.{Call, learn, forget, purge, tick as tick_call, set_limit}
 use Rattle.lldp_table.specs.declared.learned.Learned.{Learned}
-use Rattle.lldp_table.specs.declared.learned.Learned.TheVariants.{New, Refreshed, Dropped}
+use Rattle.lldp_table.specs.declared.learned.Learned.TheVariants.{New}
 use Rattle.lldp_transmit.specs.declared.event.Cause.{Cause}
 use Rattle.lldp_transmit.specs.declared.event.Cause.TheVariants.{Tick, Change, Neighbor, Stop, Allow, Down, Up, Nothing}
 use Rattle.lldp_engine.specs.declared.port.status.Status.{Status}
@@ -50,8 +50,7 @@ call_at event before up = None
 -- a neighbor that is stored as new
 abbrev pub cause_of_answer : Learned → Cause
 cause_of_answer New = Neighbor
-cause_of_answer Refreshed = Nothing
-cause_of_answer Dropped = Nothing
+cause_of_answer answer = Nothing
 
 -- what was heard: a new neighbor, by what the table answers to its name, or nothing
 abbrev pub cause_of_heard : (MsapId → Learned) → Option Heard → Cause

@@ -6,7 +6,7 @@ ghost use Rattle.lldp_engine.specs.Options.{InRange};
 ghost use Rattle.lldp_engine.specs.Event.{tick, frame, link, set, hostname, description, interval, hold, limit, status, update};
 ghost use Rattle.lldp_engine.specs.Past.{Past, with_event, agent_of};
 ghost use Rattle.lldp_engine.specs.PortAt.{neighbors_at, LeavesPort, LeavesTables};
-ghost use Rattle.lldp_engine.specs.Older.{one_tick_older};
+ghost use Rattle.lldp_engine.specs.Neighbors.{one_tick_older};
 
 /// A frame, a link event and a status command are of one port: every other port stays as it was and
 /// sends nothing.

@@ -1,6 +1,5 @@
 //! What stands behind the key of a shown line.
 ghost use Rattle.std.specs.Prelude.{◌≡◌, ◌+◌, ◌≤◌, ◌++◌, length};
-ghost use Rattle.lldp_engine.specs.ChassisLines.{own_address_text};
 ghost use Rattle.lldp_engine.specs.Code.ShownValue.{value_text, FitsLine};
 ghost use Rattle.lldp_text.specs.declared.writing.TheConstants.{ROOM};
 
@@ -28,16 +27,6 @@ pub(crate) enum Value<'a> {
     Kept(Tlv<'a>),
 }
 
-/// Writes the agent's management address, with interface number 0 of unknown numbering, and no OID.
-fn write_own_address(line: &mut Writer, octets: &[u8; 4])
-    requires room { length line.old + 1050 ≤ ROOM }
-    ensures value { line.new ≡ line.old ++ own_address_text octets.now }
-    ensures len { length line.new ≤ length line.old + 1050 }
-{
-    write_ipv4(line, octets);
-    line.text(b",1,0,");
-}
-
 /// Writes a value.
 pub(crate) fn write_value(line: &mut Writer, value: Value<'_>)
     requires room { length line.old + 1050 ≤ ROOM }
@@ -50,7 +39,11 @@ pub(crate) fn write_value(line: &mut Writer, value: Value<'_>)
         Value::Word(text) => line.text(text),
         Value::Text(text) => line.escaped(text),
         Value::Mac(octets) => write_mac(line, octets),
-        Value::OwnAddress(octets) => write_own_address(line, octets),
+        // Interface number 0 of unknown numbering, and no OID.
+        Value::OwnAddress(octets) => {
+            write_ipv4(line, octets);
+            line.text(b",1,0,");
+        }
         Value::Chassis(id) => write_chassis(line, id),
         Value::Port(id) => write_port(line, id),
         Value::Kept(tlv) => write_kept_tlv(line, tlv),

@@ -1,6 +1,12 @@
--- What a second makes of neighbors.
-use Rattle.std.specs.Prelude.{◌-◌, nat_lt, Bool, List, map, filter}
+-- What a frame and a second leave of neighbors.
+use Rattle.std.specs.Prelude.{◌-◌, not, nat_lt, Bool, List, map, filter}
+use Rattle.lldp_pdu.specs.Msap.{MsapId}
+use Rattle.lldp_table.specs.Msap.{same_msap}
 use Rattle.lldp_table.specs.Events.{Neighbor}
+
+-- all but the one of this name, in their order
+abbrev pub others_than : MsapId → List Neighbor → List Neighbor
+others_than name neighbors = filter (λ neighbor. not (same_msap name neighbor.msap)) neighbors
 
 -- one tick less is left of it
 abbrev pub one_less : Neighbor → Neighbor
