@@ -1,5 +1,5 @@
 -- The numbers of ranges, rooms and faults.
-use Rattle.std.specs.Prelude.{◌≡◌, ℕ, ◌<◌, ◌↔◌}
+use Rattle.std.specs.Prelude.{◌≡◌, ℕ, ◌<◌, ◌↔◌, [], ◌∷◌, map}
 use Rattle.lldp_transmit.specs.declared.limits.TheConstants.{MOST_CREDIT, MOST_FAST, MOST_REINIT}
 use Rattle.lldp_engine.specs.declared.agent.options.TheConstants.{MOST_NEIGHBORS, MOST_INTERVAL, MOST_HOLD}
 use Rattle.lldp_engine.specs.declared.show.lines.TheConstants.{MOST_LINES}
@@ -20,7 +20,7 @@ number_of_refusal refusal.PortName = 4
 number_of_refusal refusal.SamePort = 5
 number_of_refusal refusal.Text = 6
 
--- The greatest number of each range, and the room of a line, with its LF, and of a writer.
+-- The greatest number of each range, the room of a line, with its LF, and of a writer, and the numbers of refusals.
 pub record AreConstants : Type 0 where
   pub neighbors : MOST_NEIGHBORS ≡ 128
   pub credit : MOST_CREDIT ≡ 10
@@ -31,6 +31,8 @@ pub record AreConstants : Type 0 where
   pub lines : MOST_LINES ≡ 6127808
   pub line : LINE_ROOM ≡ 2049
   pub room : ROOM ≡ 8192
+  pub refusals : map number_of_refusal (refusal.Memory ∷ refusal.NoPorts ∷ refusal.TooManyPorts ∷ refusal.PortName ∷ refusal.SamePort ∷ refusal.Text ∷ [])
+      ≡ 1 ∷ 2 ∷ 3 ∷ 4 ∷ 5 ∷ 6 ∷ []
 
 -- The numbers that commands may set are those above 0 and below these.
 pub record MaySet (agent : AgentState) (n : ℕ) : Type 0 where

@@ -1,5 +1,5 @@
 -- What a frame and a second leave of neighbors.
-use Rattle.std.specs.Prelude.{◌-◌, not, nat_lt, Bool, List, map, filter}
+use Rattle.std.specs.Prelude.{◌-◌, not, nat_lt, List, map, filter}
 use Rattle.lldp_pdu.specs.Msap.{MsapId}
 use Rattle.lldp_table.specs.Msap.{same_msap}
 use Rattle.lldp_table.specs.Events.{Neighbor}
@@ -12,10 +12,6 @@ others_than name neighbors = filter (λ neighbor. not (same_msap name neighbor.m
 abbrev pub one_less : Neighbor → Neighbor
 one_less neighbor = record neighbor { left = neighbor.left - 1 }
 
--- some ticks are left of it
-abbrev pub has_left : Neighbor → Bool
-has_left neighbor = nat_lt 0 neighbor.left
-
 -- Each has one tick less left, and those that have none left are gone.
 abbrev pub one_tick_older : List Neighbor → List Neighbor
-one_tick_older neighbors = filter has_left (map one_less neighbors)
+one_tick_older neighbors = filter (λ neighbor. nat_lt 0 neighbor.left) (map one_less neighbors)

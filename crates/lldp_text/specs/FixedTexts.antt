@@ -1,15 +1,17 @@
 -- Texts, and words and numbers that are read, octet by octet; and which octets play which part.
-use Rattle.std.specs.Prelude.{◌≡◌, ℕ, true, false, List, [], ◌∷◌, Some, None, Ok, Err}
+use Rattle.std.specs.Prelude.{◌≡◌, ℕ, true, false, List, [], ◌∷◌, map, Some, None, Ok, Err}
 use Rattle.std.specs.List.{filter, range_with_len}
 use Rattle.lldp_text.specs.declared.fault.CommandFault.TheVariants.{Unknown, NoSuchPort, Number, Range, Text, Extra, Quote, InUse}
-use Rattle.lldp_text.specs.Fault.{text_of}
+use Rattle.lldp_text.specs.Fault.{text_of, number_of_fault}
 use Rattle.lldp_text.specs.Text.{is_text}
 use Rattle.lldp_text.specs.Number.{number_of, is_number}
 use Rattle.lldp_text.specs.Words.{words_of, is_separator, is_quote}
 use Rattle.lldp_text.specs.Capabilities.{capability_names, on_or_off}
 
--- The lines that tell the faults of commands.
+-- The numbers of the faults of commands, and the lines that tell them.
 pub record TellFaults : Type 0 where
+  pub numbers : map number_of_fault (Unknown ∷ NoSuchPort ∷ Number ∷ Range ∷ Text ∷ Extra ∷ Quote ∷ InUse ∷ [])
+      ≡ 1 ∷ 2 ∷ 3 ∷ 4 ∷ 5 ∷ 6 ∷ 7 ∷ 8 ∷ []
   -- error: unknown command
   pub unknown : text_of Unknown ≡ 0x65 ∷ 0x72 ∷ 0x72 ∷ 0x6f ∷ 0x72 ∷ 0x3a ∷ 0x20 ∷ 0x75 ∷ 0x6e ∷ 0x6b ∷ 0x6e ∷ 0x6f ∷ 0x77 ∷ 0x6e ∷ 0x20 ∷ 0x63 ∷ 0x6f ∷ 0x6d ∷ 0x6d ∷ 0x61 ∷ 0x6e ∷ 0x64 ∷ []
   -- error: no such port

@@ -8,7 +8,7 @@ pub fn octets_play_fixed_parts()
     ensures { PlayParts }
 {}
 
-/// Each fault is told by its line, and the words of capabilities stand octet by octet.
+/// Each fault has its number and its line, and the words of capabilities stand octet by octet.
 pub fn texts_have_fixed_octets()
     ensures faults { TellFaults }
     ensures words { WriteWords }
