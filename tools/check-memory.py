@@ -3,12 +3,14 @@
 
 Memory: one type has the storage that is taken at opening, `Room`. So below the program no other module
 names a type that takes memory, no other type has a field with an allocator, only opening calls are
-handed one, and they hand it to opening calls alone. `Global` comes from the runtime, and only the
-modules that read the words of the command line are handed it.
+handed one, by one name, and they hand it to opening calls alone, each once and for no more than what is
+to be held. `Global` comes from the runtime, and only the modules that read the words of the command line
+are handed it.
 
 Accesses: `Times` counts each get and set of a stored time. So its numbers are reached by `get`, `set`
-and `look` alone; and `look`, which is not counted, is reached from `Table::lefts`, which no tick calls.
-A proof by hand could say of a count what it likes, so there is none but the two of `Count`.
+and `look` alone, and it cannot be copied; and `look`, which is not counted, is reached from
+`Table::lefts`, which no tick calls: it is called by the show of neighbors alone. A proof by hand could
+say of a count what it likes, so there is none but the two of `Count`.
 
     tools/check-memory.py
 
@@ -28,32 +30,44 @@ BELOW_THE_PROGRAM = ("lldp_pdu", "lldp_table", "lldp_transmit", "lldp_text", "ll
 ROOM = "lldp_table/src/room.rt"
 MOST_LINES_OF_ROOM = 100
 ROOM_TAKES = "Vec::with_capacity(alloc, capacity)?"
+ROOM_HAS = "{\n    items: Vec<T, A>,\n}"
 TAKES_MEMORY = r"\b(?:Vec|VecDeque|Box|String|Rc|Arc|HashMap|BTreeMap|vec!|format!|dyn)\b"
-ALLOCATOR = r": (?:&(?:'\w+ )?)?(?:mut )?(?:A|Global|impl Allocator)\b"
+ALLOCATOR = r"\b(\w+): (?:&(?:'\w+ )?)?(?:mut )?(?:A|Global|impl Allocator)\b"
 HOLDS_A_ROOM = r"\b(?:Room<\w+(?:<A>)?, A>|Table<A>|Port<A>)"
 OPENING_CALLS = ("open", "open_ports")
+# Each call that an allocator is handed on to, and the one module that makes it, once.
 HANDED_ON = (
-    r"\balloc: A\b",
-    r"\b(?:Room|Table|Port|Agent)::open\(alloc(?:\.clone\(\)\?)?[,)]",
-    r"\bopen_ports\(alloc[,)]",
-    r"\bstd::alloc\b",
+    ("Room::open(alloc, limit as usize)", "lldp_table/src/table.rt"),
+    ("Table::open(alloc, options.max_neighbors)", "lldp_engine/src/port.rt"),
+    ("Room::open(alloc.clone()?, options.ports.len())", "lldp_engine/src/agent/ports.rt"),
+    ("Port::open(alloc.clone()?, name.as_bytes(), options)", "lldp_engine/src/agent/ports.rt"),
+    ("open_ports(alloc, options)", "lldp_engine/src/agent.rt"),
+    ("Agent::open(alloc, &options)", "lldp_program/src/program.rt"),
+    ("run_matches(rt, alloc, &matches,", "lldp_program/src/program.rt"),
+    ("parse(alloc, words)", "lldp_program/src/program.rt"),
 )
+NO_HANDING_ON = r"\balloc: (?:A|Global)\b|\bstd::alloc\b"
+PROGRAM = "lldp_program/src/program.rt"
 READ_THE_WORDS = ("lldpa/src/main.rt", "lldp_program/src/program.rt", "lldp_program/src/arguments.rt")
 WALKS = ("count/Count/add/Proof.antt", "count/Count/new/Proof.antt")
-# What may be reached how often, and from which module of lldp_table alone.
-REACHED = (
-    (r"\bself\.each\b", 3, "times.rt"),
-    (r"\bself\.each\[slot as usize\]", 3, "times.rt"),
-    (r"\bTimes \{", 4, "times.rt"),
-    (r"\.look\(", 1, "times.rt"),
-    (r"\blefts_in\(", 1, "queue.rt"),
-    (r"\bqueue\.lefts\(", 1, "order.rt"),
-    (r"\blefts_of\(", 1, "table.rt"),
-    (r"\bself\.(?:lefts|entry)\(", 1, "table.rt"),
-    (r"\bCount::new\(", 1, "times.rt"),
-    (r"\bTimes::new\(", 1, "queue.rt"),
-    (r"\bQueue::new\(", 1, "table.rt"),
+# What may be reached how often, and from which modules of lldp_table alone.
+REACHED: tuple[tuple[str, dict[str, int]], ...] = (
+    (r"\bself\.each\b", {"times.rt": 3}),
+    (r"\bself\.each\[slot as usize\]", {"times.rt": 3}),
+    (r"\bTimes \{", {"times.rt": 4}),
+    (r"\blook\b", {"times.rt": 1}),
+    (r"\blefts_in\(", {"queue.rt": 1}),
+    (r"(?:\.|::)lefts\b", {"order.rt": 1, "table.rt": 1}),
+    (r"\blefts_of\(", {"table.rt": 1}),
+    (r"\.entry\(|::entry\b(?!::)", {}),
+    (r"\bCount::new\(", {"times.rt": 1}),
+    (r"\bTimes::new\(", {"queue.rt": 1}),
+    (r"\bQueue::new\(", {"table.rt": 1}),
 )
+# What looks at all times uncounted, and where those above the table may.
+LOOKS = r"\.(?:lefts|entry)\(|::(?:lefts|entry)\b(?!::)"
+LOOKING = {"lldp_engine/src/show/neighbor_lines.rt": 1}
+COUNTING = ("count.rt", "times.rt", "queue.rt")
 
 
 def without_comments(text: str) -> str:
@@ -85,10 +99,17 @@ class Sources:
             self.broken.append(fault)
 
 
+def counts_of(pattern: str, texts: dict[str, str]) -> dict[str, int]:
+    """How often something is named in each text, where it is."""
+    counts = {name: len(re.findall(rf"(?<!fn ){pattern}", text)) for name, text in texts.items()}
+    return {name: count for name, count in counts.items() if count > 0}
+
+
 def functions_handed(code: str) -> list[str]:
-    """The functions that are handed an allocator, by name."""
+    """The functions that are handed an allocator, by name. One that does not call it `alloc` is told too."""
     heads = re.findall(r"\bfn (\w+)(?:<[^(]*>)?\(([^{;]*?)\)", code)
-    return [name for name, taken in heads if re.search(ALLOCATOR, taken)]
+    taken = [(name, one) for name, all_taken in heads for one in re.findall(ALLOCATOR, all_taken)]
+    return [name if one == "alloc" else f"{name} ({one})" for name, one in taken]
 
 
 def fields(code: str) -> list[str]:
@@ -106,7 +127,9 @@ def see_room(sources: Sources) -> None:
     sources.see(lines <= MOST_LINES_OF_ROOM, f"{ROOM}: {lines} lines")
     sources.see(asked == 2, f"{ROOM}: names its allocator {asked} times, and not twice")
     sources.see(ROOM_TAKES in code, f"{ROOM}: takes something else")
-    for name, other in sources.code(*BELOW_THE_PROGRAM).items():
+    is_kept = ROOM_HAS in code and code.count("Vec") == 2
+    sources.see(is_kept, f"{ROOM}: does not keep its Vec to itself")
+    for name, other in sources.code(*BELOW_THE_PROGRAM, "lldp_program").items():
         takes = re.search(TAKES_MEMORY, other) is not None
         sources.see(name == ROOM or not takes, f"{name}: names a type that takes memory")
 
@@ -121,14 +144,27 @@ def see_fields(sources: Sources) -> None:
 
 
 def see_handed(sources: Sources) -> None:
-    """Only opening calls are handed an allocator, and are handed it on."""
+    """Only opening calls are handed an allocator, under one name, and it is handed on to them alone."""
     for name, code in sources.code(*BELOW_THE_PROGRAM).items():
         for function in functions_handed(code):
             is_opening = function in OPENING_CALLS
             sources.see(is_opening, f"{name}: {function} is handed an allocator")
-        rest = re.sub("|".join(HANDED_ON), "", code)
+        bounded = set(re.findall(r"\b(\w+): [\w +]*\bAllocator\b", code))
+        sources.see(bounded <= {"A"}, f"{name}: an allocator of a type that is not A")
+    for name, code in sources.code(*BELOW_THE_PROGRAM, PROGRAM).items():
+        rest = re.sub(NO_HANDING_ON, "", code)
+        for call, _ in HANDED_ON:
+            rest = rest.replace(call, "")
         goes_on = re.search(r"\balloc(?:ator)?\b", rest) is not None
         sources.see(name == ROOM or not goes_on, f"{name}: an allocator goes elsewhere")
+
+
+def see_handed_on(sources: Sources) -> None:
+    """Each call that an allocator is handed on to stands once."""
+    code = sources.code("")
+    for call, module in HANDED_ON:
+        found = counts_of(re.escape(call), code)
+        sources.see(found == {module: 1}, f"{call} stands in {found}")
 
 
 def see_global(sources: Sources) -> None:
@@ -144,13 +180,20 @@ def see_global(sources: Sources) -> None:
 
 
 def see_reached(sources: Sources) -> None:
-    """Stored times are reached by what is counted, or from `Table::lefts`."""
+    """Stored times are reached by what is counted, or from `Table::lefts`, and are not copied."""
     code = sources.code("lldp_table")
-    for pattern, times, module in REACHED:
-        calls = {name: len(re.findall(rf"(?<!fn ){pattern}", text)) for name, text in code.items()}
-        found = {name: count for name, count in calls.items() if count > 0}
-        is_so = found == {f"lldp_table/src/{module}": times}
-        sources.see(is_so, f"{pattern} is reached from {found}")
+    for pattern, modules in REACHED:
+        found = counts_of(pattern, code)
+        wanted = {f"lldp_table/src/{module}": times for module, times in modules.items()}
+        sources.see(found == wanted, f"{pattern} is reached from {found}")
+    found = counts_of(LOOKS, sources.code("lldp_engine", "lldp_program", "lldpa/"))
+    sources.see(found == LOOKING, f"all times are looked at from {found}")
+    for module in COUNTING:
+        text = code[f"lldp_table/src/{module}"]
+        derived = set(re.findall(r"#\[derive\((.*?)\)\]", text))
+        given = set(re.findall(r"^impl(?:<.*?>)? (\w+)(?:<.*?>)? for\b", text, re.M))
+        is_so = derived == {"Drop"} and given == {"Model"}
+        sources.see(is_so, f"{module}: has more than Drop and Model: {derived}, {given}")
 
 
 def see_all(sources: Sources) -> None:
@@ -158,6 +201,7 @@ def see_all(sources: Sources) -> None:
     see_room(sources)
     see_fields(sources)
     see_handed(sources)
+    see_handed_on(sources)
     see_global(sources)
     see_reached(sources)
 
