@@ -1,7 +1,7 @@
 #!/usr/bin/env python3
 """Looks up what the pages name, without a network: links and their anchors, files in backticks, calls in backticks, options,
 lines of sources in blocks that say `rust` or `antt`, which stand in one file one behind another, on pages about proofs
-each clause, definition, lemma and large number, in rows of docs/CLAIMS.md that a clause is one of the calls of its row,
+each clause, definition, lemma and large number, in rows and lists of docs/CLAIMS.md that a clause is one of their calls,
 that each module of a crate says in its first line what it is, and that no file of definitions lacks its row in
 docs/DEFINITIONS.md, and no transcript its row in examples/README.md. No line of text is over 120 columns long.
 
@@ -25,7 +25,8 @@ FILES = {name for path in TOP.rglob("*") if not {"out", ".git"} & set(path.relat
 NAMES = FILES | {name for text in (SOURCE, DEFINITIONS, PROOFS) for name in re.findall(r"\w+(?:-\w+)*", text)} | set(CRATES)
 ABOUT_PROOFS = ("CLAIMS.md", "DEFINITIONS.md", "PROOFS.md", "ARCHITECTURE.md", "STANDARD.md")
 SCRIPTS = "\n".join(path.read_text() for path in (TOP / "tools").glob("*.*") if path.suffix in (".py", ".sh"))
-NUMBERS_OF_SOURCES = set(re.findall(r"\d+", (SOURCE + DEFINITIONS + SCRIPTS).replace("_", "")))
+NUMBERS_OF_CODE = set(re.findall(r"\d+", (SOURCE + DEFINITIONS).replace("_", "")))
+NUMBERS_OF_SOURCES = NUMBERS_OF_CODE | set(re.findall(r"\d+", SCRIPTS.replace("_", "")))
 
 # what people run, and what its options stand in
 OF_OPTIONS = [TOP / "examples" / "help.txt"] + [path for folder in ("python", "bin", "tools", ".ci") for path in (TOP / folder).rglob("*")]
@@ -116,9 +117,10 @@ LINES = ["\n".join(["", *lines, ""]) for lines in lines_of_sources()]
 
 
 def is_shown(lines):
-    """Whether these lines stand in a source, one behind another."""
+    """Whether these lines stand in a source, one behind another, and no bracket of theirs is left open."""
     shown = "\n".join(["", *lines, ""])
-    return any(shown in source for source in LINES)
+    are_closed = all(shown.count(one) == shown.count(other) for one, other in ("()", "{}", "[]"))
+    return are_closed and any(shown in source for source in LINES)
 
 
 def large_numbers(text):
@@ -129,12 +131,36 @@ def large_numbers(text):
 
 
 def clauses_of_crate(crate):
-    """The names of the clauses of each function of a crate."""
+    """The names of the clauses of each function of a crate, and of each type: those of its functions."""
     found = {}
     for path in (TOP / "crates" / crate / "src").rglob("*.rt"):
-        for name, head in re.findall(r"\bfn (\w+)(.*?)(?=\bfn \w+|\Z)", path.read_text(), re.S):
-            found.setdefault(name, set()).update(re.findall(r"(?:ensures|requires|accesses|\n +)\s*(\w+) \{ ", head))
+        text, of_file = path.read_text(), set()
+        for name, head in re.findall(r"\bfn (\w+)(.*?)(?=\bfn \w+|\Z)", text, re.S):
+            clauses = set(re.findall(r"(?:ensures\*?|requires|accesses|\n +)\s*([a-z]\w*) \{ ", head)) - {"ensures", "requires"}
+            found.setdefault(name, set()).update(clauses)
+            of_file |= clauses
+        for name in re.findall(r"\b(?:struct|trait) (\w+)", text):
+            found.setdefault(name, set()).update(of_file)
     return found
+
+
+def rows_about_clauses(section):
+    """The rows of a section of docs/CLAIMS.md: what each is about, the calls whose clauses it may name, the words that have
+    to be such clauses, and its other words. A table whose first row says `Clause of` a call has its clauses in the first
+    column; a list of them follows a line `The clauses of` a call."""
+    of_table = None
+    for line in section.splitlines():
+        named = re.match(r"\| Clauses? of `(?:\w+::)?(\w+)`", line)
+        of_table = named[1] if named else of_table if line.startswith("|") else None
+        cells = line.split("|")[1:3]
+        if line.startswith("| `") and of_table is not None:
+            yield cells[0].strip(), {of_table}, *cells
+        elif line.startswith("| `"):
+            calls_of_row = set(re.findall(r"(\w+)`", cells[0]))
+            yield cells[0].strip(), calls_of_row, "", cells[1]
+    for call, items in re.findall(r"^The clauses of `(\w+)`[^-]*?:\n\n?((?:- .*\n(?:  .*\n)*)+)", section, re.M):
+        for front in re.findall(r"^- ((?:`\w+`(?:[^:`]*)?)+):|(?<=[;.] )(`\w+`):", items, re.M):
+            yield call, {call}, re.sub(r"\(.*?\)", "", " ".join(front)), ""
 
 
 class Checks:
@@ -173,16 +199,19 @@ def check_page(checks, page):
 
 
 def check_claims(checks):
-    """A clause that a row of docs/CLAIMS.md names is one of the calls of that row."""
+    """A clause that a row of docs/CLAIMS.md names is one of the calls of that row, and a large number in the section of a
+    crate stands in the code or the definitions."""
     page = "docs/CLAIMS.md"
     for crate, section in re.findall(r"^## `(\w+)`.*?\n(.*?)(?=^## )", (TOP / page).read_text(), re.M | re.S):
         clauses = clauses_of_crate(crate)
-        named = set().union(*clauses.values()) - FUNCTIONS - set(re.findall(r"^\s*(?:\w+ )*(\w+) :", DEFINITIONS, re.M))
-        for row in re.findall(r"^\| (`.*)$", section, re.M):
-            calls_of_row, says = row.split("|")[:2]
-            own = set().union(*(clauses.get(call, set()) for call in re.findall(r"(\w+)`", calls_of_row)))
-            for word in set(re.findall(r"`(\w+)`", says)) & named if own else ():
-                checks.see(page, f"{calls_of_row.strip()}: {word}", None if word in own else "no clause of these calls")
+        named = set().union(*clauses.values())
+        for number in large_numbers(section):
+            checks.see(page, f"{crate}: {number}", None if number in NUMBERS_OF_CODE else "no such number in the code")
+        for about, calls_of_row, front, says in rows_about_clauses(section):
+            own = set().union(*(clauses.get(call, set()) for call in calls_of_row))
+            fronts, others = (set(re.findall(r"`(\w+)`", text)) for text in (front, says))
+            for word in sorted(fronts | others & named - calls_of_row):
+                checks.see(page, f"{about}: {word}", None if word in own else "no clause of these calls")
 
 
 def check_modules(checks):
