@@ -13,6 +13,7 @@ import sys
 import time
 
 from compare import connected, free_port
+from model import COUNTERS
 
 PORTS = [f"p{place}" for place in range(64)]
 QUESTIONS = 100
@@ -43,7 +44,7 @@ def late_answers(client):
     for _ in range(QUESTIONS):
         begin = time.perf_counter()
         client.sendall(QUESTION)
-        if answer(client).count(b"\n") != 9 * len(PORTS) + 1:
+        if answer(client).count(b"\n") != len(COUNTERS) * len(PORTS) + 1:
             return None
         late += time.perf_counter() - begin > LATE
     return late

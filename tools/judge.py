@@ -23,7 +23,8 @@ MARK_ANSWER = b"error: line too long"
 # so many seconds are judged at most, since each question goes over all events
 MOST_TICKS = 300
 
-CHANGES = ("hostname", "description", "tx-interval", "tx-hold", "max-neighbors", "update")
+# what is no local change; every other event is a setting, and one
+NO_CHANGES = ("tick", "frame", "link", "status")
 
 
 class Event(NamedTuple):
@@ -181,7 +182,7 @@ class Port:
             return None
         if self.starts(k):
             return "start"
-        if self.events[k].kind in CHANGES:
+        if self.events[k].kind not in NO_CHANGES:
             return "change"
         if self.is_new(k):
             return "new"

@@ -182,7 +182,7 @@ class Permission(unittest.TestCase):
         with Served() as served:
             os.chmod(served.path, 0o666)
             stranger = self.asker(served.path)
-            self.assertTrue(self.ask(stranger, "show configuration").startswith("['=10'"))
+            self.assertTrue(self.ask(stranger, "show chassis").startswith("['=4'"))
             for line in ("configure lldp tx-hold 5", '  "configure" lldp tx-hold 5', "update"):
                 self.assertEqual(self.ask(stranger, line), "['=1', 'error: no permission']")
             with served.client() as client:

@@ -103,8 +103,10 @@ class QuickWay(unittest.TestCase):
 
     def test_usual_port_behind_another_show(self) -> None:
         usual = SHOW[SHOW.index("lldp.c."):]
-        with self.assertRaisesRegex(ShowFault, "line 32: 'lldp.c.neighbors=1' where the end"):
-            read_ports(SHOW.replace(usual, COUNTERS + usual))
+        whole = SHOW.replace(usual, COUNTERS + usual)
+        line = 1 + whole.splitlines().index("lldp.c.neighbors=1")
+        with self.assertRaisesRegex(ShowFault, f"line {line}: 'lldp.c.neighbors=1' where the end"):
+            read_ports(whole)
 
     def test_damaged_shows(self) -> None:
         rng, right = random.Random(30), 0
