@@ -1,27 +1,24 @@
 -- Worked examples of frames, computed from the definitions.
-use Rattle.std.proofs.Common.{◌≡◌, [], ◌∷◌, Some, None, refl}
+use Rattle.std.proofs.Common.{◌≡◌, false, [], ◌∷◌, Some, None, refl}
 use Rattle.std.specs.Prelude.{codes}
 use Rattle.lldp_transmit.specs.declared.event.Mark.TheVariants.{Ordinary, Shutdown}
 use Rattle.lldp_engine.specs.declared.agent.options.Role.TheVariants.{Station, Bridge}
-use Rattle.lldp_engine.specs.Configuration.{Configuration}
+use Rattle.lldp_engine.specs.Configuration.{Configuration, configuration_at_opening}
 use Rattle.lldp_engine.specs.Frames.{frame_of}
 
 abbrev default : Configuration
-default =
-    record {
-      mac = 0x02 ∷ 0x00 ∷ 0x00 ∷ 0x00 ∷ 0x00 ∷ 0x01 ∷ [];
-      role = Station;
-      management = None;
-      credit_max = 5;
-      fast_init = 4;
-      reinit = 2;
-      capacity = 32;
-      hostname = codes "localhost";
-      description = codes "lldpa";
-      interval = 30;
-      hold = 4;
-      limit = 32;
-    }
+default = configuration_at_opening (record {
+  names = codes "eth0" ∷ [];
+  mac = 0x02 ∷ 0x00 ∷ 0x00 ∷ 0x00 ∷ 0x00 ∷ 0x01 ∷ [];
+  hostname = codes "localhost";
+  management = None;
+  role = Station;
+  max_neighbors = 32;
+  credit_max = 5;
+  fast_init = 4;
+  reinit = 2;
+  receive_only = false;
+})
 
 -- the ordinary frame of the default configuration
 ordinary : frame_of default (codes "eth0") Ordinary ≡ 0x01 ∷ 0x80 ∷ 0xc2 ∷ 0x00 ∷ 0x00 ∷ 0x0e ∷ 0x02 ∷ 0x00 ∷ 0x00 ∷ 0x00 ∷ 0x00 ∷ 0x01 ∷ 0x88 ∷ 0xcc ∷ 0x02 ∷ 0x07 ∷ 0x04 ∷ 0x02 ∷ 0x00 ∷ 0x00 ∷ 0x00 ∷ 0x00 ∷ 0x01 ∷ 0x04 ∷ 0x05 ∷ 0x05 ∷ 0x65 ∷ 0x74 ∷ 0x68 ∷ 0x30 ∷ 0x06 ∷ 0x02 ∷ 0x00 ∷ 0x79 ∷ 0x08 ∷ 0x04 ∷ 0x65 ∷ 0x74 ∷ 0x68 ∷ 0x30 ∷ 0x0a ∷ 0x09 ∷ 0x6c ∷ 0x6f ∷ 0x63 ∷ 0x61 ∷ 0x6c ∷ 0x68 ∷ 0x6f ∷ 0x73 ∷ 0x74 ∷ 0x0c ∷ 0x05 ∷ 0x6c ∷ 0x6c ∷ 0x64 ∷ 0x70 ∷ 0x61 ∷ 0x0e ∷ 0x04 ∷ 0x00 ∷ 0x80 ∷ 0x00 ∷ 0x80 ∷ 0x00 ∷ 0x00 ∷ []

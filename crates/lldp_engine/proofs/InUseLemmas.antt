@@ -12,10 +12,10 @@ use Rattle.lldp_text.specs.declared.fault.CommandFault.TheVariants.{Unknown, NoS
 use Rattle.lldp_text.specs.Text.{is_text}
 use Rattle.lldp_text.specs.Number.{is_number, number_of}
 use Rattle.lldp_engine.specs.Place.{place_of}
-use Rattle.lldp_engine.specs.Event.{hostname, description, interval, hold, limit, status as set_status, update}
+use Rattle.lldp_engine.specs.Event.{limit}
 use Rattle.lldp_engine.specs.AgentState.{AgentState, PortState, AllowsSetting, names_of, fits}
 use Rattle.lldp_text.specs.Answer.{or_fault, on_ok, ◌>>=◌}
-use Rattle.lldp_engine.specs.Command.{Command, show, set}
+use Rattle.lldp_engine.specs.Command.{Command, set}
 use Rattle.lldp_engine.specs.Forms.{Form, complete, word, port, number, text, status, status_of, after_word, fault_or, if_any, forms_left, first_fault, going_on, completed, read_forms, forms}
 use Rattle.lldp_engine.specs.Given.{said_by, unless_in_use, command_said, command_given}
 use Rattle.lldp_text.specs.Words.{words_of}
@@ -157,13 +157,7 @@ limit_in_use agent most false e h = some_holds agent.ports most e
 said_in_use : (agent : AgentState) (words : List (List ℕ)) (said : Result Command CommandFault) → said_by agent words ≡ said → unless_in_use agent.ports said ≡ Err InUse
     → (most : ℕ) × (said_by agent words ≡ Ok (set (limit most))) × HoldsMore agent most
 said_in_use agent words (Ok (set (limit n))) e h = (n, e, limit_in_use agent n (fits agent.ports n) refl h)
-said_in_use agent words (Ok (set (hostname t))) e h = cc
-said_in_use agent words (Ok (set (description t))) e h = cc
-said_in_use agent words (Ok (set (interval n))) e h = cc
-said_in_use agent words (Ok (set (hold n))) e h = cc
-said_in_use agent words (Ok (set (set_status p s))) e h = cc
-said_in_use agent words (Ok (set update)) e h = cc
-said_in_use agent words (Ok (show what)) e h = cc
+said_in_use agent words (Ok command) e h = cc
 said_in_use agent words (Err fault) e h = absurd (not_said agent words (e ∙ h))
 
 given_in_use : (agent : AgentState) (line : List ℕ) (split : Option (List (List ℕ))) → words_of line ≡ split → (or_fault split Quote >>= command_said agent) ≡ Err InUse → WouldLimitBelow agent line

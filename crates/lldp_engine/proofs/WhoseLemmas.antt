@@ -11,7 +11,7 @@ use Rattle.lldp_table.proofs.EventLemmas.{neighbors-ticked, neighbors-limit_set}
 use Rattle.lldp_table.proofs.StandingLemmas.{events-more}
 use Rattle.lldp_engine.specs.declared.port.status.Status.{Status}
 use Rattle.lldp_engine.specs.Options.{Options, InRange}
-use Rattle.lldp_engine.specs.Event.{Event, tick, frame, link, set, hostname, description, interval, hold, limit, status, update}
+use Rattle.lldp_engine.specs.Event.{Event, tick, frame, link, set, Setting, limit, status}
 use Rattle.lldp_engine.specs.Configuration.{Configuration, configured}
 use Rattle.lldp_engine.specs.Status.{receives}
 use Rattle.lldp_engine.specs.Heard.{Heard, refused, leaves, tells, heard_by}
@@ -71,6 +71,12 @@ link_leaves_one past port i up = own_or_nothing (λ (e : PortEvent). call_at e (
 pub link_leaves_tables : (past : Past) (port : ℕ) (up : Bool) → LeavesTables past (link port up)
 link_leaves_tables past port up = λ i. table_same past (link port up) i (link_leaves_one past port i up)
 
+-- every setting but a status and a limit
+pub setting_leaves_tables : (past : Past) (setting : Setting) → ((port : ℕ) (given : Status) → setting ≢ status port given) → ((n : ℕ) → setting ≢ limit n) → LeavesTables past (set setting)
+setting_leaves_tables past (status port given) no_status no_limit = absurd (no_status port given refl)
+setting_leaves_tables past (limit n) no_status no_limit = absurd (no_limit n refl)
+setting_leaves_tables past setting no_status no_limit = λ i. table_same past (set setting) i refl
+
 -- a limit takes no neighbor away
 pub limit_leaves_neighbors : (past : Past) (i n : ℕ) → neighbors_at (with_event past (set (limit n))) i ≡ neighbors_at past i
 limit_leaves_neighbors past i n =
@@ -113,12 +119,7 @@ limits_move i tick given up c = refl
 limits_move i (frame port octets) given up c = own_or_nothing (λ (e : PortEvent). limit_by (call_at e given up) c.limit ≡ c.limit) (port == i) (own.frame octets) (heard_sets_none (heard_by given up octets) c.limit) refl
 limits_move i (link port now) given up c = own_or_nothing (λ (e : PortEvent). limit_by (call_at e given up) c.limit ≡ c.limit) (port == i) (own.link now) refl refl
 limits_move i (set (status port next)) given up c = own_or_nothing (λ (e : PortEvent). limit_by (call_at e given up) c.limit ≡ c.limit) (port == i) (own.status next) (purge_sets_none (receives given && not (receives next)) c.limit) refl
-limits_move i (set (hostname text)) given up c = refl
-limits_move i (set (description text)) given up c = refl
-limits_move i (set (interval seconds)) given up c = refl
-limits_move i (set (hold times)) given up c = refl
-limits_move i (set (limit n)) given up c = refl
-limits_move i (set update) given up c = refl
+limits_move i (set setting) given up c = refl
 
 limit_is_configured : (o : Options) (i : ℕ) (events : List Event) → table_limit o.max_neighbors (events_of o.max_neighbors (calls_after o (port_past o i events))) ≡ (configuration_after o events).limit
 unfolding events_of

@@ -5,9 +5,8 @@ use Rattle.lldp_table.specs.Contents.{Contents}
 use Rattle.lldp_transmit.specs.Code.Machine.{Machine}
 use Rattle.lldp_engine.specs.declared.port.status.Status.{Status}
 use Rattle.lldp_engine.specs.declared.port.counters.Counters.{Counters}
-use Rattle.lldp_text.specs.Text.{is_text}
 use Rattle.lldp_engine.specs.Configuration.{Configuration}
-use Rattle.lldp_engine.specs.Event.{Event, tick, frame, link, set, Setting, hostname, description, interval, hold, limit, status, update}
+use Rattle.lldp_engine.specs.Event.{Event, tick, frame, link, set, Setting, limit, status, IsInRange}
 
 -- a port: whether its link is up stands in its transmit machine
 pub record PortState : Type 0 where
@@ -44,15 +43,11 @@ pub record AcceptsLimit (agent : AgentState) (neighbors : ℕ) : Type 0 where
   pub most : neighbors ≤ agent.configuration.capacity
   pub held : fits agent.ports neighbors ≡ true
 
--- The agent accepts the setting: its port exists, its value is in the range, its text is one.
+-- The agent accepts the setting: its port exists, no port holds more than its limit, and else it is in range.
 abbrev pub AllowsSetting : AgentState → Setting → Type 0
-AllowsSetting agent (hostname text) = is_text text ≡ true
-AllowsSetting agent (description text) = is_text text ≡ true
-AllowsSetting agent (interval seconds) = (1 ≤ seconds) × (seconds ≤ 3600)
-AllowsSetting agent (hold times) = (1 ≤ times) × (times ≤ 100)
 AllowsSetting agent (limit neighbors) = AcceptsLimit agent neighbors
 AllowsSetting agent (status port given) = IsPort agent port
-AllowsSetting agent update = Unit {0}
+AllowsSetting agent setting = IsInRange setting
 
 -- the agent accepts the event
 abbrev pub Allows : AgentState → Event → Type 0

@@ -2,9 +2,8 @@
 use Rattle.lldp_engine.specs.declared.command.Show.{Show}
 use Rattle.lldp_engine.specs.declared.command.Command.{Command as CodeCommand}
 use Rattle.lldp_engine.specs.declared.command.Command.TheVariants as code
-use Rattle.lldp_engine.specs.Event.{Setting}
+use Rattle.lldp_engine.specs.Event.{Setting, setting_of}
 use Rattle.lldp_engine.specs.Event as event
-use Rattle.lldp_engine.specs.EventView.{setting_of}
 use Rattle.lldp_engine.specs.AgentState.{AgentState, Allows}
 
 -- lines are to be shown, or something is to be changed

@@ -36,15 +36,13 @@ capabilities_of Station = 0x00 ∷ 0x80 ∷ 0x00 ∷ 0x80 ∷ []
 capabilities_of Bridge = 0x00 ∷ 0x04 ∷ 0x00 ∷ 0x04 ∷ []
 capabilities_of Router = 0x00 ∷ 0x10 ∷ 0x00 ∷ 0x10 ∷ []
 
--- the Port Description, the System Name and Description, the System Capabilities, and the Management Address if there
--- is one
+-- the Port Description, System Name, System Description, System Capabilities, and the Management Address if there is one
 abbrev pub sent_tlvs : Configuration → List ℕ → List TlvUnit
 sent_tlvs c name =
     unit 4 name ∷ unit 5 c.hostname ∷ unit 6 c.description ∷ unit 7 (capabilities_of c.role)
     ∷ management_tlvs c.management
 
--- What a frame of a port says: an ordinary one the whole configuration, a shutdown one that the port leaves. A quiet
--- port has none.
+-- What a frame of a port says: an ordinary one the configuration, a shutdown one that the port leaves. Quiet has none.
 abbrev pub draft_of : Configuration → List ℕ → Mark → Draft
 draft_of c name Ordinary = record { msap = sent_msap c name; ttl = sent_ttl c; tlvs = sent_tlvs c name }
 draft_of c name Shutdown = record { msap = sent_msap c name; ttl = 0; tlvs = [] }

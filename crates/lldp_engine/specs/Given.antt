@@ -26,8 +26,7 @@ command_said agent words = unless_in_use agent.ports (said_by agent words)
 abbrev pub command_given : AgentState → List ℕ → Result Command CommandFault
 command_given agent line = or_fault (words_of line) Quote >>= command_said agent
 
--- A part of a command was read: what the words say in the forms is what the words left say in the forms left, or this
--- is their fault.
+-- A part of a command was read: the words say in the forms what the words left say in the forms left, or this fault.
 abbrev pub Reads : {A : Type 0} → List (List ℕ) → List Form → List (List ℕ) → Result A CommandFault → (A → List Form) →
     List (List ℕ) → Type 0
 Reads names left words (Ok a) then_left words_left =

@@ -1,7 +1,6 @@
 pub mod Options
 pub mod Status
 pub mod Event
-pub mod EventView
 pub mod Configuration
 pub mod Heard
 pub mod Counters

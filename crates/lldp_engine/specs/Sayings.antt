@@ -1,13 +1,16 @@
 -- What words say, form by form, with whatever word stands where a form takes one.
-use Rattle.std.specs.Prelude.{◌≡◌, ℕ, if◌then◌else◌, List, [], ◌∷◌, Some, Ok, Err}
+use Rattle.std.specs.Prelude.{◌≡◌, ℕ, ◌<◌, ◌↔◌, if◌then◌else◌, List, [], ◌∷◌, Some, Ok, Err}
 use Rattle.lldp_text.specs.declared.fault.CommandFault.TheVariants.{Unknown, NoSuchPort, Text, Extra}
 use Rattle.lldp_engine.specs.declared.command.Show.TheVariants.{Neighbors, Statistics, Chassis, Configuration}
 use Rattle.lldp_engine.specs.declared.port.status.Status.TheVariants.{RxAndTx, RxOnly, TxOnly, Disabled}
 use Rattle.lldp_text.specs.Text.{is_text}
 use Rattle.lldp_text.specs.Number.{number_of}
 use Rattle.lldp_engine.specs.Place.{place_of}
+use Rattle.lldp_engine.specs.declared.agent.event.TheConstants.{MOST_INTERVAL, MOST_HOLD}
+use Rattle.lldp_engine.specs.Options.{Options}
+use Rattle.lldp_engine.specs.Configuration.{configuration_at_opening}
 use Rattle.lldp_engine.specs.Event.{hostname, description, interval, hold, limit, status, update}
-use Rattle.lldp_engine.specs.AgentState.{AgentState, names_of}
+use Rattle.lldp_engine.specs.AgentState.{AgentState, AllowsSetting, names_of}
 use Rattle.lldp_text.specs.Answer.{or_fault, on_ok, ◌>>=◌}
 use Rattle.lldp_engine.specs.Command.{show, set}
 use Rattle.lldp_engine.specs.Forms.{status_of}
@@ -77,8 +80,7 @@ status_word = 0x73 ∷ 0x74 ∷ 0x61 ∷ 0x74 ∷ 0x75 ∷ 0x73 ∷ []
 abbrev pub update_word : List ℕ
 update_word = 0x75 ∷ 0x70 ∷ 0x64 ∷ 0x61 ∷ 0x74 ∷ 0x65 ∷ []
 
--- The forms, with a word that is a text, a number, a port's name or a status, or is not. The ranges are 1 to 3,600, 1 to
--- 100, and 1 to the limit of opening.
+-- The forms, with a word that is or is no text, number, port's name or status. Ranges: 1 to 3,600, 100, the limit of opening.
 pub record AreSaid (agent : AgentState) (word other : List ℕ) : Type 0 where
   pub neighbors : said_by agent (show_word ∷ neighbors_word ∷ []) ≡ Ok (show Neighbors)
   pub statistics : said_by agent (show_word ∷ statistics_word ∷ []) ≡ Ok (show Statistics)
@@ -101,6 +103,22 @@ pub record AreSaid (agent : AgentState) (word other : List ℕ) : Type 0 where
   pub extra : said_by agent (update_word ∷ word ∷ []) ≡ Err Extra
   pub missing : said_by agent (configure_word ∷ []) ≡ Err Unknown
   pub none : said_by agent [] ≡ Err Unknown
+
+-- The greatest numbers of settings.
+pub record AreGreatest : Type 0 where
+  pub interval : MOST_INTERVAL ≡ 3600
+  pub hold : MOST_HOLD ≡ 100
+
+-- The numbers that commands may set are those above 0 and below these.
+pub record MaySet (agent : AgentState) (n : ℕ) : Type 0 where
+  pub interval : AllowsSetting agent (interval n) ↔ ((0 < n) × (n < 3601))
+  pub hold : AllowsSetting agent (hold n) ↔ ((0 < n) × (n < 101))
+
+-- An agent opens with a tx-interval of 30, a tx-hold of 4 and the limit of its options.
+pub record OpensWith (o : Options) : Type 0 where
+  pub interval : (configuration_at_opening o).interval ≡ 30
+  pub hold : (configuration_at_opening o).hold ≡ 4
+  pub limit : (configuration_at_opening o).limit ≡ o.max_neighbors
 
 -- The words of statuses.
 pub record AreRead : Type 0 where

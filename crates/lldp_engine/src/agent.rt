@@ -4,7 +4,7 @@ ghost use Rattle.std.specs.List.{AllByRecursion};
 ghost use Rattle.std.specs.Option.{option_map};
 ghost use Rattle.lldp_table.specs.Standing.{Stands as TableStands};
 ghost use Rattle.lldp_engine.specs.Options.{options_of, InRange, IsRefusal, fault_of};
-ghost use Rattle.lldp_engine.specs.EventView.{event_of};
+ghost use Rattle.lldp_engine.specs.Event.{event_of};
 ghost use Rattle.lldp_engine.specs.AgentState.{names_of, name_of, IsPort, Allows};
 ghost use Rattle.lldp_engine.specs.Configuration.{configured};
 ghost use Rattle.lldp_engine.specs.Place.{place_of};
@@ -27,13 +27,12 @@ pub(crate) mod ports;
 use crate::agent::configuration::Configuration;
 use crate::agent::event::{Event, Setting};
 use crate::agent::open_fault::OpenFault;
-use crate::agent::options::{MOST_HOLD, MOST_INTERVAL, Options};
+use crate::agent::options::Options;
 use crate::agent::ports::{Marks, all_fit, find_place, open_ports, take_event};
 use crate::port::Port;
 use crate::port::counters::Counters;
 use crate::port::status::Status;
 use lldp_table::{Room, Table};
-use lldp_text::is_printable_text;
 use std::alloc::{Allocator, Global};
 use std::marker::Model;
 
@@ -184,12 +183,9 @@ impl<A: Allocator> Agent<A> {
         ensures { IsTrue result ↔ Allows self.now (event_of (Event.Set setting.now)) }
     {
         match setting {
-            Setting::Hostname(text) | Setting::Description(text) => is_printable_text(text),
-            Setting::Interval(seconds) => (1..=MOST_INTERVAL).contains(seconds),
-            Setting::Hold(times) => (1..=MOST_HOLD).contains(times),
             Setting::Limit(neighbors) => self.allows_limit(*neighbors),
             Setting::Status { port, .. } => *port < self.ports(),
-            Setting::Update => true,
+            _ => setting.in_range(),
         }
     }
 

@@ -1,22 +1,18 @@
 //! What stands fixed: words octet by octet, and the numbers of ranges.
-ghost use Rattle.std.specs.Prelude.{◌≡◌, ℕ};
+ghost use Rattle.std.specs.Prelude.{◌≡◌};
 ghost use Rattle.lldp_pdu.specs.Capabilities.{caps_fields};
 ghost use Rattle.lldp_engine.specs.declared.agent.options.Role.{Role};
-ghost use Rattle.lldp_engine.specs.Options.{Options};
-ghost use Rattle.lldp_engine.specs.AgentState.{AgentState, PortState};
+ghost use Rattle.lldp_engine.specs.AgentState.{PortState};
 ghost use Rattle.lldp_text.specs.Capabilities.{capabilities_text};
 ghost use Rattle.lldp_engine.specs.ChassisLines.{role_text};
 ghost use Rattle.lldp_engine.specs.Frames.{capabilities_of};
 ghost use Rattle.lldp_engine.specs.StatisticsLines.{counter_lines};
-ghost use Rattle.lldp_engine.specs.FixedNumbers.{AreConstants, MaySet, OpensWith};
+ghost use Rattle.lldp_engine.specs.FixedNumbers.{AreConstants};
 ghost use Rattle.lldp_engine.specs.FixedTexts.{WriteWords, NamePorts, lines_of_counters};
 
-/// Each range ends at its number: that of the code, that of what commands may set, and that which
-/// an agent opens with.
+/// Each range, room and refusal has its number in the code.
 pub fn ranges_end_at_fixed_numbers()
-    ensures constants { AreConstants }
-    ensures settings { (agent : AgentState) (n : ℕ) → MaySet agent n }
-    ensures defaults { (options : Options) → OpensWith options }
+    ensures { AreConstants }
 {}
 
 /// The words of shows stand octet by octet, and of the 256 octets these name ports.

@@ -13,12 +13,10 @@ mod sayings;
 mod show;
 
 pub use agent::Agent;
-pub use agent::event::{Event, Setting};
+pub use agent::event::{Event, MOST_HOLD, MOST_INTERVAL, Setting};
 pub use agent::frame::Frame;
 pub use agent::open_fault::OpenFault;
-pub use agent::options::{
-    MOST_CREDIT, MOST_FAST, MOST_HOLD, MOST_INTERVAL, MOST_NEIGHBORS, MOST_REINIT, Options, Role,
-};
+pub use agent::options::{MOST_CREDIT, MOST_FAST, MOST_NEIGHBORS, MOST_REINIT, Options, Role};
 pub use agent::ports::Marks;
 pub use command::forms::{end_words, next_port, next_word};
 pub use command::{Command, Show, complete_forms_take_no_word};

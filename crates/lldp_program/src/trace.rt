@@ -2,8 +2,7 @@
 ghost use Rattle.std.specs.Prelude.{◌≡◌, ◌<◌, ◌≤◌, ◌+◌, ◌^◌, [], ◌∷◌, length, take, drop, replicate, IfOk};
 ghost use Rattle.lldp_engine.specs.AgentState.{Allows};
 ghost use Rattle.lldp_text.specs.Answer.{on_ok};
-ghost use Rattle.lldp_engine.specs.Event.{tick};
-ghost use Rattle.lldp_engine.specs.EventView.{event_of};
+ghost use Rattle.lldp_engine.specs.Event.{tick, event_of};
 ghost use Rattle.lldp_engine.specs.Past.{Past};
 ghost use Rattle.lldp_engine.specs.Standing.{Stands};
 ghost use Rattle.lldp_program.specs.Lines.{ended_lines, unfinished, if_any};

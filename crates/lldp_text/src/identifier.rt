@@ -1,7 +1,7 @@
 //! Chassis IDs and port IDs.
 ghost use Rattle.std.specs.Prelude.{◌≡◌, ◌+◌, ◌*◌, ◌≤◌, ◌++◌, length, codes, slice_index, drop};
 ghost use Rattle.lldp_pdu.specs.Msap.{IsIdentifier};
-ghost use Rattle.lldp_text.specs.declared.writing.TheConstants.{ROOM};
+ghost use Rattle.lldp_text.specs.declared.writing.TheConstants.{ROOM, VALUE_ROOM};
 ghost use Rattle.lldp_text.specs.Addresses.{address_kind};
 ghost use Rattle.lldp_text.specs.Identifier.{chassis_kind, port_kind, unhandled_text, network_text, identifier_text, chassis_text, port_text};
 
@@ -55,9 +55,9 @@ fn kind_of_port(subtype: u8) -> IdentifierKind
 /// Writes a whole body, its subtype included.
 fn write_unhandled(line: &mut Writer, body: &[u8])
     requires fits { length body.now ≤ 256 }
-    requires room { length line.old + 1050 ≤ ROOM }
+    requires room { length line.old + VALUE_ROOM ≤ ROOM }
     ensures value { line.new ≡ line.old ++ unhandled_text body.now }
-    ensures len { length line.new ≤ length line.old + 1050 }
+    ensures len { length line.new ≤ length line.old + VALUE_ROOM }
 {
     line.text(b"unhandled=");
     line.hex(body);
@@ -66,11 +66,11 @@ fn write_unhandled(line: &mut Writer, body: &[u8])
 /// Writes a network address, where it has the length of its family.
 fn write_network(line: &mut Writer, body: &[u8])
     requires fits { IsIdentifier body.now }
-    requires room { length line.old + 1050 ≤ ROOM }
+    requires room { length line.old + VALUE_ROOM ≤ ROOM }
     ensures value { line.new ≡ line.old
         ++ network_text (address_kind (slice_index body.now 1) (length (drop 2 body.now)))
         body.now }
-    ensures len { length line.new ≤ length line.old + 1050 }
+    ensures len { length line.new ≤ length line.old + VALUE_ROOM }
 {
     let address = &body[2..];
     match kind_of_address(body[1], address.len()) {
@@ -89,9 +89,9 @@ fn write_network(line: &mut Writer, body: &[u8])
 /// Writes an identifier of a kind. The body has its subtype too.
 fn write_identifier(line: &mut Writer, kind: IdentifierKind, body: &[u8])
     requires fits { IsIdentifier body.now }
-    requires room { length line.old + 1050 ≤ ROOM }
+    requires room { length line.old + VALUE_ROOM ≤ ROOM }
     ensures value { line.new ≡ line.old ++ identifier_text kind body.now }
-    ensures len { length line.new ≤ length line.old + 1050 }
+    ensures len { length line.new ≤ length line.old + VALUE_ROOM }
 {
     let identifier = &body[1..];
     match kind {
@@ -117,9 +117,9 @@ fn write_identifier(line: &mut Writer, kind: IdentifierKind, body: &[u8])
 /// Writes a chassis ID.
 pub fn write_chassis(line: &mut Writer, body: &[u8])
     requires fits { IsIdentifier body.now }
-    requires room { length line.old + 1050 ≤ ROOM }
+    requires room { length line.old + VALUE_ROOM ≤ ROOM }
     ensures value { line.new ≡ line.old ++ chassis_text body.now }
-    ensures len { length line.new ≤ length line.old + 1050 }
+    ensures len { length line.new ≤ length line.old + VALUE_ROOM }
 {
     write_identifier(line, kind_of_chassis(body[0]), body);
 }
@@ -127,9 +127,9 @@ pub fn write_chassis(line: &mut Writer, body: &[u8])
 /// Writes a port ID.
 pub fn write_port(line: &mut Writer, body: &[u8])
     requires fits { IsIdentifier body.now }
-    requires room { length line.old + 1050 ≤ ROOM }
+    requires room { length line.old + VALUE_ROOM ≤ ROOM }
     ensures value { line.new ≡ line.old ++ port_text body.now }
-    ensures len { length line.new ≤ length line.old + 1050 }
+    ensures len { length line.new ≤ length line.old + VALUE_ROOM }
 {
     write_identifier(line, kind_of_port(body[0]), body);
 }

@@ -3,7 +3,7 @@ ghost use Rattle.std.specs.Prelude.{◌≡◌, ◌+◌, ◌≤◌, ◌++◌, len
 ghost use Rattle.lldp_pdu.specs.Kept.{IsKeptTlv};
 ghost use Rattle.lldp_pdu.specs.Capabilities.{caps_of, caps_fields};
 ghost use Rattle.lldp_pdu.specs.View.{tlv_view};
-ghost use Rattle.lldp_text.specs.declared.writing.TheConstants.{ROOM};
+ghost use Rattle.lldp_text.specs.declared.writing.TheConstants.{ROOM, VALUE_ROOM};
 ghost use Rattle.lldp_text.specs.KeptTlv.{system_capabilities_text, management_tlv_text, organizational_text, unknown_text, tlv_text, HasAddress};
 
 use crate::capabilities::write_capabilities;
@@ -17,11 +17,11 @@ use lldp_pdu::{Tlv, caps, mgmt};
 
 /// Writes an organizationally specific TLV.
 fn write_organizational(line: &mut Writer, body: &[u8])
-    requires room { length line.old + 1050 ≤ ROOM }
+    requires room { length line.old + VALUE_ROOM ≤ ROOM }
     requires least { 4 ≤ length body.now }
     requires short { length body.now ≤ 511 }
     ensures value { line.new ≡ line.old ++ organizational_text body.now }
-    ensures len { length line.new ≤ length line.old + 1050 }
+    ensures len { length line.new ≤ length line.old + VALUE_ROOM }
 {
     line.text(b"org.");
     line.hex(&body[..3]);
@@ -33,10 +33,10 @@ fn write_organizational(line: &mut Writer, body: &[u8])
 
 /// Writes a TLV of a reserved type.
 fn write_unknown(line: &mut Writer, tlv: Tlv<'_>)
-    requires room { length line.old + 1050 ≤ ROOM }
+    requires room { length line.old + VALUE_ROOM ≤ ROOM }
     requires short { length tlv.body.now ≤ 511 }
     ensures value { line.new ≡ line.old ++ unknown_text (tlv_view tlv.entry) }
-    ensures len { length line.new ≤ length line.old + 1050 }
+    ensures len { length line.new ≤ length line.old + VALUE_ROOM }
 {
     line.text(b"unknown.");
     line.decimal(u32::from(tlv.kind));
@@ -46,10 +46,10 @@ fn write_unknown(line: &mut Writer, tlv: Tlv<'_>)
 
 /// Writes System Capabilities.
 fn write_system_capabilities(line: &mut Writer, body: &[u8])
-    requires room { length line.old + 1050 ≤ ROOM }
+    requires room { length line.old + VALUE_ROOM ≤ ROOM }
     requires well_formed { caps_of body.now ≡ Some (caps_fields body.now) }
     ensures value { line.new ≡ line.old ++ system_capabilities_text body.now }
-    ensures len { length line.new ≤ length line.old + 1050 }
+    ensures len { length line.new ≤ length line.old + VALUE_ROOM }
 {
     line.text(b"chassis.caps=");
     write_capabilities(line, caps(body).unwrap());
@@ -57,10 +57,10 @@ fn write_system_capabilities(line: &mut Writer, body: &[u8])
 
 /// Writes a Management Address TLV.
 fn write_management(line: &mut Writer, body: &[u8])
-    requires room { length line.old + 1050 ≤ ROOM }
+    requires room { length line.old + VALUE_ROOM ≤ ROOM }
     requires well_formed { HasAddress body.now }
     ensures value { line.new ≡ line.old ++ management_tlv_text body.now }
-    ensures len { length line.new ≤ length line.old + 1050 }
+    ensures len { length line.new ≤ length line.old + VALUE_ROOM }
 {
     line.text(b"chassis.mgmt=");
     write_management_address(line, mgmt(body).unwrap());
@@ -68,10 +68,10 @@ fn write_management(line: &mut Writer, body: &[u8])
 
 /// Writes a kept TLV.
 pub fn write_kept_tlv(line: &mut Writer, tlv: Tlv<'_>)
-    requires room { length line.old + 1050 ≤ ROOM }
+    requires room { length line.old + VALUE_ROOM ≤ ROOM }
     requires kept { IsKeptTlv (tlv_view tlv) }
     ensures value { line.new ≡ line.old ++ tlv_text (tlv_view tlv.entry) }
-    ensures len { length line.new ≤ length line.old + 1050 }
+    ensures len { length line.new ≤ length line.old + VALUE_ROOM }
 {
     match tlv.kind {
         PORT_DESCRIPTION => line.escaped_value(b"port.descr=", tlv.body),

@@ -14,6 +14,9 @@ pub type Line = ArrayVec<u8, 2048>;
 /// The room that a line takes at most, with its line feed.
 pub const LINE_ROOM: usize = 2049;
 
+/// The room that a value takes at most. With what stands before it, at most 64 octets, it fits in a line.
+pub const VALUE_ROOM: usize = 1050;
+
 /// How many octets stand in a writer at most.
 pub const ROOM: usize = 8192;
 

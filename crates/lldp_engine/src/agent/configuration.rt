@@ -1,7 +1,7 @@
 //! How an agent is configured.
 ghost use Rattle.std.specs.Prelude.{◌≡◌, ◌<◌, ◌≤◌, length};
 ghost use Rattle.lldp_engine.specs.Options.{options_of};
-ghost use Rattle.lldp_engine.specs.EventView.{event_of};
+ghost use Rattle.lldp_engine.specs.Event.{event_of};
 ghost use Rattle.lldp_engine.specs.Configuration.{configuration_at_opening, configured, sent_ttl};
 ghost use Rattle.lldp_engine.specs.Code.ShortText.{HasShortText};
 

@@ -1,12 +1,18 @@
 //! What happens to an agent.
-ghost use Rattle.std.specs.Prelude.{◌≡◌};
-ghost use Rattle.lldp_engine.specs.Event.{HasOctets};
-ghost use Rattle.lldp_engine.specs.EventView.{setting_of, event_of};
+ghost use Rattle.std.specs.Prelude.{◌≡◌, ◌↔◌, IsTrue};
+ghost use Rattle.lldp_engine.specs.Event.{HasOctets, IsInRange, setting_of, event_of};
 ghost use Rattle.lldp_engine.specs.Port.Event.{whose_setting, whose};
 ghost use Rattle.lldp_engine.specs.Port.EventView.{whose_of};
 
 use crate::port::event::{PortEvent, Whose};
 use crate::port::status::Status;
+use lldp_text::is_printable_text;
+
+/// The greatest tx-interval, in seconds.
+pub const MOST_INTERVAL: u16 = 3600;
+
+/// The greatest tx-hold.
+pub const MOST_HOLD: u8 = 100;
 
 /// What a command changes.
 #[derive(Clone, Copy, Debug, PartialEq, Eq)]
@@ -41,6 +47,19 @@ pub enum Event<'a> {
 }
 
 impl<'a> Setting<'a> {
+    /// Whether every agent that has the port and the room accepts it: its number is in the range,
+    /// its text has at most 255 printable octets.
+    pub(crate) fn in_range(&self) -> bool
+        ensures { IsTrue result ↔ IsInRange (setting_of self.now) }
+    {
+        match self {
+            Setting::Hostname(text) | Setting::Description(text) => is_printable_text(text),
+            Setting::Interval(seconds) => (1..=MOST_INTERVAL).contains(seconds),
+            Setting::Hold(times) => (1..=MOST_HOLD).contains(times),
+            Setting::Limit(_) | Setting::Status { .. } | Setting::Update => true,
+        }
+    }
+
     /// Whose it is, and what it is for that port or for each.
     fn whose(&self) -> Whose<'a>
         ensures { whose_of result ≡ whose_setting (setting_of self.now) }

@@ -72,8 +72,7 @@ fn management(address: &[u8; 4]) -> ArrayVec<u8, 12>
     body
 }
 
-/// Writes what stands before the LLDPDU: to the nearest bridge, from the agent's MAC address,
-/// LLDP's EtherType.
+/// Writes what stands before the LLDPDU: the nearest bridge, the agent's MAC, LLDP's EtherType.
 fn write_head(frame: &mut Frame, configuration: &Configuration)
     ensures value { frame.new.items ≡ nearest_bridge ++ configuration.now.mac ++ lldp_ethertype }
     ensures len { array_vec_len frame.new ≡ 14 }

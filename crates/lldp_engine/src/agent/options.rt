@@ -11,12 +11,6 @@ pub use lldp_transmit::{MOST_CREDIT, MOST_FAST, MOST_REINIT};
 /// The most neighbors that a port may be opened for.
 pub const MOST_NEIGHBORS: u8 = lldp_table::MOST_NEIGHBORS as u8;
 
-/// The greatest tx-interval, in seconds.
-pub const MOST_INTERVAL: u16 = 3600;
-
-/// The greatest tx-hold.
-pub const MOST_HOLD: u8 = 100;
-
 /// What a station is.
 #[derive(Clone, Copy, Debug, PartialEq, Eq)]
 pub enum Role {
@@ -58,8 +52,7 @@ impl<'a> Options<'a> {
             && (1..=MOST_FAST).contains(&self.fast_init)
             && (1..=MOST_REINIT).contains(&self.reinit)
     }
-    /// The first check of the names and the hostname that fails, in the order of the faults'
-    /// numbers.
+    /// The first check of the names and the hostname that fails, by the numbers of the faults.
     pub(crate) fn first_fault(&self) -> Option<OpenFault>
         ensures fault { result ≡ fault_of (options_of self.now) }
         ensures names { IfNone result (IsTrue (list_all is_port_name (map (λ n.

@@ -1,13 +1,12 @@
 //! The commands that set something, and how words give them.
 ghost use Rattle.std.specs.Prelude.{◌∷◌, codes, IfOk};
-ghost use Rattle.lldp_engine.specs.EventView.{setting_of};
+ghost use Rattle.lldp_engine.specs.Event.{setting_of};
 ghost use Rattle.lldp_engine.specs.Command.{set};
 ghost use Rattle.lldp_engine.specs.Given.{Says};
 ghost use Rattle.lldp_engine.specs.Code.SaidSetting.{IsSaid};
 
 use crate::agent::Agent;
-use crate::agent::event::Setting;
-use crate::agent::options::{MOST_HOLD, MOST_INTERVAL};
+use crate::agent::event::{MOST_HOLD, MOST_INTERVAL, Setting};
 use crate::command::forms::{
     expect_word, is_word, next_number, next_port, next_status, next_text, next_word,
 };

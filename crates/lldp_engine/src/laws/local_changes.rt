@@ -8,8 +8,7 @@ ghost use Rattle.lldp_engine.specs.Past.{Past, with_event};
 ghost use Rattle.lldp_engine.specs.PortAt.{neighbors_at};
 ghost use Rattle.lldp_engine.specs.CauseOf.{IsFor};
 
-/// A tick is a tick for each port, and each command but a status command is a local change for each
-/// port.
+/// A tick is one for each port, and each command but a status command a local change for each.
 pub fn settings_are_local_changes()
     ensures tick { (past : Past) (i : ℕ) → IsFor past tick i Tick }
     ensures hostname { (past : Past) (i : ℕ) (text : List ℕ) →

@@ -3,7 +3,7 @@ ghost use Rattle.std.specs.Prelude.{◌≡◌, ◌≢◌, ℕ, Bool, List, All};
 ghost use Rattle.std.specs.Option.{option_map};
 ghost use Rattle.lldp_engine.specs.declared.port.status.Status.{Status};
 ghost use Rattle.lldp_engine.specs.Options.{InRange};
-ghost use Rattle.lldp_engine.specs.Event.{tick, frame, link, set, hostname, description, interval, hold, limit, status, update};
+ghost use Rattle.lldp_engine.specs.Event.{tick, frame, link, set, Setting, limit, status};
 ghost use Rattle.lldp_engine.specs.Past.{Past, with_event, agent_of};
 ghost use Rattle.lldp_engine.specs.PortAt.{neighbors_at, LeavesPort, LeavesTables};
 ghost use Rattle.lldp_engine.specs.Neighbors.{one_tick_older};
@@ -27,16 +27,12 @@ pub fn ticks_come_to_each_port()
         ≡ option_map one_tick_older (neighbors_at past i) }
 {}
 
-/// Tables are changed by ticks, frames, limits and statuses alone, and a limit takes no neighbor
-/// away.
+/// Tables are changed by ticks, frames, limits and statuses alone, and a limit takes none away.
 pub fn links_and_updates_leave_tables()
     ensures link { (past : Past) (port : ℕ) (up : Bool) → LeavesTables past (link port up) }
-    ensures update { (past : Past) → LeavesTables past (set update) }
-    ensures hostname { (past : Past) (text : List ℕ) → LeavesTables past (set (hostname text)) }
-    ensures description { (past : Past) (text : List ℕ) →
-        LeavesTables past (set (description text)) }
-    ensures interval { (past : Past) (seconds : ℕ) → LeavesTables past (set (interval seconds)) }
-    ensures hold { (past : Past) (times : ℕ) → LeavesTables past (set (hold times)) }
+    ensures setting { (past : Past) (setting : Setting) →
+        ((port : ℕ) (given : Status) → setting ≢ status port given) →
+        ((neighbors : ℕ) → setting ≢ limit neighbors) → LeavesTables past (set setting) }
     ensures limit { (past : Past) (i neighbors : ℕ) →
         neighbors_at (with_event past (set (limit neighbors))) i ≡ neighbors_at past i }
 {}

@@ -32,8 +32,7 @@ fn put_kept<S: LineSink>(sink: &mut S, front: &[u8], kept: Kept<'_>)
     }
 }
 
-/// The lines of a neighbor, by its number in the table of the port of this name: the first has
-/// number 1.
+/// The lines of a neighbor, by its number, from 1, in the table of the port of this name.
 fn put_neighbor<S: LineSink>(sink: &mut S, name: &[u8], number: u8, neighbor: Entry<'_>)
     requires { length name.now ≤ 15 }
     ensures { Takes S.takes sink.old sink.new (neighbor_lines name.now number neighbor.entry) }

@@ -1,7 +1,7 @@
 //! What stands behind the key of a shown line.
 ghost use Rattle.std.specs.Prelude.{◌≡◌, ◌+◌, ◌≤◌, ◌++◌, length};
 ghost use Rattle.lldp_engine.specs.Code.ShownValue.{value_text, FitsLine};
-ghost use Rattle.lldp_text.specs.declared.writing.TheConstants.{ROOM};
+ghost use Rattle.lldp_text.specs.declared.writing.TheConstants.{ROOM, VALUE_ROOM};
 
 use lldp_pdu::Tlv;
 use lldp_text::{Writer, write_chassis, write_ipv4, write_kept_tlv, write_mac, write_port};
@@ -29,10 +29,10 @@ pub(crate) enum Value<'a> {
 
 /// Writes a value.
 pub(crate) fn write_value(line: &mut Writer, value: Value<'_>)
-    requires room { length line.old + 1050 ≤ ROOM }
+    requires room { length line.old + VALUE_ROOM ≤ ROOM }
     requires fits { FitsLine value }
     ensures value { line.new ≡ line.old ++ value_text value.entry }
-    ensures len { length line.new ≤ length line.old + 1050 }
+    ensures len { length line.new ≤ length line.old + VALUE_ROOM }
 {
     match value {
         Value::Number(n) => line.decimal(n),

@@ -1,4 +1,4 @@
-use Rattle.std.proofs.Common.{refl}
+use Rattle.std.proofs.Common.{refl, arith}
 use Rattle.lldp_text.specs.Text.{is_text}
 use Rattle.lldp_text.specs.Number.{number_of}
 use Rattle.lldp_engine.specs.Place.{place_of}
@@ -33,3 +33,15 @@ returns-clause-read c = record {
   tx_only = refl;
   disabled = refl;
 }
+
+pub returns-clause-constants : goal.returns-clause-constants
+returns-clause-constants c = record { interval = refl; hold = refl }
+
+pub returns-clause-settings : goal.returns-clause-settings
+returns-clause-settings c = λ agent n. record {
+  interval = (λ h. (omega arith, omega arith), λ h. (omega arith, omega arith));
+  hold = (λ h. (omega arith, omega arith), λ h. (omega arith, omega arith));
+}
+
+pub returns-clause-defaults : goal.returns-clause-defaults
+returns-clause-defaults c = λ o. record { interval = refl; hold = refl; limit = refl }

@@ -3,7 +3,7 @@ use Rattle.std.specs.List.{AllByRecursion}
 use Rattle.lldp_table.specs.Code.Room.{with_items}
 use Rattle.lldp_table.proofs.RoomLemmas.{with_items_is}
 use Rattle.lldp_transmit.specs.declared.event.Mark.{Mark}
-use Rattle.lldp_engine.specs.EventView.{event_of}
+use Rattle.lldp_engine.specs.Event.{event_of}
 use Rattle.lldp_engine.specs.AgentState.{AgentState, Allows}
 use Rattle.lldp_engine.specs.Frames.{IsSent}
 use Rattle.lldp_engine.specs.Past.{with_event}
