@@ -1,7 +1,7 @@
 //! Runs over devices that fail.
 use super::devices::{Burn, Drip, Fuse};
 use super::runs::{
-    HEARD, INPUT, OUTPUT, SENT, expect_run, only_receiving, open, sending, statistics,
+    HEARD, INPUT, OUTPUT, SENT, expect_counters, expect_run, only_receiving, open, sending,
 };
 use lldp_engine::Agent;
 use lldp_program::trace::RunFault;
@@ -126,8 +126,11 @@ const FRAMES: [&str; 6] = [SENT; 6];
 /// How many octets the line of a sent frame has, its LF among them.
 const SENT_OCTETS: usize = 141;
 
-/// Lines behind them. There is credit for one frame, and seven were sent then.
-const MORE: [&str; 3] = ["update\n", "update\n", "show statistics\n"];
+/// Lines behind them. There is credit for one frame.
+const MORE: [&str; 2] = ["update\n", "update\n"];
+
+/// What was sent then, the frames among it that were not written.
+const SENT_SEVEN: [&str; 2] = ["lldp.eth0.sent=7", "lldp.eth0.shutdowns=0"];
 
 /// Runs the lines with a writer that fails after so many octets.
 fn cut_off_at(
@@ -160,7 +163,6 @@ fn lines_left(alloc: Global, frames: usize) -> Result<String, Fail> {
 fn frames_left(rt: &(impl Abort + AllocGlobal), frames: usize) -> Result<String, Fail> {
     let mut output = FRAMES[frames.saturating_add(1).min(6)..].concat(rt.alloc())?;
     output.push_str(SENT)?;
-    output.push_str(statistics(rt, 7, 0)?.as_str())?;
     Ok(output)
 }
 
@@ -175,6 +177,7 @@ fn fails_at(rt: &(impl Abort + AllocGlobal), octets: usize, burn: Burn) -> Resul
     let mut drip = Drip::whole(input.as_bytes());
     let wanted = (Ok(()), output.as_bytes());
     expect_run(rt, &mut agent, &mut drip, Fuse::endless(), wanted, octets);
+    expect_counters(rt, &agent, &SENT_SEVEN);
     Ok(())
 }
 

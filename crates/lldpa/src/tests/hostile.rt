@@ -2,7 +2,7 @@
 ghost use Rattle.std.specs.Prelude.{◌<◌};
 
 use super::devices::{Drip, Fuse};
-use super::runs::{HEARD, only_receiving, open, statistics};
+use super::runs::{HEARD, only_receiving, open, text_of_input};
 use lldp_program::device::{FromReader, ToWriter};
 use lldp_program::trace::run_trace;
 use std::process::Abort;
@@ -16,6 +16,9 @@ const OCTETS: usize = 36;
 
 /// What the statistics begin with where a frame was received.
 const RECEIVED: &[u8] = b"lldp.eth0.sent=0\nlldp.eth0.shutdowns=0\nlldp.eth0.received=1\n";
+
+/// And where none was.
+const NOT_RECEIVED: &[u8] = b"lldp.eth0.sent=0\nlldp.eth0.shutdowns=0\nlldp.eth0.received=0\n";
 
 /// The line of the frame with this octet at one place, and a line that asks for the statistics.
 fn changed(rt: &(impl Abort + AllocGlobal), place: usize, octet: u8) -> Result<Vec<u8>, Fail>
@@ -31,8 +34,8 @@ fn changed(rt: &(impl Abort + AllocGlobal), place: usize, octet: u8) -> Result<V
 }
 
 /// Runs lines over an agent of their own, and tells whether a frame was received. Where none was,
-/// the statistics are these.
-fn is_received(rt: &(impl Abort + AllocGlobal), lines: &[u8], none: &str) -> Result<bool, Fail> {
+/// the statistics are these, of an agent that heard nothing.
+fn is_received(rt: &(impl Abort + AllocGlobal), lines: &[u8], none: &[u8]) -> Result<bool, Fail> {
     let mut agent = open(rt, &only_receiving(1))?;
     let mut drip = Drip::whole(lines);
     let mut fuse = Fuse::endless();
@@ -43,7 +46,7 @@ fn is_received(rt: &(impl Abort + AllocGlobal), lines: &[u8], none: &str) -> Res
     );
     assert_eq!(rt; ran, Ok(()));
     let heard = fuse.taken().starts_with(RECEIVED);
-    assert!(rt; heard || fuse.taken() == none.as_bytes());
+    assert!(rt; heard || fuse.taken() == none);
     Ok(heard)
 }
 
@@ -51,13 +54,15 @@ fn is_received(rt: &(impl Abort + AllocGlobal), lines: &[u8], none: &str) -> Res
 /// where the destination (6 octets) or the EtherType (2) is another.
 #[test]
 fn one_octet_changed(rt: HostRuntime) -> Result<(), Fail> {
-    let none = statistics(&rt, 0, 0)?;
+    let mut untouched = open(&rt, &only_receiving(1))?;
+    let none = text_of_input(&rt, &mut untouched, b"show statistics\n")?;
+    assert!(rt; none.starts_with(NOT_RECEIVED));
     for place in 0..OCTETS {
         for octet in 0..=255u8 {
             let lines = changed(&rt, place, octet)?;
             let is_changed = !lines.starts_with(HEARD.as_bytes());
             let is_address = place < 6 || place == 12 || place == 13;
-            let received = is_received(&rt, &lines, none.as_str())?;
+            let received = is_received(&rt, &lines, none.as_slice())?;
             assert_eq!(rt; received, !(is_changed && is_address), "{octet} at {place}");
         }
     }

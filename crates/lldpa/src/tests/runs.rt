@@ -5,7 +5,7 @@ ghost use Rattle.lldp_engine.specs.Standing.{Stands};
 ghost use Rattle.lldp_program.specs.Items.{text, after_input};
 
 use super::devices::{Drip, Fuse};
-use lldp_engine::{Agent, Options, Role};
+use lldp_engine::{Agent, Options, Role, Show};
 use lldp_program::device::{FromReader, Source, ToWriter};
 use lldp_program::trace::{RunFault, run_trace};
 use std::alloc::Global;
@@ -83,24 +83,14 @@ pub fn open(rt: &(impl Abort + AllocGlobal), options: &Options<'_>) -> Result<Ag
     Ok(Agent::open(rt.alloc(), options)?)
 }
 
-/// What `show statistics` gives where so many frames were sent and heard, and nothing else counted.
-pub fn statistics(
-    rt: &(impl Abort + AllocGlobal),
-    sent: u32,
-    received: u32,
-) -> Result<String, Fail> {
-    Ok(format!(in rt.alloc();
-        "lldp.eth0.sent={sent}
-lldp.eth0.shutdowns=0
-lldp.eth0.received={received}
-lldp.eth0.discarded=0
-lldp.eth0.errors=0
-lldp.eth0.tlvs-discarded=0
-lldp.eth0.unrecognized=0
-lldp.eth0.ageouts=0
-lldp.eth0.drops=0
-"
-    )?)
+/// Sees that the counters of eth0 begin with these lines.
+pub fn expect_counters(rt: &impl Abort, agent: &Agent, wanted: &[&str]) {
+    for (place, line) in (0..u32::MAX).zip(wanted) {
+        let Some(shown) = agent.show_line(&Show::Statistics, place) else {
+            panic!(rt; "there is no such counter: {line}");
+        };
+        assert_eq!(rt; shown.as_slice(), line.as_bytes());
+    }
 }
 
 /// Runs over these devices, and compares the answer and what was written. A loop tells its place.
@@ -135,7 +125,7 @@ fn any_pieces(rt: HostRuntime) -> Result<(), Fail> {
 }
 
 /// The text of an input: what a caller knows of it from public contracts alone.
-fn text_of_input(
+pub fn text_of_input(
     rt: &(impl Abort + AllocGlobal),
     agent: &mut Agent,
     input: &[u8],

@@ -1,6 +1,6 @@
 //! Traces over connections to a listener of this host.
 use super::program::NONE;
-use super::runs::{HEARD, only_receiving, open, statistics};
+use super::runs::{HEARD, expect_counters, only_receiving, open};
 use lldp_engine::Agent;
 use lldp_program::device::{FromReader, ToWriter};
 use lldp_program::serve::{ServeFault, serve};
@@ -155,6 +155,13 @@ fn nobody_to_accept(rt: HostRuntime) -> Result<(), Fail> {
     server.serves(&rt, &[ASK], &[(1, Ok(0))])
 }
 
+/// What it has counted behind a thousand frames.
+const HEARD_ALL: [&str; 3] = [
+    "lldp.eth0.sent=0",
+    "lldp.eth0.shutdowns=0",
+    "lldp.eth0.received=1000",
+];
+
 /// One agent goes through them all.
 #[test]
 fn many_connections(rt: HostRuntime) -> Result<(), Fail> {
@@ -162,9 +169,8 @@ fn many_connections(rt: HostRuntime) -> Result<(), Fail> {
     for _client in 0..1000 {
         server.serves(&rt, &[LEARN], &[(1, Ok(0))])?;
     }
-    let counted = statistics(&rt, 0, 1000)?;
-    let last: Client<'_> = (&["show statistics\n"], Some(counted.as_str()));
-    server.serves(&rt, &[last], &[(1, Ok(0))])
+    expect_counters(&rt, &server.agent, &HEARD_ALL);
+    Ok(())
 }
 
 /// What comes over a connection whose client reads each answer before it sends its next lines, and
