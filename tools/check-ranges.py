@@ -10,15 +10,16 @@ import sys
 from concurrent.futures import ThreadPoolExecutor
 
 import compare
+import model
 
 SHOWS = [b"show configuration", b"show chassis", b""]
-
-OPTIONS = {"--max-neighbors": 128, "--tx-credit-max": 10, "--tx-fast-init": 8, "--reinit-delay": 10}
 
 # options whose numbers change nothing here: the first since no connection is served, the second since a name is bad
 MANY = {"--connections": ["eth0"], "--listen": ["a.b"]}
 
-COMMANDS = {b"configure lldp tx-interval": 3600, b"configure lldp tx-hold": 100, b"configure lldp max-neighbors": 128}
+# what `configure lldp` sets, and the greatest number of each
+COMMANDS = {name: setting.greatest for name, setting in model.SETTINGS.items()}
+COMMANDS["max-neighbors"] = model.OPENING["max_neighbors"]
 
 
 def near_round_ones(greatest):
@@ -30,14 +31,15 @@ def near_round_ones(greatest):
 
 def runs():
     """The words and lines of each run."""
-    for option, greatest in OPTIONS.items():
+    for option, greatest in model.OPENING.items():
         for number in range(greatest + 2):
-            yield [option, str(number), "eth0"], SHOWS
+            yield [model.option_word(option), str(number), "eth0"], SHOWS
     for option, others in MANY.items():
         for number in near_round_ones(65535):
             yield [option, str(number), *others], SHOWS
-    for command, greatest in COMMANDS.items():
-        lines = [line for number in range(greatest + 2) for line in (b"%s %d" % (command, number), SHOWS[0])]
+    for name, greatest in COMMANDS.items():
+        commands = [f"configure lldp {name} {number}".encode() for number in range(greatest + 2)]
+        lines = [line for command in commands for line in (command, SHOWS[0])]
         yield ["--max-neighbors", "128", "--receive-only", "eth0"], lines
     for greatest in range(1, 129):
         lines = [b"configure lldp max-neighbors %d" % number for number in (greatest + 1, greatest, 1)]

@@ -135,8 +135,9 @@ def frame(dice):
 
 # ------------------------------------------------------------------------------------------------- lines
 STATUSES = [b"rx-and-tx", b"rx-and-tx", b"rx-only", b"tx-only", b"disabled"]
-NUMBERS = (b"0 1 2 3 5 30 32 100 101 128 129 255 256 3600 3601 65535 65536 00007 +1 -1 1.5 257 4294967297 "
+NUMBERS = (b"0 1 2 3 5 30 32 128 129 255 256 65535 65536 00007 +1 -1 1.5 257 4294967297 "
            b"99999999999999999999 18446744073709551617 x").split(b" ")
+NUMBERS += [b"%d" % (most + step) for most, _ in model.SETTINGS.values() for step in (0, 1)]
 ODD_WORDS = (b"x tick rx up show lldp status neighbors eth9 0 TICK tick\r \xff caf\xc3\xa9 tx-interval "
              b"configure # a#b 00 zz \0 ").split(b" ")
 
@@ -163,16 +164,15 @@ def good_line(dice, ports):
     if form == "tick":
         return ticks(dice, max(1, len(ports)))
     if form == "show":
-        return b"show " + dice.choice([b"neighbors", b"neighbors", b"neighbors", b"statistics", b"chassis",
-                                       b"configuration"])
+        return b"show " + dice.choice(["neighbors", "neighbors", *model.SHOWS]).encode()
     if form == "status":
         return b"configure ports %s lldp status %s" % (port, dice.choice(STATUSES))
     if form == "link":
         return dice.choice([b"up ", b"down "]) + port
     if form == "number":
-        if dice.happens(2):
-            return b"configure lldp tx-hold %d" % dice.choice([1, 4, 100, dice.randrange(1, 101)])
-        return b"configure lldp tx-interval %d" % dice.choice([1, 2, 3, 5, 30, 40, 3600])
+        name, (most, start) = dice.choice(list(model.SETTINGS.items()))
+        value = dice.choice([1, 1, 2, 3, 5, start, most, dice.randrange(1, 1 + min(most, 100))])
+        return b"configure lldp %s %d" % (name.encode(), value)
     if form == "text":
         text = bytes(dice.choices(b"abc XYZ\\'#~", k=dice.choice([0, 1, 3, 9, 255, 256])))
         text = altered_octets(dice, text).replace(b"\n", b"") if dice.happens(5) else text
@@ -255,11 +255,11 @@ def ports_of(dice):
 def words_of(dice):
     """Options and ports. Most are good; the traces are not worth their time where they are not."""
     ports = ports_of(dice)
-    numbers = {"--max-neighbors": 128, "--tx-credit-max": 10, "--tx-fast-init": 8, "--reinit-delay": 10}
     options = []
-    for name, most in numbers.items():
+    for name, most in model.OPENING.items():
         if dice.happens(3):
-            options.append((name, str(dice.choice([1, 2, 3, most, dice.randrange(1, most + 1)]))))
+            number = dice.choice([1, 2, 3, most, dice.randrange(1, most + 1)])
+            options.append((model.option_word(name), str(number)))
     for name, values in {
             "--mac": ["00:00:5e:00:53:01", "FF:fe:00:Aa:09:90"],
             "--hostname": ["sw1", "", "a \\ b", "~" * 255],
@@ -304,8 +304,9 @@ def altered_words(dice, options, ports):
 def examples():
     """The words and traces that the pages show, and the transcripts."""
     pages = "".join(path.read_text() for path in sorted((TOP / "docs").glob("*.md")))
-    for shown in re.finditer(r"^\$ lldpa ([^\n]*?) *(?:2>&1)? *<<'EOF'\n(.*?)^EOF$", pages, re.M | re.S):
-        yield shlex.split(shown[1]), shown[2].encode().split(b"\n")
+    command = r"\$ (?:lldpa ([^\n|]*?) *(?:2>&1)?|\(lldpa ([^\n|]*?) *\|[^\n]*\)) *<<'EOF'"
+    for shown in re.finditer(rf"^{command}\n(.*?)^EOF$", pages, re.M | re.S):
+        yield shlex.split(shown[1] or shown[2]), shown[3].encode().split(b"\n")
     for args in sorted((TOP / "examples").glob("*.args")):
         yield words_and_filter(args.read_text())[0], args.with_suffix(".trace").read_bytes().split(b"\n")
 

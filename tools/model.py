@@ -251,6 +251,18 @@ DEFAULTS = {"mac": "02:00:00:00:00:01", "hostname": "localhost", "management": "
             "receive_only": False,
             "max_neighbors": 32, "tx_credit_max": 5, "tx_fast_init": 4, "reinit_delay": 2}
 
+class Range(NamedTuple):
+    """A number that `configure lldp` sets: from 1 to this, and what it is at the start."""
+    greatest: int
+    at_start: int
+
+# all of them but the limit, which begins with what an option says and goes no higher
+SETTINGS = {"tx-interval": Range(3600, 30), "tx-hold": Range(100, 4)}
+
+def attribute(name):
+    """What the agent has a number under."""
+    return name.replace("-", "_")
+
 class Agent:
     """The clock, the configuration and the ports."""
 
@@ -259,7 +271,9 @@ class Agent:
         self.now = 0
         self.mac = bytes.fromhex(options.mac.replace(":", ""))
         self.hostname, self.description = options.hostname.encode(), b"lldpa"
-        self.tx_interval, self.tx_hold, self.max_neighbors = 30, 4, options.max_neighbors
+        self.max_neighbors = options.max_neighbors
+        for name, setting in SETTINGS.items():
+            setattr(self, attribute(name), setting.at_start)
         self.ports = [Port(name, self) for name in names]
 
     def ttl(self):
@@ -394,10 +408,10 @@ def show_chassis(agent):
 def show_configuration(agent):
     """The numbers in force, and each port's status."""
     options = agent.options
-    numbers = {"tx-interval": agent.tx_interval, "tx-hold": agent.tx_hold, "ttl": agent.ttl(),
-               "reinit-delay": options.reinit_delay, "tx-fast-init": options.tx_fast_init,
-               "tx-credit-max": options.tx_credit_max, "max-neighbors": agent.max_neighbors,
-               "ports": len(agent.ports)}
+    numbers = {name: getattr(agent, attribute(name)) for name in SETTINGS}
+    numbers |= {"ttl": agent.ttl(), "reinit-delay": options.reinit_delay, "tx-fast-init": options.tx_fast_init,
+                "tx-credit-max": options.tx_credit_max, "max-neighbors": agent.max_neighbors,
+                "ports": len(agent.ports)}
     yield from (f"configuration.{name}={value}" for name, value in numbers.items())
     yield from (f"configuration.{port.name}.status={port.status}" for port in agent.ports)
 
@@ -485,13 +499,14 @@ def set_text(agent, words):
     return agent.local_change()
 
 def set_number(agent, words):
-    """The interval, the hold or the limit; the limit does not go below what a port holds."""
-    greatest = {"tx-interval": 3600, "tx-hold": 100, "max-neighbors": agent.options.max_neighbors}
+    """A setting or the limit; the limit does not go below what a port holds."""
+    greatest = {name: setting.greatest for name, setting in SETTINGS.items()}
+    greatest["max-neighbors"] = agent.options.max_neighbors
     name = words.next(greatest)
     value = words.end(words.number(greatest[name]))
     if name == "max-neighbors" and any(len(port.table.held) > value for port in agent.ports):
         raise RefusedLine("too many held")
-    setattr(agent, name.replace("-", "_"), value)
+    setattr(agent, attribute(name), value)
     return agent.local_change()
 
 def set_status(agent, words):
@@ -518,12 +533,17 @@ class NoRun(Exception):
     """Words with which no trace is run: the status, and the line on standard error, or None where that is
     the text of lldpa's reader of words."""
 
-GREATEST = {"max_neighbors": 128, "tx_credit_max": 10, "tx_fast_init": 8, "reinit_delay": 10, "listen": 65535,
-            "connections": 65535}
+# the numbers of options: those that the agent is opened with, and those of the sockets
+OPENING = {"max_neighbors": 128, "tx_credit_max": 10, "tx_fast_init": 8, "reinit_delay": 10}
+GREATEST = {**OPENING, "listen": 65535, "connections": 65535}
 VALUED = (*GREATEST, "mac", "hostname", "management", "role")
 MAC, PORT_NAME = "[0-9a-fA-F]{2}(:[0-9a-fA-F]{2}){5}", "[0-9A-Za-z_/:-]{1,15}"
 BELOW_256 = "(25[0-5]|2[0-4][0-9]|1[0-9][0-9]|[1-9]?[0-9])"
 IPV4 = BELOW_256 + (r"\." + BELOW_256) * 3
+
+def option_word(name):
+    """The option of this name, as it is written."""
+    return "--" + name.replace("_", "-")
 
 def option_value(name, word):
     """The value of an option, as far as the reader of words checks it."""
@@ -549,7 +569,7 @@ def read_words(words):
             raise NoRun(0, None)
         elif word == "--receive-only" and name not in given:
             given[name] = True
-        elif option == "--" + name.replace("_", "-") and name in VALUED and name not in given:
+        elif option == option_word(name) and name in VALUED and name not in given:
             if not is_attached and (not left or re.match("-.", left[0])):
                 raise NoRun(2, None)
             given[name] = option_value(name, value if is_attached else left.pop(0))
