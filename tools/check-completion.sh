@@ -1,7 +1,7 @@
 #!/bin/bash
 # Drives the completion for bash as bash itself does, with words and the place of the cursor, and compares what it offers.
 #     tools/check-completion.sh [PROGRAM]
-# With a program each long option of its help must be offered too.
+# With a program each long option of its help must be offered too; without one its help is that of examples/help.txt.
 # The last line is `N passed, M failed`.
 set -u
 program=${1:+$(realpath -- "$1")}
@@ -19,6 +19,15 @@ _lldpa_links() {
 }
 compopt() {
     COMPREPLY=(FILES)
+}
+
+# The agent, where its help is asked for.
+lldpa() {
+    if [ -n "$program" ]; then
+        "$program" "$@"
+    else
+        cat ../../../examples/help.txt
+    fi
 }
 
 # offers COMPLETED FUNCTION WORDS..: what is offered for the last word, where `|` stands behind a word for the cursor's.
@@ -132,7 +141,10 @@ offers '' _lldpa_ctl lldpa-ctl show chassis ''
 offers '' _lldpa_ctl lldpa-ctl show neighbors eth0 ''
 offers 'system lldp ports' _lldpa_ctl lldpa-ctl configure ''
 offers 'hostname description' _lldpa_ctl lldpa-ctl configure system ''
-offers 'tx-interval tx-hold max-neighbors' _lldpa_ctl lldpa-ctl configure lldp ''
+offers "$(grep -o '^  configure lldp [^ ]*' ../../../examples/help.txt | cut -d ' ' -f 5 | paste -s -d ' ')" \
+    _lldpa_ctl lldpa-ctl configure lldp ''
+offers 'tx-interval' _lldpa_ctl lldpa-ctl configure lldp tx-i
+offers '' _lldpa_ctl lldpa-ctl configure lldp tx-interval ''
 offers 'eth0 eth1 lo' _lldpa_ctl lldpa-ctl configure ports ''
 offers 'lldp' _lldpa_ctl lldpa-ctl configure ports eth0 ''
 offers 'status' _lldpa_ctl lldpa-ctl configure ports eth0 lldp ''

@@ -1,9 +1,9 @@
 #!/usr/bin/env python3
 """Types words into a zsh, presses Tab, and compares what share/zsh makes of them.
 
-    tools/check-zsh.py
+    tools/check-zsh.py PROGRAM
 
-The last line is `N passed, M failed`; without zsh it says so, and its status is 3.
+PROGRAM is the agent whose help has the commands. The last line is `N passed, M failed`; without zsh it says so, and its status is 3.
 """
 import os
 import pathlib
@@ -11,6 +11,7 @@ import pty
 import select
 import shutil
 import sys
+import tempfile
 import time
 
 TOP = pathlib.Path(__file__).resolve().parent.parent
@@ -28,7 +29,11 @@ TYPED = (
     ("lldpa-live lo -- --role=r", "lldpa-live lo -- --role=router "),
     ("lldpa-ctl sh", "lldpa-ctl show "),
     ("lldpa-ctl --control c sh", "lldpa-ctl --control c show "),
+    ("lldpa-ctl br", "lldpa-ctl bridge "),
+    ("lldpa-ctl show st", "lldpa-ctl show statistics "),
     ("lldpa-ctl show neighbors l", "lldpa-ctl show neighbors lo "),
+    ("lldpa-ctl configure ports l", "lldpa-ctl configure ports lo "),
+    ("lldpa-ctl configure ports lo l", "lldpa-ctl configure ports lo lldp "),
     ("lldpa-ctl configure lldp tx-i", "lldpa-ctl configure lldp tx-interval "),
     ("lldpa-ctl configure ports lo lldp status rx-o", "lldpa-ctl configure ports lo lldp status rx-only "),
     ("lldpa-capture --no", "lldpa-capture --no-seconds "),
@@ -51,32 +56,44 @@ def read_until(terminal, wanted, seconds=10):
     return text
 
 
+def started(folder):
+    """A zsh that finds the agent in a folder, and its terminal."""
+    process, terminal = pty.fork()
+    if process == 0:
+        os.chdir(TOP)
+        os.environ["TERM"] = "dumb"
+        os.environ["PATH"] = f"{folder}{os.pathsep}{os.environ['PATH']}"
+        os.execvp("zsh", ["zsh", "-f", "-i"])
+    os.write(terminal, START.encode())
+    read_until(terminal, "ready> ")
+    return process, terminal
+
+
+def is_completed(terminal, typed, wanted):
+    """Whether a line is completed as it is to be; if not, that is told."""
+    os.write(terminal, f"{typed}\t".encode())
+    shown = read_until(terminal, wanted)
+    if wanted not in shown:
+        print(f"FAILED: {typed}: {shown!r}, and not {wanted!r}")
+    os.write(terminal, b"\x15\n")  # an empty line in its place
+    read_until(terminal, "ready> ")
+    return wanted in shown
+
+
 def main():
     """Types them all."""
     if shutil.which("zsh") is None:
         print("skipped: completion for zsh, which is not installed")
         return 3
-    process, terminal = pty.fork()
-    if process == 0:
-        os.chdir(TOP)
-        os.environ["TERM"] = "dumb"
-        os.execvp("zsh", ["zsh", "-f", "-i"])
-    os.write(terminal, START.encode())
-    read_until(terminal, "ready> ")
-    failed = 0
-    for typed, wanted in TYPED:
-        os.write(terminal, f"{typed}\t".encode())
-        shown = read_until(terminal, wanted)
-        if wanted not in shown:
-            failed += 1
-            print(f"FAILED: {typed}: {shown!r}, and not {wanted!r}")
-        os.write(terminal, b"\x15\n")  # an empty line in its place
-        read_until(terminal, "ready> ")
-    os.write(terminal, b"exit\n")
-    os.close(terminal)
-    os.waitpid(process, 0)
-    print(f"{len(TYPED) - failed} passed, {failed} failed")
-    return 1 if failed else 0
+    with tempfile.TemporaryDirectory() as folder:
+        (pathlib.Path(folder) / "lldpa").symlink_to(pathlib.Path(sys.argv[1]).resolve())
+        process, terminal = started(folder)
+        passed = sum(is_completed(terminal, typed, wanted) for typed, wanted in TYPED)
+        os.write(terminal, b"exit\n")
+        os.close(terminal)
+        os.waitpid(process, 0)
+    print(f"{passed} passed, {len(TYPED) - passed} failed")
+    return 1 if passed < len(TYPED) else 0
 
 
 if __name__ == "__main__":

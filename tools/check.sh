@@ -292,7 +292,7 @@ manual_pages
 service
 picture
 part "completion" tools/check-completion.sh "$program"
-part "completion for zsh" python3 tools/check-zsh.py
+part "completion for zsh" python3 tools/check-zsh.py "$program"
 # The Python package: its tests, its types, and what it reads of captures.
 part "tests of the Python package" python3 tools/test-python.py "$program"
 python_types
