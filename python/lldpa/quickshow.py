@@ -7,10 +7,10 @@ from __future__ import annotations
 
 import re
 
+from .shown import SAID_KEY
+
 NUMBER = "(?:0|[1-9][0-9]*)"
 TEXT = "[ -~]*"
-FURTHER = (r"(?:port\.descr|chassis\.(?:name|descr|caps|mgmt)|unknown\.[1-9][0-9]{0,2}"
-           r"|org\.[0-9a-f]{6}\.(?:0|[1-9][0-9]{0,2}))")
 
 # Its groups: what each line begins with, the port's name, the neighbor's chassis ID, the kind of
 # its port ID, that ID, and the further lines without the last line feed.
@@ -24,7 +24,7 @@ USUAL_PORT = re.compile(
     rf"=({TEXT})\n"
     rf"(?P=port)1\.ttl={NUMBER}\n"
     rf"(?P=port)1\.expires={NUMBER}"
-    rf"((?:\n(?P=port)1\.{FURTHER}={TEXT})*)\n", re.MULTILINE)
+    rf"((?:\n(?P=port)1\.{SAID_KEY}={TEXT})*)\n", re.MULTILINE)
 
 # the lines among the further ones that name the neighbor: key and value
 NAMES = re.compile(r"\nlldp\.[^.]+\.1\.(chassis\.name|chassis\.mgmt|port\.descr)=(.*)")

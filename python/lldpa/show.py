@@ -8,7 +8,8 @@ import re
 from dataclasses import fields
 from typing import Iterable, Iterator, List, Optional, Tuple
 
-from .shown import (Configuration, Counters, Identifier, LocalChassis, Neighbor, Port, Show)
+from .shown import (SAID_KEY, Configuration, Counters, Identifier, LocalChassis, Neighbor, Port,
+                    Show)
 
 __all__ = ["Configuration", "Counters", "Identifier", "LocalChassis", "Neighbor", "Port", "Show",
            "ShowFault", "lines_of", "read_show", "unescaped"]
@@ -20,8 +21,7 @@ COUNTERS_BEGIN = re.compile(rf"lldp\.({NAME})\.sent=(?:0|[1-9][0-9]*)")
 STATUS_LINE = re.compile(rf"configuration\.({NAME})\.status=(rx-and-tx|rx-only|tx-only|disabled)")
 CHASSIS_KINDS = {"component", "ifalias", "portcomp", "mac", "ip", "ifname", "local", "unhandled"}
 PORT_KINDS = {"ifalias", "component", "mac", "ip", "ifname", "circuit", "local", "unhandled"}
-SAID_KEYS = {"port.descr", "chassis.name", "chassis.descr", "chassis.caps", "chassis.mgmt"}
-TLV_KEY = re.compile(r"unknown\.[1-9][0-9]{0,2}|org\.[0-9a-f]{6}\.(?:0|[1-9][0-9]{0,2})")
+SAID = re.compile(SAID_KEY)
 ESCAPE = re.compile(r"\\(\\|x[0-9a-f]{2})".encode())
 
 
@@ -123,7 +123,7 @@ class Reader:
         line = self.next()
         while line.startswith(front):
             key, mark, value = line[len(front):].partition("=")
-            if not mark or key not in SAID_KEYS and not TLV_KEY.fullmatch(key):
+            if not mark or not SAID.fullmatch(key):
                 raise self.fault("a key of a neighbor")
             said.append((key, value))
             self.at += 1

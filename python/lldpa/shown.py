@@ -5,8 +5,16 @@ they are; `show.unescaped` gives the octets behind one.
 """
 from __future__ import annotations
 
+import re
 from dataclasses import dataclass, field
 from typing import List, Mapping, NamedTuple, Optional, Tuple
+
+# the keys of what a neighbor says, but for TLVs of other types, which are named by their numbers
+SAID_KEYS = ("port.descr", "chassis.name", "chassis.descr", "chassis.caps", "chassis.mgmt")
+
+# a key of what a neighbor says
+SAID_KEY = (f"(?:{'|'.join(map(re.escape, SAID_KEYS))}"
+            r"|unknown\.[1-9][0-9]{0,2}|org\.[0-9a-f]{6}\.(?:0|[1-9][0-9]{0,2}))")
 
 
 class Identifier(NamedTuple):

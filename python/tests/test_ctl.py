@@ -79,7 +79,7 @@ class Answers(Program):
     def test_json_tells_the_same(self) -> None:
         self.served.frame("eth0", numbered(1, 120, tlv(5, HOSTILE), tlv(7, b"\0\x14\0\4"),
                                            tlv(8, bytes([5, 1, 192, 0, 2, 1, 2, 0, 0, 0, 1, 0])),
-                                           tlv(127, b"\0\x12\x0f\x01abc"), tlv(9, b"\xff")))
+                                           tlv(127, b"\0\x12\x0f\x01abc"), tlv(126, b"\xff")))
         told = json.loads(self.run_ctl("--json", "show", "neighbors"))
         self.assertEqual(told, json.loads(self.run_ctl("--json")))
         self.assertEqual([port["name"] for port in told["ports"]], ["eth0", "eth1"])
@@ -90,7 +90,7 @@ class Answers(Program):
             "name": r"\x1b[31m\x0d\x0a\x9b2J\x07", "descr": None, "port_descr": None,
             "capabilities": {"Bridge": True, "Router": False}, "management": ["192.0.2.1"],
             "org": [{"kind": "00120f.1", "octets": "616263"}],
-            "unknown": [{"type": 9, "octets": "ff"}]}])
+            "unknown": [{"type": 126, "octets": "ff"}]}])
         eth1 = json.loads(self.run_ctl("show", "neighbors", "eth1", "--json"))
         self.assertEqual(eth1, {"ports": told["ports"][1:]})
         counters = json.loads(self.run_ctl("--json", "show", "statistics"))["counters"]
@@ -227,7 +227,7 @@ class Faults(Program):
 
     def test_a_reader_that_goes_is_no_fault_to_tell(self) -> None:
         for number in range(32):
-            self.served.frame("eth0", numbered(number, 120, *[tlv(9, bytes(500))] * 2))
+            self.served.frame("eth0", numbered(number, 120, *[tlv(126, bytes(500))] * 2))
         words = f"{CTL} --control {self.served.path} show neighbors | head -n 1"
         told = subprocess.run(["bash", "-c", words], check=False, capture_output=True, text=True)
         self.assertEqual((told.stdout, told.stderr), ("lldp.eth0.neighbors=32\n", ""))

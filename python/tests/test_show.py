@@ -4,15 +4,19 @@ from __future__ import annotations
 import subprocess
 import sys
 import unittest
+from dataclasses import fields
 from typing import Iterator, List, Tuple
 
 from lldpa.agent import MARK, MARK_ANSWER
-from lldpa.show import Identifier, Neighbor, Show, ShowFault, lines_of, read_show, unescaped
+from lldpa.show import (Configuration, Counters, Identifier, Neighbor, Show, ShowFault, lines_of,
+                        read_show, unescaped)
 from support import PROGRAM, REPOSITORY
 
 sys.dont_write_bytecode = True
 sys.path.insert(1, str(REPOSITORY / "tools"))
 import fuzz  # type: ignore[import-not-found]  # noqa: E402
+from examples import transcripts  # type: ignore[import-not-found]  # noqa: E402
+from model import SHOWS  # type: ignore[import-not-found]  # noqa: E402
 
 RANDOM_SHOWS = 1000
 
@@ -41,8 +45,10 @@ lldp.p1.octets=0
 lldp.p1.too-many=no
 """.splitlines()
 
-STATISTICS = [f"lldp.{port}.{key}={number}" for port in ("eth0", "p1") for number, key in enumerate(
-    "sent shutdowns received discarded errors tlvs-discarded unrecognized ageouts drops".split())]
+# each counter and each number has a value of its own
+COUNTS = {one.name: number for number, one in enumerate(fields(Counters))}
+STATISTICS = [f"lldp.{port}.{name.replace('_', '-')}={number}"
+              for port in ("eth0", "p1") for name, number in COUNTS.items()]
 
 CHASSIS = """\
 local-chassis.mac=02:00:00:00:00:01
@@ -52,32 +58,26 @@ local-chassis.caps=Station:on
 local-chassis.mgmt=192.0.2.1,1,0,
 """.splitlines()
 
-CONFIGURATION = """\
-configuration.tx-interval=30
-configuration.tx-hold=4
-configuration.ttl=121
-configuration.reinit-delay=2
-configuration.tx-fast-init=4
-configuration.tx-credit-max=5
-configuration.max-neighbors=32
-configuration.ports=2
-configuration.eth0.status=rx-and-tx
-configuration.p1.status=disabled
-""".splitlines()
+NUMBERS = {one.name: number for number, one in enumerate(fields(Configuration), 30)
+           if one.name != "statuses"}
+CONFIGURATION = [f"configuration.{name.replace('_', '-')}={number}"
+                 for name, number in NUMBERS.items()]
+CONFIGURATION += ["configuration.ports=2", "configuration.eth0.status=rx-and-tx",
+                  "configuration.p1.status=disabled"]
 
 ALL = NEIGHBORS + STATISTICS + CHASSIS + CONFIGURATION
 
 
-def shows_of_transcript(text: str) -> Iterator[List[str]]:
-    """What each show of a transcript writes."""
-    shown: List[str] = []
-    for line in text.splitlines() + ["> "]:
-        if not line.startswith("> "):
-            shown.append(line)
-            continue
-        if shown and shown[0].startswith(("lldp.", "local-chassis.", "configuration.")):
-            yield shown
-        shown = []
+def shows_of_transcript(name: str) -> Iterator[List[str]]:
+    """What each show of a transcript writes, and all shows behind its lines."""
+    (_, words, _, trace, steps), = transcripts([name])
+    assert not isinstance(steps, str), steps
+    lines = [line for line, _ in steps] + [b"show " + show.encode() for show in SHOWS]
+    marked = b"".join(line + b"\n" + MARK + b"\n" for line in lines)
+    done = subprocess.run([PROGRAM, *words], input=marked, capture_output=True, check=True)
+    for answer in done.stdout.decode("ascii").split(MARK_ANSWER.decode("ascii") + "\n"):
+        if answer.startswith(("lldp.", "local-chassis.", "configuration.")):
+            yield answer.splitlines()
 
 
 def random_show(seed: int) -> List[str]:
@@ -96,16 +96,14 @@ class ThereAndBack(unittest.TestCase):
 
     def test_each_show_of_the_transcripts(self) -> None:
         count = neighbors = 0
-        for path in sorted((REPOSITORY / "examples").glob("*.expect")):
-            if "| " in path.with_suffix(".args").read_text():
-                continue  # a filter leaves out lines of its shows
-            for lines in shows_of_transcript(path.read_text("latin-1")):
+        for path in sorted((REPOSITORY / "examples").glob("*.args")):
+            for lines in shows_of_transcript(path.stem):
                 with self.subTest(path.name, show=lines[0]):
                     show = read_show(lines)
                     self.assertEqual(lines_of(show), lines)
                     neighbors += len(show.neighbors)
                     count += 1
-        self.assertGreater(count, 50)
+        self.assertGreater(count, 200)
         self.assertGreater(neighbors, 30)
 
     def test_random_shows(self) -> None:
@@ -160,11 +158,11 @@ class WhatIsRead(unittest.TestCase):
         self.assertEqual((eth0.name, eth0.neighbors_held, eth0.octets, eth0.too_many),
                          ("eth0", 2, 120, True))
         self.assertEqual((p1.name, p1.too_many, p1.neighbors), ("p1", False, ()))
-        self.assertEqual(show.counters["p1"].tlvs_discarded, 5)
-        self.assertEqual(show.counters["eth0"].drops, 8)
+        self.assertEqual(show.counters["p1"].tlvs_discarded, COUNTS["tlvs_discarded"])
+        self.assertEqual(show.counters["eth0"].drops, COUNTS["drops"])
         assert show.chassis is not None and show.configuration is not None
         self.assertEqual(show.chassis.mgmt, "192.0.2.1,1,0,")
-        self.assertEqual(show.configuration.tx_credit_max, 5)
+        self.assertEqual(show.configuration.tx_credit_max, NUMBERS["tx_credit_max"])
         self.assertEqual(show.configuration.statuses, {"eth0": "rx-and-tx", "p1": "disabled"})
         self.assertEqual(read_show([]), Show())
 
@@ -208,7 +206,7 @@ class Refused(unittest.TestCase):
             ("lldp.eth0.2.chassis.local=a b", ["lldp.eth0.2.chassis.local=caf\u00e9"]),
             ("lldp.p1.neighbors=0", ["lldp.eth0.neighbors=0"]),
             ("lldp.p1.sent=0", ["lldp.eth0.sent=0"]),
-            ("lldp.p1.drops=8", ["lldp.p1.drop=8"]),
+            (STATISTICS[-1], [STATISTICS[-1].replace("=", "x=")]),
             ("local-chassis.name=localhost", []),
             ("configuration.ports=2", ["configuration.ports=x"]),
         ]
@@ -226,7 +224,8 @@ class Refused(unittest.TestCase):
                 read_show(lines)
 
     def test_an_end_in_the_middle(self) -> None:
-        whole = {0, 19, 22, 31, 40, 44, 45, 55}
+        statistics, chassis = len(NEIGHBORS), len(NEIGHBORS + STATISTICS)
+        whole = {0, 19, statistics, statistics + len(COUNTS), chassis, chassis + 4, chassis + 5}
         for end in set(range(len(ALL))) - whole:
             with self.subTest(end=end), self.assertRaises(ShowFault) as fault:
                 read_show(ALL[:end])
