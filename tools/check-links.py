@@ -105,22 +105,34 @@ def excerpts(text):
         yield [line.strip() for line in block.splitlines() if line.strip()]
 
 
+def begins_something(before):
+    """Whether a line behind this one begins an item or a clause: it is empty, a comment, an attribute, or opens a block."""
+    return re.match(r"\s*(//|--|#\[|$)", before) is not None or before.endswith("{")
+
+
 def lines_of_sources():
-    """The lines of each source, without those that are empty."""
+    """The lines of each source, without those that are empty, and which of them begin something."""
     for folder in ("src", "specs"):
         for path in TOP.glob(f"crates/*/{folder}/**/*"):
             if path.suffix in (".rt", ".antt"):
-                yield [line.strip() for line in path.read_text().splitlines() if line.strip()]
+                lines = path.read_text().splitlines()
+                pairs = zip(["", *lines], lines)
+                kept = [(line.strip(), begins_something(before)) for before, line in pairs if line.strip()]
+                yield [line for line, _ in kept], [begins for _, begins in kept]
 
 
-LINES = ["\n".join(["", *lines, ""]) for lines in lines_of_sources()]
+LINES = list(lines_of_sources())
 
 
 def is_shown(lines):
-    """Whether these lines stand in a source, one behind another, and no bracket of theirs is left open."""
-    shown = "\n".join(["", *lines, ""])
+    """Whether these lines stand in a source, one behind another from where something begins, and no bracket of theirs is
+    left open."""
+    shown = "\n".join(lines)
     are_closed = all(shown.count(one) == shown.count(other) for one, other in ("()", "{}", "[]"))
-    return are_closed and any(shown in source for source in LINES)
+    return are_closed and any(
+        begins and source[at:at + len(lines)] == lines
+        for source, all_begin in LINES if lines[0] in source
+        for at, begins in enumerate(all_begin))
 
 
 def large_numbers(text):
