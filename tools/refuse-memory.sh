@@ -5,7 +5,9 @@
 #  - with all later ones, the run always ends so;
 #  - alone, a request may also be survived, and the run then gives its right output with status 0: std asks
 #    for all the room that an iterator hints at and, where it does not get that, for less. That is no want.
-# The runs are the stored run of the program, and one that opens 64 ports of 128 neighbors.
+# The runs are the stored run of the program, and one that opens 64 ports of 128 neighbors. Then each transcript of
+# examples/ is run: a run asks for memory as often as one of the same words over an empty input, so nothing behind
+# the opening does.
 # It takes the program (the gate's unless given), and needs a C compiler for refuse.c, which it preloads. Its
 # last line counts the runs; the status is 3 where it had to be skipped.
 set -u
@@ -82,6 +84,25 @@ echo "show chassis" > "$room/in"
 printf 'local-chassis.%s\n' mac=00:00:5e:00:53:01 name=sw1 descr=lldpa caps=Bridge:on mgmt=192.0.2.1,1,0, \
     > "$room/want"
 refuse_each "$@"
+
+# The requests of a run of the words given.
+requests_of_run() {
+    TELL_TO=$room/requests run "$@"
+    cat "$room/requests"
+}
+
+for args in examples/*.args; do
+    set --
+    while IFS= read -r word || [ -n "$word" ]; do
+        case $word in "| "*) ;; *) set -- "$@" "$word" ;; esac
+    done < "$args"
+    : > "$room/in"
+    opening=$(requests_of_run "$@")
+    cp "${args%.args}.trace" "$room/in"
+    whole=$(requests_of_run "$@")
+    [ "$opening" -gt 0 ] && [ "$opening" -eq "$whole" ]
+    judge $? "$args: $opening requests over an empty input, $whole over its lines"
+done
 
 echo "$passed passed, $failed failed"
 [ "$failed" -eq 0 ]

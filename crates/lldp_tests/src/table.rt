@@ -1,7 +1,5 @@
-//! Worked examples of calls. The frames A to D differ in their port and their time to live.
+//! The memory of a table. Its worked rows are theorems.
 ghost use Rattle.std.specs.Prelude.{◌≤◌, length};
-
-mod expiries;
 
 use linked_list_allocator::LocalHeap;
 use lldp_pdu::{Examined, Info, examine};
@@ -30,18 +28,6 @@ fn told<'a>(rt: &impl Abort, pdu: &'a [u8]) -> Info<'a>
     }
 }
 
-/// The neighbor at place `i` has this frame, with so many ticks left.
-fn expect_entry<A: Allocator>(rt: &impl Abort, table: &Table<A>, i: u8, pdu: &[u8; 22], left: u16) {
-    assert!(rt; i < table.len());
-    let entry = table.entry(i);
-    assert_eq!(rt; entry.octets(), &pdu[..20]);
-    assert_eq!(rt; entry.msap().chassis, &pdu[2..9]);
-    assert_eq!(rt; entry.msap().port, &pdu[11..16]);
-    assert_eq!(rt; entry.ttl(), u16::from(pdu[19]));
-    assert_eq!(rt; entry.left(), left);
-    assert!(rt; entry.kept().next().is_none());
-}
-
 /// A frame comes, and this becomes of it.
 fn learns<A: Allocator>(rt: &impl Abort, table: &mut Table<A>, pdu: &[u8; 22], answer: Learned) {
     assert_eq!(rt; table.learn(&told(rt, pdu)), answer);
@@ -64,139 +50,6 @@ fn limits<A: Allocator>(rt: &impl Abort, table: &mut Table<A>, limit: u8) {
     assert!(rt; 0 < limit && limit <= table.capacity() && table.len() <= limit);
     table.set_limit(limit);
     assert_eq!(rt; table.limit(), limit);
-}
-
-/// How many neighbors and octets the table holds, and whether too many came.
-fn expect_held<A: Allocator>(rt: &impl Abort, table: &Table<A>, held: (u8, u32, bool)) {
-    assert_eq!(rt; (table.len(), table.octets(), table.too_many()), held);
-}
-
-#[test]
-fn table_of_one(rt: HostRuntime) -> Result<(), Fail> {
-    let (a, b) = (lldpdu(b'0', 120), lldpdu(b'1', 120));
-    let mut table = Table::open(rt.alloc(), 1)?;
-    assert_eq!(rt; (table.len(), table.limit(), table.capacity()), (0, 1, 1));
-    learns(&rt, &mut table, &a, Learned::New);
-    learns(&rt, &mut table, &b, Learned::Dropped);
-    learns(&rt, &mut table, &a, Learned::Refreshed);
-    expect_held(&rt, &table, (1, 20, true));
-    expect_entry(&rt, &table, 0, &a, 120);
-    table.purge();
-    expect_held(&rt, &table, (0, 0, false));
-    learns(&rt, &mut table, &b, Learned::New);
-    expect_entry(&rt, &table, 0, &b, 120);
-    forgets(&rt, &mut table, &a, false);
-    forgets(&rt, &mut table, &b, true);
-    forgets(&rt, &mut table, &b, false);
-    ticks(&rt, &mut table, 1, 0);
-    Ok(())
-}
-
-#[test]
-fn full_table(rt: HostRuntime) -> Result<(), Fail> {
-    let (a, b) = (lldpdu(b'0', 120), lldpdu(b'1', 120));
-    let mut table = Table::open(rt.alloc(), 2)?;
-    learns(&rt, &mut table, &a, Learned::New);
-    learns(&rt, &mut table, &b, Learned::New);
-    learns(&rt, &mut table, &lldpdu(b'2', 9), Learned::Dropped);
-    learns(&rt, &mut table, &lldpdu(b'3', 5), Learned::Dropped);
-    learns(&rt, &mut table, &a, Learned::Refreshed);
-    ticks(&rt, &mut table, 8, 0);
-    expect_held(&rt, &table, (2, 40, true));
-    expect_entry(&rt, &table, 0, &a, 112);
-    expect_entry(&rt, &table, 1, &b, 112);
-    ticks(&rt, &mut table, 1, 0);
-    expect_held(&rt, &table, (2, 40, false));
-    expect_entry(&rt, &table, 0, &a, 111);
-    expect_entry(&rt, &table, 1, &b, 111);
-    Ok(())
-}
-
-#[test]
-fn room_after_expiry(rt: HostRuntime) -> Result<(), Fail> {
-    let (a1, b) = (lldpdu(b'0', 1), lldpdu(b'1', 120));
-    let mut table = Table::open(rt.alloc(), 1)?;
-    learns(&rt, &mut table, &a1, Learned::New);
-    ticks(&rt, &mut table, 1, 1);
-    learns(&rt, &mut table, &b, Learned::New);
-    expect_held(&rt, &table, (1, 20, false));
-    expect_entry(&rt, &table, 0, &b, 120);
-    Ok(())
-}
-
-#[test]
-fn refresh_to_an_earlier_expiry(rt: HostRuntime) -> Result<(), Fail> {
-    let (a, c, d) = (lldpdu(b'0', 120), lldpdu(b'2', 9), lldpdu(b'3', 5));
-    let mut table = Table::open(rt.alloc(), 3)?;
-    learns(&rt, &mut table, &a, Learned::New);
-    learns(&rt, &mut table, &c, Learned::New);
-    learns(&rt, &mut table, &d, Learned::New);
-    learns(&rt, &mut table, &lldpdu(b'0', 1), Learned::Refreshed);
-    expect_entry(&rt, &table, 0, &lldpdu(b'0', 1), 1);
-    ticks(&rt, &mut table, 1, 1);
-    expect_held(&rt, &table, (2, 40, false));
-    expect_entry(&rt, &table, 0, &c, 8);
-    expect_entry(&rt, &table, 1, &d, 4);
-    ticks(&rt, &mut table, 3, 0);
-    ticks(&rt, &mut table, 1, 1);
-    learns(&rt, &mut table, &a, Learned::New);
-    expect_held(&rt, &table, (2, 40, false));
-    expect_entry(&rt, &table, 0, &c, 4);
-    expect_entry(&rt, &table, 1, &a, 120);
-    Ok(())
-}
-
-#[test]
-fn equal_expiries(rt: HostRuntime) -> Result<(), Fail> {
-    let (a, b) = (lldpdu(b'0', 120), lldpdu(b'1', 120));
-    let mut table = Table::open(rt.alloc(), 2)?;
-    learns(&rt, &mut table, &a, Learned::New);
-    learns(&rt, &mut table, &b, Learned::New);
-    ticks(&rt, &mut table, 119, 0);
-    expect_entry(&rt, &table, 0, &a, 1);
-    expect_entry(&rt, &table, 1, &b, 1);
-    ticks(&rt, &mut table, 1, 2);
-    expect_held(&rt, &table, (0, 0, false));
-    Ok(())
-}
-
-#[test]
-fn lower_limit(rt: HostRuntime) -> Result<(), Fail> {
-    let (a, b, c) = (lldpdu(b'0', 120), lldpdu(b'1', 120), lldpdu(b'2', 9));
-    let mut table = Table::open(rt.alloc(), 3)?;
-    learns(&rt, &mut table, &a, Learned::New);
-    learns(&rt, &mut table, &b, Learned::New);
-    limits(&rt, &mut table, 2);
-    learns(&rt, &mut table, &c, Learned::Dropped);
-    expect_held(&rt, &table, (2, 40, true));
-    expect_entry(&rt, &table, 0, &a, 120);
-    expect_entry(&rt, &table, 1, &b, 120);
-    limits(&rt, &mut table, 3);
-    learns(&rt, &mut table, &c, Learned::New);
-    expect_held(&rt, &table, (3, 60, true));
-    expect_entry(&rt, &table, 0, &a, 120);
-    expect_entry(&rt, &table, 1, &b, 120);
-    expect_entry(&rt, &table, 2, &c, 9);
-    assert_eq!(rt; table.capacity(), 3);
-    Ok(())
-}
-
-/// A System Name `sw2`, and a System Name behind it that is not kept.
-#[test]
-fn kept_tlvs(rt: HostRuntime) -> Result<(), Fail> {
-    let pdu = [
-        0x02, 0x07, 0x04, 0x00, 0x11, 0x22, 0x33, 0x44, 0x55, 0x04, 0x05, 0x05, b'e', b't', b'h',
-        b'0', 0x06, 0x02, 0x00, 0x78, 0x0a, 0x03, b's', b'w', b'2', 0x0a, 0x01, b'x', 0x00, 0x00,
-    ];
-    let mut table = Table::open(rt.alloc(), 1)?;
-    assert_eq!(rt; table.learn(&told(&rt, &pdu)), Learned::New);
-    assert!(rt; 0 < table.len());
-    let mut kept = table.entry(0).kept();
-    let name = kept.next().ok_or("no name")?;
-    assert_eq!(rt; (name.kind, name.body), (5, b"sw2".as_slice()));
-    assert!(rt; kept.next().is_none());
-    assert_eq!(rt; table.octets(), 28);
-    Ok(())
 }
 
 /// The one allocation is for all neighbors, and is refused where there is less room. No call after

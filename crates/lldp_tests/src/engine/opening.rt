@@ -1,35 +1,8 @@
-//! Opening, its faults, and the numbers of faults.
+//! That opening works where there is memory, and the numbers of faults.
+use super::open;
 use super::whole_shows::NAMES;
-use super::{open, open_with, options};
-use lldp_engine::{CommandFault, OpenFault, Options};
+use lldp_engine::{CommandFault, OpenFault};
 use std::test::Fail;
-
-#[test]
-fn faults(rt: HostRuntime) -> Result<(), Fail> {
-    let letters = [b'a'; 256];
-    let long = str::from_utf8(&letters).ok().ok_or("letters")?;
-    let many = ["e"; 65];
-    for (ports, hostname, expected) in [
-        (["eth0"].as_slice(), "localhost", None),
-        (&[], "localhost", Some(OpenFault::NoPorts)),
-        (&many, "localhost", Some(OpenFault::TooManyPorts)),
-        (&["a.b"], "localhost", Some(OpenFault::PortName)),
-        (&["eth0", ""], "localhost", Some(OpenFault::PortName)),
-        (&["0123456789abcdef"], "", Some(OpenFault::PortName)),
-        (&["eth0", "eth0"], "localhost", Some(OpenFault::SamePort)),
-        (&["eth0", "eth0", "a.b"], "", Some(OpenFault::PortName)),
-        (&["eth0"], long, Some(OpenFault::Text)),
-        (&["eth0"], "a\u{7f}", Some(OpenFault::Text)),
-    ] {
-        let options = Options {
-            hostname,
-            ..options(ports, 32)
-        };
-        let fault = open_with(&rt, rt.alloc(), &options).err();
-        assert_eq!(rt; fault, expected);
-    }
-    Ok(())
-}
 
 /// The numbers of the faults.
 #[test]
