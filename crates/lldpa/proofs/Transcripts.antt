@@ -218,7 +218,7 @@ commands_refused : Shows (codes "error" ∷ codes "tx-interval" ∷ codes "tx-ho
     ++ codes "show neighbors" ++ (13 ∷ []) ++ codes "\n"
     ++ codes "show neighbor x\n"
     ++ codes "configure system max-neighbors 5\n"
-    ++ codes "configure lldp tx-delay 1\n"
+    ++ codes "configure lldp tx-holds 1\n"
     ++ codes "configure ports eth0 system status rx-only\n"
     ++ codes "configure ports eth0 lldp statu rx-only\n"
     ++ codes "configure ports eth0 lldp status up\n"
