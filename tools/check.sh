@@ -288,6 +288,7 @@ python3 tools/transcripts.py --check
 judge $? "crates/lldpa/proofs/Transcripts.antt is not what tools/transcripts.py writes of examples/"
 part "links of the pages" python3 tools/check-links.py
 part "memory and accesses, by the sources" python3 tools/check-memory.py
+part "wrong bodies that the gate does not try" python3 tools/wrong-bodies.py --check
 manual_pages
 service
 picture
@@ -306,6 +307,7 @@ bad_addresses
 bad_options
 misused_streams
 binary_input
+part "cut and altered frames, and full tables" python3 tools/check-frames.py "$program"
 part "refused memory" tools/refuse-memory.sh "$program"
 part "every value of each range" python3 tools/check-ranges.py "$program"
 # No row of the benchmark takes more instructions than before.
