@@ -4,7 +4,9 @@
     tools/check-ranges.py PROGRAM
 
 Of the numbers of --listen and --connections, and of the seconds of `tick N`, which are too many to be tried one by one,
-it tries those near a power of two or of ten and those near the ends. The last line is `N passed, M failed`.
+it tries those near a power of two or of ten and those near the ends. It opens agents with a hostname of every length,
+and with every role, too: that no opening is refused for want of memory is not proved. The last line is
+`N passed, M failed`.
 """
 import sys
 from concurrent.futures import ThreadPoolExecutor
@@ -45,6 +47,11 @@ def runs():
         lines = [b"configure lldp max-neighbors %d" % number for number in (greatest + 1, greatest, 1)]
         yield ["--max-neighbors", str(greatest), "eth0"], lines + SHOWS
     yield ["--receive-only", "eth0"], [b"tick %d" % number for number in near_round_ones(65535)] + SHOWS
+    for length in range(257):
+        yield ["--hostname", "h" * length, "eth0"], SHOWS
+    for role in ("station", "bridge", "router"):
+        for more in ([], ["--receive-only"], ["--management", "192.0.2.1"], ["--mac", "00:00:5e:00:53:01"]):
+            yield ["--role", role, *more, *(f"p{place}" for place in range(64))], SHOWS
 
 
 def main():

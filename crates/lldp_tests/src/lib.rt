@@ -1,11 +1,13 @@
-//! Tests of the four lower crates over what those crates make public. They stand in a crate of
-//! their own, since a crate with tests is proved twice, with them and without.
+//! Tests of the other crates over what those make public. They stand in a crate of their own, since
+//! a crate with tests is proved twice, with them and without.
 #![tactic(auto)]
 
 #[cfg(test)]
 mod engine;
 #[cfg(test)]
 mod pdu;
+#[cfg(test)]
+mod program;
 #[cfg(test)]
 mod table;
 #[cfg(test)]

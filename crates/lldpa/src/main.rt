@@ -26,6 +26,3 @@ fn run(rt: &HostRuntime) -> io::Result<u8> {
     );
     Ok(status)
 }
-
-#[cfg(test)]
-mod tests;

@@ -1,6 +1,6 @@
 //! Traces over connections to a listener of this host.
-use super::program::NONE;
 use super::runs::{HEARD, expect_counters, only_receiving, open};
+use super::statuses::NONE;
 use lldp_engine::Agent;
 use lldp_program::device::{FromReader, ToWriter};
 use lldp_program::serve::{ServeFault, serve};

@@ -1,7 +1,7 @@
 //! The program where its words ask to listen.
 use super::devices::{Drip, Fuse, Network};
-use super::program::expect_status;
 use super::sockets::{ASK, ASK_IN_VAIN, Client, LEARN, LEAVE, listen, read_all, send_all};
+use super::statuses::expect_status;
 use lldp_program::arguments::{listening_of, parse};
 use std::net::{Net, TcpListener, TcpStream};
 use std::process::Abort;

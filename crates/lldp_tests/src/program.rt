@@ -4,6 +4,6 @@
 mod devices;
 mod failing;
 mod listening;
-mod program;
 mod runs;
 mod sockets;
+mod statuses;
