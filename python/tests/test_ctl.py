@@ -17,6 +17,7 @@ import time
 import unittest
 
 from lldpa.control import Client
+from patience import SECONDS, by_the_clock
 from served import BRIDGE_LINES, CTL, Served, frame, numbered, tlv
 
 HOSTILE = b"\x1b[31m\r\n\x9b2J\x07"
@@ -161,6 +162,7 @@ class Watching(Program):
         self.assertTrue(select.select([child.stdout], [], [], 1)[0], "nothing within a second")
         return child.stdout.readline()
 
+    @by_the_clock
     def test_a_line_for_each_that_comes_changes_or_goes(self) -> None:
         self.served.frame("eth1", numbered(1))
         child = self.watch()
@@ -178,6 +180,7 @@ class Watching(Program):
         self.served.call(self.served.agent.tick(90))
         self.assertRegex(self.line(child), rf"^{TIME} eth0 gone: b p2\n$")
 
+    @by_the_clock
     def test_as_json(self) -> None:
         child = self.watch("--json")
         self.served.frame("eth0", numbered(2))
@@ -193,7 +196,7 @@ class Watching(Program):
         self.served.asked.clear()
         child = self.watch()
         self.served.call(self.served.server.close())
-        said = child.communicate(timeout=5)
+        said = child.communicate(timeout=SECONDS)
         self.assertEqual((said, child.returncode),
                          (("", "lldpa-ctl: the bridge has ended the connection\n"), 1))
         self.served.call(self.served.server.start())
