@@ -91,8 +91,8 @@ class TestEnds(OnLinks):
     @by_the_clock
     def test_stopped_agent_does_not_hold_the_end(self) -> None:
         live = self.live("eth0")
-        os.kill(live.agent(), signal.SIGSTOP)
         told = live.seconds_told()
+        os.kill(live.agent(), signal.SIGSTOP)
         self.assertTrue(eventually(lambda: live.seconds_told() > told))  # a second is not answered
         live.signal(signal.SIGTERM)
         self.assertEqual(live.ends(3), 1)
