@@ -7,7 +7,7 @@ import os
 import threading
 import time
 from pathlib import Path
-from typing import Any, Callable
+from typing import Any, Callable, Sequence
 
 SECONDS = 30.0  # to wait for what comes true by itself: they pass only where it does not
 TRIES = 3
@@ -21,6 +21,12 @@ def eventually(holds: Callable[[], Any], seconds: float = SECONDS) -> Any:
     while not (found := holds()) and time.monotonic() < last:
         time.sleep(0.02)
     return found
+
+
+def mostly(seconds: Sequence[float]) -> float:
+    """The time that no more than half of some times are over: a standstill or two change it little,
+    and what is late each time is seen."""
+    return sorted(seconds)[(len(seconds) - 1) // 2]
 
 
 def stolen() -> float:

@@ -3,16 +3,17 @@
 from __future__ import annotations
 
 import os
+import queue
 import re
-import select
 import shutil
 import signal
 import subprocess
+import threading
 import time
 import unittest
 
 from bridged import Live, OnLinks, on_links
-from patience import SECONDS, by_the_clock, eventually
+from patience import SECONDS, by_the_clock, eventually, mostly
 from served import CTL, numbered, tlv
 from wires import Peer
 
@@ -32,16 +33,30 @@ class OnARealLink(OnLinks):
         return subprocess.run([CTL, "--control", bridge.control, *words], check=True,
                               capture_output=True, text=True).stdout
 
-    def begin(self, watch: subprocess.Popen[str], peer: Peer) -> None:
-        """Waits until a watch tells what changes: here a neighbor does until it tells the last."""
+    def lines_of(self, watch: subprocess.Popen[str]) -> "queue.Queue[str]":
+        """The lines of a watch, as they come."""
         assert watch.stdout is not None
+        lines: "queue.Queue[str]" = queue.Queue()
+        reading = threading.Thread(target=lambda stream: [lines.put(line) for line in stream],
+                                   args=[watch.stdout], daemon=True)
+        reading.start()
+        self.addCleanup(reading.join)
+        self.addCleanup(watch.kill)
+        return lines
+
+    def begin(self, lines: "queue.Queue[str]", peer: Peer) -> None:
+        """Waits until a watch tells what changes: here a neighbor does until it tells the last."""
         count = 0
-        while not select.select([watch.stdout], [], [], 0)[0]:
+
+        def tells() -> bool:
+            nonlocal count
             count += 1
             peer.send(numbered(9, 120, tlv(5, b"change %d" % count)))
-            time.sleep(0.1)
-        while f"change {count} p9" not in watch.stdout.readline():
-            self.assertIsNone(watch.poll())
+            return not lines.empty()
+
+        self.assertTrue(eventually(tells))
+        while f"change {count} p9" not in lines.get(timeout=SECONDS):
+            pass
 
     @by_the_clock
     def test_watch_tells_within_a_second(self) -> None:
@@ -50,18 +65,20 @@ class OnARealLink(OnLinks):
         watch = subprocess.Popen([CTL, "--control", bridge.control, "watch"],
                                  stdout=subprocess.PIPE, text=True)
         self.addCleanup(watch.communicate)
-        self.addCleanup(watch.kill)
-        self.begin(watch, peer)
-        assert watch.stdout is not None
+        lines = self.lines_of(watch)
+        self.begin(lines, peer)
+        times = []
         for sent, told in ((numbered(1, 60, tlv(5, b"a")), "came: a p1"),
                            (numbered(1, 60, tlv(5, b"b")), "changed: b p1; chassis.name: a -> b"),
                            (numbered(1, 0), "gone: b p1"),
-                           (numbered(2, 2), "came: 02:00:00:00:00:02 p2")):
+                           (numbered(2, 3), "came: 02:00:00:00:00:02 p2")):
+            began = time.monotonic()
             peer.send(sent)
-            self.assertTrue(select.select([watch.stdout], [], [], 1)[0], told)
-            self.assertTrue(watch.stdout.readline().endswith(f" eth1 {told}\n"), told)
-        self.assertTrue(select.select([watch.stdout], [], [], 3.5)[0], "it aged out")
-        self.assertRegex(watch.stdout.readline(), r" eth1 gone: .* p2\n$")
+            self.assertTrue(lines.get(timeout=SECONDS).endswith(f" eth1 {told}\n"), told)
+            times.append(time.monotonic() - began)
+        self.assertRegex(lines.get(timeout=SECONDS), r" eth1 gone: .* p2\n$")
+        times.append(time.monotonic() - began - 3)
+        self.assertLess(mostly(times), 1, times)
         bridge.signal(signal.SIGTERM)
         self.assertEqual((bridge.ends(), watch.wait(SECONDS)), (0, 1))
 

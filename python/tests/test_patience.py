@@ -8,7 +8,7 @@ import unittest
 from typing import Sequence
 from unittest import mock
 
-from patience import TRIES, Standstill, by_the_clock, eventually, stolen
+from patience import TRIES, Standstill, by_the_clock, eventually, mostly, stolen
 
 
 class Tried(unittest.TestCase):
@@ -68,6 +68,14 @@ class Measured(unittest.TestCase):
         with Standstill() as standstill:
             self.assertGreaterEqual(stolen(), standstill.stolen_before)
             self.assertGreaterEqual(standstill.stolen_before, 0)
+
+
+class Mostly(unittest.TestCase):
+    """The times that count where some may be the machine's."""
+
+    def test_half_of_them_may_be_long(self) -> None:
+        for times, time in (([3, 9, 1], 3), ([9, 1, 9, 1], 1), ([9, 2, 9], 9), ([4], 4)):
+            self.assertEqual(mostly(times), time)
 
 
 class Awaited(unittest.TestCase):
