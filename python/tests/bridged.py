@@ -2,18 +2,22 @@
 
 from __future__ import annotations
 
+import array
 import contextlib
+import fcntl
 import os
 import queue
 import shutil
 import signal
+import socket
 import subprocess
 import sys
+import termios
 import threading
 import time
 import unittest
 from pathlib import Path
-from typing import Any, Optional, Sequence
+from typing import IO, Any, Optional, Sequence, Union
 
 from lldpa.control import Client
 
@@ -21,6 +25,7 @@ from patience import SECONDS, eventually
 from served import PROGRAM, REPOSITORY
 from wires import Peer, Wires, inside
 
+Stream = Union[IO[bytes], socket.socket]
 PYTHON = "/usr/bin/python3" if os.access("/usr/bin/python3", os.X_OK) else sys.executable
 LIVE = [PYTHON, str(REPOSITORY / "bin" / "lldpa-live")]
 on_links = unittest.skipUnless(os.geteuid() == 0 and shutil.which("ip"),
@@ -29,6 +34,20 @@ on_links = unittest.skipUnless(os.geteuid() == 0 and shutil.which("ip"),
 # what runs in the background of a shell, or by nohup, ignores these, and so would the bridge
 signal.signal(signal.SIGINT, signal.default_int_handler)
 signal.signal(signal.SIGHUP, lambda *_: None)
+
+
+def unread(stream: Stream) -> int:
+    """How many octets of a pipe or a socket were not read yet."""
+    octets = array.array("i", [0])
+    fcntl.ioctl(stream, termios.FIONREAD, octets)
+    return octets[0]
+
+
+def is_full(stream: Stream) -> bool:
+    """Whether no more comes into a pipe or a socket that nobody reads."""
+    before = unread(stream)
+    time.sleep(0.2)
+    return before == unread(stream) > 0
 
 
 class Live:

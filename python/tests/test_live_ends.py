@@ -2,18 +2,14 @@
 
 from __future__ import annotations
 
-import array
-import fcntl
 import os
 import signal
 import stat
 import subprocess
-import termios
 import time
 from pathlib import Path
-from typing import IO
 
-from bridged import PYTHON, OnLinks, on_links
+from bridged import PYTHON, OnLinks, is_full, on_links
 from patience import by_the_clock, eventually
 from served import PROGRAM, numbered
 
@@ -134,20 +130,6 @@ class TestEnds(OnLinks):
         self.assertIsNotNone(peer.hears(2, ttl=0))
         self.assertEqual(live.ends(2), 1)
         self.assertIn("ShowFault", live.errors())
-
-
-def unread(pipe: IO[bytes]) -> int:
-    """How many octets of a pipe were not read yet."""
-    octets = array.array("i", [0])
-    fcntl.ioctl(pipe, termios.FIONREAD, octets)
-    return octets[0]
-
-
-def is_full(pipe: IO[bytes]) -> bool:
-    """Whether no more comes into a pipe."""
-    before = unread(pipe)
-    time.sleep(0.2)
-    return before == unread(pipe) > 0
 
 
 def is_caught(pid: int, number: int) -> bool:

@@ -11,7 +11,7 @@ from pathlib import Path
 
 from lldpa.control import Client
 
-from bridged import Live, OnLinks, on_links
+from bridged import Live, OnLinks, is_full, on_links
 from patience import SECONDS, by_the_clock, eventually
 from served import numbered
 from wires import flood
@@ -152,6 +152,7 @@ class TestClients(OnLinks):
             with contextlib.suppress(BlockingIOError):
                 while True:
                     silent.send(b"show configuration\n" * 100)
+            self.assertTrue(eventually(lambda: is_full(silent)))
             clients = [stack.enter_context(Client(live.control)) for _ in range(63)]
             peer.send(numbered(1))
             wanted = "lldp.eth0.neighbors=1"
