@@ -10,7 +10,7 @@ import time
 from pathlib import Path
 
 from bridged import PYTHON, OnLinks, is_full, on_links
-from patience import by_the_clock, eventually
+from patience import Standstill, by_the_clock, eventually
 from served import PROGRAM, numbered
 
 
@@ -90,9 +90,13 @@ class TestEnds(OnLinks):
         told = live.seconds_told()
         os.kill(live.agent(), signal.SIGSTOP)
         self.assertTrue(eventually(lambda: live.seconds_told() > told))  # a second is not answered
-        live.signal(signal.SIGTERM)
-        self.assertEqual(live.ends(3), 1)
+        with Standstill() as standstill:
+            began = time.monotonic()
+            live.signal(signal.SIGTERM)
+            self.assertEqual(live.ends(), 1)
+            took = time.monotonic() - began
         self.assertIn("the agent does not answer", live.errors())
+        self.assertLess(took - standstill.overslept, 3)
 
     @by_the_clock
     def test_second_signal_ends_it_at_once(self) -> None:
