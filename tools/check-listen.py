@@ -5,8 +5,10 @@
 
 A client asks a question whose answer is written in several pieces, and asks again when it has read all of it. Each answer
 has to come at once: a program that does not set TCP_NODELAY keeps the last piece back until the one before it was
-acknowledged, some 40 milliseconds each time. The last line is `N passed, M failed`.
+acknowledged, some 40 milliseconds each time. Where too many are late while the machine stands still, that is said and all
+are asked again, at most twice. The last line is `N passed, M failed`.
 """
+import pathlib
 import socket
 import subprocess
 import sys
@@ -14,6 +16,11 @@ import time
 
 from compare import connected, free_port
 from model import COUNTERS
+
+TOP = pathlib.Path(__file__).resolve().parent.parent
+sys.dont_write_bytecode = True
+sys.path.insert(0, str(TOP / "python" / "tests"))
+from patience import NOTICEABLE, TRIES, Standstill  # noqa: E402
 
 PORTS = [f"p{place}" for place in range(64)]
 QUESTIONS = 100
@@ -50,16 +57,27 @@ def late_answers(client):
     return late
 
 
+def late_by_the_program(client):
+    """How many questions are answered late, without those tries in which the machine stood still."""
+    for left in reversed(range(TRIES)):
+        with Standstill() as standstill:
+            late = late_answers(client)
+            seconds = standstill.seconds()
+        print(f"of {QUESTIONS} questions over a connection {late} were answered late")
+        if late is None or late <= MOST_LATE or not left or seconds < NOTICEABLE:
+            return late
+        print(f"asked again, since the machine stood still for {seconds:.2f} s meanwhile")
+
+
 def main():
     number = free_port()
     words = [sys.argv[1], "--listen", number, "--receive-only", *PORTS]
     with subprocess.Popen(words, stdin=subprocess.DEVNULL) as program:
         client = connected(number, program)
         client.setsockopt(socket.IPPROTO_TCP, socket.TCP_NODELAY, 1)
-        late = late_answers(client)
+        late = late_by_the_program(client)
         client.close()
     is_soon = late is not None and late <= MOST_LATE
-    print(f"of {QUESTIONS} questions over a connection {late} were answered late")
     print("1 passed, 0 failed" if is_soon else "0 passed, 1 failed")
     return 0 if is_soon else 1
 

@@ -45,7 +45,7 @@ TYPED = (
 START = f"unsetopt zle_bracketed_paste; fpath=({TOP}/share/zsh $fpath); autoload -U compinit; compinit -u -D; PS1='re''ady> '\n"
 
 
-def read_until(terminal, wanted, seconds=10):
+def read_until(terminal, wanted, seconds=60):
     """What stands on the terminal, up to a text or for so many seconds."""
     text, end = "", time.monotonic() + seconds
     while wanted not in text and select.select([terminal], [], [], max(0, end - time.monotonic()))[0]:

@@ -197,7 +197,8 @@ tx eth0 $frame"
     ends 1 "lldpa: write failed" 'lldpa --version >&-'
     ends 1 "" 'echo tick | lldpa eth0 >&- 2>&-'
     ends 1 "lldpa: write failed" \
-        '{ sleep 0.5; echo tick; } | { lldpa eth0; echo $? > ended; } | :; sleep 1; exit "$(cat ended)"'
+        'mkfifo gone; { read -r _ < gone; echo tick; } | { lldpa eth0; echo $? > ended; } | { exec <&-; echo > gone; }
+        until [ -s ended ]; do sleep 0.1; done; exit "$(cat ended)"'
     if [ -c /dev/full ]; then
         ends 0 "" 'lldpa eth0 > /dev/full'
         ends 1 "lldpa: write failed" 'echo tick | lldpa eth0 > /dev/full'

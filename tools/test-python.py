@@ -1,6 +1,6 @@
 #!/usr/bin/env python3
 """Runs the tests of python/tests, as `python3 -m unittest discover python/tests` does, and counts them. Modules run
-beside one another, since most of their time is waiting.
+beside one another, since most of their time is waiting, but never more than there are processors.
 
     python3 tools/test-python.py [PROGRAM]
 
@@ -18,7 +18,7 @@ from typing import NamedTuple
 
 TOP = pathlib.Path(__file__).resolve().parent.parent
 TESTS = TOP / "python" / "tests"
-AT_ONCE = 3
+AT_ONCE = min(3, os.cpu_count() or 1)
 # what wants an answer within a tenth of a second has the processors for itself
 ALONE = ("test_live_flood",)
 

@@ -2,24 +2,30 @@
 
 from __future__ import annotations
 
+import array
 import contextlib
+import fcntl
 import os
 import queue
 import shutil
 import signal
+import socket
 import subprocess
 import sys
+import termios
 import threading
 import time
 import unittest
 from pathlib import Path
-from typing import Any, Optional, Sequence
+from typing import IO, Any, Optional, Sequence, Union
 
 from lldpa.control import Client
 
+from patience import SECONDS, eventually
 from served import PROGRAM, REPOSITORY
-from wires import Peer, Wires, eventually, inside
+from wires import Peer, Wires, inside
 
+Stream = Union[IO[bytes], socket.socket]
 PYTHON = "/usr/bin/python3" if os.access("/usr/bin/python3", os.X_OK) else sys.executable
 LIVE = [PYTHON, str(REPOSITORY / "bin" / "lldpa-live")]
 on_links = unittest.skipUnless(os.geteuid() == 0 and shutil.which("ip"),
@@ -28,6 +34,20 @@ on_links = unittest.skipUnless(os.geteuid() == 0 and shutil.which("ip"),
 # what runs in the background of a shell, or by nohup, ignores these, and so would the bridge
 signal.signal(signal.SIGINT, signal.default_int_handler)
 signal.signal(signal.SIGHUP, lambda *_: None)
+
+
+def unread(stream: Stream) -> int:
+    """How many octets of a pipe or a socket were not read yet."""
+    octets = array.array("i", [0])
+    fcntl.ioctl(stream, termios.FIONREAD, octets)
+    return octets[0]
+
+
+def is_full(stream: Stream) -> bool:
+    """Whether no more comes into a pipe or a socket that nobody reads."""
+    before = unread(stream)
+    time.sleep(0.2)
+    return before == unread(stream) > 0
 
 
 class Live:
@@ -46,7 +66,7 @@ class Live:
                 [*before, *LIVE, "--program", program, *own, *words], **{**streams, **options})
         if reads_output and self.process.stdout is not None:
             threading.Thread(target=self.read_output, daemon=True).start()
-        if awaits and not eventually(lambda: self.answers(), 10):
+        if awaits and not eventually(self.answers):
             raise AssertionError(f"no lldpa-live: {self.errors()}")
 
     def read_output(self) -> None:
@@ -80,7 +100,7 @@ class Live:
         """What it answers on standard output."""
         self.say(line)
         self.say("no such command")
-        return list(iter(lambda: self.lines.get(timeout=5), "error: unknown command"))
+        return list(iter(lambda: self.lines.get(timeout=SECONDS), "error: unknown command"))
 
     def neighbors(self, port: str = "eth0") -> int:
         """How many neighbors a port has."""
@@ -91,9 +111,13 @@ class Live:
         """What it has said on standard error."""
         return self.errors_path.read_text()
 
-    def says(self, text: str, seconds: float = 5) -> bool:
-        """Whether it says that on standard error within so many seconds."""
-        return bool(eventually(lambda: text in self.errors(), seconds))
+    def seconds_told(self) -> int:
+        """How many seconds its agent was told."""
+        return int(dict(line.split("=") for line in self.ask("bridge"))["bridge.seconds"])
+
+    def says(self, text: str) -> bool:
+        """Whether it comes to say that on standard error."""
+        return bool(eventually(lambda: text in self.errors()))
 
     def agent(self) -> int:
         """The process of its agent."""
@@ -104,7 +128,7 @@ class Live:
         """Sends it a signal."""
         self.process.send_signal(number)
 
-    def ends(self, seconds: float = 5) -> Optional[int]:
+    def ends(self, seconds: float = SECONDS) -> Optional[int]:
         """Its status, None if it does not end in time."""
         with contextlib.suppress(subprocess.TimeoutExpired):
             return self.process.wait(seconds)

@@ -9,7 +9,7 @@ import subprocess
 import unittest
 from dataclasses import fields
 from pathlib import Path
-from typing import List, Tuple
+from typing import List, Optional, Tuple
 from unittest import mock
 
 import lldpa
@@ -17,6 +17,7 @@ from lldpa.agent import LONGEST_LINE, MARK, MARK_ANSWER, Agent, Answers, Ended, 
 from lldpa.framing import command, ticks
 from lldpa.shown import Counters
 from made_captures import LLDP, OTHER
+from patience import eventually
 from support import DEFAULT_FRAME, PROGRAM, kill
 
 def started(*ports: str, **options: lldpa.agent.Option) -> Agent:
@@ -193,17 +194,15 @@ class Listening(unittest.TestCase):
         self.process = subprocess.Popen([*words, "eth0"])
         self.addCleanup(self.process.wait)
         self.addCleanup(self.process.kill)
-        self.first = self.connected()
+        self.first = eventually(self.connected)
         self.addCleanup(self.first.close)
 
-    def connected(self) -> Agent:
-        """An agent, as soon as it listens."""
-        for _ in range(200):
-            try:
-                return Agent.connect(self.number)
-            except ConnectionRefusedError:
-                signal.sigtimedwait([], 0.02)
-        raise TimeoutError
+    def connected(self) -> Optional[Agent]:
+        """An agent, if it listens."""
+        try:
+            return Agent.connect(self.number)
+        except ConnectionRefusedError:
+            return None
 
     def test_what_one_client_tells_the_next_one_is_shown(self) -> None:
         self.first.frame("eth0", LLDP)

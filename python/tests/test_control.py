@@ -10,12 +10,12 @@ import socket
 import threading
 import time
 import unittest
-from typing import Any
 from unittest import mock
 
 from lldpa import Refused, read_show
 from lldpa import control
 from lldpa.control import Gone
+from patience import eventually
 from served import Served, numbered, tlv
 
 ORGANIZATIONAL = [tlv(127, bytes([0, 1, 2, kind]) + bytes(500)) for kind in range(2)]
@@ -32,16 +32,6 @@ def rest_of(connection: socket.socket) -> bytes:
         if not more:
             return octets
         octets += more
-
-
-def eventually(holds: Any, seconds: float = 5) -> bool:
-    """Whether something comes to hold in time."""
-    end = time.monotonic() + seconds
-    while not holds():
-        if time.monotonic() > end:
-            return False
-        time.sleep(0.01)
-    return True
 
 
 class Answered(unittest.TestCase):
@@ -153,16 +143,22 @@ class Clients(Answered):
 
     def test_nobody_waits_for_a_client_that_never_reads(self) -> None:
         self.fill()
-        with mock.patch.object(control, "SECONDS_TO_READ", 2.0):
-            lazy = self.raw()
-            lazy.sendall(b"show neighbors\n" * 100)
+        with mock.patch.object(control, "SECONDS_TO_READ", 600.0):
+            self.raw().sendall(b"show neighbors\n" * 100)
             self.assertTrue(eventually(lambda: self.served.server.unread))
-            began = time.monotonic()
             with self.served.client() as client:
                 for _ in range(10):
                     self.assertEqual(len(client.ask("show chassis")), 4)
-            self.assertLess(time.monotonic() - began, 1)
             self.assertTrue(eventually(lambda: len(self.served.server.unread) == 1))
+        self.assertEqual(self.served.asked.count(b"show neighbors"), 1)
+
+    def test_a_client_that_never_reads_is_ended(self) -> None:
+        self.fill()
+        with mock.patch.object(control, "SECONDS_TO_READ", 1.5):
+            began = time.monotonic()
+            lazy = self.raw()
+            lazy.sendall(b"show neighbors\n" * 100)
+            self.assertTrue(eventually(lambda: self.served.server.unread))
             self.assertTrue(eventually(lambda: not self.served.server.clients))
             self.assertGreater(time.monotonic() - began, 1.5)
             answer = rest_of(lazy)

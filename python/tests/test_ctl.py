@@ -17,6 +17,7 @@ import time
 import unittest
 
 from lldpa.control import Client
+from patience import SECONDS, by_the_clock, mostly
 from served import BRIDGE_LINES, CTL, Served, frame, numbered, tlv
 
 HOSTILE = b"\x1b[31m\r\n\x9b2J\x07"
@@ -143,6 +144,10 @@ class Answers(Program):
 class Watching(Program):
     """lldpa-ctl watch."""
 
+    def setUp(self) -> None:
+        super().setUp()
+        self.times: list[float] = []
+
     def watch(self, *words: str) -> subprocess.Popen[str]:
         """A watch that has begun."""
         words = (CTL, "--control", self.served.path, *words, "watch")
@@ -156,11 +161,14 @@ class Watching(Program):
         return child
 
     def line(self, child: subprocess.Popen[str]) -> str:
-        """Its next line, which has to come within a second."""
+        """Its next line; how long it took to come is noted."""
         assert child.stdout is not None
-        self.assertTrue(select.select([child.stdout], [], [], 1)[0], "nothing within a second")
+        began = time.monotonic()
+        self.assertTrue(select.select([child.stdout], [], [], SECONDS)[0], "no line")
+        self.times.append(time.monotonic() - began)
         return child.stdout.readline()
 
+    @by_the_clock
     def test_a_line_for_each_that_comes_changes_or_goes(self) -> None:
         self.served.frame("eth1", numbered(1))
         child = self.watch()
@@ -177,6 +185,7 @@ class Watching(Program):
         self.assertFalse(select.select([child.stdout], [], [], 1.2)[0], "nothing was new")
         self.served.call(self.served.agent.tick(90))
         self.assertRegex(self.line(child), rf"^{TIME} eth0 gone: b p2\n$")
+        self.assertLess(mostly(self.times), 1)
 
     def test_as_json(self) -> None:
         child = self.watch("--json")
@@ -193,7 +202,7 @@ class Watching(Program):
         self.served.asked.clear()
         child = self.watch()
         self.served.call(self.served.server.close())
-        said = child.communicate(timeout=5)
+        said = child.communicate(timeout=SECONDS)
         self.assertEqual((said, child.returncode),
                          (("", "lldpa-ctl: the bridge has ended the connection\n"), 1))
         self.served.call(self.served.server.start())

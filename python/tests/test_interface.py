@@ -2,14 +2,16 @@
 
 from __future__ import annotations
 
+import select
 import time
 
-from lldpa.interface import LONGEST_FRAME, Interface
+from lldpa.interface import LONGEST_FRAME, Frame, Interface
 from lldpa.links import Links
 
-from served import numbered
 from bridged import OnLinks, on_links
-from wires import eventually, inside, ip
+from patience import SECONDS, eventually
+from served import numbered
+from wires import inside, ip
 
 
 @on_links
@@ -32,39 +34,44 @@ class TestInterface(OnLinks):
             links.close()
         return found[name]
 
-    def takes(self, octets: bytes) -> bool:
-        """Whether a frame from the other end is taken; it must then be whole."""
+    def takes(self, octets: bytes, seconds: float = SECONDS) -> bool:
+        """Whether a frame from the other end is taken in time; it must then be whole."""
         self.sender.send(octets)
-        time.sleep(0.05)
-        taken = [frame.octets for frame in self.interface.read(10)]
+        taken = [frame.octets for frame in eventually(lambda: self.interface.read(10), seconds)]
         self.assertIn(taken, ([], [octets]))
         return bool(taken)
+
+    def refuses(self, octets: bytes) -> bool:
+        """Whether a frame from the other end is not taken, although it would be there by now."""
+        return not self.takes(octets, 0.05)
 
     def test_what_is_taken(self) -> None:
         self.interface.take(self.number)
         frame = numbered(1)
         self.assertTrue(self.takes(frame))
         self.assertTrue(self.takes(frame.ljust(LONGEST_FRAME, b"\0")))
-        self.assertFalse(self.takes(frame[:12] + bytes.fromhex("81000005") + frame[12:]), "a tag")
-        self.assertFalse(self.takes(frame[:12] + bytes.fromhex("88a80005") + frame[12:]), "a tag")
-        self.assertFalse(self.takes(bytes.fromhex("0180c2000003") + frame[6:]), "another group")
-        self.assertFalse(self.takes(frame[:12] + b"\x08\x00" + frame[14:]), "no LLDP")
+        self.assertTrue(self.refuses(frame[:12] + bytes.fromhex("81000005") + frame[12:]), "a tag")
+        self.assertTrue(self.refuses(frame[:12] + bytes.fromhex("88a80005") + frame[12:]), "a tag")
+        self.assertTrue(self.refuses(bytes.fromhex("0180c2000003") + frame[6:]), "another group")
+        self.assertTrue(self.refuses(frame[:12] + b"\x08\x00" + frame[14:]), "no LLDP")
         self.wires.set_link("peer0", "mtu", "9000")
         self.wires.set_link("eth0", "mtu", "9000")
-        self.assertFalse(self.takes(frame.ljust(LONGEST_FRAME + 1, b"\0")), "too long")
+        self.assertTrue(self.refuses(frame.ljust(LONGEST_FRAME + 1, b"\0")), "too long")
+        self.assertTrue(self.takes(frame))
 
     def test_what_this_host_sends_is_not_taken(self) -> None:
         self.interface.take(self.number)
         self.interface.send(numbered(1))
         self.peer("eth0").send(numbered(2))
-        self.assertIsNotNone(self.sender.hears(1))
-        self.assertIsNotNone(self.sender.hears(1))
+        self.assertIsNotNone(self.sender.hears())
+        self.assertIsNotNone(self.sender.hears())
         self.assertEqual(self.interface.read(10), [])
 
     def test_frames_have_the_time_of_their_coming(self) -> None:
         self.interface.take(self.number)
         before = time.time()
         self.sender.send(numbered(1))
+        self.assertTrue(select.select([self.interface.socket], [], [], SECONDS)[0])
         after = time.time()
         time.sleep(0.3)
         stamp = self.interface.read(1)[0].stamp
@@ -72,19 +79,20 @@ class TestInterface(OnLinks):
 
     def test_so_many_at_most_are_read(self) -> None:
         self.interface.take(self.number)
+        another = self.peer("eth0")
         for number in range(5):
             self.sender.send(numbered(number))
-        time.sleep(0.1)
+        self.assertTrue(all(another.hears() for _ in range(5)))  # the same frames, later than it
         self.assertEqual([len(self.interface.read(3)), self.interface.has_more], [3, True])
         self.assertEqual([len(self.interface.read(3)), self.interface.has_more], [2, False])
 
     def test_nothing_is_taken_before_and_behind(self) -> None:
-        self.assertFalse(self.takes(numbered(1)))
+        self.assertTrue(self.refuses(numbered(1)))
         self.assertRaises(OSError, self.interface.send, numbered(1))
         self.interface.take(self.number)
         self.assertTrue(self.takes(numbered(2)))
         self.interface.release()
-        self.assertFalse(self.takes(numbered(3)))
+        self.assertTrue(self.refuses(numbered(3)))
         self.assertRaises(OSError, self.interface.send, numbered(1))
 
     def test_interface_that_came_back_is_taken(self) -> None:
@@ -94,7 +102,7 @@ class TestInterface(OnLinks):
         self.wires.add_link(0)
         self.interface.take(self.number_of("eth0"))
         self.sender = self.peer()
-        self.assertTrue(eventually(lambda: self.takes(numbered(1))))
+        self.assertTrue(self.takes(numbered(1)))
 
     def test_interface_in_a_bridge_is_heard(self) -> None:
         ip("-n", self.wires.here, "link", "add", "br0", "type", "bridge")
@@ -107,10 +115,13 @@ class TestInterface(OnLinks):
         self.interface.take(self.number)
         for _ in range(20_000):
             self.sender.send(numbered(1))
-        time.sleep(0.1)
-        read = 0
-        while frames := self.interface.read(1000):
-            read += len(frames)
-        self.interface.count_drops()
-        self.assertEqual(read + self.interface.drops, 20_000)
+        read: list[Frame] = []
+
+        def sum_of_both() -> int:
+            read.extend(self.interface.read(1000))
+            self.interface.count_drops()
+            return len(read) + self.interface.drops
+
+        eventually(lambda: sum_of_both() >= 20_000)
+        self.assertEqual(sum_of_both(), 20_000)
         self.assertGreater(self.interface.drops, 0)

@@ -10,7 +10,8 @@ from lldpa.links import Links, News
 from lldpa.ports import parted
 
 from bridged import OnLinks, on_links
-from wires import eventually, inside, ip
+from patience import eventually
+from wires import inside, ip
 
 
 @on_links

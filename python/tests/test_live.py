@@ -12,15 +12,16 @@ import unittest
 
 from lldpa.commands.live import options_of, the_parser, words_given
 
-from served import PROGRAM, numbered, tlv
 from bridged import LIVE, OnLinks, on_links
-from wires import eventually, inside
+from patience import SECONDS, eventually
+from served import PROGRAM, numbered, tlv
+from wires import inside
 
 
 def run(*words: str) -> "subprocess.CompletedProcess[str]":
     """Runs it without input."""
     return subprocess.run([*LIVE, "--program", PROGRAM, *words], stdin=subprocess.DEVNULL,
-                          capture_output=True, text=True, timeout=20)
+                          capture_output=True, text=True, timeout=SECONDS)
 
 
 class TestWords(unittest.TestCase):
@@ -135,7 +136,7 @@ class TestTerminal(OnLinks):
     def read(self, until: str) -> str:
         """What stands on the terminal, up to a text."""
         text = ""
-        while until not in text and select.select([self.ours], [], [], 5)[0]:
+        while until not in text and select.select([self.ours], [], [], SECONDS)[0]:
             text += os.read(self.ours, 4096).decode()
         return text
 

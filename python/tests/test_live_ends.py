@@ -9,23 +9,23 @@ import subprocess
 import time
 from pathlib import Path
 
+from bridged import PYTHON, OnLinks, is_full, on_links
+from patience import Standstill, by_the_clock, eventually
 from served import PROGRAM, numbered
-from bridged import PYTHON, OnLinks, on_links
-from wires import eventually
 
 
 @on_links
 class TestEnds(OnLinks):
     """Each end takes leave of the peers, soon."""
 
+    @by_the_clock
     def test_each_signal_sends_shutdown_frames(self) -> None:
         for number in (signal.SIGINT, signal.SIGTERM, signal.SIGHUP):
-            with self.subTest(number):
-                live, peer = self.live("--stay", "eth0"), self.peer()
-                self.assertIsNotNone(peer.hears())
-                live.signal(number)
-                self.assertIsNotNone(peer.hears(2, ttl=0), live.errors())
-                self.assertEqual(live.ends(2), 0)
+            peer, live = self.peer(), self.live("--stay", "eth0")
+            self.assertIsNotNone(peer.hears(), number)
+            live.signal(number)
+            self.assertIsNotNone(peer.hears(2, ttl=0), (number, live.errors()))
+            self.assertEqual(live.ends(2), 0, number)
 
     def test_by_nohup_it_goes_on(self) -> None:
         live = self.live("eth0", preexec_fn=lambda: signal.signal(signal.SIGHUP, signal.SIG_IGN))
@@ -33,8 +33,9 @@ class TestEnds(OnLinks):
         time.sleep(0.3)
         self.assertTrue(live.ask_quietly())
 
+    @by_the_clock
     def test_end_of_input_sends_a_shutdown_frame(self) -> None:
-        live, peer = self.live("eth0"), self.peer()
+        peer, live = self.peer(), self.live("eth0")
         self.assertIsNotNone(peer.hears())
         live.process.stdin.close()
         self.assertIsNotNone(peer.hears(2, ttl=0))
@@ -48,17 +49,19 @@ class TestEnds(OnLinks):
             self.assertIsNone(live.process.poll())
             self.assertTrue(live.answers())
 
+    @by_the_clock
     def test_output_that_nobody_reads_does_not_hold_the_end(self) -> None:
-        live, peer = self.live("eth0", reads_output=False), self.peer()
+        peer, live = self.peer(), self.live("eth0", reads_output=False)
         self.assertIsNotNone(peer.hears())
         for _ in range(2000):
             live.say("show configuration")
-        time.sleep(0.5)
+        self.assertTrue(eventually(lambda: is_full(live.process.stdout)))
         self.assertTrue(live.answers())
         live.signal(signal.SIGTERM)
         self.assertIsNotNone(peer.hears(2, ttl=0))
         self.assertEqual(live.ends(2), 0)
 
+    @by_the_clock
     def test_errors_that_nobody_reads_do_not_hold_the_end(self) -> None:
         reading, writing = os.pipe()
         os.set_blocking(writing, False)
@@ -71,6 +74,7 @@ class TestEnds(OnLinks):
         os.close(reading)
         os.close(writing)
 
+    @by_the_clock
     def test_output_that_was_closed_ends_nothing(self) -> None:
         live = self.live("eth0", reads_output=False)
         live.process.stdout.close()
@@ -80,24 +84,32 @@ class TestEnds(OnLinks):
         live.signal(signal.SIGTERM)
         self.assertEqual(live.ends(2), 0)
 
+    @by_the_clock
     def test_stopped_agent_does_not_hold_the_end(self) -> None:
         live = self.live("eth0")
+        told = live.seconds_told()
         os.kill(live.agent(), signal.SIGSTOP)
-        time.sleep(1.2)
-        live.signal(signal.SIGTERM)
-        self.assertEqual(live.ends(3), 1)
+        self.assertTrue(eventually(lambda: live.seconds_told() > told))  # a second is not answered
+        with Standstill() as standstill:
+            began = time.monotonic()
+            live.signal(signal.SIGTERM)
+            self.assertEqual(live.ends(), 1)
+            took = time.monotonic() - began
         self.assertIn("the agent does not answer", live.errors())
+        self.assertLess(took - standstill.overslept, 3)
 
+    @by_the_clock
     def test_second_signal_ends_it_at_once(self) -> None:
         live = self.live("eth0")
         agent = live.agent()
         self.addCleanup(os.kill, agent, signal.SIGKILL)
         os.kill(agent, signal.SIGSTOP)
         live.signal(signal.SIGTERM)
-        time.sleep(0.2)
+        self.assertTrue(eventually(lambda: not is_caught(live.process.pid, signal.SIGTERM)))
         live.signal(signal.SIGTERM)
         self.assertEqual(live.ends(0.5), -signal.SIGTERM)
 
+    @by_the_clock
     def test_killed_agent_is_told(self) -> None:
         live = self.live("eth0")
         os.kill(live.agent(), signal.SIGKILL)
@@ -109,18 +121,26 @@ class TestEnds(OnLinks):
         self.assertEqual(live.ends(), 1)
         self.assertIn("--max-neighbors", live.errors())
 
+    @by_the_clock
     def test_fault_does_not_end_it_without_shutdown_frames(self) -> None:
         wrapped = Path(self.wires.folder, "lldpa")
         wrong = "sed -u 's/^lldp.eth0.neighbors=/nonsense/'"
         wrapped.write_text(f"#!/bin/sh\n{PROGRAM} \"$@\" | {wrong}\n")
         wrapped.chmod(0o755)
         Path(self.wires.folder).chmod(0o755)
-        live, peer = self.live("eth0", program=str(wrapped)), self.peer()
+        peer, live = self.peer(), self.live("eth0", program=str(wrapped))
         self.assertIsNotNone(peer.hears())
         live.say("neighbors")
         self.assertIsNotNone(peer.hears(2, ttl=0))
         self.assertEqual(live.ends(2), 1)
         self.assertIn("ShowFault", live.errors())
+
+
+def is_caught(pid: int, number: int) -> bool:
+    """Whether a process does something of its own at a signal."""
+    status = Path(f"/proc/{pid}/status").read_text()
+    caught = next(line for line in status.splitlines() if line.startswith("SigCgt:"))
+    return bool(int(caught.split()[1], 16) >> number - 1 & 1)
 
 
 def write_some(number: int) -> bool:

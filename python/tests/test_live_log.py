@@ -9,9 +9,10 @@ import time
 from datetime import datetime, timezone
 from pathlib import Path
 
-from served import PROGRAM, numbered
 from bridged import Live, OnLinks, on_links
-from wires import Peer, eventually, flood, inside
+from patience import by_the_clock, eventually
+from served import PROGRAM, numbered
+from wires import Peer, flood, inside
 
 CLOCK = re.compile(r"# \d{4}-\d\d-\d\dT\d\d:\d\d:\d\dZ")
 
@@ -28,6 +29,7 @@ class TestLog(OnLinks):
         """The files of the folder, oldest first."""
         return sorted(self.folder.iterdir(), key=lambda path: path.stat().st_mtime_ns)
 
+    @by_the_clock
     def test_replay_gives_the_session_to_the_octet(self) -> None:
         tee = Path(self.wires.folder, "tee")
         answers = Path(self.wires.folder, "answers")
@@ -38,33 +40,36 @@ class TestLog(OnLinks):
         Path(self.wires.folder).chmod(0o755)
         live = self.live("--log", str(self.folder), "eth0", "--", "--role", "router",
                          program=str(tee))
-        peer = self.peer()
-        self.live_a_little(live, peer)
+        self.live_a_little(live, self.peer())
         live.process.stdin.close()
         self.assertEqual(live.ends(), 0)
         log = self.logs()[0].read_bytes()
         words = log.splitlines()[0].decode().removeprefix("# lldpa ")
         replay = subprocess.run(f"{PROGRAM} {words}", shell=True, input=log, capture_output=True)
-        session = answers.read_bytes().replace(b"error: line too long\n", b"")
+        told = lambda: answers.read_bytes().replace(b"error: line too long\n", b"")
+        eventually(lambda: len(told()) >= len(replay.stdout))
+        session = told()
         self.assertEqual(replay.stdout, session)
         self.assertIn(b"lldp.eth0.neighbors=2\n", session)
         self.assertGreaterEqual(session.count(b"tx eth0 "), 2)
 
     def live_a_little(self, live: Live, peer: Peer) -> None:
         """Frames, questions, refused lines, links, seconds that were missed."""
-        peer.send(numbered(1))
-        peer.send(numbered(2, ttl=1))
-        self.assertTrue(eventually(lambda: live.neighbors() == 2))
+        for frame in (numbered(1), numbered(2), numbered(3, ttl=1)):
+            peer.send(frame)
+        self.assertTrue(eventually(lambda: "lldp.eth0.ageouts=1" in live.ask("show statistics")))
+        self.assertEqual(live.neighbors(), 2)
         for line in ("show statistics", "configure lldp tx-hold 7", "nonsense", "# a remark",
                      "update"):
             live.say(line)
         self.wires.set_link("eth0", "down")
         self.assertTrue(eventually(lambda: "bridge.eth0.link=down" in live.ask("bridge")))
         self.wires.set_link("eth0", "up")
+        told = live.seconds_told()
         live.signal(signal.SIGSTOP)
         time.sleep(2.1)
         live.signal(signal.SIGCONT)
-        time.sleep(1)
+        self.assertTrue(eventually(lambda: live.seconds_told() > told + 2))
         live.told("show neighbors")
 
     def test_each_session_has_a_file_of_its_own(self) -> None:
@@ -77,7 +82,9 @@ class TestLog(OnLinks):
             self.assertRegex(path.name, r"^\d{8}T\d{6}Z(-\d)?\.trace$")
             self.assertTrue(path.read_text().startswith("# lldpa --"))
 
+    @by_the_clock
     def test_clock_stands_before_what_came_in_its_second(self) -> None:
+        began = time.time()
         live, peer = self.live("--log", str(self.folder), "eth0"), self.peer()
         for number in range(4):
             peer.send(numbered(number))
@@ -88,17 +95,20 @@ class TestLog(OnLinks):
         self.assertEqual(len(set(clocks)), len(clocks))
         self.assertGreaterEqual(len(clocks), 2)
         first = datetime.strptime(clocks[0], "# %Y-%m-%dT%H:%M:%SZ").replace(tzinfo=timezone.utc)
-        self.assertLess(abs(first.timestamp() - time.time()), 10)
+        self.assertTrue(began - 1.1 < first.timestamp() < time.time() + 0.1)
         self.assertRegex(lines[1], CLOCK)
 
     def test_log_ends_at_its_size_and_the_bridge_goes_on(self) -> None:
         live = self.live("--log", str(self.folder), "--log-most", "1", "eth0",
                          "--", "--receive-only")
         frames = [numbered(number).ljust(1500, b"\0") for number in range(100)]
-        for _ in range(10):
+        text = "ends, the bridge goes on: it has reached its size (--log-most)"
+
+        def ends_by_frames() -> bool:
             flood(self.wires, "peer0", frames, 100).wait()
-            time.sleep(0.1)
-        self.assertTrue(live.says("ends, the bridge goes on: it has reached its size (--log-most)"))
+            return text in live.errors()
+
+        self.assertTrue(eventually(ends_by_frames))
         log = self.logs()[0].read_bytes()
         self.assertLessEqual(len(log), 1_000_000)
         self.assertGreater(len(log), 100_000)
@@ -108,11 +118,12 @@ class TestLog(OnLinks):
         self.assertGreater(live.neighbors(), 0)
         self.assertEqual(live.errors().count("ends, the bridge goes on"), 1)
 
+    @by_the_clock
     def test_full_device_ends_the_log_and_not_the_bridge(self) -> None:
         self.folder.mkdir()
         subprocess.run(["mount", "-t", "tmpfs", "-o", "size=64k", "none", self.folder], check=True)
         self.addCleanup(subprocess.run, ["umount", "-l", str(self.folder)], check=True)
-        live, peer = self.live("--log", str(self.folder), "eth0"), self.peer()
+        peer, live = self.peer(), self.live("--log", str(self.folder), "eth0")
         self.assertIsNotNone(peer.hears())
         for number in range(60):
             peer.send(numbered(number).ljust(1500, b"\0"))
@@ -136,9 +147,10 @@ class TestOnce(OnLinks):
 
     links = 2
 
+    @by_the_clock
     def test_table_of_all_that_were_awaited(self) -> None:
-        live = self.live("--once", "20", "eth0", "eth1", awaits=False, reads_output=False)
         peers = [self.peer("peer0"), self.peer("peer1")]
+        live = self.live("--once", "60", "eth0", "eth1", awaits=False, reads_output=False)
         for peer, number in zip(peers, (1, 2)):
             self.assertIsNotNone(peer.hears())
             peer.send(numbered(number))
@@ -148,10 +160,14 @@ class TestOnce(OnLinks):
         self.assertIsNotNone(peers[0].hears(1, ttl=0))
 
     def test_status_tells_that_one_was_missing(self) -> None:
-        live = self.live("--once", "1", "eth0", "eth1", awaits=False, reads_output=False)
         peer = self.peer("peer1")
-        self.assertIsNotNone(peer.hears())
-        peer.send(numbered(1))
+        live = self.live("--once", "1", "eth0", "eth1", awaits=False, reads_output=False)
+
+        def ends_while_frames_come() -> bool:
+            peer.send(numbered(1))
+            return live.process.poll() is not None
+
+        self.assertTrue(eventually(ends_while_frames_come))
         self.assertEqual(live.ends(), 1)
         self.assertIn("1 neighbor on 2 ports", live.process.stdout.read().decode())
 
@@ -174,9 +190,10 @@ class TestConnect(OnLinks):
         with inside(self.wires.here):
             return subprocess.run(["ss", "-tln"], capture_output=True, text=True).stdout
 
+    @by_the_clock
     def test_listening_agent_is_taken_and_kept(self) -> None:
         self.listener(2)
-        first, peer = self.live("--connect", "4711", "eth0"), self.peer()
+        peer, first = self.peer(), self.live("--connect", "4711", "eth0")
         peer.send(numbered(1))
         self.assertTrue(eventually(first.neighbors))
         self.assertIsNotNone(peer.hears())
@@ -187,6 +204,7 @@ class TestConnect(OnLinks):
         second.ask("configure ports eth0 lldp status rx-and-tx")
         self.assertIsNotNone(peer.hears())
 
+    @by_the_clock
     def test_second_client_says_why_it_does_not_come_in(self) -> None:
         self.listener(2)
         self.live("--connect", "4711", "eth0")
@@ -194,6 +212,7 @@ class TestConnect(OnLinks):
         self.assertEqual(second.ends(8), 1)
         self.assertIn("another client may be connected to it", second.errors())
 
+    @by_the_clock
     def test_agent_of_other_ports_is_told(self) -> None:
         self.listener(1)
         live = self.live("--connect", "4711", "eth1")

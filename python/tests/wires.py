@@ -11,7 +11,9 @@ import subprocess
 import sys
 import tempfile
 import time
-from typing import Any, Callable, Iterator, Optional
+from typing import Iterator, Optional
+
+from patience import SECONDS, eventually
 
 CLONE_NEWNET = 0x40000000
 
@@ -19,14 +21,6 @@ CLONE_NEWNET = 0x40000000
 def ip(*words: str) -> None:
     """Runs ip."""
     subprocess.run(["ip", *words], check=True, capture_output=True)
-
-
-def eventually(holds: Callable[[], Any], seconds: float = 5) -> Any:
-    """What the condition gives once it holds, or after so many seconds."""
-    last = time.monotonic() + seconds
-    while not (found := holds()) and time.monotonic() < last:
-        time.sleep(0.02)
-    return found
 
 
 @contextlib.contextmanager
@@ -128,7 +122,7 @@ class Peer:
         """Sends a frame."""
         self.socket.send(octets)
 
-    def hears(self, seconds: float = 5, ttl: Optional[int] = None) -> Optional[bytes]:
+    def hears(self, seconds: float = SECONDS, ttl: Optional[int] = None) -> Optional[bytes]:
         """The next frame, or the next that gives this time to live; None if none comes."""
         last = time.monotonic() + seconds
         while (left := last - time.monotonic()) > 0:

@@ -1,0 +1,91 @@
+"""Which tests are run again, and how often."""
+
+from __future__ import annotations
+
+import contextlib
+import io
+import unittest
+from typing import Sequence
+from unittest import mock
+
+from patience import TRIES, Standstill, by_the_clock, eventually, mostly, stolen
+
+
+class Tried(unittest.TestCase):
+    """A test that fails so often, while the machine stands still for so long each time."""
+
+    def ran(self, standstills: Sequence[float], failures: int) -> "tuple[bool, list[str], str]":
+        """Whether it passes in the end, what is done in turn, and what is printed."""
+        done: list[str] = []
+
+        class Case(unittest.TestCase):
+            def setUp(self) -> None:
+                done.append("begin")
+                self.addCleanup(done.append, "end")
+
+            @by_the_clock
+            def test(self) -> None:
+                self.assertGreater(done.count("begin"), failures)
+
+        with mock.patch.object(Standstill, "seconds", side_effect=list(standstills)), \
+                contextlib.redirect_stdout(io.StringIO()) as said:
+            result = Case("test").run()
+        assert result is not None
+        return result.wasSuccessful(), done, said.getvalue()
+
+    def test_what_passes_is_run_once(self) -> None:
+        self.assertEqual(self.ran([], 0), (True, ["begin", "end"], ""))
+
+    def test_without_a_standstill_a_failure_is_one_at_once(self) -> None:
+        self.assertEqual(self.ran([0.04], 1), (False, ["begin", "end"], ""))
+
+    def test_a_failure_in_a_standstill_is_run_again_and_told(self) -> None:
+        is_passed, done, said = self.ran([0.05, 1.97], 1)
+        self.assertEqual((is_passed, done), (True, ["begin", "end"] * 2))
+        self.assertRegex(said, r"^run again, since the machine stood still for 1\.97 s meanwhile: "
+                               r".*\.Case\.test: AssertionError\(")
+
+    def test_what_always_fails_fails(self) -> None:
+        is_passed, done, said = self.ran([9.0] * 2 * TRIES, TRIES)
+        self.assertEqual((is_passed, done), (False, ["begin", "end"] * TRIES))
+        self.assertEqual(said.count("run again"), TRIES - 1)
+
+
+class Measured(unittest.TestCase):
+    """What counts as a standstill."""
+
+    def test_naps_count_that_take_more_than_twice_their_time(self) -> None:
+        standstill = Standstill()
+        standstill.overslept, standstill.stolen_before = 0.0, 5.0
+        standstill.is_over = mock.Mock(is_set=mock.Mock(side_effect=[False, False, False, True]))
+        moments = (0.0, 0.015, 1.0, 1.03, 2.0, 3.01)
+        with mock.patch("time.monotonic", side_effect=moments), mock.patch("time.sleep"):
+            standstill.nap()
+        with mock.patch("patience.stolen", return_value=5.5):
+            self.assertAlmostEqual(standstill.seconds(), 0.02 + 1.0 + 0.5)
+
+    def test_what_is_stolen_only_grows(self) -> None:
+        with Standstill() as standstill:
+            self.assertGreaterEqual(stolen(), standstill.stolen_before)
+            self.assertGreaterEqual(standstill.stolen_before, 0)
+
+
+class Mostly(unittest.TestCase):
+    """The times that count where some may be the machine's."""
+
+    def test_half_of_them_may_be_long(self) -> None:
+        for times, time in (([3, 9, 1], 3), ([9, 1, 9, 1], 1), ([9, 2, 9], 9), ([4], 4)):
+            self.assertEqual(mostly(times), time)
+
+
+class Awaited(unittest.TestCase):
+    """What is waited for."""
+
+    def test_it_ends_once_it_holds_and_not_later_than_it_is_to(self) -> None:
+        values = iter((0, "", 7, 8))
+        self.assertEqual(eventually(lambda: next(values)), 7)
+        self.assertEqual(eventually(lambda: [], 0.01), [])
+
+
+if __name__ == "__main__":
+    unittest.main()
