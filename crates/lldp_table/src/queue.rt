@@ -6,6 +6,7 @@ ghost use Rattle.lldp_table.specs.Code.Queue.{due, dues, holds, ticks_left, put,
 use crate::limits::MOST_NEIGHBORS;
 use crate::times::{Times, lefts_in};
 use arrayvec::ArrayVec;
+use memchr::memchr;
 use std::marker::Model;
 
 /// The place of a slot among these.
@@ -14,12 +15,10 @@ pub(crate) fn place_in(slots: &[u8], slot: u8) -> usize
     ensures within { result < length slots.now }
     ensures there { slice_index slots.now result ≡ slot }
 {
-    for (at, here) in slots.iter().enumerate() {
-        if *here == slot {
-            return at;
-        }
+    match memchr(slot, slots) {
+        Some(at) => at,
+        None => unreachable!(),
     }
-    unreachable!()
 }
 
 /// The place at which a neighbor with so many ticks left enters, and the difference that it has
