@@ -1,5 +1,5 @@
 //! Laws of the definitions, for every list of octets.
-ghost use Rattle.std.specs.Prelude.{◌≡◌, ℕ, ◌<◌, ◌≤◌, ◌↔◌, List, ◌++◌, length, map, Some, None};
+ghost use Rattle.std.specs.Prelude.{◌≡◌, ℕ, true, ◌<◌, ◌≤◌, ◌↔◌, List, ◌++◌, length, map, Some, None};
 ghost use Rattle.std.specs.Iterator.{YieldsThen};
 ghost use Rattle.lldp_pdu.specs.declared.tlv.Tlv.{Tlv};
 ghost use Rattle.lldp_pdu.specs.Tlv.{TlvUnit, AreOctets};
@@ -12,6 +12,8 @@ ghost use Rattle.lldp_pdu.specs.Draft.{Draft, CanPut, CanBuild, IsReadBack, put_
 ghost use Rattle.lldp_pdu.specs.ManagementAddress.{Address, address_of, IsSpelled};
 ghost use Rattle.lldp_pdu.specs.Frame.{nearest_bridge, lldp_ethertype, lldpdu_of};
 ghost use Rattle.lldp_pdu.specs.FrameForm.{HasForm};
+ghost use Rattle.lldp_pdu.specs.WellFormed.{is_well_formed};
+ghost use Rattle.lldp_pdu.specs.declared.frame.TheConstants.{MOST_OCTETS};
 ghost use Rattle.lldp_pdu.specs.declared.tlv_type.TheConstants as code;
 ghost use Rattle.lldp_pdu.specs.TlvType as standard;
 
@@ -87,4 +89,17 @@ pub fn tlv_types_are_the_standards()
     ensures reserved { code.FIRST_RESERVED ≡ standard.first_reserved_type }
     ensures specific { code.ORGANIZATIONALLY_SPECIFIC
         ≡ standard.organizationally_specific_type }
+{}
+
+/// The body of an End Of LLDPDU, and that of a reserved type, 9 to 126, is well formed whatever it
+/// holds.
+pub fn reserved_bodies_are_well_formed()
+    ensures end { (body : List ℕ) → is_well_formed (record { kind = 0; body = body }) ≡ true }
+    ensures reserved { (kind : ℕ) (body : List ℕ) → 9 ≤ kind → kind ≤ 126 →
+        is_well_formed (record { kind = kind; body = body }) ≡ true }
+{}
+
+/// An LLDPDU that is built has at most 1,500 octets.
+pub fn lldpdus_have_at_most_1500_octets()
+    ensures { MOST_OCTETS ≡ 1500 }
 {}

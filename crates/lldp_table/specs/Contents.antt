@@ -7,7 +7,6 @@ use Rattle.lldp_pdu.specs.Lldpdu.{extent, ttl_of, msap_of}
 use Rattle.lldp_pdu.specs.Fault.{fault_of}
 use Rattle.lldp_table.specs.Msap.{same_msap}
 use Rattle.lldp_table.specs.Events.{Neighbor}
-use Rattle.lldp_table.specs.declared.limits.TheConstants.{MOST_NEIGHBORS}
 
 -- a table: the limit of opening, that in force, its neighbors in the order in which they were last new, and the ticks
 -- left of its too-many timer
@@ -51,7 +50,7 @@ names_of neighbors = map (λ neighbor. neighbor.msap) neighbors
 -- room for 1 to 128 neighbors, a limit from 1 to that, no more neighbors than the limit, each as a table holds it, and
 -- no two of one name
 pub record IsSound (table : Contents) : Type 0 where
-  pub most : table.capacity ≤ MOST_NEIGHBORS
+  pub most : table.capacity ≤ 128
   pub room : table.limit ≤ table.capacity
   pub least : 0 < table.limit
   pub few : length table.neighbors ≤ table.limit

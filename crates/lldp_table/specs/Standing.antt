@@ -2,7 +2,6 @@
 use Rattle.std.specs.Prelude.{◌≡◌, ℕ, ◌<◌, ◌≤◌, List, [], ◌∷◌, length}
 use Rattle.lldp_table.specs.Events.{Call, learn, forget, purge, tick, set_limit, events_of, neighbors, too_many_left, limit_after}
 use Rattle.lldp_table.specs.Contents.{Contents, IsExtent}
-use Rattle.lldp_table.specs.declared.limits.TheConstants.{MOST_NEIGHBORS}
 
 -- the table that these calls leave, by the definitions alone
 abbrev pub table_of : ℕ → List Call → Contents
@@ -38,7 +37,7 @@ AreTold opened (call ∷ calls) = IsTold (table_of opened calls) call × AreTold
 -- first: it is the one that they leave.
 pub record Stands (opened : ℕ) (calls : List Call) (table : Contents) : Type 0 where
   pub least : 0 < opened
-  pub most : opened ≤ MOST_NEIGHBORS
+  pub most : opened ≤ 128
   pub told : AreTold opened calls
   pub is : table ≡ table_of opened calls
 

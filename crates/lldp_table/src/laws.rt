@@ -14,9 +14,7 @@ ghost use Rattle.lldp_table.specs.Code.Stored.{tag_of};
 ghost use Rattle.lldp_table.specs.Code.Steps.{learn_answer, newly_opened, table_after};
 ghost use Rattle.lldp_table.specs.Standing.{Stands, ForEachCalls, IsTold, AreTold, table_of};
 ghost use Rattle.lldp_table.specs.Positions.{IsLastStored, IsLive, HasRoom, IsNewBefore, WasDropped};
-
-use crate::limits::MOST_NEIGHBORS;
-use lldp_pdu::MOST_OCTETS;
+ghost use Rattle.lldp_table.specs.declared.limits.TheConstants.{MOST_NEIGHBORS};
 
 /// What a table that stands for a list of calls makes of one more stands for the list with it.
 pub fn calls_carry_standing()
@@ -27,7 +25,7 @@ pub fn calls_carry_standing()
 /// A table that stands for a list of calls is the one that they leave, an empty one where there was
 /// none; and it answers as the definitions do of the list.
 pub fn calls_tell_standing_tables()
-    ensures opened { (opened : ℕ) → 0 < opened → opened ≤ MOST_NEIGHBORS →
+    ensures opened { (opened : ℕ) → 0 < opened → opened ≤ 128 →
         Stands opened [] (newly_opened opened) }
     ensures learned { (table : Contents) (name : MsapId) →
         ForEachCalls table (λ opened calls. learn_answer table name
@@ -41,7 +39,7 @@ pub fn calls_tell_standing_tables()
 
 /// An empty table is sound, and each call leaves a sound table sound.
 pub fn calls_leave_sound_tables()
-    ensures opened { (limit : ℕ) → 0 < limit → limit ≤ MOST_NEIGHBORS →
+    ensures opened { (limit : ℕ) → 0 < limit → limit ≤ 128 →
         IsSound (newly_opened limit) }
     ensures after { (table : Contents) (call : Call) → IsSound table → IsTold table call →
         IsSound (table_after table call) }
@@ -51,7 +49,7 @@ pub fn calls_leave_sound_tables()
 /// kept TLVs.
 pub fn extents_can_be_stored()
     ensures stored { (pdu : List ℕ) → AreOctets pdu → fault_of pdu ≡ None → 0 < ttl_of pdu →
-        length pdu ≤ MOST_OCTETS →
+        length pdu ≤ 1500 →
         IsExtent (msap_of pdu) (ttl_of pdu) (extent pdu) }
     ensures few { (neighbor : Neighbor) → IsHeld neighbor →
         12 + 2 * length (kept_of neighbor.octets) ≤ length neighbor.octets }
@@ -76,9 +74,9 @@ pub fn calls_leave_last_stored_frames()
         ↔ IsLastStored (events_of opened calls) neighbor }
     ensures order { (opened : ℕ) (calls : List Call) →
         AllPairs (IsNewBefore (events_of opened calls)) (neighbors (events_of opened calls)) }
-    ensures sound { (opened : ℕ) (calls : List Call) → 0 < opened → opened ≤ MOST_NEIGHBORS →
+    ensures sound { (opened : ℕ) (calls : List Call) → 0 < opened → opened ≤ 128 →
         AreTold opened calls → IsSound (table_of opened calls) }
-    ensures stands { (opened : ℕ) (calls : List Call) → 0 < opened → opened ≤ MOST_NEIGHBORS →
+    ensures stands { (opened : ℕ) (calls : List Call) → 0 < opened → opened ≤ 128 →
         AreTold opened calls → Stands opened calls (table_of opened calls) }
 {}
 
@@ -186,4 +184,9 @@ pub fn names_one_octet_apart_have_tags_apart()
     ensures { (one other : MsapId) (front back : List ℕ) (a b : ℕ) →
         one.chassis ++ one.port ≡ front ++ a ∷ back → other.chassis ++ other.port ≡ front ++ b ∷ back →
         a < 2 ^ 8 → b < 2 ^ 8 → tag_of one ≡ tag_of other → a ≡ b }
+{}
+
+/// A table has room for at most 128 neighbors.
+pub fn tables_have_room_for_128()
+    ensures { MOST_NEIGHBORS ≡ 128 }
 {}

@@ -19,8 +19,9 @@ pub use laws::{
     calls_tell_standing_tables, dropped_frames_change_the_timer_alone, extents_can_be_stored,
     forgotten_names_go_alone, limits_last_until_the_next, live_neighbors_decide_answers,
     names_one_octet_apart_have_tags_apart, purges_end_timers_too,
-    stored_frames_replace_their_name_alone, tables_hold_last_stored_frames,
-    ticks_take_expired_neighbors_alone, timers_keep_the_greatest_dropped,
+    stored_frames_replace_their_name_alone, tables_have_room_for_128,
+    tables_hold_last_stored_frames, ticks_take_expired_neighbors_alone,
+    timers_keep_the_greatest_dropped,
 };
 pub use learned::Learned;
 pub use limits::MOST_NEIGHBORS;

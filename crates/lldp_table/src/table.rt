@@ -15,7 +15,7 @@ use crate::queue::Queue;
 use crate::room::Room;
 use crate::slot::{Slot, mix_name};
 use arrayvec::ArrayVec;
-use lldp_pdu::{Info, MOST_OCTETS, Msap};
+use lldp_pdu::{Info, Msap};
 use std::alloc::{AllocError, Allocator};
 use std::marker::Model;
 
@@ -61,7 +61,7 @@ impl<A: Allocator> Table<A> {
     /// error says that there was none.
     pub fn open(alloc: A, limit: u8) -> Result<Table<A>, AllocError>
         requires least { 0 < limit }
-        requires most { limit ≤ MOST_NEIGHBORS }
+        requires most { limit ≤ 128 }
         ensures empty { IfOk result (λ table. table.shown ≡ newly_opened limit) }
         ensures stands { IfOk result (λ table. Stands limit [] table.shown) }
     {
@@ -78,7 +78,7 @@ impl<A: Allocator> Table<A> {
     /// Stores a frame where its neighbor is held, or where there is room for it; a frame that finds
     /// none is dropped.
     pub fn learn(&mut self, info: &Info<'_>) -> Learned
-        requires { length info.now.octets ≤ MOST_OCTETS }
+        requires { length info.now.octets ≤ 1500 }
         ensures answer { result ≡ learn_answer self.old.shown info.now.msap }
         ensures after { self.new.shown ≡ after_learn self.old.shown info.now.msap info.now.ttl info.now.octets }
         ensures told { IsExtent info.now.msap info.now.ttl info.now.octets }
@@ -218,7 +218,7 @@ impl<A: Allocator> Table<A> {
     /// How many octets are stored, for all neighbors together.
     pub fn octets(&self) -> u32
         ensures sum { result ≡ sum_by (λ neighbor. length neighbor.octets) self.now.shown.neighbors }
-        ensures most { result ≤ MOST_OCTETS * length self.now.shown.neighbors }
+        ensures most { result ≤ 1500 * length self.now.shown.neighbors }
     {
         octets_of(self.slots.as_slice(), &self.order[..self.used as usize])
     }

@@ -1,6 +1,6 @@
 -- Numbers among the words of a command.
-use Rattle.std.specs.Prelude.{ℕ, Bool, ◌&&◌, nat_lt, nat_le, if◌then◌else◌, List, length, Result, Ok, Err}
-use Rattle.std.specs.List.{list_all}
+use Rattle.std.specs.Prelude.{ℕ, ◌<◌, Bool, ◌&&◌, nat_lt, nat_le, if◌then◌else◌, List, length, Result, Ok, Err}
+use Rattle.std.specs.List.{list_all, AllPass}
 use Rattle.std.specs.Char.{is_ascii_digit}
 use Rattle.std.specs.Str.Parse.{digits_value}
 use Rattle.lldp_text.specs.declared.fault.CommandFault.{CommandFault}
@@ -17,3 +17,8 @@ in_range least greatest n = if nat_le least n && nat_le n greatest then Ok n els
 -- The number that a word writes, however many digits it has, or the first fault.
 abbrev pub number_of : List ℕ → ℕ → ℕ → Result ℕ CommandFault
 number_of word least greatest = if is_number word then in_range least greatest (digits_value 10 word) else Err Number
+
+-- The word has some octet, and each is a decimal digit.
+pub record IsOfDigits (word : List ℕ) : Type 0 where
+  pub some : 0 < length word
+  pub each : AllPass is_ascii_digit word

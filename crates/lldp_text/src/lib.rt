@@ -26,7 +26,7 @@ pub use fixed::{
 };
 pub use identifier::{write_chassis, write_port};
 pub use kept_tlv::write_kept_tlv;
-pub use numbers::number;
+pub use numbers::{number, words_of_digits_alone_are_numbers};
 pub use printable::is_printable_text;
 pub use splitting::{Words, split, split_at_bare, words_are_spelled};
 pub use writing::{LINE_ROOM, Line, ROOM, Writer};
