@@ -1,5 +1,4 @@
--- What the code remembers while it reads and builds. Nothing here need be believed: each is proved equal to the
--- definitions beside this folder, and no public contract cites it.
+-- What the code remembers while it reads and builds, and how an Info and a Builder are seen as what they stand for.
 pub mod Seen
 pub mod Survey
 pub mod InfoView

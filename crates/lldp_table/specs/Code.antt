@@ -1,6 +1,5 @@
--- How the code lays a table out, keeps its times, and what a slot stores: nothing of it need be believed, each is
--- proved equal to the definitions beside this folder. And what each call makes of what a table shows (Steps), by which
--- callers compute.
+-- How the code lays a table out, keeps its times, and what a slot stores. And what each call makes of what a table
+-- shows (Steps), by which callers compute.
 pub mod Steps
 pub mod Stored
 pub mod Queue

@@ -164,7 +164,8 @@ impl<A: Allocator> Table<A> {
     pub fn tick(&mut self) -> u8
         ensures answer { result + length self.new.shown.neighbors ≡ length self.old.shown.neighbors }
         ensures after { self.new.shown ≡ after_tick self.old.shown }
-        // It reads and writes stored times at most twice for each neighbor that ages out, and twice more.
+        // The count of gets and sets of stored times rises by at most twice the number that aged
+        // out, and 2.
         ensures accesses { self.new.accesses ≤ self.old.accesses + 2 * result + 2 }
         ensures answers { ForEachCalls self.old.shown (λ opened calls.
             result ≡ aged_out (events_of opened calls)) }
