@@ -2,11 +2,14 @@
 ghost use Rattle.std.specs.Prelude.{◌≡◌};
 ghost use Rattle.lldp_pdu.specs.Capabilities.{caps_fields};
 ghost use Rattle.lldp_engine.specs.declared.agent.options.Role.{Role};
-ghost use Rattle.lldp_engine.specs.AgentState.{PortState};
+ghost use Rattle.lldp_engine.specs.Configuration.{Configuration};
+ghost use Rattle.lldp_engine.specs.AgentState.{AgentState, PortState};
 ghost use Rattle.lldp_text.specs.Capabilities.{capabilities_text};
-ghost use Rattle.lldp_engine.specs.ChassisLines.{role_text};
+ghost use Rattle.lldp_engine.specs.ChassisLines.{role_text, chassis_lines};
+ghost use Rattle.lldp_engine.specs.ConfigurationLines.{configuration_lines};
 ghost use Rattle.lldp_engine.specs.Frames.{capabilities_of};
 ghost use Rattle.lldp_engine.specs.StatisticsLines.{counter_lines};
+ghost use Rattle.lldp_engine.specs.FixedKeys.{lines_of_chassis, lines_of_configuration};
 ghost use Rattle.lldp_engine.specs.FixedNumbers.{AreConstants};
 ghost use Rattle.lldp_engine.specs.FixedTexts.{WriteWords, NamePorts, lines_of_counters};
 
@@ -24,6 +27,14 @@ pub fn words_and_names_have_fixed_octets()
 /// Each counter of a port is shown behind its own key, in this order.
 pub fn counters_are_shown_behind_their_keys()
     ensures { (port : PortState) → counter_lines port ≡ lines_of_counters port }
+{}
+
+/// Each line of `show chassis` and of `show configuration` stands behind its own key, in this order.
+pub fn own_lines_are_shown_behind_their_keys()
+    ensures chassis { (configuration : Configuration) →
+        chassis_lines configuration ≡ lines_of_chassis configuration }
+    ensures configuration { (agent : AgentState) →
+        configuration_lines agent ≡ lines_of_configuration agent }
 {}
 
 /// The show line of a role has the capabilities that its frame says.
