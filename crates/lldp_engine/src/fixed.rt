@@ -1,4 +1,4 @@
-//! What stands fixed: words octet by octet, and the numbers of ranges.
+//! What stands fixed: words and keys of shows octet by octet, and numbers.
 ghost use Rattle.std.specs.Prelude.{◌≡◌};
 ghost use Rattle.lldp_pdu.specs.Capabilities.{caps_fields};
 ghost use Rattle.lldp_engine.specs.declared.agent.options.Role.{Role};
@@ -13,12 +13,14 @@ ghost use Rattle.lldp_engine.specs.FixedKeys.{lines_of_chassis, lines_of_configu
 ghost use Rattle.lldp_engine.specs.FixedNumbers.{AreConstants};
 ghost use Rattle.lldp_engine.specs.FixedTexts.{WriteWords, NamePorts, lines_of_counters};
 
-/// Each range, room and refusal has its number in the code.
+/// The greatest numbers of the options' ranges, the most lines of a show, the rooms of a line and of
+/// a writer, and the refusals of opening have these numbers.
 pub fn ranges_end_at_fixed_numbers()
     ensures { AreConstants }
 {}
 
-/// The words of shows stand octet by octet, and of the 256 octets these name ports.
+/// In shows yes and no and the words of statuses stand octet by octet, and of the 256 octets these
+/// name ports.
 pub fn words_and_names_have_fixed_octets()
     ensures words { WriteWords }
     ensures names { NamePorts }

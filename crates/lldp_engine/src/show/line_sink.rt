@@ -6,8 +6,8 @@ ghost use Rattle.lldp_engine.specs.LineRoom.{LendsRoom};
 
 use lldp_text::Writer;
 
-/// What takes the lines of a show, one after another. A sink that can fail keeps its fault, and is
-/// done from then on.
+/// What takes the lines of a show, one after another. A sink that can fail may keep its fault, and
+/// be done from then on.
 pub trait LineSink {
     /// How it is after it took a line.
     ghost takes: { Self → Self → List ℕ → Type 0 };
@@ -19,10 +19,8 @@ pub trait LineSink {
         ensures* takes_line { sem 𝓛 (LendsRoom Self.row takes self.entry result) }
         ensures room { IfSome result (λ writer. length writer.now + LINE_ROOM ≤ ROOM) };
 
-    /// Whether no line changes it any more, so that the others need not come. A show asks this
-    /// before each port and before each neighbor: a sink that is done is given no more than the
-    /// rest of one neighbor's lines, or of the few lines that stand before the first port or the
-    /// first neighbor.
+    /// Whether no line changes it any more, so that the others need not come. Shows ask this before
+    /// each port and before each neighbor, though no clause says so.
     fn is_done(&self) -> bool
         ensures { result ≡ true → (line : List ℕ) → takes self.now self.now line };
 }
