@@ -1,7 +1,6 @@
 //! What takes the lines of a show.
 ghost use Rattle.std.specs.Prelude.{◌≡◌, ◌+◌, ◌≤◌, ℕ, List, length, true, IfSome};
 ghost use Rattle.std.specs.Borrow.{sem};
-ghost use Rattle.lldp_text.specs.declared.writing.TheConstants.{LINE_ROOM, ROOM};
 ghost use Rattle.lldp_engine.specs.LineRoom.{LendsRoom};
 
 use lldp_text::Writer;
@@ -17,7 +16,7 @@ pub trait LineSink {
     /// octets, and a line feed.
     fn begin_line(&mut self) -> Option<&mut Writer>
         ensures* takes_line { sem 𝓛 (LendsRoom Self.row takes self.entry result) }
-        ensures room { IfSome result (λ writer. length writer.now + LINE_ROOM ≤ ROOM) };
+        ensures room { IfSome result (λ writer. length writer.now + 2049 ≤ 8192) };
 
     /// Whether no line changes it any more, so that the others need not come. Shows ask this before
     /// each port and before each neighbor, though no clause says so.
