@@ -5,7 +5,7 @@ use Rattle.std.specs.Bool.{Decides}
 use Rattle.std.specs.Str.{bytes_eq}
 use Rattle.std.proofs.lemmas.Slice.Eq.{bytes_eq-Decides}
 use Rattle.lldp_text.specs.declared.fault.CommandFault.{CommandFault}
-use Rattle.lldp_text.specs.declared.fault.CommandFault.TheVariants.{Unknown, NoSuchPort, Text}
+use Rattle.lldp_text.specs.declared.fault.CommandFault.TheVariants.{Unknown, NoSuchPort, Text, Quote, InUse}
 use Rattle.lldp_text.specs.Answer.{or_fault, on_ok, ◌>>=◌}
 use Rattle.lldp_text.specs.Text.{is_text}
 use Rattle.lldp_text.specs.Number.{number_of}
@@ -14,12 +14,14 @@ use Rattle.lldp_engine.specs.declared.port.status.Status.{Status}
 use Rattle.lldp_engine.specs.declared.port.status.Status.TheVariants.{RxAndTx, RxOnly, TxOnly, Disabled}
 use Rattle.lldp_engine.specs.Place.{place_of}
 use Rattle.lldp_engine.specs.Event.{hostname, description, interval, hold, limit, status as set_status, update}
-use Rattle.lldp_engine.specs.AgentState.{AgentState, names_of}
+use Rattle.lldp_engine.specs.AgentState.{AgentState, names_of, fits}
 use Rattle.lldp_engine.specs.Command.{Command, show, set}
 use Rattle.lldp_engine.specs.Forms.{Form, complete, word, port, number, text, status, status_of, after_word, and_left, if_any, forms_left, first_fault, completed, read_forms, forms}
-use Rattle.lldp_engine.specs.Given.{said_by}
+use Rattle.lldp_engine.specs.Given.{said_by, unless_in_use, command_said, command_given}
+use Rattle.lldp_text.specs.Words.{words_of}
 use Rattle.lldp_engine.specs.Sayings.{show_word, neighbors_word, statistics_word, chassis_word, configuration_word, configure_word, system_word, hostname_word, description_word, lldp_word, interval_word, hold_word, limit_word, ports_word, status_word, update_word, word_of}
-use Rattle.lldp_engine.specs.OnlyForms.{AreWordsOf}
+use Rattle.lldp_engine.specs.OnlyForms.{AreWordsOf, IsNotInUse, IsLineOf}
+use Rattle.lldp_engine.proofs.InUseLemmas.{held_decided}
 use Rattle.lldp_engine.proofs.SayingLemmas.{text_said, made_said, status_said}
 
 -- ## Statuses
@@ -199,3 +201,42 @@ module _ (agent : AgentState) where
       ∙ ap (λ (o : Option ℕ). or_fault o NoSuchPort >>= (λ port. on_ok (λ given. set (set_status port given)) (or_fault (status_of (word_of given)) Unknown))) at
       ∙ ap (λ (o : Option Status). on_ok (λ given. set (set_status p given)) (or_fault o Unknown)) (own_word_read given))
   its_words_say_it (set update) words e = at_words _ words (set update) e refl
+
+-- ## Limits that are in use
+
+module _ (agent : AgentState) (words : List (List ℕ)) (command : Command) where
+  abbrev OfWords : Command → Type 0
+  OfWords c = AreWordsOf agent c words × IsNotInUse agent c
+
+  same_command : (c : Command) → ◌≡◌ {A = Result Command CommandFault} (Ok c) (Ok command) → OfWords c → OfWords command
+  same_command c e h = let same : c ≡ command = cc in subst OfWords same h
+
+  limit_fits : (n : ℕ) (b : Bool) → fits agent.ports n ≡ b → said_by agent words ≡ Ok (set (limit n)) → (if b then Ok (set (limit n)) else Err InUse) ≡ Ok command → OfWords command
+  limit_fits n true f e h = same_command (set (limit n)) h (only_its_words agent (set (limit n)) words e, (held_decided agent.ports n).0 f)
+  limit_fits n false f e h = cc
+
+  said_as : (said : Result Command CommandFault) → said_by agent words ≡ said → unless_in_use agent.ports said ≡ Ok command → OfWords command
+  said_as (Ok (set (limit n))) e h = limit_fits n (fits agent.ports n) refl e h
+  said_as (Ok c) e h = same_command c h (only_its_words agent c words e, tt)
+  said_as (Err fault) e h = cc
+
+  pub only_said : command_said agent words ≡ Ok command → OfWords command
+  only_said h = said_as (said_by agent words) refl h
+
+not_in_use : (agent : AgentState) (command : Command) → IsNotInUse agent command → unless_in_use agent.ports (Ok command) ≡ Ok command
+not_in_use agent (set (limit n)) h = let fit : fits agent.ports n ≡ true = (held_decided agent.ports n).1 h in rw fit refl
+not_in_use agent command h = refl
+
+pub words_are_said : (agent : AgentState) (words : List (List ℕ)) (command : Command) → AreWordsOf agent command words × IsNotInUse agent command → command_said agent words ≡ Ok command
+words_are_said agent words command h = ap (unless_in_use agent.ports) (its_words_say_it agent command words h.0) ∙ not_in_use agent command h.1
+
+given_by : (agent : AgentState) (line : List ℕ) (command : Command) (split : Option (List (List ℕ))) → words_of line ≡ split → (or_fault split Quote >>= command_said agent) ≡ Ok command → IsLineOf agent command line
+given_by agent line command None e h = cc
+given_by agent line command (Some words) e h = let of_words = only_said agent words command h in (words, e, of_words.0, of_words.1)
+
+pub only_given : (agent : AgentState) (line : List ℕ) (command : Command) → command_given agent line ≡ Ok command → IsLineOf agent command line
+only_given agent line command h = given_by agent line command (words_of line) refl h
+
+pub line_gives : (agent : AgentState) (line : List ℕ) (command : Command) → IsLineOf agent command line → command_given agent line ≡ Ok command
+line_gives agent line command (words, e, are, free) =
+    ap (λ (split : Option (List (List ℕ))). or_fault split Quote >>= command_said agent) e ∙ words_are_said agent words command (are, free)

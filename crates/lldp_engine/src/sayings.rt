@@ -5,12 +5,12 @@ ghost use Rattle.lldp_engine.specs.declared.port.status.Status.{Status};
 ghost use Rattle.lldp_engine.specs.AgentState.{AgentState, PortState};
 ghost use Rattle.lldp_engine.specs.Command.{Command};
 ghost use Rattle.lldp_engine.specs.Forms.{status_of};
-ghost use Rattle.lldp_engine.specs.Given.{said_by};
+ghost use Rattle.lldp_engine.specs.Given.{said_by, command_said, command_given};
 ghost use Rattle.lldp_engine.specs.Options.{Options};
 ghost use Rattle.lldp_engine.specs.FixedKeys.{lines_of_kept};
 ghost use Rattle.lldp_engine.specs.NeighborLines.{neighbor_lines};
 ghost use Rattle.lldp_engine.specs.Numbering.{NumbersNeighbors, first_lines};
-ghost use Rattle.lldp_engine.specs.OnlyForms.{AreWordsOf};
+ghost use Rattle.lldp_engine.specs.OnlyForms.{AreWordsOf, IsNotInUse, IsLineOf};
 ghost use Rattle.lldp_engine.specs.Sayings.{AreGreatest, AreSaid, MaySet, OpensWith, word_of};
 
 /// The words of each form say its command, with whatever word stands where it takes one. Each range
@@ -23,11 +23,17 @@ pub fn forms_say_their_commands()
     ensures defaults { (options : Options) → OpensWith options }
 {}
 
-/// A command is said by the words of its form and by no others, and a word is read as a status
-/// exactly where it is that status's own.
+/// A command is said by the words of its form and by no others, and given by a line that has them
+/// and by no other, where a limit that it sets is not in use. A word is read as a status exactly
+/// where it is that status's own.
 pub fn only_forms_say_commands()
     ensures said { (agent : AgentState) (words : List (List ℕ)) (command : Command) →
         (said_by agent words ≡ Ok command) ↔ AreWordsOf agent command words }
+    ensures words { (agent : AgentState) (words : List (List ℕ)) (command : Command) →
+        (command_said agent words ≡ Ok command)
+        ↔ (AreWordsOf agent command words × IsNotInUse agent command) }
+    ensures lines { (agent : AgentState) (line : List ℕ) (command : Command) →
+        (command_given agent line ≡ Ok command) ↔ IsLineOf agent command line }
     ensures statuses { (word : List ℕ) (given : Status) →
         (status_of word ≡ Some given) ↔ (word ≡ word_of given) }
 {}
