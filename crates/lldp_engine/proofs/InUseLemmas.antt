@@ -130,7 +130,7 @@ not_said agent words e =
 holds_decided : (most : ℕ) (here : PortState) → Decides (nat_le (length here.table.neighbors) most) (length here.table.neighbors ≤ most)
 holds_decided most here = (leb-true (length here.table.neighbors) most, le-leb (length here.table.neighbors) most)
 
-held_decided : (ports : List PortState) (most : ℕ) → Decides (fits ports most) (All (λ here. length here.table.neighbors ≤ most) ports)
+pub held_decided : (ports : List PortState) (most : ℕ) → Decides (fits ports most) (All (λ here. length here.table.neighbors ≤ most) ports)
 held_decided ports most =
     Decides-by_and (λ here. nat_le (length here.table.neighbors) most) (λ here. length here.table.neighbors ≤ most) (λ ps. fits ps most) (holds_decided most) refl (λ _ _. refl) ports
 

@@ -29,7 +29,9 @@ pub mod CauseLemmas
 pub mod HeldLemmas
 pub mod EmptiedLemmas
 pub mod TallyLemmas
+pub mod LossLemmas
 pub mod OpeningLemmas
 pub mod InUseLemmas
 pub mod SayingLemmas
+pub mod OnlyFormsLemmas
 pub mod NumberingLemmas

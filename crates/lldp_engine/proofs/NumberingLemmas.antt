@@ -36,6 +36,7 @@ pub numbers : (here : PortState) → NumbersNeighbors here
 numbers here =
     record {
       count = refl;
+      octets = refl;
       too_many = λ h. ap (λ b. Some (too_many_line here.name b)) (lt-ltb 0 here.table.too_many_left h);
       not_too_many = λ h. ap (λ b. Some (too_many_line here.name b)) (le-ltb 0 here.table.too_many_left (omega arith));
       numbered = among_lines here;

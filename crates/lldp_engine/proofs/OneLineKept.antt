@@ -2,15 +2,14 @@
 use Rattle.std.proofs.Common.{◌≡◌, ℕ, zero, suc, ◌≤◌, List, [], ◌∷◌, length, true, false, Option, Some, None, ap, sym, subst}
 use Rattle.std.specs.Prelude.{slice_get}
 use Rattle.lldp_engine.specs.Takes.{Takes}
-use Rattle.lldp_text.specs.declared.writing.TheConstants.{LINE_ROOM}
 use Rattle.lldp_text.specs.Text.{ended}
 use Rattle.lldp_engine.specs.declared.show.one_line.OneLine.{OneLine}
 use Rattle.lldp_engine.specs.Code.OneLineState.{KeepsOne}
 
 -- what is kept is no longer than a line and its LF
-pub is_short : (a b : OneLine) (lines : List (List ℕ)) → Takes KeepsOne a b lines → length a.line ≤ LINE_ROOM → length b.line ≤ LINE_ROOM
+pub is_short : (a b : OneLine) (lines : List (List ℕ)) → Takes KeepsOne a b lines → length a.line ≤ 2049 → length b.line ≤ 2049
 unfolding Takes
-is_short a b [] h short = subst (λ (s : OneLine). length s.line ≤ LINE_ROOM) h short
+is_short a b [] h short = subst (λ (s : OneLine). length s.line ≤ 2049) h short
 is_short a b (x ∷ xs) h short = is_short h.0 b xs h.2 (h.1.1 short)
 
 -- what is given for a sink: none where the line didn't come, and else the line

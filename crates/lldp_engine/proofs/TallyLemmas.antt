@@ -50,7 +50,7 @@ port_known o past i (Some name) port at e =
     let is : port_after o past name ≡ port = cc in
     (within o.names i name at, ap (λ (p : PortState). p.counters) (sym is) ∙ counters_of_after o past name)
 
-counters_at : (past : Past) (i : ℕ) (port : PortState) → port_at past i ≡ Some port → (i < length past.options.names) × (port.counters ≡ counters_after past.options (past_of past i))
+pub counters_at : (past : Past) (i : ℕ) (port : PortState) → port_at past i ≡ Some port → (i < length past.options.names) × (port.counters ≡ counters_after past.options (past_of past i))
 counters_at past i port e = port_known past.options (past_of past i) i (slice_get past.options.names i) port refl (sym (port_at_is past i) ∙ e)
 
 -- ## What it sent
@@ -109,7 +109,7 @@ shutdowns_are_counted past i port e =
 abbrev one_if : Bool → ℕ
 one_if b = if b then 1 else 0
 
-rises : (n k : ℕ) → wrapped (k + n) ≡ (wrapped n + k) % 2 ^ 32
+pub rises : (n k : ℕ) → wrapped (k + n) ≡ (wrapped n + k) % 2 ^ 32
 rises n k = omega arith
 
 rises_if : (b : Bool) (h : Heard) (heard : List Heard) → wrapped (length (if b then h ∷ heard else heard)) ≡ (wrapped (length heard) + one_if b) % 2 ^ 32

@@ -42,7 +42,8 @@ sent_tlvs c name =
     unit 4 name ∷ unit 5 c.hostname ∷ unit 6 c.description ∷ unit 7 (capabilities_of c.role)
     ∷ management_tlvs c.management
 
--- What a frame of a port says: an ordinary one the configuration, a shutdown one that the port leaves. Quiet has none.
+-- What a frame of a port says: an ordinary one the configuration, a shutdown one that the port leaves. At Quiet, where no
+-- frame goes, the same stands here as at Shutdown.
 abbrev pub draft_of : Configuration → List ℕ → Mark → Draft
 draft_of c name Ordinary = record { msap = sent_msap c name; ttl = sent_ttl c; tlvs = sent_tlvs c name }
 draft_of c name Shutdown = record { msap = sent_msap c name; ttl = 0; tlvs = [] }

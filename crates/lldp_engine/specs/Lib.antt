@@ -32,8 +32,10 @@ pub mod LineRoom
 pub mod Lines
 pub mod Code
 pub mod FixedTexts
+pub mod FixedKeys
 pub mod FixedNumbers
 pub mod Opening
 pub mod InUse
 pub mod Sayings
+pub mod OnlyForms
 pub mod Numbering

@@ -1,5 +1,5 @@
 -- How the lines of a port number its neighbors and tell that there are too many.
-use Rattle.std.specs.Prelude.{◌≡◌, ℕ, ◌+◌, ◌<◌, List, [], ◌∷◌, ◌++◌, length, slice_get, Some, decimal}
+use Rattle.std.specs.Prelude.{◌≡◌, ℕ, ◌+◌, ◌<◌, List, [], ◌∷◌, ◌++◌, length, slice_get, Some, decimal, sum_by}
 use Rattle.std.specs.List.{Contains}
 use Rattle.lldp_table.specs.Events.{Neighbor}
 use Rattle.lldp_engine.specs.AgentState.{PortState}
@@ -7,12 +7,15 @@ use Rattle.lldp_text.specs.Identifier.{chassis_text, port_text}
 use Rattle.lldp_engine.specs.NeighborLines.{neighbor_lines, port_lines}
 use Rattle.lldp_engine.specs.FixedTexts.{line_of}
 
--- The first line of a port has the number of its neighbors, the third is `yes` exactly while the timer of the condition
--- is above 0; and each line of the neighbor behind k others is among the port's, with the number k + 1.
+-- The first line of a port has the number of its neighbors, the second the sum of their octets, the third is `yes`
+-- exactly while the timer of the condition is above 0; and each line of the neighbor behind k others is among the port's, with the number k + 1.
 pub record NumbersNeighbors (port : PortState) : Type 0 where
   -- neighbors=
   pub count : slice_get (port_lines port) 0
       ≡ Some (line_of port.name ((0x6e ∷ 0x65 ∷ 0x69 ∷ 0x67 ∷ 0x68 ∷ 0x62 ∷ 0x6f ∷ 0x72 ∷ 0x73 ∷ 0x3d ∷ []) ++ decimal (length port.table.neighbors)))
+  -- octets=
+  pub octets : slice_get (port_lines port) 1
+      ≡ Some (line_of port.name ((0x6f ∷ 0x63 ∷ 0x74 ∷ 0x65 ∷ 0x74 ∷ 0x73 ∷ 0x3d ∷ []) ++ decimal (sum_by (λ neighbor. length neighbor.octets) port.table.neighbors)))
   -- too-many=yes
   pub too_many : 0 < port.table.too_many_left → slice_get (port_lines port) 2 ≡ Some (line_of port.name (0x74 ∷ 0x6f ∷ 0x6f ∷ 0x2d ∷ 0x6d ∷ 0x61 ∷ 0x6e ∷ 0x79 ∷ 0x3d ∷ 0x79 ∷ 0x65 ∷ 0x73 ∷ []))
   -- too-many=no

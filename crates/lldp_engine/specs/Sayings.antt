@@ -1,7 +1,8 @@
 -- What words say, form by form, with whatever word stands where a form takes one.
-use Rattle.std.specs.Prelude.{◌≡◌, ℕ, ◌<◌, ◌↔◌, if◌then◌else◌, List, [], ◌∷◌, Some, Ok, Err}
+use Rattle.std.specs.Prelude.{◌≡◌, ℕ, ◌<◌, ◌↔◌, if◌then◌else◌, List, [], ◌∷◌, Ok, Err}
 use Rattle.lldp_text.specs.declared.fault.CommandFault.TheVariants.{Unknown, NoSuchPort, Text, Extra}
 use Rattle.lldp_engine.specs.declared.command.Show.TheVariants.{Neighbors, Statistics, Chassis, Configuration}
+use Rattle.lldp_engine.specs.declared.port.status.Status.{Status}
 use Rattle.lldp_engine.specs.declared.port.status.Status.TheVariants.{RxAndTx, RxOnly, TxOnly, Disabled}
 use Rattle.lldp_text.specs.Text.{is_text}
 use Rattle.lldp_text.specs.Number.{number_of}
@@ -120,13 +121,9 @@ pub record OpensWith (o : Options) : Type 0 where
   pub hold : (configuration_at_opening o).hold ≡ 4
   pub limit : (configuration_at_opening o).limit ≡ o.max_neighbors
 
--- The words of statuses.
-pub record AreRead : Type 0 where
-  -- rx-and-tx
-  pub rx_and_tx : status_of (0x72 ∷ 0x78 ∷ 0x2d ∷ 0x61 ∷ 0x6e ∷ 0x64 ∷ 0x2d ∷ 0x74 ∷ 0x78 ∷ []) ≡ Some RxAndTx
-  -- rx-only
-  pub rx_only : status_of (0x72 ∷ 0x78 ∷ 0x2d ∷ 0x6f ∷ 0x6e ∷ 0x6c ∷ 0x79 ∷ []) ≡ Some RxOnly
-  -- tx-only
-  pub tx_only : status_of (0x74 ∷ 0x78 ∷ 0x2d ∷ 0x6f ∷ 0x6e ∷ 0x6c ∷ 0x79 ∷ []) ≡ Some TxOnly
-  -- disabled
-  pub disabled : status_of (0x64 ∷ 0x69 ∷ 0x73 ∷ 0x61 ∷ 0x62 ∷ 0x6c ∷ 0x65 ∷ 0x64 ∷ []) ≡ Some Disabled
+-- The word of a status: rx-and-tx, rx-only, tx-only, disabled.
+abbrev pub word_of : Status → List ℕ
+word_of RxAndTx = 0x72 ∷ 0x78 ∷ 0x2d ∷ 0x61 ∷ 0x6e ∷ 0x64 ∷ 0x2d ∷ 0x74 ∷ 0x78 ∷ []
+word_of RxOnly = 0x72 ∷ 0x78 ∷ 0x2d ∷ 0x6f ∷ 0x6e ∷ 0x6c ∷ 0x79 ∷ []
+word_of TxOnly = 0x74 ∷ 0x78 ∷ 0x2d ∷ 0x6f ∷ 0x6e ∷ 0x6c ∷ 0x79 ∷ []
+word_of Disabled = 0x64 ∷ 0x69 ∷ 0x73 ∷ 0x61 ∷ 0x62 ∷ 0x6c ∷ 0x65 ∷ 0x64 ∷ []

@@ -91,7 +91,7 @@ impl<A: Allocator> Agent<A> {
         self.ports.as_slice()
     }
 
-    /// How many ports it has, 1 to 64.
+    /// How many ports it has, at most 64.
     pub fn ports(&self) -> u8
         ensures value { result ≡ length self.now.ports }
         ensures few { result ≤ 64 }

@@ -21,11 +21,13 @@ pub use agent::ports::Marks;
 pub use command::forms::{end_words, next_port, next_word};
 pub use command::{Command, Show, complete_forms_take_no_word};
 pub use fixed::{
-    counters_are_shown_behind_their_keys, ranges_end_at_fixed_numbers, roles_are_shown_as_sent,
-    words_and_names_have_fixed_octets,
+    counters_are_shown_behind_their_keys, own_lines_are_shown_behind_their_keys,
+    ranges_end_at_fixed_numbers, roles_are_shown_as_sent, words_and_names_have_fixed_octets,
 };
 pub use in_use::limits_below_what_ports_hold_are_in_use;
-pub use laws::counting::{ports_count_each_lldpdu_once, ports_count_what_they_sent};
+pub use laws::counting::{
+    ports_count_each_lldpdu_once, ports_count_what_they_lose, ports_count_what_they_sent,
+};
 pub use laws::deafness::deaf_ports_stay_as_they_were;
 pub use laws::local_changes::{
     new_neighbors_are_one_more, settings_are_local_changes,
@@ -48,6 +50,8 @@ pub use lldp_transmit::Mark;
 pub use opening::openings_tell_first_faults;
 pub use port::counters::Counters;
 pub use port::status::Status;
-pub use sayings::{forms_say_their_commands, neighbors_are_numbered_from_1};
+pub use sayings::{
+    forms_say_their_commands, neighbors_are_numbered_from_1, only_forms_say_commands,
+};
 pub use show::line_sink::LineSink;
 pub use show::lines::MOST_LINES;

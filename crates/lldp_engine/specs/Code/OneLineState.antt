@@ -1,7 +1,6 @@
 -- What the sink of one line holds.
 use Rattle.std.specs.Prelude.{◌≡◌, ℕ, suc, zero, ◌≤◌, List, length, Bool, true, false}
 use Rattle.lldp_engine.specs.declared.show.one_line.OneLine.{OneLine}
-use Rattle.lldp_text.specs.declared.writing.TheConstants.{LINE_ROOM}
 use Rattle.lldp_text.specs.Text.{ended}
 
 -- what it holds after a line came, by how many came before the one that is wanted, and whether that one had come
@@ -13,4 +12,4 @@ after_line (suc before) false kept line = record { before = before; came = false
 -- a line came, and what is held is no longer than a line with its LF
 abbrev pub KeepsOne : OneLine → OneLine → List ℕ → Type 0
 KeepsOne old new line =
-    (new ≡ after_line old.before old.came old.line line) × (length old.line ≤ LINE_ROOM → length new.line ≤ LINE_ROOM)
+    (new ≡ after_line old.before old.came old.line line) × (length old.line ≤ 2049 → length new.line ≤ 2049)

@@ -30,7 +30,7 @@ pub struct Options<'a> {
     /// The IPv4 address under which the agent can be managed.
     pub management: Option<[u8; 4]>,
     pub role: Role,
-    /// How many neighbors each port holds, 1 to 128.
+    /// How many neighbors each port may hold, 1 to 128.
     pub max_neighbors: u8,
     /// txCreditMax, 1 to 10.
     pub credit_max: u8,
@@ -38,7 +38,7 @@ pub struct Options<'a> {
     pub fast_init: u8,
     /// reinitDelay in seconds, 1 to 10.
     pub reinit: u8,
-    /// Whether no port ever sends, until its status is set.
+    /// Whether each port begins as `RxOnly`, and not as `RxAndTx`.
     pub receive_only: bool,
 }
 

@@ -1,16 +1,17 @@
 //! Laws of what is counted.
-ghost use Rattle.std.specs.Prelude.{◌≡◌, ℕ, ◌<◌, ◌%◌, ◌^◌, List, Some, None};
+ghost use Rattle.std.specs.Prelude.{◌≡◌, ◌≢◌, ℕ, ◌<◌, ◌%◌, ◌^◌, List, Some, None};
 ghost use Rattle.lldp_pdu.specs.declared.fault.PduFault.{PduFault};
 ghost use Rattle.lldp_pdu.specs.Frame.{lldpdu_of};
 ghost use Rattle.lldp_pdu.specs.Fault.{fault_of};
 ghost use Rattle.lldp_pdu.specs.Lldpdu.{ttl_of};
 ghost use Rattle.lldp_pdu.specs.Kept.{discarded_of};
 ghost use Rattle.lldp_transmit.specs.declared.event.Mark.TheVariants.{Ordinary, Shutdown};
+ghost use Rattle.lldp_engine.specs.Event.{Event, tick, frame};
 ghost use Rattle.lldp_engine.specs.AgentState.{PortState};
 ghost use Rattle.lldp_engine.specs.Past.{Past};
 ghost use Rattle.lldp_engine.specs.PortAt.{port_at};
 ghost use Rattle.lldp_engine.specs.Deaf.{Hears};
-ghost use Rattle.lldp_engine.specs.Tally.{HasSent, Adds, unknown_tlvs};
+ghost use Rattle.lldp_engine.specs.Tally.{HasSent, Adds, unknown_tlvs, Makes, CountsAgedOut, KeepsAgeouts, CountsDrop, KeepsDrops, KeepsReceived, HasNoRoom};
 
 /// `sent` is the number of events at which a port sent an ordinary frame, and `shutdowns` that of
 /// those at which it sent a shutdown frame, modulo 2^32.
@@ -37,4 +38,19 @@ pub fn ports_count_each_lldpdu_once()
     ensures faulty_tlvs { (past : Past) (i : ℕ) (octets pdu : List ℕ) → Hears past i →
         lldpdu_of octets ≡ Some pdu → fault_of pdu ≡ None → 0 < ttl_of pdu →
         0 < discarded_of pdu → Adds past i octets 0 1 (discarded_of pdu) (unknown_tlvs pdu) }
+{}
+
+/// A tick adds to `ageouts` of each port the neighbors that it takes away, and nothing else changes
+/// it. A frame adds one to `drops` of its port exactly where it finds no room there; and what is
+/// counted of received frames is changed by frames of that port alone.
+pub fn ports_count_what_they_lose()
+    ensures aged_out { (past : Past) (i : ℕ) → Makes past tick i CountsAgedOut }
+    ensures others_age_none { (past : Past) (i : ℕ) (event : Event) → event ≢ tick →
+        Makes past event i KeepsAgeouts }
+    ensures no_room { (past : Past) (i : ℕ) (octets : List ℕ) → HasNoRoom past i octets →
+        Makes past (frame i octets) i CountsDrop }
+    ensures room { (past : Past) (i : ℕ) (octets : List ℕ) → ¬ (HasNoRoom past i octets) →
+        Makes past (frame i octets) i KeepsDrops }
+    ensures others_count_none { (past : Past) (i : ℕ) (event : Event) →
+        ((octets : List ℕ) → event ≢ frame i octets) → Makes past event i KeepsReceived }
 {}

@@ -1,13 +1,12 @@
 //! What takes the lines of a show.
 ghost use Rattle.std.specs.Prelude.{◌≡◌, ◌+◌, ◌≤◌, ℕ, List, length, true, IfSome};
 ghost use Rattle.std.specs.Borrow.{sem};
-ghost use Rattle.lldp_text.specs.declared.writing.TheConstants.{LINE_ROOM, ROOM};
 ghost use Rattle.lldp_engine.specs.LineRoom.{LendsRoom};
 
 use lldp_text::Writer;
 
-/// What takes the lines of a show, one after another. A sink that can fail keeps its fault, and is
-/// done from then on.
+/// What takes the lines of a show, one after another. A sink that can fail may keep its fault, and
+/// be done from then on.
 pub trait LineSink {
     /// How it is after it took a line.
     ghost takes: { Self → Self → List ℕ → Type 0 };
@@ -17,12 +16,10 @@ pub trait LineSink {
     /// octets, and a line feed.
     fn begin_line(&mut self) -> Option<&mut Writer>
         ensures* takes_line { sem 𝓛 (LendsRoom Self.row takes self.entry result) }
-        ensures room { IfSome result (λ writer. length writer.now + LINE_ROOM ≤ ROOM) };
+        ensures room { IfSome result (λ writer. length writer.now + 2049 ≤ 8192) };
 
-    /// Whether no line changes it any more, so that the others need not come. A show asks this
-    /// before each port and before each neighbor: a sink that is done is given no more than the
-    /// rest of one neighbor's lines, or of the few lines that stand before the first port or the
-    /// first neighbor.
+    /// Whether no line changes it any more, so that the others need not come. Shows ask this before
+    /// each port and before each neighbor, though no clause says so.
     fn is_done(&self) -> bool
         ensures { result ≡ true → (line : List ℕ) → takes self.now self.now line };
 }

@@ -23,9 +23,8 @@ use std::alloc::Allocator;
 pub const MOST_LINES: u32 = 64 * (3 + 128 * (4 + 744));
 
 impl<A: Allocator> Agent<A> {
-    /// Gives the lines of a show, in their order, to a sink. It takes no memory, and costs what it
-    /// shows. Where the sink is done, as behind a write that failed, the show ends within one
-    /// neighbor's lines.
+    /// Gives the lines of a show, in their order, to a sink. Past its clauses: where the sink is
+    /// done, as behind a write that failed, no further port or neighbor is gone through.
     pub fn show_lines<S: LineSink>(&self, show: &Show, sink: &mut S)
         ensures value { Takes S.takes sink.old sink.new (lines_of show.now self.now) }
         ensures few { length (lines_of show.now self.now) ≤ 6127808 }
@@ -43,8 +42,8 @@ impl<A: Allocator> Agent<A> {
     }
 
     /// Line `i` of a show, from 0, without its line feed; None from the first `i` past the last
-    /// line on. It costs as much as all lines up to that one: whoever wants several takes them from
-    /// `show_lines`.
+    /// line on. Past its clauses: it goes through the lines before that one too, so whoever wants
+    /// several takes them from `show_lines`.
     pub fn show_line(&self, show: &Show, i: u32) -> Option<Line>
         ensures line { option_map octets_of result ≡ slice_get (lines_of show.now self.now) i }
         ensures few { IsSome result → i < 6127808 }

@@ -2,7 +2,6 @@
 ghost use Rattle.std.specs.Prelude.{◌≡◌, ◌≤◌, ℕ, List, [], true, false, None, Some, length};
 ghost use Rattle.std.specs.Option.{option_map};
 ghost use Rattle.lldp_engine.specs.Lines.{octets_of};
-ghost use Rattle.lldp_text.specs.declared.writing.TheConstants.{LINE_ROOM};
 ghost use Rattle.lldp_text.specs.Text.{ended};
 ghost use Rattle.lldp_engine.specs.Code.OneLineState.{KeepsOne};
 
@@ -32,7 +31,7 @@ impl OneLine {
 
     /// The line that is wanted, where it came, without its line feed.
     pub fn into_line(self) -> Option<Line>
-        requires { length self.line ≤ LINE_ROOM }
+        requires { length self.line ≤ 2049 }
         ensures none { self.came ≡ false → result ≡ None }
         ensures line { (line : List ℕ) → self.came ≡ true → self.line ≡ ended line
             → option_map octets_of result ≡ Some line }

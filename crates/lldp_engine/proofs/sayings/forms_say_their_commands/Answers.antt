@@ -26,14 +26,6 @@ returns-clause-said c = λ agent word other. record {
   none = refl;
 }
 
-pub returns-clause-read : goal.returns-clause-read
-returns-clause-read c = record {
-  rx_and_tx = refl;
-  rx_only = refl;
-  tx_only = refl;
-  disabled = refl;
-}
-
 pub returns-clause-constants : goal.returns-clause-constants
 returns-clause-constants c = record { interval = refl; hold = refl }
 
