@@ -1,5 +1,6 @@
 pub mod Devices
 pub mod Adapters
+pub mod FaultNumber
 pub mod Lines
 pub mod Sent
 pub mod Forms

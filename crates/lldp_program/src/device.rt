@@ -3,7 +3,7 @@
 ghost use Rattle.std.specs.Prelude.{◌≡◌, ◌<◌, ◌≤◌, ℕ, List, Option, length, IfOk};
 ghost use Rattle.std.specs.Io.KnownBytes.{ReadConsumes, WriteAppends, Keeps};
 ghost use Rattle.std.specs.Borrow.{GName};
-ghost use Rattle.lldp_program.specs.Devices.{one_more, failures_after};
+ghost use Rattle.lldp_program.specs.Devices.{one_more, failures_after, ends_after};
 
 use std::io::{Read, Write};
 
@@ -21,6 +21,8 @@ pub trait Source {
     ghost calls: { Self → ℕ };
     /// How many reads failed.
     ghost failures: { Self → ℕ };
+    /// How many reads answered the end, which is 0 octets.
+    ghost ends: { Self → ℕ };
     /// Where it reads from, which no call changes: for an adapter the reference that it was lent.
     ghost place: { Self → GName };
 
@@ -32,6 +34,7 @@ pub trait Source {
         ensures octets { ReadConsumes (to_come self.old) (to_come self.new) result room.new }
         ensures calls { calls self.new ≡ one_more (calls self.old) }
         ensures failures { failures self.new ≡ failures_after (failures self.old) result }
+        ensures ends { ends self.new ≡ ends_after (ends self.old) result }
         ensures place { place self.new ≡ place self.old };
 }
 
@@ -70,23 +73,26 @@ pub struct FromReader<'a, R> {
     reader: &'a mut R,
     calls: u64,
     failures: u64,
+    ends: u64,
 }
 
 impl<'a, R: Read> FromReader<'a, R> {
     ghost use Rattle.std.specs.Prelude.{◌≡◌};
-    ghost use Rattle.lldp_program.specs.Adapters.{source_to_come, source_calls, source_failures, source_place};
+    ghost use Rattle.lldp_program.specs.Adapters.{source_to_come, source_calls, source_failures, source_ends, source_place};
 
-    /// A source that tells what the reader tells, with no call and no failure yet.
+    /// A source that tells what the reader tells, with no call, no failure and no end yet.
     pub fn new(reader: &'a mut R) -> Self
         ensures octets { source_to_come R.remaining result ≡ R.remaining reader.old }
         ensures calls { source_calls result ≡ 0 }
         ensures failures { source_failures result ≡ 0 }
+        ensures ends { source_ends result ≡ 0 }
         ensures place { source_place result ≡ reader.entry.ghost_name }
     {
         FromReader {
             reader,
             calls: 0,
             failures: 0,
+            ends: 0,
         }
     }
 }
@@ -98,11 +104,17 @@ impl<R: Read> Source for FromReader<'_, R> {
 
     ghost failures = { λ s. s.failures };
 
+    ghost ends = { λ s. s.ends };
+
     ghost place = { λ s. s.reader.ghost_name };
 
     fn read(&mut self, room: &mut [u8]) -> Result<usize, DeviceFault> {
         self.calls = self.calls.saturating_add(1);
         match self.reader.read(room) {
+            Ok(0) => {
+                self.ends = self.ends.saturating_add(1);
+                Ok(0)
+            }
             Ok(n) => Ok(n),
             Err(_) => {
                 self.failures = self.failures.saturating_add(1);

@@ -48,14 +48,14 @@ pub fn run_program<S: AsStr, R: Read, W: Write, E: Write>(
     writer: &mut W,
     faults: &mut E,
 ) -> u8
-    ensures status { result ≤ REFUSED }
+    ensures status { result ≤ 2 }
     // Help or the version was asked for, or the words have no fault, and the trace was run with
     // their options.
-    ensures answered { result ≢ REFUSED → HasAnswered (map S.text words.now)
+    ensures answered { result ≢ 2 → HasAnswered (map S.text words.now)
         (R.remaining reader.old) (R.remaining reader.new)
         (W.contents writer.old) (W.contents writer.new) result }
     // Refused, it has read nothing and written nothing.
-    ensures silent { result ≡ REFUSED →
+    ensures silent { result ≡ 2 →
         Keeps (R.remaining reader.old) (R.remaining reader.new)
         × Keeps (W.contents writer.old) (W.contents writer.new) }
 {
@@ -75,14 +75,14 @@ fn run_matches<R: Read, W: Write, E: Write>(
     faults: &mut E,
 ) -> u8
     requires parse { IsProgramParse matches.now }
-    ensures status { result ≤ REFUSED }
-    ensures ran { result ≢ REFUSED →
+    ensures status { result ≤ 2 }
+    ensures ran { result ≢ 2 →
         (options : Options) × Asks (rows_of (found_of matches.now)) options
         × (fault_of options ≡ None)
         × RanAs (rows_of (found_of matches.now)) options
         (R.remaining reader.old) (R.remaining reader.new)
         (W.contents writer.old) (W.contents writer.new) result }
-    ensures silent { result ≡ REFUSED →
+    ensures silent { result ≡ 2 →
         Keeps (R.remaining reader.old) (R.remaining reader.new)
         × Keeps (W.contents writer.old) (W.contents writer.new) }
 {
@@ -103,9 +103,9 @@ fn run_matches<R: Read, W: Write, E: Write>(
 fn answer_words<W: Write, E: Write>(error: &Error, writer: &mut W, faults: &mut E) -> u8
     ensures refused { (kind_of error.now ≢ ErrorKind.DisplayHelp) →
         (kind_of error.now ≢ ErrorKind.DisplayVersion) →
-        (result ≡ REFUSED) × Keeps (W.contents writer.old) (W.contents writer.new) }
-    ensures status { result ≤ REFUSED }
-    ensures silent { result ≡ REFUSED → Keeps (W.contents writer.old) (W.contents writer.new) }
+        (result ≡ 2) × Keeps (W.contents writer.old) (W.contents writer.new) }
+    ensures status { result ≤ 2 }
+    ensures silent { result ≡ 2 → Keeps (W.contents writer.old) (W.contents writer.new) }
 {
     if error.kind() == ErrorKind::OutOfMemory {
         return no_memory(faults);
@@ -127,7 +127,7 @@ fn run_streams<R: Read, W: Write, E: Write>(
     writer: &mut W,
     faults: &mut E,
 ) -> u8
-    ensures status { result ≤ FAILED }
+    ensures status { result ≤ 1 }
     ensures ran { RanStreams (R.remaining reader.old) (R.remaining reader.new)
         (W.contents writer.old) (W.contents writer.new) agent.old agent.new result }
 {
@@ -143,14 +143,14 @@ fn run_devices<S: Source, W: Flush, E: Write>(
     sink: &mut W,
     faults: &mut E,
 ) -> u8
-    ensures status { result ≤ FAILED }
+    ensures status { result ≤ 1 }
     ensures ran { RanStreams (S.to_come source.old) (S.to_come source.new)
         (W.taken sink.old) (W.taken sink.new) agent.old agent.new result }
     // Status 0 says that no read, write or flush failed, and status 1 that one did or that the
     // trace was too long.
-    ensures done { result ≡ DONE → (S.failures source.new ≡ S.failures source.old)
+    ensures done { result ≡ 0 → (S.failures source.new ≡ S.failures source.old)
         × (W.failures sink.new ≡ W.failures sink.old) }
-    ensures failed { result ≡ FAILED → S.failures source.old ≡ 0 → W.failures sink.old ≡ 0 →
+    ensures failed { result ≡ 1 → S.failures source.old ≡ 0 → W.failures sink.old ≡ 0 →
         S.calls source.old ≡ 0 →
         FailedBy (S.failures source.new) (W.failures sink.new) (S.calls source.new) }
     ensures places { (S.place source.new ≡ S.place source.old)
@@ -174,7 +174,7 @@ fn run_sockets<E: Write>(
     listening: Listening,
     faults: &mut E,
 ) -> u8
-    ensures status { result ≤ FAILED }
+    ensures status { result ≤ 1 }
 {
     let Ok(listener) = TcpListener::bind(rt, (Ipv4Addr::LOCALHOST, listening.port)) else {
         return socket_failed(faults);
@@ -185,7 +185,7 @@ fn run_sockets<E: Write>(
 
 /// The status behind a flush at the end, of which a fault is told.
 fn finish<E: Write>(flushed: bool, faults: &mut E) -> u8
-    ensures { result ≡ (if flushed then DONE else FAILED) }
+    ensures { result ≡ (if flushed then 0 else 1) }
 {
     if flushed {
         return DONE;
@@ -195,8 +195,8 @@ fn finish<E: Write>(flushed: bool, faults: &mut E) -> u8
 
 /// The status behind the connections, of which a fault is told.
 fn finish_serving<E: Write>(served: Result<u16, ServeFault>, faults: &mut E) -> u8
-    ensures status { result ≤ FAILED }
-    ensures done { (result ≡ DONE) ↔ (served ≡ Ok 0) }
+    ensures status { result ≤ 1 }
+    ensures done { (result ≡ 0) ↔ (served ≡ Ok 0) }
 {
     match served {
         Ok(0) => DONE,
@@ -210,14 +210,14 @@ fn finish_serving<E: Write>(served: Result<u16, ServeFault>, faults: &mut E) -> 
 
 /// Tells that the port could not be bound, or that a connection ended with a fault.
 fn socket_failed<E: Write>(faults: &mut E) -> u8
-    ensures { result ≡ FAILED }
+    ensures { result ≡ 1 }
 {
     write_fault(faults, b"lldpa: socket failed\n", FAILED)
 }
 
 /// Tells which address cannot be read.
 fn refuse_address<E: Write>(fault: AddressFault, faults: &mut E) -> u8
-    ensures { result ≡ REFUSED }
+    ensures { result ≡ 2 }
 {
     match fault {
         AddressFault::Mac => write_fault(faults, b"lldpa: bad --mac\n", REFUSED),
@@ -227,7 +227,7 @@ fn refuse_address<E: Write>(fault: AddressFault, faults: &mut E) -> u8
 
 /// Tells why the agent was not opened.
 fn refuse_opening<E: Write>(fault: OpenFault, faults: &mut E) -> u8
-    ensures { result ≡ REFUSED }
+    ensures { result ≡ 2 }
 {
     match fault {
         OpenFault::Memory => no_memory(faults),
@@ -241,7 +241,7 @@ fn refuse_opening<E: Write>(fault: OpenFault, faults: &mut E) -> u8
 
 /// Tells that there was no memory.
 pub fn no_memory<E: Write>(faults: &mut E) -> u8
-    ensures { result ≡ REFUSED }
+    ensures { result ≡ 2 }
 {
     write_fault(faults, b"lldpa: no memory\n", REFUSED)
 }

@@ -2,6 +2,7 @@
 ghost use Rattle.std.specs.Prelude.{◌≡◌, ◌≤◌, IfOk};
 ghost use Rattle.lldp_engine.specs.Past.{Past};
 ghost use Rattle.lldp_engine.specs.Standing.{Stands};
+ghost use Rattle.lldp_program.specs.FaultNumber.{number_of_serve_fault};
 ghost use Rattle.lldp_program.specs.Runs.{KeepsOn};
 ghost use Rattle.lldp_program.specs.Serving.{HasAsked, HasServed, faults_in};
 
@@ -17,6 +18,15 @@ pub enum ServeFault {
     /// A connection could not be accepted.
     #[error("lldpa: socket failed")]
     Accept = 1,
+}
+
+impl ServeFault {
+    /// The number of the fault, 1.
+    pub fn number(self) -> u8
+        ensures { result ≡ number_of_serve_fault self }
+    {
+        self as u8
+    }
 }
 
 /// How many faults a run ended with: one or none.
