@@ -1,11 +1,13 @@
 -- What one more connection leaves.
-use Rattle.std.proofs.Common.{◌≡◌, ◌≤◌, ◌++◌, ℕ, List, [], ◌∷◌, Option, Some, None, Result, Ok, Err, ap, sym, refl, append_assoc, arith, ◌∙◌}
+use Rattle.std.proofs.Common.{suc, length, ◌+◌, add-one, add-zero, ◌≡◌, ◌≤◌, ◌++◌, ℕ, List, [], ◌∷◌, Option, Some, None, Result, Ok, Err, ap, sym, refl, append_assoc, arith, ◌∙◌}
 use Rattle.lldp_engine.specs.AgentState.{AgentState}
 use Rattle.lldp_engine.specs.Past.{Past}
 use Rattle.lldp_engine.specs.Standing.{Stands}
 use Rattle.lldp_program.specs.Runs.{KeepsOn, followed}
 use Rattle.lldp_program.specs.Doors.{Call, accepted, ran, Visit, logged}
-use Rattle.lldp_program.specs.Serving.{faults_in, results_of, calls_of, AreRun, AreServed, HasAsked, HasServed}
+use Rattle.std.specs.Prelude.{is_err}
+use Rattle.std.specs.List.{filter}
+use Rattle.lldp_program.specs.Serving.{faults_in, faults_of, results_of, calls_of, AreRun, AreServed, HasAsked, HasServed}
 use Rattle.lldp_program.specs.declared.serve.ServeFault.{ServeFault}
 use Rattle.lldp_program.specs.declared.trace.RunFault.{RunFault}
 
@@ -45,3 +47,9 @@ pub logged_visit : {C : Type 0} → (visits : List (Visit C)) (visit : Visit C) 
 logged_visit visits visit first told accepting running before accepts runs =
     runs ∙ ap (logged (ran visit ∷ [])) (accepts ∙ ap (logged (accepted visit.connection ∷ [])) before ∙ logged_then (calls_of visits) (accepted visit.connection ∷ []) first)
     ∙ logged_then (accepted visit.connection ∷ calls_of visits) (ran visit ∷ []) first
+
+-- the runs that ended with a fault are counted
+pub faults_counted : (results : List (Result (Unit {0}) RunFault)) → faults_of results ≡ length (filter is_err results)
+faults_counted [] = refl
+faults_counted (Ok done ∷ earlier) = add-zero (faults_of earlier) ∙ faults_counted earlier
+faults_counted (Err fault ∷ earlier) = add-one (faults_of earlier) ∙ ap (λ (n : ℕ). suc n) (faults_counted earlier)

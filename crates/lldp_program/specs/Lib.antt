@@ -14,3 +14,7 @@ pub mod Program
 pub mod Addresses
 pub mod Usage
 pub mod Arguments
+pub mod FixedNumbers
+pub mod FixedTexts
+pub mod Sayings
+pub mod Listening
