@@ -19,6 +19,18 @@ use Rattle.lldp_program.specs.Forms.{of_command, or_hex, tick_form, frame_form, 
 use Rattle.lldp_program.specs.Sayings.{tick_word, rx_word, up_word, down_word, AreBlanks, IsPassedOver, SkipsLines}
 use Rattle.lldp_program.specs.Work.{Work, skip, ticks, frame, link, command}
 
+differs : (a b : List ℕ) → a ≢ b → bytes_eq a b ≡ false
+differs a b ne = elim (cases_Bool (bytes_eq a b)) [
+  | inl same ↦ absurd (ne ((bytes_eq-Decides a b).0 same))
+  | inr not_same ↦ not_same
+]
+
+-- every other first word begins a command
+pub command_begins : (agent : AgentState) (words : List (List ℕ)) (word : List ℕ) → word ≢ tick_word → word ≢ rx_word → word ≢ up_word → word ≢ down_word
+    → form_of agent (word ∷ words) ≡ on_ok command (of_command (command_said agent (word ∷ words)))
+unfolding form_of
+command_begins agent words word a b c d = rw (differs word tick_word a, differs word rx_word b, differs word up_word c, differs word down_word d) refl
+
 -- a step behind another never skips where it doesn't behind any answer
 then_never : {A : Type 0} (r : Result A LineFault) (next : A → Result Work LineFault) → ((a : A) → next a ≡ Ok skip → ⊥) → (r >>= next) ≡ Ok skip → ⊥
 then_never (Ok a) next never h = never a h
@@ -27,7 +39,7 @@ then_never (Err fault) next never h = cc
 ticks_never : (words : List (List ℕ)) → tick_form words ≡ Ok skip → ⊥
 unfolding tick_form
 ticks_never [] h = cc
-ticks_never (word ∷ words) h = then_never (of_command (number_of word 1 65535)) _ (λ n. then_never (of_command (end_said words)) _ (λ _ k. cc)) h
+ticks_never (word ∷ words) h = then_never _ _ (λ n. then_never _ _ (λ _ k. cc)) h
 
 -- `tick` with one word behind it
 pub counted : (r : Result ℕ LineFault) → (r >>= (λ n. of_command (end_said []) >>= (λ _. Ok (ticks n)))) ≡ on_ok ticks r
@@ -61,18 +73,6 @@ form_never agent (word ∷ words) h =
     either_never (bytes_eq word tick_word) _ _ (ticks_never words) (either_never (bytes_eq word rx_word) _ _ (frame_never agent words)
     (either_never (bytes_eq word up_word) _ _ (link_never agent true words) (either_never (bytes_eq word down_word) _ _ (link_never agent false words)
     (asked_never (command_said agent (word ∷ words)))))) h
-
-differs : (a b : List ℕ) → a ≢ b → bytes_eq a b ≡ false
-differs a b ne = elim (cases_Bool (bytes_eq a b)) [
-  | inl same ↦ absurd (ne ((bytes_eq-Decides a b).0 same))
-  | inr not_same ↦ not_same
-]
-
--- every other first word begins a command
-pub command_begins : (agent : AgentState) (words : List (List ℕ)) (word : List ℕ) → word ≢ tick_word → word ≢ rx_word → word ≢ up_word → word ≢ down_word
-    → form_of agent (word ∷ words) ≡ on_ok command (of_command (command_said agent (word ∷ words)))
-unfolding form_of
-command_begins agent words word a b c d = rw (differs word tick_word a, differs word rx_word b, differs word up_word c, differs word down_word d) refl
 
 blank : (octet : ℕ) → is_separator octet ≡ true → (octet ≡ 0x20) ⊎ (octet ≡ 0x09)
 blank octet h = elim (or_cases (octet == 32) (octet == 9) h) [
