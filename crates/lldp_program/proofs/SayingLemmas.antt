@@ -39,7 +39,7 @@ then_never (Err fault) next never h = cc
 ticks_never : (words : List (List ℕ)) → tick_form words ≡ Ok skip → ⊥
 unfolding tick_form
 ticks_never [] h = cc
-ticks_never (word ∷ words) h = then_never _ _ (λ n. then_never _ _ (λ _ k. cc)) h
+ticks_never (word ∷ words) h = then_never (of_command (number_of word 1 65535)) _ (λ n. then_never (of_command (end_said words)) _ (λ _ k. cc)) h
 
 -- `tick` with one word behind it
 pub counted : (r : Result ℕ LineFault) → (r >>= (λ n. of_command (end_said []) >>= (λ _. Ok (ticks n)))) ≡ on_ok ticks r

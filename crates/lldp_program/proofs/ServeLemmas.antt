@@ -7,7 +7,7 @@ use Rattle.lldp_program.specs.Runs.{KeepsOn, followed}
 use Rattle.lldp_program.specs.Doors.{Call, accepted, ran, Visit, logged}
 use Rattle.std.specs.Prelude.{is_err}
 use Rattle.std.specs.List.{filter}
-use Rattle.lldp_program.specs.Serving.{faults_in, faults_of, results_of, calls_of, AreRun, AreServed, HasAsked, HasServed}
+use Rattle.lldp_program.specs.Serving.{faults_in, faults_of, results_of, calls_of}
 use Rattle.lldp_program.specs.declared.serve.ServeFault.{ServeFault}
 use Rattle.lldp_program.specs.declared.trace.RunFault.{RunFault}
 
@@ -29,16 +29,6 @@ logged_none (Some earlier) = refl
 pub logged_then : {C : Type 0} → (first next : List (Call C)) (told : Option (List (Call C))) → logged next (logged first told) ≡ logged (next ++ first) told
 logged_then first next None = refl
 logged_then first next (Some earlier) = ap Some (sym (append_assoc next first earlier))
-
--- runs over the connections of a door are runs
-pub are_served : {C : Type 0} → (to_come taken : C → Option (List ℕ)) (visits : List (Visit C)) (before after : AgentState) → AreRun to_come taken visits before after → AreServed (results_of visits) before after
-are_served to_come taken [] before after same = same
-are_served to_come taken (visit ∷ earlier) before after runs =
-    (runs.0, are_served to_come taken earlier before runs.0 runs.1, record { to_come = _; left = _; old = _; new = _; run = runs.2 })
-
-pub has_served : {C : Type 0} → (to_come taken : C → Option (List ℕ)) (old new : Option (List (Call C))) (connections : ℕ) (before after : AgentState) (result : Result ℕ ServeFault) → HasAsked to_come taken old new connections before after result → HasServed connections before after result
-has_served to_come taken old new connections before after result h =
-    record { results = results_of h.visits; served = are_served to_come taken h.visits before after h.runs; told = h.told }
 
 -- a connection more was accepted and then run over
 pub logged_visit : {C : Type 0} → (visits : List (Visit C)) (visit : Visit C) (first told accepting running : Option (List (Call C)))

@@ -1,6 +1,7 @@
 pub mod Devices
 pub mod Adapters
 pub mod FaultNumber
+pub mod ProgramFault
 pub mod Lines
 pub mod Sent
 pub mod Forms

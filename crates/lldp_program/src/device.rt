@@ -1,6 +1,6 @@
 //! Devices that a trace is read from and written to, and the adapters that make them of std's
 //! readers and writers.
-ghost use Rattle.std.specs.Prelude.{◌≡◌, ◌<◌, ◌≤◌, ℕ, List, Option, length, IfOk};
+ghost use Rattle.std.specs.Prelude.{◌≡◌, ◌<◌, ◌≤◌, ℕ, Bool, true, List, Option, length, IfOk};
 ghost use Rattle.std.specs.Io.KnownBytes.{ReadConsumes, WriteAppends, Keeps};
 ghost use Rattle.std.specs.Borrow.{GName};
 ghost use Rattle.lldp_program.specs.Devices.{one_more, failures_after, ends_after};
@@ -60,8 +60,12 @@ pub trait Sink {
 
 /// What takes octets and can be told to pass them on.
 pub trait Flush: Sink {
+    /// Whether it was told to pass on all that it has taken.
+    ghost is_flushed: { Self → Bool };
+
     /// Passes on what was taken. A flush that fails counts as a failed write.
     fn flush(&mut self) -> Result<(), DeviceFault>
+        ensures flushed { is_flushed self.new ≡ true }
         ensures octets { Keeps (Self.taken self.old) (Self.taken self.new) }
         ensures failures { Self.failures self.new ≡ failures_after (Self.failures self.old) result }
         ensures place { Self.place self.new ≡ Self.place self.old };
@@ -130,6 +134,7 @@ impl<R: Read> Source for FromReader<'_, R> {
 pub struct ToWriter<'a, W> {
     writer: &'a mut W,
     failures: u64,
+    is_flushed: bool,
 }
 
 impl<'a, W: Write> ToWriter<'a, W> {
@@ -145,6 +150,7 @@ impl<'a, W: Write> ToWriter<'a, W> {
         ToWriter {
             writer,
             failures: 0,
+            is_flushed: false,
         }
     }
 }
@@ -157,6 +163,7 @@ impl<W: Write> Sink for ToWriter<'_, W> {
     ghost place = { λ s. s.writer.ghost_name };
 
     fn write(&mut self, octets: &[u8]) -> Result<usize, DeviceFault> {
+        self.is_flushed = false;
         match self.writer.write(octets) {
             Ok(n) if n > 0 => Ok(n),
             _ => {
@@ -168,7 +175,10 @@ impl<W: Write> Sink for ToWriter<'_, W> {
 }
 
 impl<W: Write> Flush for ToWriter<'_, W> {
+    ghost is_flushed = { λ s. s.is_flushed };
+
     fn flush(&mut self) -> Result<(), DeviceFault> {
+        self.is_flushed = true;
         match self.writer.flush() {
             Ok(()) => Ok(()),
             Err(_) => {

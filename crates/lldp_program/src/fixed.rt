@@ -5,7 +5,7 @@ ghost use Rattle.std.specs.Borrow.{Bor};
 ghost use Rattle.clap.specs.Walk.{Text};
 ghost use Rattle.lldp_engine.specs.AgentState.{AgentState};
 ghost use Rattle.lldp_program.specs.FixedNumbers.{AreNumbers};
-ghost use Rattle.lldp_program.specs.FixedTexts.{TellFaults, TellsSent};
+ghost use Rattle.lldp_program.specs.FixedTexts.{TellEnds, TellFaults, TellsSent};
 ghost use Rattle.lldp_program.specs.Listening.{AskByWords};
 ghost use Rattle.lldp_program.specs.Serving.{faults_of};
 ghost use Rattle.lldp_program.specs.declared.trace.RunFault.{RunFault};
@@ -19,6 +19,7 @@ pub fn statuses_and_faults_have_fixed_numbers()
 /// The lines that tell faults and sent frames stand octet by octet.
 pub fn lines_have_fixed_octets()
     ensures faults { TellFaults }
+    ensures ends { TellEnds }
     ensures sent { (name frame : List ℕ) → TellsSent name frame }
 {}
 

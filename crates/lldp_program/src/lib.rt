@@ -6,6 +6,7 @@ pub mod arguments;
 mod buffer;
 pub mod device;
 pub mod door;
+pub mod fault;
 pub mod fixed;
 mod help;
 pub mod line;

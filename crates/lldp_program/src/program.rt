@@ -1,30 +1,33 @@
 //! The program, over arguments and streams that are handed in.
-ghost use Rattle.std.specs.Prelude.{◌≡◌, ◌≢◌, ◌≤◌, ◌↔◌, None, Ok, map, if◌then◌else◌};
+ghost use Rattle.std.specs.Prelude.{◌≡◌, ◌≢◌, ◌≤◌, true, None, map, if◌then◌else◌};
 ghost use Rattle.std.specs.Io.KnownBytes.{Keeps};
 ghost use Rattle.clap.specs.Values.{kind_of};
 ghost use Rattle.clap.specs.Words.{found_of, rows_of};
 ghost use Rattle.lldp_engine.specs.Options.{Options, fault_of};
 ghost use Rattle.lldp_program.specs.Arguments.{IsProgramParse};
+ghost use Rattle.lldp_program.specs.Code.Output.{WrittenBy};
+ghost use Rattle.lldp_program.specs.Devices.{failures_after};
+ghost use Rattle.lldp_program.specs.ProgramFault.{line_of, status_of};
 ghost use Rattle.lldp_program.specs.Program.{FailedBy, HasAnswered, RanAs, RanStreams};
 ghost use Rattle.lldp_program.specs.Usage.{Asks};
 
-use crate::arguments::{AddressFault, Listening, listening_of, parse, read_options};
-use crate::device::{Flush, FromReader, Source, ToWriter};
-use crate::serve::{ServeFault, serve};
+use crate::arguments::{Listening, listening_of, parse, read_options};
+use crate::device::{DeviceFault, Flush, FromReader, Sink, Source, ToWriter};
+use crate::door::AtPort;
+use crate::fault::ProgramFault;
+use crate::output::send;
+use crate::serve::listen;
 use crate::trace::run_trace;
 use clap::error::ErrorKind;
 use clap::{ArgMatches, Error};
-use lldp_engine::{Agent, OpenFault};
+use lldp_engine::Agent;
 use std::alloc::Global;
 use std::convert::AsStr;
 use std::io::{Read, Write};
-use std::net::{Ipv4Addr, Net, TcpListener, TcpStream};
+use std::net::{Net, TcpListener, TcpStream};
 
 /// All went well.
 const DONE: u8 = 0;
-
-/// A stream or a socket failed, or the trace was too long.
-const FAILED: u8 = 1;
 
 /// The words are bad, an opening was refused, or there was no memory.
 const REFUSED: u8 = 2;
@@ -88,14 +91,14 @@ fn run_matches<R: Read, W: Write, E: Write>(
 {
     let options = match read_options(matches) {
         Ok(options) => options,
-        Err(fault) => return refuse_address(fault, faults),
+        Err(fault) => return tell(ProgramFault::of_address(fault), faults),
     };
     match Agent::open(alloc, &options) {
         Ok(mut agent) => match listening_of(matches) {
             None => run_streams(&mut agent, reader, writer, faults),
             Some(listening) => run_sockets(rt, &mut agent, listening, faults),
         },
-        Err(fault) => refuse_opening(fault, faults),
+        Err(fault) => tell(ProgramFault::of_opening(fault), faults),
     }
 }
 
@@ -115,7 +118,7 @@ fn answer_words<W: Write, E: Write>(error: &Error, writer: &mut W, faults: &mut 
         return REFUSED;
     }
     if write!(writer, "{error}").is_err() {
-        return write_fault(faults, b"lldpa: write failed\n", FAILED);
+        return tell(ProgramFault::Write, faults);
     }
     finish(writer.flush().is_ok(), faults)
 }
@@ -155,15 +158,14 @@ fn run_devices<S: Source, W: Flush, E: Write>(
         FailedBy (S.failures source.new) (W.failures sink.new) (S.calls source.new) }
     ensures places { (S.place source.new ≡ S.place source.old)
         × (W.place sink.new ≡ W.place sink.old) }
+    // It was told to pass on all that was written, whatever became of the run.
+    ensures flushed { W.is_flushed sink.new ≡ true }
 {
     let ran = run_trace(agent, source, sink);
     let flushed = sink.flush();
     match ran {
         Ok(()) => finish(flushed.is_ok(), faults),
-        Err(fault) => {
-            let _ = writeln!(faults, "{fault}");
-            FAILED
-        }
+        Err(fault) => tell(ProgramFault::of_run(fault), faults),
     }
 }
 
@@ -176,11 +178,14 @@ fn run_sockets<E: Write>(
 ) -> u8
     ensures status { result ≤ 1 }
 {
-    let Ok(listener) = TcpListener::bind(rt, (Ipv4Addr::LOCALHOST, listening.port)) else {
-        return socket_failed(faults);
+    let mut door = AtPort {
+        network: rt,
+        listener: None,
     };
-    let served = serve(agent, &listener, listening.connections);
-    finish_serving(served, faults)
+    match listen(agent, &mut door, listening) {
+        Ok(()) => DONE,
+        Err(_) => tell(ProgramFault::Socket, faults),
+    }
 }
 
 /// The status behind a flush at the end, of which a fault is told.
@@ -190,66 +195,28 @@ fn finish<E: Write>(flushed: bool, faults: &mut E) -> u8
     if flushed {
         return DONE;
     }
-    write_fault(faults, b"lldpa: write failed\n", FAILED)
-}
-
-/// The status behind the connections, of which a fault is told.
-fn finish_serving<E: Write>(served: Result<u16, ServeFault>, faults: &mut E) -> u8
-    ensures status { result ≤ 1 }
-    ensures done { (result ≡ 0) ↔ (served ≡ Ok 0) }
-{
-    match served {
-        Ok(0) => DONE,
-        Ok(_) => socket_failed(faults),
-        Err(fault) => {
-            let _ = writeln!(faults, "{fault}");
-            FAILED
-        }
-    }
-}
-
-/// Tells that the port could not be bound, or that a connection ended with a fault.
-fn socket_failed<E: Write>(faults: &mut E) -> u8
-    ensures { result ≡ 1 }
-{
-    write_fault(faults, b"lldpa: socket failed\n", FAILED)
-}
-
-/// Tells which address cannot be read.
-fn refuse_address<E: Write>(fault: AddressFault, faults: &mut E) -> u8
-    ensures { result ≡ 2 }
-{
-    match fault {
-        AddressFault::Mac => write_fault(faults, b"lldpa: bad --mac\n", REFUSED),
-        AddressFault::Management => write_fault(faults, b"lldpa: bad --management\n", REFUSED),
-    }
-}
-
-/// Tells why the agent was not opened.
-fn refuse_opening<E: Write>(fault: OpenFault, faults: &mut E) -> u8
-    ensures { result ≡ 2 }
-{
-    match fault {
-        OpenFault::Memory => no_memory(faults),
-        OpenFault::NoPorts => write_fault(faults, b"lldpa: no ports\n", REFUSED),
-        OpenFault::TooManyPorts => write_fault(faults, b"lldpa: too many ports\n", REFUSED),
-        OpenFault::PortName => write_fault(faults, b"lldpa: bad port name\n", REFUSED),
-        OpenFault::SamePort => write_fault(faults, b"lldpa: same port twice\n", REFUSED),
-        OpenFault::Text => write_fault(faults, b"lldpa: bad text\n", REFUSED),
-    }
+    tell(ProgramFault::Write, faults)
 }
 
 /// Tells that there was no memory.
 pub fn no_memory<E: Write>(faults: &mut E) -> u8
     ensures { result ≡ 2 }
 {
-    write_fault(faults, b"lldpa: no memory\n", REFUSED)
+    tell(ProgramFault::Memory, faults)
 }
 
-/// Writes the line of a fault. That it fails changes no status.
-fn write_fault<E: Write>(faults: &mut E, line: &[u8], status: u8) -> u8
-    ensures { result ≡ status }
+/// The status of a fault, whose line is told. That it cannot be written changes no status.
+fn tell<E: Write>(fault: ProgramFault, faults: &mut E) -> u8
+    ensures { result ≡ status_of fault }
 {
-    let _ = faults.write_all(line);
-    status
+    let _ = tell_at(fault, &mut ToWriter::new(faults));
+    fault.status()
+}
+
+/// Writes the line of a fault: all of it, or what comes before a write that failed.
+fn tell_at<E: Sink>(fault: ProgramFault, sink: &mut E) -> Result<(), DeviceFault>
+    ensures written { WrittenBy result (line_of fault) (E.taken sink.old) (E.taken sink.new) }
+    ensures failures { E.failures sink.new ≡ failures_after (E.failures sink.old) result }
+{
+    send(sink, fault.line())
 }
