@@ -1,11 +1,10 @@
 -- What worked command lines ask to listen to, computed.
-use Rattle.std.proofs.Common.{◌≡◌, ℕ, List, [], ◌∷◌, Option, Some, None, refl, sym, ap, ◌∙◌, codes, Bor}
-use Rattle.clap.specs.Simple.{matches_of}
-use Rattle.clap.specs.Walk.{Text, one_of}
+use Rattle.std.proofs.Common.{◌≡◌, ℕ, List, Option, Some, None, refl, codes, Bor}
+use Rattle.clap.specs.Walk.{Text}
 use Rattle.clap.proofs.OnLiterals.{clap_on_literals}
 use Rattle.lldp_program.specs.declared.arguments.Listening.{Listening}
-use Rattle.lldp_program.specs.Usage.{AsksListening, WritesNumber, program}
-use Rattle.lldp_program.specs.Listening.{AskFor, AskByWords}
+use Rattle.lldp_program.specs.Usage.{AsksListening, WritesNumber}
+use Rattle.lldp_program.specs.Listening.{AskByWords}
 
 asks_some : (port connections : Text) (asked : Option Listening) (p n : ℕ) → ((m : ℕ) → WritesNumber (Some port) m → m ≡ p) → ((m : ℕ) → WritesNumber (Some connections) m → m ≡ n)
     → AsksListening (Some port) (Some connections) asked → asked ≡ Some (record { port = p; connections = n })

@@ -1,12 +1,12 @@
 -- What first words decide, and which lines are passed over.
-use Rattle.std.proofs.Common.{◌≡◌, ℕ, ◌<◌, ◌≤◌, ◌⊎◌, ◌↔◌, true, false, nat_lt, Bool, List, [], ◌∷◌, ◌++◌, length, Result, Ok, Err, refl, sym, ap, ◌∙◌, inl, inr, arith}
-use Rattle.std.specs.Prelude.{◌≢◌, ◌==◌, ◌||◌, if◌then◌else◌}
-use Rattle.std.proofs.lemmas.Bool.{cases_Bool, cases_lt, lt-ltb, le-ltb, eq-eqb, eqb-true, or_cases}
+use Rattle.std.proofs.Common.{◌≡◌, ℕ, ◌≤◌, ◌⊎◌, true, false, Bool, List, [], ◌∷◌, ◌++◌, length, Result, Ok, Err, refl, ap, inl, inr}
+use Rattle.std.specs.Prelude.{◌≢◌, ◌==◌, if◌then◌else◌}
+use Rattle.std.proofs.lemmas.Bool.{cases_Bool, cases_lt, lt-ltb, le-ltb, eqb-true, or_cases}
 use Rattle.std.proofs.lemmas.Slice.Eq.{bytes_eq-Decides}
 use Rattle.std.specs.Str.{bytes_eq}
 use Rattle.hex.specs.Hex.{decode_of}
 use Rattle.lldp_text.specs.declared.fault.CommandFault.{CommandFault}
-use Rattle.lldp_text.specs.declared.fault.CommandFault.TheVariants.{Quote, NoSuchPort}
+use Rattle.lldp_text.specs.declared.fault.CommandFault.TheVariants.{Quote}
 use Rattle.lldp_text.specs.Answer.{or_fault, on_ok, ◌>>=◌}
 use Rattle.lldp_text.specs.Number.{number_of}
 use Rattle.lldp_text.specs.Words.{words_of, is_separator}
@@ -15,9 +15,9 @@ use Rattle.lldp_engine.specs.Given.{command_said}
 use Rattle.lldp_engine.specs.NextWords.{word_said, port_said, end_said}
 use Rattle.lldp_engine.specs.Command.{Command as Asked}
 use Rattle.lldp_program.specs.declared.line.LineFault.{LineFault}
-use Rattle.lldp_program.specs.Forms.{of_command, or_hex, tick_form, frame_form, link_form, command_form, form_of, is_skipped, work_given}
+use Rattle.lldp_program.specs.Forms.{of_command, or_hex, tick_form, frame_form, link_form, form_of, is_skipped, work_given}
 use Rattle.lldp_program.specs.Sayings.{tick_word, rx_word, up_word, down_word, AreBlanks, IsPassedOver, SkipsLines}
-use Rattle.lldp_program.specs.Work.{Work, skip, ticks, frame, link, command}
+use Rattle.lldp_program.specs.Work.{Work, skip, ticks, command}
 
 differs : (a b : List ℕ) → a ≢ b → bytes_eq a b ≡ false
 differs a b ne = elim (cases_Bool (bytes_eq a b)) [

@@ -1,5 +1,5 @@
 -- What one more connection leaves.
-use Rattle.std.proofs.Common.{suc, length, ◌+◌, add-one, add-zero, ◌≡◌, ◌≤◌, ◌++◌, ℕ, List, [], ◌∷◌, Option, Some, None, Result, Ok, Err, ap, sym, refl, append_assoc, arith, ◌∙◌}
+use Rattle.std.proofs.Common.{suc, length, add-one, add-zero, ◌≡◌, ◌≤◌, ◌++◌, ℕ, List, [], ◌∷◌, Option, Some, None, Result, Ok, Err, ap, sym, refl, append_assoc, arith, ◌∙◌}
 use Rattle.lldp_engine.specs.AgentState.{AgentState}
 use Rattle.lldp_engine.specs.Past.{Past}
 use Rattle.lldp_engine.specs.Standing.{Stands}
@@ -7,8 +7,7 @@ use Rattle.lldp_program.specs.Runs.{KeepsOn, followed}
 use Rattle.lldp_program.specs.Doors.{Call, accepted, ran, Visit, logged}
 use Rattle.std.specs.Prelude.{is_err}
 use Rattle.std.specs.List.{filter}
-use Rattle.lldp_program.specs.Serving.{faults_in, faults_of, results_of, calls_of}
-use Rattle.lldp_program.specs.declared.serve.ServeFault.{ServeFault}
+use Rattle.lldp_program.specs.Serving.{faults_in, faults_of, calls_of}
 use Rattle.lldp_program.specs.declared.trace.RunFault.{RunFault}
 
 pub at_most_one : (r : Result (Unit {0}) RunFault) → faults_in r ≤ 1

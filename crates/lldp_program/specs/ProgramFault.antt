@@ -1,5 +1,5 @@
 -- Why the program ends with another status than 0, and the line that tells it.
-use Rattle.std.specs.Prelude.{◌≡◌, ℕ, List, [], ◌∷◌, Result, Ok, Err, codes}
+use Rattle.std.specs.Prelude.{ℕ, List, Result, Ok, Err, codes}
 use Rattle.lldp_engine.specs.declared.agent.open_fault.OpenFault.{OpenFault}
 use Rattle.lldp_engine.specs.declared.agent.open_fault.OpenFault.TheVariants as opening
 use Rattle.lldp_program.specs.declared.arguments.AddressFault.{AddressFault}

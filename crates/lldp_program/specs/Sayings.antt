@@ -1,5 +1,5 @@
 -- What the lines of a trace say, by the octets of their words.
-use Rattle.std.specs.Prelude.{◌≡◌, ◌≢◌, ◌≤◌, ◌⊎◌, ◌↔◌, ℕ, true, false, List, [], ◌∷◌, ◌++◌, length, Result, Ok, Err}
+use Rattle.std.specs.Prelude.{◌≡◌, ◌≢◌, ◌≤◌, ◌⊎◌, ◌↔◌, ℕ, true, false, List, [], ◌∷◌, ◌++◌, length, Ok, Err}
 use Rattle.std.specs.List.{AllByRecursion}
 use Rattle.lldp_text.specs.declared.fault.CommandFault.TheVariants.{Unknown, Range}
 use Rattle.lldp_text.specs.Answer.{on_ok}

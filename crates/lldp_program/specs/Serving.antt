@@ -47,8 +47,8 @@ AreRun to_come taken (visit ∷ earlier) before after =
     (between : AgentState) × AreRun to_come taken earlier before between
     × HasRun (to_come visit.connection) visit.left (taken visit.connection) visit.new between after visit.result
 
--- A door was asked for so many connections: all that it was asked is that each was accepted and run over once, and the
--- answer tells how many of the runs ended with a fault, or that it accepted no more.
+-- What a door was asked, where it tells that: so many connections were accepted and each was run over once, and the
+-- answer tells how many of the runs ended with a fault; or fewer were, and then accepting was refused.
 pub record HasAsked {C : Type 0} (to_come taken : C → Option (List ℕ)) (old new : Option (List (Call C)))
     (connections : ℕ) (before after : AgentState) (result : Result ℕ ServeFault) : Type 0 where
   pub visits : List (Visit C)

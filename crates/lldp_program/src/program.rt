@@ -32,17 +32,15 @@ const DONE: u8 = 0;
 /// The words are bad, an opening was refused, or there was no memory.
 const REFUSED: u8 = 2;
 
-/// Runs the program on its arguments, of which the first is its name, and answers its status: 0 if
-/// the whole trace of the reader was run and its text was written, or the help or version that the
-/// arguments ask for; 1 if a stream failed or the trace was too long; 2 if an argument is wrong, an
-/// opening was refused, or there is no memory. A fault is told on `faults`; a failure to write it
-/// changes no status. With status 2 nothing was written on the writer. It takes memory for its
-/// arguments and for opening alone.
+/// Runs the program on its arguments, of which the first is its name, and answers its status, 0, 1
+/// or 2. It takes memory for its arguments and for opening.
 ///
-/// Where the arguments ask to listen, the traces come over connections to a port of 127.0.0.1, and
-/// reader and writer are left alone. The port is bound after opening. Status 1 then means that it
-/// could not be bound, that a connection could not be accepted, or that one of them ended with a
-/// fault.
+/// The clauses say: with status 2 nothing was read and nothing written. With another one the
+/// arguments ask for help or the version, or they have no fault, and the trace of the reader was
+/// run, all of it where the status is 0; where they ask to listen, reader and writer were left
+/// alone. What is meant besides, and seen by tests: 1 is a stream or a socket that failed, or a
+/// trace that was too long; 2 is a wrong argument, a refused opening, or no memory; each is told by
+/// a line on `faults`, and the traces of those who listen come over connections to 127.0.0.1.
 pub fn run_program<S: AsStr, R: Read, W: Write, E: Write>(
     rt: &impl Net<Listener = TcpListener, Stream = TcpStream>,
     alloc: Global,
