@@ -75,16 +75,26 @@ part() {
     fi
 }
 
+# The rows of arguments that are refused, each as it stands in the specification.
+refused_arguments() {
+    echo "== words: refused arguments"
+    ends 2 "lldpa: no ports" 'lldpa'
+    ends 2 "lldpa: same port twice" 'lldpa eth0 eth0'
+    ends 2 "lldpa: bad port name" 'lldpa a.b'
+    ends 2 "lldpa: bad --mac" 'lldpa --mac 00:11 eth0'
+    ends 2 "lldpa: bad --management" 'lldpa --management 192.0.2.01 eth0'
+    ends 2 "*--max-neighbors*" 'lldpa --max-neighbors 129 eth0'
+    ends 2 "*cannot be used multiple times*" 'lldpa --hostname a --hostname a eth0'
+}
+
 bad_openings() {
     echo "== words: ports and texts"
-    ends 2 "lldpa: no ports" 'lldpa'
     ends 2 "lldpa: no ports" 'lldpa --receive-only --'
     ends 2 "lldpa: too many ports" 'lldpa $(seq 65)'
     ends 2 "lldpa: too many ports" 'lldpa a.b $(seq 64)'
     ends 2 "lldpa: too many ports" 'lldpa $(yes p | head -n 65)'
     ends 2 "lldpa: same port twice" 'lldpa $(yes p | head -n 64)'
     ends 0 "" 'lldpa $(seq 64)'
-    ends 2 "lldpa: bad port name" 'lldpa a.b'
     ends 2 "lldpa: bad port name" 'lldpa ""'
     ends 2 "lldpa: bad port name" 'lldpa "eth 0"'
     ends 2 "lldpa: bad port name" 'lldpa 0123456789abcdef'
@@ -303,6 +313,7 @@ part "captures" python3 tools/check-capture.py --program "$program"
 part "audit of eight ports" python3 tools/check-audit.py --program "$program"
 # The Debian package, and what tools/install.sh installs.
 part "the package" tools/check-package.sh "$program"
+refused_arguments
 bad_openings
 bad_addresses
 bad_options

@@ -13,6 +13,8 @@ pub mod KeepsOnLemmas
 pub mod ServeLemmas
 mod AddressLemmas
 mod Examples
+mod SayingLemmas
 mod ArgumentLemmas
 pub mod ProgramLemmas
 mod UsageLemmas
+mod ListeningLemmas

@@ -1,12 +1,13 @@
 -- What one more connection leaves.
-use Rattle.std.proofs.Common.{◌≡◌, ◌≤◌, ◌++◌, ℕ, List, [], ◌∷◌, Option, Some, None, Result, Ok, Err, ap, sym, refl, append_assoc, arith, ◌∙◌}
+use Rattle.std.proofs.Common.{suc, length, add-one, add-zero, ◌≡◌, ◌≤◌, ◌++◌, ℕ, List, [], ◌∷◌, Option, Some, None, Result, Ok, Err, ap, sym, refl, append_assoc, arith, ◌∙◌}
 use Rattle.lldp_engine.specs.AgentState.{AgentState}
 use Rattle.lldp_engine.specs.Past.{Past}
 use Rattle.lldp_engine.specs.Standing.{Stands}
 use Rattle.lldp_program.specs.Runs.{KeepsOn, followed}
 use Rattle.lldp_program.specs.Doors.{Call, accepted, ran, Visit, logged}
-use Rattle.lldp_program.specs.Serving.{faults_in, results_of, calls_of, AreRun, AreServed, HasAsked, HasServed}
-use Rattle.lldp_program.specs.declared.serve.ServeFault.{ServeFault}
+use Rattle.std.specs.Prelude.{is_err}
+use Rattle.std.specs.List.{filter}
+use Rattle.lldp_program.specs.Serving.{faults_in, faults_of, calls_of}
 use Rattle.lldp_program.specs.declared.trace.RunFault.{RunFault}
 
 pub at_most_one : (r : Result (Unit {0}) RunFault) → faults_in r ≤ 1
@@ -28,16 +29,6 @@ pub logged_then : {C : Type 0} → (first next : List (Call C)) (told : Option (
 logged_then first next None = refl
 logged_then first next (Some earlier) = ap Some (sym (append_assoc next first earlier))
 
--- runs over the connections of a door are runs
-pub are_served : {C : Type 0} → (to_come taken : C → Option (List ℕ)) (visits : List (Visit C)) (before after : AgentState) → AreRun to_come taken visits before after → AreServed (results_of visits) before after
-are_served to_come taken [] before after same = same
-are_served to_come taken (visit ∷ earlier) before after runs =
-    (runs.0, are_served to_come taken earlier before runs.0 runs.1, record { to_come = _; left = _; old = _; new = _; run = runs.2 })
-
-pub has_served : {C : Type 0} → (to_come taken : C → Option (List ℕ)) (old new : Option (List (Call C))) (connections : ℕ) (before after : AgentState) (result : Result ℕ ServeFault) → HasAsked to_come taken old new connections before after result → HasServed connections before after result
-has_served to_come taken old new connections before after result h =
-    record { results = results_of h.visits; served = are_served to_come taken h.visits before after h.runs; told = h.told }
-
 -- a connection more was accepted and then run over
 pub logged_visit : {C : Type 0} → (visits : List (Visit C)) (visit : Visit C) (first told accepting running : Option (List (Call C)))
     → told ≡ logged (calls_of visits) first → accepting ≡ logged (accepted visit.connection ∷ []) told → running ≡ logged (ran visit ∷ []) accepting
@@ -45,3 +36,9 @@ pub logged_visit : {C : Type 0} → (visits : List (Visit C)) (visit : Visit C) 
 logged_visit visits visit first told accepting running before accepts runs =
     runs ∙ ap (logged (ran visit ∷ [])) (accepts ∙ ap (logged (accepted visit.connection ∷ [])) before ∙ logged_then (calls_of visits) (accepted visit.connection ∷ []) first)
     ∙ logged_then (accepted visit.connection ∷ calls_of visits) (ran visit ∷ []) first
+
+-- the runs that ended with a fault are counted
+pub faults_counted : (results : List (Result (Unit {0}) RunFault)) → faults_of results ≡ length (filter is_err results)
+faults_counted [] = refl
+faults_counted (Ok done ∷ earlier) = add-zero (faults_of earlier) ∙ faults_counted earlier
+faults_counted (Err fault ∷ earlier) = add-one (faults_of earlier) ∙ ap (λ (n : ℕ). suc n) (faults_counted earlier)

@@ -16,6 +16,10 @@ source_calls source = source.calls
 abbrev pub source_failures : {R : Type 0} → FromReader R → ℕ
 source_failures source = source.failures
 
+-- how many of them answered the end
+abbrev pub source_ends : {R : Type 0} → FromReader R → ℕ
+source_ends source = source.ends
+
 -- where it reads from: the reference that it was lent
 abbrev pub source_place : {R : Type 0} → FromReader R → GName
 source_place source = source.reader.ghost_name

@@ -12,11 +12,13 @@ pub record Visit (C : Type 0) : Type 0 where
   pub new : Option (List ℕ)
   pub result : Result (Unit {0}) RunFault
 
--- a connection was accepted; accepting failed; a trace was run over a connection
+-- a connection was accepted; accepting failed; a trace was run over a connection; a port was bound, or was not
 pub data Call (C : Type 0) : Type 0 where
   accepted : (connection : C) → Call C
   refused : Call C
   ran : (visit : Visit C) → Call C
+  bound : (address : List ℕ) (port : ℕ) → Call C
+  unbound : (address : List ℕ) (port : ℕ) → Call C
 
 -- what a door tells after more calls, the last one first: nothing, where it tells nothing
 abbrev pub logged : {C : Type 0} → List (Call C) → Option (List (Call C)) → Option (List (Call C))
@@ -27,6 +29,11 @@ logged calls (Some earlier) = Some (calls ++ earlier)
 abbrev pub accepting : {C : Type 0} → Result C DeviceFault → Call C
 accepting (Ok connection) = accepted connection
 accepting (Err fault) = refused
+
+-- the call by the answer to binding
+abbrev pub binding : {C : Type 0} → List ℕ → ℕ → Result (Unit {0}) DeviceFault → Call C
+binding address port (Ok done) = bound address port
+binding address port (Err fault) = unbound address port
 
 -- a trace was run over a connection, and the door tells it
 pub record RanOver {C : Type 0} (to_come taken : C → Option (List ℕ)) (connection : C) (told tells : Option (List (Call C)))

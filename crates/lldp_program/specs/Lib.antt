@@ -1,5 +1,7 @@
 pub mod Devices
 pub mod Adapters
+pub mod FaultNumber
+pub mod ProgramFault
 pub mod Lines
 pub mod Sent
 pub mod Forms
@@ -13,3 +15,7 @@ pub mod Program
 pub mod Addresses
 pub mod Usage
 pub mod Arguments
+pub mod FixedNumbers
+pub mod FixedTexts
+pub mod Sayings
+pub mod Listening

@@ -81,6 +81,14 @@ abbrev pub write_failures_after : {T : Type 0} → ℕ → Result T RunFault →
 write_failures_after failures (Err Write) = one_more failures
 write_failures_after failures _ = failures
 
+-- How often the end was answered, before and after a run: once more where it answers Ok, not once where it answers Read
+-- or InputTooLong; where it answers Write, at most once.
+abbrev pub EndsTold : {T : Type 0} → ℕ → ℕ → Result T RunFault → Type 0
+EndsTold before after (Ok done) = after ≡ one_more before
+EndsTold before after (Err Read) = after ≡ before
+EndsTold before after (Err Write) = (after ≡ before) ⊎ (after ≡ one_more before)
+EndsTold before after (Err InputTooLong) = after ≡ before
+
 -- the past with more events, newest first
 abbrev pub followed : Past → List Event → Past
 followed past events = record { options = past.options; events = events ++ past.events }

@@ -1,24 +1,13 @@
 -- What serving connections leaves.
-use Rattle.std.specs.Prelude.{◌≡◌, ◌<◌, ℕ, ◌+◌, List, [], ◌∷◌, length, Option, Result, Ok, Err}
-use Rattle.lldp_program.specs.Doors.{Call, accepted, refused, ran, Visit, logged}
+use Rattle.std.specs.Prelude.{◌≡◌, ◌<◌, ◌⊎◌, ℕ, ◌+◌, ◌==◌, if◌then◌else◌, List, [], ◌∷◌, length, Option, Result, Ok, Err}
+use Rattle.lldp_program.specs.Doors.{Call, accepted, bound, refused, ran, unbound, Visit, logged}
 use Rattle.lldp_engine.specs.AgentState.{AgentState}
 use Rattle.lldp_program.specs.Runs.{HasRun}
+use Rattle.lldp_program.specs.declared.arguments.Listening.{Listening}
+use Rattle.lldp_program.specs.declared.device.DeviceFault.{DeviceFault}
+use Rattle.lldp_program.specs.declared.device.DeviceFault.TheVariants.{Failed}
 use Rattle.lldp_program.specs.declared.trace.RunFault.{RunFault}
 use Rattle.lldp_program.specs.declared.serve.ServeFault.{ServeFault}
-
--- A connection was served: a trace was run, over octets that the connection may not tell.
-pub record Served (before after : AgentState) (result : Result (Unit {0}) RunFault) : Type 0 where
-  pub to_come : Option (List ℕ)
-  pub left : Option (List ℕ)
-  pub old : Option (List ℕ)
-  pub new : Option (List ℕ)
-  pub run : HasRun to_come left old new before after result
-
--- connections were served one after the other, the last one first
-abbrev pub AreServed : List (Result (Unit {0}) RunFault) → AgentState → AgentState → Type 0
-AreServed [] before after = after ≡ before
-AreServed (result ∷ earlier) before after =
-    (between : AgentState) × AreServed earlier before between × Served between after result
 
 -- one for a run that ended with a fault
 abbrev pub faults_in : Result (Unit {0}) RunFault → ℕ
@@ -34,12 +23,6 @@ faults_of (result ∷ earlier) = faults_of earlier + faults_in result
 abbrev pub Tells : ℕ → List (Result (Unit {0}) RunFault) → Result ℕ ServeFault → Type 0
 Tells connections results (Ok faulty) = (length results ≡ connections) × (faulty ≡ faults_of results)
 Tells connections results (Err fault) = length results < connections
-
--- at most so many connections were served, as the answer tells
-pub record HasServed (connections : ℕ) (before after : AgentState) (result : Result ℕ ServeFault) : Type 0 where
-  pub results : List (Result (Unit {0}) RunFault)
-  pub served : AreServed results before after
-  pub told : Tells connections results result
 
 -- the answers of these runs
 abbrev pub results_of : {C : Type 0} → List (Visit C) → List (Result (Unit {0}) RunFault)
@@ -64,11 +47,30 @@ AreRun to_come taken (visit ∷ earlier) before after =
     (between : AgentState) × AreRun to_come taken earlier before between
     × HasRun (to_come visit.connection) visit.left (taken visit.connection) visit.new between after visit.result
 
--- A door was asked for so many connections: all that it was asked is that each was accepted and run over once, and the
--- answer tells how many of the runs ended with a fault, or that it accepted no more.
+-- What a door was asked, where it tells that: so many connections were accepted and each was run over once, and the
+-- answer tells how many of the runs ended with a fault; or fewer were, and then accepting was refused.
 pub record HasAsked {C : Type 0} (to_come taken : C → Option (List ℕ)) (old new : Option (List (Call C)))
     (connections : ℕ) (before after : AgentState) (result : Result ℕ ServeFault) : Type 0 where
   pub visits : List (Visit C)
   pub runs : AreRun to_come taken visits before after
   pub asked : new ≡ logged (calls_with visits result) old
   pub told : Tells connections (results_of visits) result
+
+-- the octets of 127.0.0.1
+abbrev pub this_host : List ℕ
+this_host = 127 ∷ 0 ∷ 0 ∷ 1 ∷ []
+
+-- Ok where serving ended with no fault, of which the answer counts none
+abbrev pub without_fault : Result ℕ ServeFault → Result (Unit {0}) DeviceFault
+without_fault (Ok faulty) = if faulty == 0 then Ok tt else Err Failed
+without_fault (Err fault) = Err Failed
+
+-- The port of this host was bound first, and then so many connections were served, with a fault or without. Or it was
+-- not bound, which is a fault, and nothing else was asked.
+abbrev pub HasListened : {C : Type 0} → (C → Option (List ℕ)) → (C → Option (List ℕ)) → Option (List (Call C)) → Option (List (Call C)) →
+    Listening → AgentState → AgentState → Result (Unit {0}) DeviceFault → Type 0
+HasListened to_come taken old new listening before after result =
+    ((served : Result ℕ ServeFault)
+    × HasAsked to_come taken (logged (bound this_host listening.port ∷ []) old) new listening.connections before after served
+    × (result ≡ without_fault served))
+    ⊎ ((new ≡ logged (unbound this_host listening.port ∷ []) old) × (after ≡ before) × (result ≡ Err Failed))

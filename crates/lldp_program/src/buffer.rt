@@ -1,7 +1,7 @@
 //! The buffer that a trace is read into. Its first octets are held: what has come of the line that
 //! isn't ended.
 ghost use Rattle.std.specs.Prelude.{◌≡◌, ◌<◌, ◌≤◌, ◌+◌, ◌-◌, length, take, drop, IfOk, min};
-ghost use Rattle.lldp_program.specs.Devices.{one_more, failures_after, ReadsMore};
+ghost use Rattle.lldp_program.specs.Devices.{one_more, failures_after, ends_after, ReadsMore};
 
 use crate::device::{DeviceFault, Source};
 use crate::line::LONGEST;
@@ -19,6 +19,7 @@ pub fn read_more<S: Source>(
         (drop held buffer.new) result }
     ensures calls { S.calls source.new ≡ one_more (S.calls source.old) }
     ensures failures { S.failures source.new ≡ failures_after (S.failures source.old) result }
+    ensures ends { S.ends source.new ≡ ends_after (S.ends source.old) result }
     ensures place { S.place source.new ≡ S.place source.old }
 {
     source.read(&mut buffer[held..])

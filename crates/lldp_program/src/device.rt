@@ -1,9 +1,9 @@
 //! Devices that a trace is read from and written to, and the adapters that make them of std's
 //! readers and writers.
-ghost use Rattle.std.specs.Prelude.{◌≡◌, ◌<◌, ◌≤◌, ℕ, List, Option, length, IfOk};
+ghost use Rattle.std.specs.Prelude.{◌≡◌, ◌<◌, ◌≤◌, ℕ, Bool, true, List, Option, length, IfOk};
 ghost use Rattle.std.specs.Io.KnownBytes.{ReadConsumes, WriteAppends, Keeps};
 ghost use Rattle.std.specs.Borrow.{GName};
-ghost use Rattle.lldp_program.specs.Devices.{one_more, failures_after};
+ghost use Rattle.lldp_program.specs.Devices.{one_more, failures_after, ends_after};
 
 use std::io::{Read, Write};
 
@@ -21,6 +21,8 @@ pub trait Source {
     ghost calls: { Self → ℕ };
     /// How many reads failed.
     ghost failures: { Self → ℕ };
+    /// How many reads answered the end, which is 0 octets.
+    ghost ends: { Self → ℕ };
     /// Where it reads from, which no call changes: for an adapter the reference that it was lent.
     ghost place: { Self → GName };
 
@@ -32,6 +34,7 @@ pub trait Source {
         ensures octets { ReadConsumes (to_come self.old) (to_come self.new) result room.new }
         ensures calls { calls self.new ≡ one_more (calls self.old) }
         ensures failures { failures self.new ≡ failures_after (failures self.old) result }
+        ensures ends { ends self.new ≡ ends_after (ends self.old) result }
         ensures place { place self.new ≡ place self.old };
 }
 
@@ -57,8 +60,12 @@ pub trait Sink {
 
 /// What takes octets and can be told to pass them on.
 pub trait Flush: Sink {
+    /// Whether it was told to pass on all that it has taken.
+    ghost is_flushed: { Self → Bool };
+
     /// Passes on what was taken. A flush that fails counts as a failed write.
     fn flush(&mut self) -> Result<(), DeviceFault>
+        ensures flushed { is_flushed self.new ≡ true }
         ensures octets { Keeps (Self.taken self.old) (Self.taken self.new) }
         ensures failures { Self.failures self.new ≡ failures_after (Self.failures self.old) result }
         ensures place { Self.place self.new ≡ Self.place self.old };
@@ -70,23 +77,26 @@ pub struct FromReader<'a, R> {
     reader: &'a mut R,
     calls: u64,
     failures: u64,
+    ends: u64,
 }
 
 impl<'a, R: Read> FromReader<'a, R> {
     ghost use Rattle.std.specs.Prelude.{◌≡◌};
-    ghost use Rattle.lldp_program.specs.Adapters.{source_to_come, source_calls, source_failures, source_place};
+    ghost use Rattle.lldp_program.specs.Adapters.{source_to_come, source_calls, source_failures, source_ends, source_place};
 
-    /// A source that tells what the reader tells, with no call and no failure yet.
+    /// A source that tells what the reader tells, with no call, no failure and no end yet.
     pub fn new(reader: &'a mut R) -> Self
         ensures octets { source_to_come R.remaining result ≡ R.remaining reader.old }
         ensures calls { source_calls result ≡ 0 }
         ensures failures { source_failures result ≡ 0 }
+        ensures ends { source_ends result ≡ 0 }
         ensures place { source_place result ≡ reader.entry.ghost_name }
     {
         FromReader {
             reader,
             calls: 0,
             failures: 0,
+            ends: 0,
         }
     }
 }
@@ -98,11 +108,17 @@ impl<R: Read> Source for FromReader<'_, R> {
 
     ghost failures = { λ s. s.failures };
 
+    ghost ends = { λ s. s.ends };
+
     ghost place = { λ s. s.reader.ghost_name };
 
     fn read(&mut self, room: &mut [u8]) -> Result<usize, DeviceFault> {
         self.calls = self.calls.saturating_add(1);
         match self.reader.read(room) {
+            Ok(0) => {
+                self.ends = self.ends.saturating_add(1);
+                Ok(0)
+            }
             Ok(n) => Ok(n),
             Err(_) => {
                 self.failures = self.failures.saturating_add(1);
@@ -118,6 +134,7 @@ impl<R: Read> Source for FromReader<'_, R> {
 pub struct ToWriter<'a, W> {
     writer: &'a mut W,
     failures: u64,
+    is_flushed: bool,
 }
 
 impl<'a, W: Write> ToWriter<'a, W> {
@@ -133,6 +150,7 @@ impl<'a, W: Write> ToWriter<'a, W> {
         ToWriter {
             writer,
             failures: 0,
+            is_flushed: false,
         }
     }
 }
@@ -145,6 +163,7 @@ impl<W: Write> Sink for ToWriter<'_, W> {
     ghost place = { λ s. s.writer.ghost_name };
 
     fn write(&mut self, octets: &[u8]) -> Result<usize, DeviceFault> {
+        self.is_flushed = false;
         match self.writer.write(octets) {
             Ok(n) if n > 0 => Ok(n),
             _ => {
@@ -156,7 +175,10 @@ impl<W: Write> Sink for ToWriter<'_, W> {
 }
 
 impl<W: Write> Flush for ToWriter<'_, W> {
+    ghost is_flushed = { λ s. s.is_flushed };
+
     fn flush(&mut self) -> Result<(), DeviceFault> {
+        self.is_flushed = true;
         match self.writer.flush() {
             Ok(()) => Ok(()),
             Err(_) => {

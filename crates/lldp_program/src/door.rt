@@ -2,13 +2,13 @@
 ghost use Rattle.std.specs.Prelude.{◌≡◌, [], ◌∷◌, ℕ, List, Option};
 ghost use Rattle.lldp_engine.specs.Past.{Past};
 ghost use Rattle.lldp_engine.specs.Standing.{Stands};
-ghost use Rattle.lldp_program.specs.Doors.{Call, RanOver, logged, accepting};
-ghost use Rattle.lldp_program.specs.Runs.{KeepsOn};
+ghost use Rattle.lldp_program.specs.Doors.{Call, RanOver, logged, accepting, binding};
+ghost use Rattle.lldp_program.specs.Runs.{HasRun, KeepsOn};
 
 use crate::device::{DeviceFault, FromReader, ToWriter};
 use crate::trace::{RunFault, run_trace};
 use lldp_engine::Agent;
-use std::net::{TcpListener, TcpStream};
+use std::net::{Ipv4Addr, Net, TcpListener, TcpStream};
 
 /// What accepts connections, and runs the trace that comes over one.
 pub trait Door {
@@ -30,6 +30,14 @@ pub trait Door {
         ensures run { RanOver to_come taken connection (asked self.old) (asked self.new)
             agent.old agent.new result }
         ensures headline { (past : Past) → Stands past agent.old → KeepsOn past agent.new };
+}
+
+/// A door that is bound before it accepts.
+pub trait Bind: Door {
+    /// Binds a port of an address, at which connections are accepted from then on.
+    fn bind(&mut self, address: [u8; 4], port: u16) -> Result<(), DeviceFault>
+        ensures asked { Self.asked self.new
+            ≡ logged (binding address port result ∷ []) (Self.asked self.old) };
 }
 
 /// A door over a borrowed listener.
@@ -55,13 +63,62 @@ impl Door for AtListener<'_> {
     }
 
     fn run(&mut self, connection: TcpStream, agent: &mut Agent) -> Result<(), RunFault> {
-        // An answer does not wait until the client has acknowledged the one before it.
-        let _ = connection.set_nodelay(true);
-        let (mut input, mut output) = (&connection, &connection);
-        run_trace(
-            agent,
-            &mut FromReader::new(&mut input),
-            &mut ToWriter::new(&mut output),
-        )
+        run_connection(connection, agent)
     }
+}
+
+/// A door at a port of a network, once it was bound.
+#[derive(Drop)]
+pub struct AtPort<'a, N> {
+    pub network: &'a N,
+    pub listener: Option<TcpListener>,
+}
+
+impl<N: Net<Listener = TcpListener, Stream = TcpStream>> Door for AtPort<'_, N> {
+    type Connection = TcpStream;
+
+    ghost asked = { λ _. Option.None };
+
+    ghost to_come = { λ _. Option.None };
+
+    ghost taken = { λ _. Option.None };
+
+    fn accept(&mut self) -> Result<TcpStream, DeviceFault> {
+        match &self.listener {
+            Some(listener) => AtListener { listener }.accept(),
+            None => Err(DeviceFault::Failed),
+        }
+    }
+
+    fn run(&mut self, connection: TcpStream, agent: &mut Agent) -> Result<(), RunFault> {
+        run_connection(connection, agent)
+    }
+}
+
+impl<N: Net<Listener = TcpListener, Stream = TcpStream>> Bind for AtPort<'_, N> {
+    fn bind(&mut self, address: [u8; 4], port: u16) -> Result<(), DeviceFault> {
+        match TcpListener::bind(self.network, (Ipv4Addr::from(address), port)) {
+            Ok(listener) => {
+                self.listener = Some(listener);
+                Ok(())
+            }
+            Err(_) => Err(DeviceFault::Failed),
+        }
+    }
+}
+
+/// Runs the trace that comes over a connection of the system's, which tells no octets.
+fn run_connection(connection: TcpStream, agent: &mut Agent) -> Result<(), RunFault>
+    ensures run { HasRun Option.None Option.None Option.None Option.None
+        agent.old agent.new result }
+    ensures headline { (past : Past) → Stands past agent.old → KeepsOn past agent.new }
+{
+    // An answer does not wait until the client has acknowledged the one before it.
+    let _ = connection.set_nodelay(true);
+    let (mut input, mut output) = (&connection, &connection);
+    run_trace(
+        agent,
+        &mut FromReader::new(&mut input),
+        &mut ToWriter::new(&mut output),
+    )
 }

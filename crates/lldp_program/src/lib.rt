@@ -6,6 +6,8 @@ pub mod arguments;
 mod buffer;
 pub mod device;
 pub mod door;
+pub mod fault;
+pub mod fixed;
 mod help;
 pub mod line;
 mod output;

@@ -4,6 +4,7 @@ ghost use Rattle.std.specs.List.{AllByRecursion};
 ghost use Rattle.hex.specs.Hex.{decode_of};
 ghost use Rattle.lldp_engine.specs.AgentState.{AgentState, IsPort};
 ghost use Rattle.lldp_text.specs.Answer.{on_ok};
+ghost use Rattle.lldp_program.specs.FaultNumber.{number_of_line_fault};
 ghost use Rattle.lldp_program.specs.Forms.{fault_text, is_skipped, or_hex, tick_form, frame_form, link_form, work_given};
 ghost use Rattle.lldp_program.specs.Work.{frame, work_of, AllowsWork};
 
@@ -52,6 +53,17 @@ impl From<CommandFault> for LineFault {
 }
 
 impl LineFault {
+    /// The number of the fault, 1 to 3.
+    pub fn number(self) -> u8
+        ensures { result ≡ number_of_line_fault self }
+    {
+        match self {
+            LineFault::TooLong => 1,
+            LineFault::Hex => 2,
+            LineFault::Command(_) => 3,
+        }
+    }
+
     /// The line that tells the fault, without LF.
     pub fn text(self) -> &'static [u8]
         ensures text { result.now ≡ fault_text self }

@@ -15,7 +15,7 @@ use crate::device::{DeviceFault, Sink};
 use lldp_engine::{Agent, Frame, LINE_ROOM, LineSink, Marks, Show, Writer};
 
 /// Writes all of the octets.
-fn send<W: Sink>(sink: &mut W, octets: &[u8]) -> Result<(), DeviceFault>
+pub fn send<W: Sink>(sink: &mut W, octets: &[u8]) -> Result<(), DeviceFault>
     ensures written { WrittenBy result octets.now (W.taken sink.old) (W.taken sink.new) }
     ensures failures { W.failures sink.new ≡ failures_after (W.failures sink.old) result }
     ensures place { W.place sink.new ≡ W.place sink.old }

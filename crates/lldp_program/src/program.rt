@@ -1,45 +1,46 @@
 //! The program, over arguments and streams that are handed in.
-ghost use Rattle.std.specs.Prelude.{◌≡◌, ◌≢◌, ◌≤◌, ◌↔◌, None, Ok, map, if◌then◌else◌};
+ghost use Rattle.std.specs.Prelude.{◌≡◌, ◌≢◌, ◌≤◌, true, None, map, if◌then◌else◌};
 ghost use Rattle.std.specs.Io.KnownBytes.{Keeps};
 ghost use Rattle.clap.specs.Values.{kind_of};
 ghost use Rattle.clap.specs.Words.{found_of, rows_of};
 ghost use Rattle.lldp_engine.specs.Options.{Options, fault_of};
 ghost use Rattle.lldp_program.specs.Arguments.{IsProgramParse};
+ghost use Rattle.lldp_program.specs.Code.Output.{WrittenBy};
+ghost use Rattle.lldp_program.specs.Devices.{failures_after};
+ghost use Rattle.lldp_program.specs.ProgramFault.{line_of, status_of};
 ghost use Rattle.lldp_program.specs.Program.{FailedBy, HasAnswered, RanAs, RanStreams};
 ghost use Rattle.lldp_program.specs.Usage.{Asks};
 
-use crate::arguments::{AddressFault, Listening, listening_of, parse, read_options};
-use crate::device::{Flush, FromReader, Source, ToWriter};
-use crate::serve::{ServeFault, serve};
+use crate::arguments::{Listening, listening_of, parse, read_options};
+use crate::device::{DeviceFault, Flush, FromReader, Sink, Source, ToWriter};
+use crate::door::AtPort;
+use crate::fault::ProgramFault;
+use crate::output::send;
+use crate::serve::listen;
 use crate::trace::run_trace;
 use clap::error::ErrorKind;
 use clap::{ArgMatches, Error};
-use lldp_engine::{Agent, OpenFault};
+use lldp_engine::Agent;
 use std::alloc::Global;
 use std::convert::AsStr;
 use std::io::{Read, Write};
-use std::net::{Ipv4Addr, Net, TcpListener, TcpStream};
+use std::net::{Net, TcpListener, TcpStream};
 
 /// All went well.
 const DONE: u8 = 0;
 
-/// A stream or a socket failed, or the trace was too long.
-const FAILED: u8 = 1;
-
 /// The words are bad, an opening was refused, or there was no memory.
 const REFUSED: u8 = 2;
 
-/// Runs the program on its arguments, of which the first is its name, and answers its status: 0 if
-/// the whole trace of the reader was run and its text was written, or the help or version that the
-/// arguments ask for; 1 if a stream failed or the trace was too long; 2 if an argument is wrong, an
-/// opening was refused, or there is no memory. A fault is told on `faults`; a failure to write it
-/// changes no status. With status 2 nothing was written on the writer. It takes memory for its
-/// arguments and for opening alone.
+/// Runs the program on its arguments, of which the first is its name, and answers its status, 0, 1
+/// or 2. It takes memory for its arguments and for opening.
 ///
-/// Where the arguments ask to listen, the traces come over connections to a port of 127.0.0.1, and
-/// reader and writer are left alone. The port is bound after opening. Status 1 then means that it
-/// could not be bound, that a connection could not be accepted, or that one of them ended with a
-/// fault.
+/// The clauses say: with status 2 nothing was read and nothing written. With another one the
+/// arguments ask for help or the version, or they have no fault, and the trace of the reader was
+/// run, all of it where the status is 0; where they ask to listen, reader and writer were left
+/// alone. What is meant besides, and seen by tests: 1 is a stream or a socket that failed, or a
+/// trace that was too long; 2 is a wrong argument, a refused opening, or no memory; each is told by
+/// a line on `faults`, and the traces of those who listen come over connections to 127.0.0.1.
 pub fn run_program<S: AsStr, R: Read, W: Write, E: Write>(
     rt: &impl Net<Listener = TcpListener, Stream = TcpStream>,
     alloc: Global,
@@ -48,14 +49,14 @@ pub fn run_program<S: AsStr, R: Read, W: Write, E: Write>(
     writer: &mut W,
     faults: &mut E,
 ) -> u8
-    ensures status { result ≤ REFUSED }
+    ensures status { result ≤ 2 }
     // Help or the version was asked for, or the words have no fault, and the trace was run with
     // their options.
-    ensures answered { result ≢ REFUSED → HasAnswered (map S.text words.now)
+    ensures answered { result ≢ 2 → HasAnswered (map S.text words.now)
         (R.remaining reader.old) (R.remaining reader.new)
         (W.contents writer.old) (W.contents writer.new) result }
     // Refused, it has read nothing and written nothing.
-    ensures silent { result ≡ REFUSED →
+    ensures silent { result ≡ 2 →
         Keeps (R.remaining reader.old) (R.remaining reader.new)
         × Keeps (W.contents writer.old) (W.contents writer.new) }
 {
@@ -75,27 +76,27 @@ fn run_matches<R: Read, W: Write, E: Write>(
     faults: &mut E,
 ) -> u8
     requires parse { IsProgramParse matches.now }
-    ensures status { result ≤ REFUSED }
-    ensures ran { result ≢ REFUSED →
+    ensures status { result ≤ 2 }
+    ensures ran { result ≢ 2 →
         (options : Options) × Asks (rows_of (found_of matches.now)) options
         × (fault_of options ≡ None)
         × RanAs (rows_of (found_of matches.now)) options
         (R.remaining reader.old) (R.remaining reader.new)
         (W.contents writer.old) (W.contents writer.new) result }
-    ensures silent { result ≡ REFUSED →
+    ensures silent { result ≡ 2 →
         Keeps (R.remaining reader.old) (R.remaining reader.new)
         × Keeps (W.contents writer.old) (W.contents writer.new) }
 {
     let options = match read_options(matches) {
         Ok(options) => options,
-        Err(fault) => return refuse_address(fault, faults),
+        Err(fault) => return tell(ProgramFault::of_address(fault), faults),
     };
     match Agent::open(alloc, &options) {
         Ok(mut agent) => match listening_of(matches) {
             None => run_streams(&mut agent, reader, writer, faults),
             Some(listening) => run_sockets(rt, &mut agent, listening, faults),
         },
-        Err(fault) => refuse_opening(fault, faults),
+        Err(fault) => tell(ProgramFault::of_opening(fault), faults),
     }
 }
 
@@ -103,9 +104,9 @@ fn run_matches<R: Read, W: Write, E: Write>(
 fn answer_words<W: Write, E: Write>(error: &Error, writer: &mut W, faults: &mut E) -> u8
     ensures refused { (kind_of error.now ≢ ErrorKind.DisplayHelp) →
         (kind_of error.now ≢ ErrorKind.DisplayVersion) →
-        (result ≡ REFUSED) × Keeps (W.contents writer.old) (W.contents writer.new) }
-    ensures status { result ≤ REFUSED }
-    ensures silent { result ≡ REFUSED → Keeps (W.contents writer.old) (W.contents writer.new) }
+        (result ≡ 2) × Keeps (W.contents writer.old) (W.contents writer.new) }
+    ensures status { result ≤ 2 }
+    ensures silent { result ≡ 2 → Keeps (W.contents writer.old) (W.contents writer.new) }
 {
     if error.kind() == ErrorKind::OutOfMemory {
         return no_memory(faults);
@@ -115,7 +116,7 @@ fn answer_words<W: Write, E: Write>(error: &Error, writer: &mut W, faults: &mut 
         return REFUSED;
     }
     if write!(writer, "{error}").is_err() {
-        return write_fault(faults, b"lldpa: write failed\n", FAILED);
+        return tell(ProgramFault::Write, faults);
     }
     finish(writer.flush().is_ok(), faults)
 }
@@ -127,7 +128,7 @@ fn run_streams<R: Read, W: Write, E: Write>(
     writer: &mut W,
     faults: &mut E,
 ) -> u8
-    ensures status { result ≤ FAILED }
+    ensures status { result ≤ 1 }
     ensures ran { RanStreams (R.remaining reader.old) (R.remaining reader.new)
         (W.contents writer.old) (W.contents writer.new) agent.old agent.new result }
 {
@@ -143,27 +144,26 @@ fn run_devices<S: Source, W: Flush, E: Write>(
     sink: &mut W,
     faults: &mut E,
 ) -> u8
-    ensures status { result ≤ FAILED }
+    ensures status { result ≤ 1 }
     ensures ran { RanStreams (S.to_come source.old) (S.to_come source.new)
         (W.taken sink.old) (W.taken sink.new) agent.old agent.new result }
     // Status 0 says that no read, write or flush failed, and status 1 that one did or that the
     // trace was too long.
-    ensures done { result ≡ DONE → (S.failures source.new ≡ S.failures source.old)
+    ensures done { result ≡ 0 → (S.failures source.new ≡ S.failures source.old)
         × (W.failures sink.new ≡ W.failures sink.old) }
-    ensures failed { result ≡ FAILED → S.failures source.old ≡ 0 → W.failures sink.old ≡ 0 →
+    ensures failed { result ≡ 1 → S.failures source.old ≡ 0 → W.failures sink.old ≡ 0 →
         S.calls source.old ≡ 0 →
         FailedBy (S.failures source.new) (W.failures sink.new) (S.calls source.new) }
     ensures places { (S.place source.new ≡ S.place source.old)
         × (W.place sink.new ≡ W.place sink.old) }
+    // It was told to pass on all that was written, whatever became of the run.
+    ensures flushed { W.is_flushed sink.new ≡ true }
 {
     let ran = run_trace(agent, source, sink);
     let flushed = sink.flush();
     match ran {
         Ok(()) => finish(flushed.is_ok(), faults),
-        Err(fault) => {
-            let _ = writeln!(faults, "{fault}");
-            FAILED
-        }
+        Err(fault) => tell(ProgramFault::of_run(fault), faults),
     }
 }
 
@@ -174,82 +174,47 @@ fn run_sockets<E: Write>(
     listening: Listening,
     faults: &mut E,
 ) -> u8
-    ensures status { result ≤ FAILED }
+    ensures status { result ≤ 1 }
 {
-    let Ok(listener) = TcpListener::bind(rt, (Ipv4Addr::LOCALHOST, listening.port)) else {
-        return socket_failed(faults);
+    let mut door = AtPort {
+        network: rt,
+        listener: None,
     };
-    let served = serve(agent, &listener, listening.connections);
-    finish_serving(served, faults)
+    match listen(agent, &mut door, listening) {
+        Ok(()) => DONE,
+        Err(_) => tell(ProgramFault::Socket, faults),
+    }
 }
 
 /// The status behind a flush at the end, of which a fault is told.
 fn finish<E: Write>(flushed: bool, faults: &mut E) -> u8
-    ensures { result ≡ (if flushed then DONE else FAILED) }
+    ensures { result ≡ (if flushed then 0 else 1) }
 {
     if flushed {
         return DONE;
     }
-    write_fault(faults, b"lldpa: write failed\n", FAILED)
-}
-
-/// The status behind the connections, of which a fault is told.
-fn finish_serving<E: Write>(served: Result<u16, ServeFault>, faults: &mut E) -> u8
-    ensures status { result ≤ FAILED }
-    ensures done { (result ≡ DONE) ↔ (served ≡ Ok 0) }
-{
-    match served {
-        Ok(0) => DONE,
-        Ok(_) => socket_failed(faults),
-        Err(fault) => {
-            let _ = writeln!(faults, "{fault}");
-            FAILED
-        }
-    }
-}
-
-/// Tells that the port could not be bound, or that a connection ended with a fault.
-fn socket_failed<E: Write>(faults: &mut E) -> u8
-    ensures { result ≡ FAILED }
-{
-    write_fault(faults, b"lldpa: socket failed\n", FAILED)
-}
-
-/// Tells which address cannot be read.
-fn refuse_address<E: Write>(fault: AddressFault, faults: &mut E) -> u8
-    ensures { result ≡ REFUSED }
-{
-    match fault {
-        AddressFault::Mac => write_fault(faults, b"lldpa: bad --mac\n", REFUSED),
-        AddressFault::Management => write_fault(faults, b"lldpa: bad --management\n", REFUSED),
-    }
-}
-
-/// Tells why the agent was not opened.
-fn refuse_opening<E: Write>(fault: OpenFault, faults: &mut E) -> u8
-    ensures { result ≡ REFUSED }
-{
-    match fault {
-        OpenFault::Memory => no_memory(faults),
-        OpenFault::NoPorts => write_fault(faults, b"lldpa: no ports\n", REFUSED),
-        OpenFault::TooManyPorts => write_fault(faults, b"lldpa: too many ports\n", REFUSED),
-        OpenFault::PortName => write_fault(faults, b"lldpa: bad port name\n", REFUSED),
-        OpenFault::SamePort => write_fault(faults, b"lldpa: same port twice\n", REFUSED),
-        OpenFault::Text => write_fault(faults, b"lldpa: bad text\n", REFUSED),
-    }
+    tell(ProgramFault::Write, faults)
 }
 
 /// Tells that there was no memory.
 pub fn no_memory<E: Write>(faults: &mut E) -> u8
-    ensures { result ≡ REFUSED }
+    ensures { result ≡ 2 }
 {
-    write_fault(faults, b"lldpa: no memory\n", REFUSED)
+    tell(ProgramFault::Memory, faults)
 }
 
-/// Writes the line of a fault. That it fails changes no status.
-fn write_fault<E: Write>(faults: &mut E, line: &[u8], status: u8) -> u8
-    ensures { result ≡ status }
+/// The status of a fault, whose line is told. That it cannot be written changes no status.
+fn tell<E: Write>(fault: ProgramFault, faults: &mut E) -> u8
+    ensures { result ≡ status_of fault }
 {
-    let _ = faults.write_all(line);
-    status
+    let _ = tell_at(fault, &mut ToWriter::new(faults));
+    fault.status()
+}
+
+/// Writes the line of a fault: all of it, or what comes before a write that failed.
+fn tell_at<E: Sink>(fault: ProgramFault, sink: &mut E) -> Result<(), DeviceFault>
+    ensures written { WrittenBy result (line_of fault) (E.taken sink.old) (E.taken sink.new) }
+    ensures failures { E.failures sink.new ≡ failures_after (E.failures sink.old) result }
+{
+    send(sink, fault.line())
 }

@@ -2,10 +2,13 @@
 ghost use Rattle.std.specs.Prelude.{◌≡◌, ◌≤◌, IfOk};
 ghost use Rattle.lldp_engine.specs.Past.{Past};
 ghost use Rattle.lldp_engine.specs.Standing.{Stands};
+ghost use Rattle.lldp_program.specs.FaultNumber.{number_of_serve_fault};
 ghost use Rattle.lldp_program.specs.Runs.{KeepsOn};
-ghost use Rattle.lldp_program.specs.Serving.{HasAsked, HasServed, faults_in};
+ghost use Rattle.lldp_program.specs.Serving.{HasAsked, HasListened, faults_in};
 
-use crate::door::{AtListener, Door};
+use crate::arguments::Listening;
+use crate::device::DeviceFault;
+use crate::door::{AtListener, Bind, Door};
 use crate::trace::RunFault;
 use lldp_engine::Agent;
 use std::net::TcpListener;
@@ -17,6 +20,15 @@ pub enum ServeFault {
     /// A connection could not be accepted.
     #[error("lldpa: socket failed")]
     Accept = 1,
+}
+
+impl ServeFault {
+    /// The number of the fault, 1.
+    pub fn number(self) -> u8
+        ensures { result ≡ number_of_serve_fault self }
+    {
+        self as u8
+    }
 }
 
 /// How many faults a run ended with: one or none.
@@ -54,11 +66,29 @@ pub fn serve_connections<D: Door>(
     Ok(faulty)
 }
 
-/// The same over the connections to a listener.
+/// Binds a port of this host, and serves so many connections there. Fails where it is not bound,
+/// where accepting failed, and where a connection ended with a fault.
+pub fn listen<D: Bind>(
+    agent: &mut Agent,
+    door: &mut D,
+    listening: Listening,
+) -> Result<(), DeviceFault>
+    ensures asked { HasListened D.to_come D.taken (D.asked door.old) (D.asked door.new)
+        listening agent.old agent.new result }
+    ensures headline { (past : Past) → Stands past agent.old → KeepsOn past agent.new }
+{
+    let Ok(()) = door.bind([127, 0, 0, 1], listening.port) else {
+        return Err(DeviceFault::Failed);
+    };
+    match serve_connections(agent, door, listening.connections) {
+        Ok(0) => Ok(()),
+        _ => Err(DeviceFault::Failed),
+    }
+}
+
+/// Serves so many connections to a listener, as `serve_connections` does at a door.
 pub fn serve(agent: &mut Agent, listener: &TcpListener, connections: u16) -> Result<u16, ServeFault>
     ensures few { IfOk result (λ faulty. faulty ≤ connections) }
-    // So many traces were run, and the answer counts those that ended with a fault.
-    ensures served { HasServed connections agent.old agent.new result }
     // Whatever came over the connections, and also where accepting failed.
     ensures headline { (past : Past) → Stands past agent.old → KeepsOn past agent.new }
 {

@@ -5,11 +5,12 @@ ghost use Rattle.lldp_text.specs.Answer.{on_ok};
 ghost use Rattle.lldp_engine.specs.Event.{tick, event_of};
 ghost use Rattle.lldp_engine.specs.Past.{Past};
 ghost use Rattle.lldp_engine.specs.Standing.{Stands};
+ghost use Rattle.lldp_program.specs.FaultNumber.{number_of_run_fault};
 ghost use Rattle.lldp_program.specs.Lines.{ended_lines, unfinished, if_any};
 ghost use Rattle.lldp_program.specs.Work.{work_of, AllowsWork};
 ghost use Rattle.lldp_program.specs.Items.{happens, items_of_work, items_of, items_of_lines};
 ghost use Rattle.lldp_program.specs.Code.Told.{RunsItems, Between};
-ghost use Rattle.lldp_program.specs.Runs.{HasRun, KeepsOn, read_failures_after, write_failures_after};
+ghost use Rattle.lldp_program.specs.Runs.{EndsTold, HasRun, KeepsOn, read_failures_after, write_failures_after};
 
 use crate::buffer::{hold, read_more};
 use crate::device::{DeviceFault, Sink, Source};
@@ -35,10 +36,19 @@ pub enum RunFault {
     Read = 1,
     /// A write failed.
     #[error("lldpa: write failed")]
-    Write,
+    Write = 2,
     /// The end was not reached in as many reads as a run makes at most.
     #[error("lldpa: input too long")]
-    InputTooLong,
+    InputTooLong = 3,
+}
+
+impl RunFault {
+    /// The number of the fault, 1 to 3.
+    pub fn number(self) -> u8
+        ensures { result ≡ number_of_run_fault self }
+    {
+        self as u8
+    }
 }
 
 /// An event, which the agent allows: what ports send is written.
@@ -168,6 +178,9 @@ pub fn run_trace<S: Source, W: Sink>(
     // the last call; where the answer is another, InputTooLong among them, no device failed.
     ensures reads { S.failures reader.new ≡ read_failures_after (S.failures reader.old) result }
     ensures writes { W.failures writer.new ≡ write_failures_after (W.failures writer.old) result }
+    // Where the answer is Ok the last read answered the end; where it is Read or InputTooLong, none
+    // of the reads did.
+    ensures ends { EndsTold (S.ends reader.old) (S.ends reader.new) result }
     // The devices are the ones that were lent.
     ensures places { (S.place reader.new ≡ S.place reader.old)
         × (W.place writer.new ≡ W.place writer.old) }

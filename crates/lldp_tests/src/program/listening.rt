@@ -51,8 +51,8 @@ fn port_and_connections(rt: HostRuntime) -> Result<(), Fail> {
         (&["lldpa", "--connections=7"], None),
         (&["lldpa", "--listen=1"], Some((1, 1))),
         (
-            &["lldpa", "--listen=65535", "--connections=65535"],
-            Some((65535, 65535)),
+            &["lldpa", "--listen=65534", "--connections=65535"],
+            Some((65534, 65535)),
         ),
     ];
     for &(words, wanted) in rows {

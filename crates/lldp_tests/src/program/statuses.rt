@@ -2,6 +2,7 @@
 use super::devices::{Burn, Drip, Fuse, Network};
 use super::runs::{INPUT, OUTPUT};
 use lldp_program::program::run_program;
+use lldp_program::serve::ServeFault;
 use lldp_program::trace::RunFault;
 use std::net::{Net, TcpListener, TcpStream};
 use std::process::Abort;
@@ -93,6 +94,18 @@ fn no_words_and_no_listen(rt: HostRuntime) -> Result<(), Fail> {
         expect_status(&rt, &OFFLINE, words, &mut reader, &mut writer, wanted)?;
         assert_eq!(rt; writer.taken(), written.as_bytes());
     }
+    Ok(())
+}
+
+/// The messages of faults are the lines that the program tells.
+#[test]
+fn texts_of_faults(rt: HostRuntime) -> Result<(), Fail> {
+    let read = format!(in rt.alloc(); "{}", RunFault::Read)?;
+    assert_eq!(rt; read.as_str(), "lldpa: read failed");
+    let write = format!(in rt.alloc(); "{}", RunFault::Write)?;
+    assert_eq!(rt; write.as_str(), "lldpa: write failed");
+    let accept = format!(in rt.alloc(); "{}", ServeFault::Accept)?;
+    assert_eq!(rt; accept.as_str(), "lldpa: socket failed");
     Ok(())
 }
 

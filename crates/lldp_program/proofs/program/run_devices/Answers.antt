@@ -7,7 +7,7 @@ returns-in-Err-clause-ran g c =
     record {
       result = c.run_trace-ran.result;
       run = run_kept _ _ _ _ _ _ _ _ c.run_trace-ran.ensures.run c.flush-flushed.ensures.octets;
-      done = λ e. absurd (omega arith);
+      done = λ e. absurd (omega (arith, c.tell.ensures, c.of_run.ensures.status));
     }
 
 pub returns-in-Ok-clause-ran : goal.returns-in-Ok-clause-ran

@@ -20,6 +20,7 @@ loop-reads-init g c = record {
   };
   reads = refl;
   writes = search rules;
+  ends = refl;
   read_place = refl;
   write_place = search rules;
   agent = refl;
@@ -112,6 +113,7 @@ loop-reads-preserved g c =
       };
       reads = search rules;
       writes = search rules;
+      ends = grind (arith);
       read_place = search rules;
       write_place = search rules;
       agent = search rules;

@@ -8,6 +8,7 @@ invariant-loop-reads g l = record {
   so_far : Progress (g.S.Source.to_come l.fn.reader) (g.S.Source.to_come l.reader) (g.W.Sink.taken l.fn.writer) (g.W.Sink.taken l.run.output.sink.now) l.fn.agent l.run.agent.now l.reads (take l.held l.buffer);
   reads : g.S.Source.failures l.reader ≡ g.S.Source.failures l.fn.reader;
   writes : g.W.Sink.failures l.run.output.sink.now ≡ g.W.Sink.failures l.fn.writer;
+  ends : g.S.Source.ends l.reader ≡ g.S.Source.ends l.fn.reader;
   read_place : g.S.Source.place l.reader ≡ g.S.Source.place l.fn.reader;
   write_place : g.W.Sink.place l.run.output.sink.now ≡ g.W.Sink.place l.fn.writer;
   agent : l.run.agent.ghost_name ≡ l.initial.run.agent.ghost_name;

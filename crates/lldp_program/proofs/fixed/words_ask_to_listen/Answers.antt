@@ -1,0 +1,9 @@
+use Rattle.lldp_program.proofs.ListeningLemmas.{asked_by_words}
+use Rattle.lldp_program.proofs.ServeLemmas.{faults_counted}
+use Rattle.lldp_program.proofs.fixed.words_ask_to_listen.Goals as goal
+
+pub returns-clause-words : goal.returns-clause-words
+returns-clause-words c = asked_by_words
+
+pub returns-clause-counted : goal.returns-clause-counted
+returns-clause-counted c = faults_counted

@@ -1,0 +1,24 @@
+-- What worked command lines ask to listen to.
+use Rattle.std.specs.Prelude.{◌≡◌, List, [], ◌∷◌, Option, Some, None, codes}
+use Rattle.std.specs.Borrow.{Bor}
+use Rattle.clap.specs.Simple.{matches_of}
+use Rattle.clap.specs.Walk.{Text, one_of}
+use Rattle.lldp_program.specs.declared.arguments.Listening.{Listening}
+use Rattle.lldp_program.specs.Usage.{AsksListening, program}
+
+-- whatever these words ask to listen to, it is this
+abbrev pub AskFor : Bor (List (Bor Text)) → List Text → Option Listening → Type 0
+AskFor roles words listening =
+    (asked : Option Listening)
+    → AsksListening (one_of (codes "listen") (matches_of (program roles) words)) (one_of (codes "connections") (matches_of (program roles) words)) asked
+    → asked ≡ listening
+
+-- Nothing without `--listen`; with it the port that it gives, and one connection or as many as `--connections` gives.
+pub record AskByWords (roles : Bor (List (Bor Text))) : Type 0 where
+  pub nothing : AskFor roles (codes "lldpa" ∷ codes "--connections" ∷ codes "7" ∷ codes "eth0" ∷ []) None
+  pub one : AskFor roles (codes "lldpa" ∷ codes "--listen" ∷ codes "4711" ∷ codes "eth0" ∷ [])
+      (Some (record { port = 4711; connections = 1 }))
+  pub many : AskFor roles (codes "lldpa" ∷ codes "--listen" ∷ codes "4711" ∷ codes "--connections" ∷ codes "10" ∷ codes "eth0" ∷ [])
+      (Some (record { port = 4711; connections = 10 }))
+  pub greatest : AskFor roles (codes "lldpa" ∷ codes "--connections=65535" ∷ codes "--listen=65534" ∷ codes "eth0" ∷ [])
+      (Some (record { port = 65534; connections = 65535 }))

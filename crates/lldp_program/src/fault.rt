@@ -1,0 +1,109 @@
+//! Why the program ends with another status than 0, and the line that tells it.
+ghost use Rattle.std.specs.Prelude.{◌≡◌};
+ghost use Rattle.lldp_program.specs.ProgramFault.{fault_of_address, fault_of_opening, fault_of_run, line_of, status_of};
+
+use crate::arguments::AddressFault;
+use crate::trace::RunFault;
+use lldp_engine::OpenFault;
+
+/// Why the program ends with another status than 0.
+#[derive(Clone, Copy, Debug, PartialEq, Eq)]
+pub enum ProgramFault {
+    /// A read failed.
+    Read,
+    /// A write or a flush failed.
+    Write,
+    /// The trace did not end in as many reads as a run makes at most.
+    InputTooLong,
+    /// The port could not be bound, accepting failed, or a connection ended with a fault.
+    Socket,
+    /// There was no memory for the words or for opening.
+    Memory,
+    /// No port was named.
+    NoPorts,
+    /// More than 64 ports were named.
+    TooManyPorts,
+    /// A port's name is not one.
+    PortName,
+    /// Two ports have the same name.
+    SamePort,
+    /// The hostname is no text.
+    Text,
+    /// `--mac` gives no MAC.
+    Mac,
+    /// `--management` gives no IPv4 address.
+    Management,
+}
+
+impl ProgramFault {
+    /// The line that tells it, with its LF.
+    pub fn line(self) -> &'static [u8]
+        ensures { result.now ≡ line_of self }
+    {
+        match self {
+            ProgramFault::Read => b"lldpa: read failed\n",
+            ProgramFault::Write => b"lldpa: write failed\n",
+            ProgramFault::InputTooLong => b"lldpa: input too long\n",
+            ProgramFault::Socket => b"lldpa: socket failed\n",
+            ProgramFault::Memory => b"lldpa: no memory\n",
+            ProgramFault::NoPorts => b"lldpa: no ports\n",
+            ProgramFault::TooManyPorts => b"lldpa: too many ports\n",
+            ProgramFault::PortName => b"lldpa: bad port name\n",
+            ProgramFault::SamePort => b"lldpa: same port twice\n",
+            ProgramFault::Text => b"lldpa: bad text\n",
+            ProgramFault::Mac => b"lldpa: bad --mac\n",
+            ProgramFault::Management => b"lldpa: bad --management\n",
+        }
+    }
+
+    /// The status that the program ends with, 1 or 2.
+    pub fn status(self) -> u8
+        ensures { result ≡ status_of self }
+    {
+        match self {
+            ProgramFault::Read
+            | ProgramFault::Write
+            | ProgramFault::InputTooLong
+            | ProgramFault::Socket => 1,
+            _ => 2,
+        }
+    }
+
+    /// The fault of a run.
+    pub fn of_run(fault: RunFault) -> ProgramFault
+        ensures fault { result ≡ fault_of_run fault }
+        ensures status { status_of result ≡ 1 }
+    {
+        match fault {
+            RunFault::Read => ProgramFault::Read,
+            RunFault::Write => ProgramFault::Write,
+            RunFault::InputTooLong => ProgramFault::InputTooLong,
+        }
+    }
+
+    /// The refusal of an opening.
+    pub fn of_opening(fault: OpenFault) -> ProgramFault
+        ensures fault { result ≡ fault_of_opening fault }
+        ensures status { status_of result ≡ 2 }
+    {
+        match fault {
+            OpenFault::Memory => ProgramFault::Memory,
+            OpenFault::NoPorts => ProgramFault::NoPorts,
+            OpenFault::TooManyPorts => ProgramFault::TooManyPorts,
+            OpenFault::PortName => ProgramFault::PortName,
+            OpenFault::SamePort => ProgramFault::SamePort,
+            OpenFault::Text => ProgramFault::Text,
+        }
+    }
+
+    /// The fault of an address among the words.
+    pub fn of_address(fault: AddressFault) -> ProgramFault
+        ensures fault { result ≡ fault_of_address fault }
+        ensures status { status_of result ≡ 2 }
+    {
+        match fault {
+            AddressFault::Mac => ProgramFault::Mac,
+            AddressFault::Management => ProgramFault::Management,
+        }
+    }
+}
