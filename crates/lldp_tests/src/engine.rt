@@ -12,7 +12,7 @@ use std::process::Abort;
 use std::test::Fail;
 
 /// An agent with what the program takes where nothing else is said, but that its ports only receive.
-fn open<A: Allocator + Clone>(
+pub fn open<A: Allocator + Clone>(
     rt: &impl Abort,
     alloc: A,
     ports: &[&str],
