@@ -1,8 +1,33 @@
-//! That opening works where there is memory, and the numbers of faults.
-use super::open;
+//! What opening refuses, that it works where there is memory, and the numbers of faults.
 use super::whole_shows::NAMES;
-use lldp_engine::{CommandFault, OpenFault};
+use super::{open, open_with, options};
+use lldp_engine::{CommandFault, OpenFault, Options};
 use std::test::Fail;
+
+/// Ports and hostnames, and what is wrong with them.
+#[test]
+fn faults(rt: HostRuntime) -> Result<(), Fail> {
+    let letters = [b'a'; 256];
+    let long = str::from_utf8(&letters).ok().ok_or("letters")?;
+    let many = ["e"; 65];
+    let rows: &[(&[&str], &str, Option<OpenFault>)] = &[
+        (&[], "localhost", Some(OpenFault::NoPorts)),
+        (&many, "localhost", Some(OpenFault::TooManyPorts)),
+        (&["a.b"], "localhost", Some(OpenFault::PortName)),
+        (&["eth0", "eth0"], "localhost", Some(OpenFault::SamePort)),
+        (&["eth0"], long, Some(OpenFault::Text)),
+        (&["eth0"], "localhost", None),
+    ];
+    for (place, &(ports, hostname, fault)) in rows.iter().enumerate() {
+        let options = Options {
+            hostname,
+            ..options(ports, 32)
+        };
+        let opened = open_with(&rt, rt.alloc(), &options);
+        assert_eq!(rt; opened.err(), fault, "row {place}");
+    }
+    Ok(())
+}
 
 /// The numbers of the faults.
 #[test]

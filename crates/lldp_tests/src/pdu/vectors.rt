@@ -4,27 +4,28 @@ use lldp_pdu::{Caps, Examined, Info, PduFault, caps, examine, mgmt};
 use std::process::Abort;
 
 /// The parts of LLDPDUs, and what is wrong with each.
+const FAULTS: &[(&[&[u8]], PduFault)] = &[
+    (&[], PduFault::Truncated),
+    (&[&[0x02]], PduFault::Truncated),
+    (&[END], PduFault::NoChassis),
+    (&[&[0x02, 0x01, 0x04]], PduFault::ChassisLength),
+    (&[&[0x03, 0x01], &[4; 257]], PduFault::ChassisLength),
+    (&[CHASSIS], PduFault::Truncated),
+    (&[CHASSIS, TTL_120], PduFault::NoPort),
+    (&[CHASSIS, &[0x04, 0x01, 0x05]], PduFault::PortLength),
+    (&[CHASSIS, PORT], PduFault::Truncated),
+    (&[CHASSIS, PORT, END], PduFault::NoTtl),
+    (&[CHASSIS, PORT, &[0x06, 0x01, 0x78]], PduFault::TtlLength),
+    (
+        &[CHASSIS, PORT, TTL_120, &[0x06, 0x02, 0x00, 0x01]],
+        PduFault::Repeated,
+    ),
+    (&[CHASSIS, PORT, TTL_120, CHASSIS, END], PduFault::Repeated),
+];
+
 #[test]
 fn faults(rt: HostRuntime) {
-    let rows: &[(&[&[u8]], PduFault)] = &[
-        (&[], PduFault::Truncated),
-        (&[&[0x02]], PduFault::Truncated),
-        (&[END], PduFault::NoChassis),
-        (&[&[0x02, 0x01, 0x04]], PduFault::ChassisLength),
-        (&[&[0x03, 0x01], &[4; 257]], PduFault::ChassisLength),
-        (&[CHASSIS], PduFault::Truncated),
-        (&[CHASSIS, TTL_120], PduFault::NoPort),
-        (&[CHASSIS, &[0x04, 0x01, 0x05]], PduFault::PortLength),
-        (&[CHASSIS, PORT], PduFault::Truncated),
-        (&[CHASSIS, PORT, END], PduFault::NoTtl),
-        (&[CHASSIS, PORT, &[0x06, 0x01, 0x78]], PduFault::TtlLength),
-        (
-            &[CHASSIS, PORT, TTL_120, &[0x06, 0x02, 0x00, 0x01]],
-            PduFault::Repeated,
-        ),
-        (&[CHASSIS, PORT, TTL_120, CHASSIS, END], PduFault::Repeated),
-    ];
-    for (place, &(parts, fault)) in rows.iter().enumerate() {
+    for (place, &(parts, fault)) in FAULTS.iter().enumerate() {
         let found = examine(&joined(&rt, parts)).err();
         assert_eq!(rt; found, Some(fault), "row {place}");
     }
@@ -78,35 +79,36 @@ fn expect_told(rt: &impl Abort, parts: &[&[u8]], told: &Told<'_>) {
 }
 
 /// LLDPDUs with little behind the mandatory TLVs.
+const FEW_TLVS: &[(&[&[u8]], Told<'static>)] = &[
+    (&[CHASSIS, PORT, TTL_120, END], (20, 0, 0, &[])),
+    (
+        &[CHASSIS, PORT, &[0x06, 0x03, 0x00, 0x78, 0x05]],
+        (21, 0, 0, &[]),
+    ),
+    (&[CHASSIS, PORT, TTL_120, &[0x0c]], (20, 1, 0, &[])),
+    (
+        &[CHASSIS, PORT, TTL_120, SW1, SW2, END],
+        (30, 1, 0, &[(5, b"sw1")]),
+    ),
+    (
+        &[CHASSIS, PORT, TTL_120, &[0xfe, 3, 0, 0x12, 0x0f], END],
+        (25, 1, 0, &[]),
+    ),
+    (&[&[0x02, 0x02, 0x00, 0x41], PORT, TTL_120], (15, 0, 0, &[])),
+    (
+        &[CHASSIS, PORT, TTL_120, &[0x00, 0x01, 0x41], PORT],
+        (20, 0, 0, &[]),
+    ),
+    (&[CHASSIS, PORT, TTL_120, OVERRUNNING], (20, 1, 0, &[])),
+    (
+        &[CHASSIS, PORT, TTL_120, CAPABILITIES, END],
+        (39, 2, 0, &[(7, &[0x00, 0x14, 0x00, 0x04])]),
+    ),
+];
+
 #[test]
 fn told_by_few_tlvs(rt: HostRuntime) {
-    let rows: &[(&[&[u8]], Told<'_>)] = &[
-        (&[CHASSIS, PORT, TTL_120, END], (20, 0, 0, &[])),
-        (
-            &[CHASSIS, PORT, &[0x06, 0x03, 0x00, 0x78, 0x05]],
-            (21, 0, 0, &[]),
-        ),
-        (&[CHASSIS, PORT, TTL_120, &[0x0c]], (20, 1, 0, &[])),
-        (
-            &[CHASSIS, PORT, TTL_120, SW1, SW2, END],
-            (30, 1, 0, &[(5, b"sw1")]),
-        ),
-        (
-            &[CHASSIS, PORT, TTL_120, &[0xfe, 3, 0, 0x12, 0x0f], END],
-            (25, 1, 0, &[]),
-        ),
-        (&[&[0x02, 0x02, 0x00, 0x41], PORT, TTL_120], (15, 0, 0, &[])),
-        (
-            &[CHASSIS, PORT, TTL_120, &[0x00, 0x01, 0x41], PORT],
-            (20, 0, 0, &[]),
-        ),
-        (&[CHASSIS, PORT, TTL_120, OVERRUNNING], (20, 1, 0, &[])),
-        (
-            &[CHASSIS, PORT, TTL_120, CAPABILITIES, END],
-            (39, 2, 0, &[(7, &[0x00, 0x14, 0x00, 0x04])]),
-        ),
-    ];
-    for (parts, told) in rows {
+    for (parts, told) in FEW_TLVS {
         expect_told(&rt, parts, told);
     }
 }
