@@ -100,11 +100,11 @@ fn expect_none_taken(rt: &impl Abort, alloc: Global, past: &[Event<'_>]) -> Resu
 
 const UPDATE: Event<'static> = Event::Set(Setting::Update);
 
-const UP: Event<'static> = Event::Link { port: 0, up: true };
+fn link<'a>(up: bool) -> Event<'a> {
+    Event::Link { port: 0, up }
+}
 
-const DOWN: Event<'static> = Event::Link { port: 0, up: false };
-
-fn becomes(status: Status) -> Event<'static> {
+fn becomes<'a>(status: Status) -> Event<'a> {
     Event::Set(Setting::Status { port: 0, status })
 }
 
@@ -136,9 +136,9 @@ fn settings_and_links(rt: HostRuntime) -> Result<(), Fail> {
         Event::Set(Setting::Hold(100)),
         Event::Set(Setting::Limit(1)),
         Event::Set(Setting::Limit(2)),
-        DOWN,
+        link(false),
         Event::Tick,
-        UP,
+        link(true),
     ];
     expect_none_taken(&rt, rt.alloc(), &past)
 }
@@ -186,7 +186,7 @@ fn frames(rt: HostRuntime) -> Result<(), Fail> {
         heard(a),
         becomes(Status::RxOnly),
         heard(a),
-        DOWN,
+        link(false),
         heard(b),
         Event::Tick,
     ];
