@@ -87,6 +87,8 @@ def some_near(dice, word):
     slips = list(otherwise_written(word))
     if len(word) < len(FRAME):
         slips += misspelled(word)
+    if word.isdigit():
+        slips += numbers(word)
     return dice.choice(slips)
 
 
