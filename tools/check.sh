@@ -1,7 +1,8 @@
 #!/bin/sh
 # Checks the built program: the transcripts of examples/, the examples and the links of the pages, what the sources
 # say of memory, the completion, the package, misuse of its words and streams, every value of each range, refused
-# memory, counts of instructions, and traces of fixed and of random seeds beside the model and the judge of windows.
+# memory, counts of instructions, lines that are nearly right, and traces of fixed and of random seeds beside the model
+# and the judge of windows; and looks that all that it is to try by name is tried.
 #     tools/check.sh [PROGRAM]
 # PROGRAM is the one that the gate leaves unless given. It needs sh, bash, python3 and cmp, a C compiler for refused
 # memory, valgrind for the counts, and mypy for the types of the Python package; what had to be skipped is said and not
