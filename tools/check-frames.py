@@ -3,9 +3,10 @@
 
     tools/check-frames.py PROGRAM
 
-Each front of each frame below is heard, and the frame with each octet changed to each other value; behind each one what
-is held and counted is compared, and the table is emptied. Then frames with random times to live, of more neighbors than
-there is room for, with seconds and shutdown frames between them. The last line is `N passed, M failed`.
+Each front of each frame below is heard, and the frame with each octet changed to each other value, once by an empty
+table and once by one that holds the neighbor of the first frame, so that it shows whom a shutdown names; behind each
+one what is held and counted is compared, and the table is emptied. Then frames with random times to live, of more
+neighbors than there is room for, with seconds and shutdown frames between them. The last line is `N passed, M failed`.
 """
 import random
 import sys
@@ -64,7 +65,9 @@ def frame_of(number, ttl):
 
 def altered_trace(pdu):
     """The lines with which an LLDPDU is heard, altered, one after the other."""
-    return [line for frame in altered(HEADER + pdu) for line in (heard(frame), *LOOK, *EMPTY)]
+    known = heard(HEADER + LLDPDUS[0])
+    return [line for frame in altered(HEADER + pdu)
+            for line in (heard(frame), *LOOK, *EMPTY, known, heard(frame), *LOOK, *EMPTY)]
 
 
 def random_trace(seed):

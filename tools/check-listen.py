@@ -6,7 +6,8 @@
 A client asks a question whose answer is written in several pieces, and asks again when it has read all of it. Each answer
 has to come at once: a program that does not set TCP_NODELAY keeps the last piece back until the one before it was
 acknowledged, some 40 milliseconds each time. Where too many are late while the machine stands still, that is said and all
-are asked again, at most twice. The last line is `N passed, M failed`.
+are asked again, at most twice. Then clients come one after the other to a program that was asked to serve 65,535, the
+greatest number; each is answered, and the program goes on. The last line is `N passed, M failed`.
 """
 import pathlib
 import socket
@@ -14,7 +15,7 @@ import subprocess
 import sys
 import time
 
-from compare import connected, free_port
+from compare import asked, connected, free_port
 from model import COUNTERS
 
 TOP = pathlib.Path(__file__).resolve().parent.parent
@@ -32,6 +33,9 @@ END = b"error: unknown command\n"
 # an answer that takes longer was kept back, or the machine was busy; so many may be
 LATE = 0.02
 MOST_LATE = QUESTIONS // 4
+
+# how many come to a program that was asked to serve 65,535
+CLIENTS = 5
 
 
 def answer(client):
@@ -69,7 +73,23 @@ def late_by_the_program(client):
         print(f"asked again, since the machine stood still for {seconds:.2f} s meanwhile")
 
 
-def main():
+def serves_the_most():
+    """Whether a program asked to serve as many connections as it can be answers some clients, and waits for the next."""
+    number = free_port()
+    words = [sys.argv[1], "--listen", number, "--connections", "65535", "--receive-only", "eth0"]
+    with subprocess.Popen(words, stdin=subprocess.DEVNULL) as program:
+        try:
+            for _ in range(CLIENTS):
+                client = connected(number, program)
+                if client is None or asked(client, b"x\n") != END:
+                    return False
+            return program.poll() is None
+        finally:
+            program.kill()
+
+
+def answers_soon():
+    """Whether few answers over a connection are late."""
     number = free_port()
     words = [sys.argv[1], "--listen", number, "--receive-only", *PORTS]
     with subprocess.Popen(words, stdin=subprocess.DEVNULL) as program:
@@ -77,9 +97,18 @@ def main():
         client.setsockopt(socket.IPPROTO_TCP, socket.TCP_NODELAY, 1)
         late = late_by_the_program(client)
         client.close()
-    is_soon = late is not None and late <= MOST_LATE
-    print("1 passed, 0 failed" if is_soon else "0 passed, 1 failed")
-    return 0 if is_soon else 1
+    return late is not None and late <= MOST_LATE
+
+
+def main():
+    passed = 0
+    for part in (answers_soon, serves_the_most):
+        holds = part()
+        passed += holds
+        if not holds:
+            print(f"FAILED: {part.__doc__}")
+    print(f"{passed} passed, {2 - passed} failed")
+    return 0 if passed == 2 else 1
 
 
 if __name__ == "__main__":

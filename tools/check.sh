@@ -1,7 +1,8 @@
 #!/bin/sh
 # Checks the built program: the transcripts of examples/, the examples and the links of the pages, what the sources
 # say of memory, the completion, the package, misuse of its words and streams, every value of each range, refused
-# memory, counts of instructions, and traces of fixed and of random seeds beside the model and the judge of windows.
+# memory, counts of instructions, lines that are nearly right, and traces of fixed and of random seeds beside the model
+# and the judge of windows; and looks that all that it is to try by name is tried.
 #     tools/check.sh [PROGRAM]
 # PROGRAM is the one that the gate leaves unless given. It needs sh, bash, python3 and cmp, a C compiler for refused
 # memory, valgrind for the counts, and mypy for the types of the Python package; what had to be skipped is said and not
@@ -119,6 +120,18 @@ local-chassis.name=last
 local-chassis.descr=lldpa
 local-chassis.caps=Router:on"
     ends 2 "lldpa: bad port name" 'printf "tick\n" | { lldpa a.b; kept=$?; cat; exit $kept; }' tick
+}
+
+# Words of which the list of what is tried by name speaks, one by one.
+refused_arguments() {
+    echo "== words: refused, by name"
+    ends 2 "lldpa: same port twice" 'lldpa eth0 eth0'
+    ends 2 "lldpa: bad --mac" 'lldpa --mac 00:11 eth0'
+    ends 2 "lldpa: bad --management" 'lldpa --management 192.0.2.01 eth0'
+    ends 2 "*--max-neighbors*" 'lldpa --max-neighbors 129 eth0'
+    ends 2 "*cannot be used multiple times*" 'lldpa --hostname a --hostname a eth0'
+    ends 2 "*--listen*" 'lldpa --listen 0 eth0'
+    ends 2 "*--listen*" 'lldpa --listen 70000 eth0'
 }
 
 bad_addresses() {
@@ -299,6 +312,7 @@ python3 tools/transcripts.py --check
 judge $? "crates/lldpa/proofs/Transcripts.antt is not what tools/transcripts.py writes of examples/"
 part "links of the pages" python3 tools/check-links.py
 part "memory and accesses, by the sources" python3 tools/check-memory.py
+part "what is tried by name" python3 tools/check-named.py
 part "wrong bodies that the gate does not try" python3 tools/wrong-bodies.py --check
 manual_pages
 service
@@ -315,11 +329,13 @@ part "audit of eight ports" python3 tools/check-audit.py --program "$program"
 part "the package" tools/check-package.sh "$program"
 refused_arguments
 bad_openings
+refused_arguments
 bad_addresses
 bad_options
 misused_streams
 binary_input
 part "cut and altered frames, and full tables" python3 tools/check-frames.py "$program"
+part "lines that are nearly right" python3 tools/check-words.py "$program"
 part "refused memory" tools/refuse-memory.sh "$program"
 part "every value of each range" python3 tools/check-ranges.py "$program"
 # No row of the benchmark takes more instructions than before.

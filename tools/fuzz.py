@@ -19,6 +19,7 @@ import time
 
 sys.dont_write_bytecode = True
 import model  # noqa: E402
+import near  # noqa: E402
 from compare import FREE_PORT, difference, judged  # noqa: E402
 from examples import words_and_filter  # noqa: E402
 
@@ -198,9 +199,11 @@ def altered_line(dice, line):
     """A line with something wrong in it, or unusual."""
     words = line.split(b" ")
     place = dice.randrange(len(words))
-    change = dice.weighted({"word": 5, "number": 4, "drop": 4, "add": 4, "quote": 4, "mark": 4, "space": 3,
-                            "end": 3, "comment": 1, "octet": 3, "long": 1, "case": 1})
-    if change == "word":
+    change = dice.weighted({"near": 12, "word": 5, "number": 4, "drop": 4, "add": 4, "quote": 4, "mark": 4, "space": 3,
+                            "end": 3, "comment": 2, "octet": 3, "long": 1, "case": 1})
+    if change == "near":
+        words[place] = near.some_near(dice, words[place].decode("latin-1")).encode("latin-1")
+    elif change == "word":
         words[place] = dice.choice(ODD_WORDS)
     elif change == "number":
         words[-1] = dice.choice(NUMBERS)
@@ -221,7 +224,7 @@ def altered_line(dice, line):
     if change == "end":
         return line + dice.choice([b"\r", b" \r", b"\0", b" #", b"\x0b", b" x"])
     if change == "comment":
-        return dice.choice([b"#", b" # ", b"\t#", b"\r#"]) + line
+        return dice.choice([b"#", b" # ", b"\t#", b"\r#", *near.MARKS]) + line
     if change == "octet":
         return altered_octets(dice, line).replace(b"\n", b"")
     if change == "long":
@@ -236,6 +239,16 @@ def line_of(dice, ports):
         return dice.choice([b"", b" ", b"\t \t", b"# a b", b"  #\"", b"\r", dice.octets(dice.randrange(30))])
     line = good_line(dice, ports)
     return altered_line(dice, line).replace(b"\n", b"") if dice.happens(9) else line
+
+
+def near_line(dice):
+    """A line that is nearly right, of any form as often as of another."""
+    words = list(dice.choice(near.LINES))
+    if dice.happens(20):
+        return dice.choice(near.MARKS) + " ".join(words).encode()
+    place = dice.randrange(len(words))
+    words[place] = near.some_near(dice, words[place])
+    return " ".join(words).encode("latin-1").replace(b"\n", b"")
 
 
 # ---------------------------------------------------------------------------------------- words and traces
@@ -340,10 +353,17 @@ def new_trace(dice):
     return words, lines + [b"show neighbors", b"show statistics", b"show configuration"]
 
 
+def near_trace(dice):
+    """Lines that are nearly right, one after the other."""
+    return [*dice.choice([[], ["--receive-only"]]), "eth0"], [near_line(dice) for _ in range(dice.choice([20, 200]))]
+
+
 def case(seed, known):
     """The words and the lines of a trace; joined by LF the lines are the input."""
     dice = Dice(seed)
-    if known and dice.happens(8):
+    if dice.happens(10):
+        words, lines = near_trace(dice)
+    elif known and dice.happens(8):
         words, lines = altered_example(dice, *dice.choice(known))
     else:
         words, lines = new_trace(dice)

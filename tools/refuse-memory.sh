@@ -7,7 +7,7 @@
 #    for all the room that an iterator hints at and, where it does not get that, for less. That is no want.
 # The runs are the stored run of the program, and one that opens 64 ports of 128 neighbors. Then each transcript of
 # examples/ is run: a run asks for memory as often as one of the same words over an empty input, so nothing behind
-# the opening does.
+# the opening does; and where each request behind those of the opening is refused, it writes the same.
 # It takes the program (the gate's unless given), and needs a C compiler for refuse.c, which it preloads. Its
 # last line counts the runs; the status is 3 where it had to be skipped.
 set -u
@@ -102,6 +102,10 @@ for args in examples/*.args; do
     whole=$(requests_of_run "$@")
     [ "$opening" -gt 0 ] && [ "$opening" -eq "$whole" ]
     judge $? "$args: $opening requests over an empty input, $whole over its lines"
+    cp "$room/out" "$room/want"
+    REFUSE_AT=$((opening + 1)) REFUSE_LATER=1 run "$@"
+    survives
+    judge $? "$args: each request behind the $opening of the opening refused"
 done
 
 echo "$passed passed, $failed failed"

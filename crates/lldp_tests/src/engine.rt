@@ -1,24 +1,21 @@
 //! What no clause says of `lldp_engine`: that opening works where there is memory, and what code
 //! that the program does not run answers.
 mod embedded;
+mod full_heap;
 mod memory;
 mod opening;
+mod vectors_shown;
 mod whole_shows;
 
 use arrayvec::ArrayVec;
-use lldp_engine::{Agent, Event, OpenFault, Options, Role};
+use lldp_engine::{Agent, Event, Marks, OpenFault, Options, Role};
 use std::alloc::Allocator;
 use std::process::Abort;
 use std::test::Fail;
 
-/// An agent with what the program takes where nothing else is said, but that its ports only receive.
-fn open<A: Allocator + Clone>(
-    rt: &impl Abort,
-    alloc: A,
-    ports: &[&str],
-    max_neighbors: u8,
-) -> Result<Agent<A>, OpenFault> {
-    let options = Options {
+/// What the program takes where nothing else is said, but that its ports only receive.
+fn options<'a>(ports: &'a [&'a str], max_neighbors: u8) -> Options<'a> {
+    Options {
         ports,
         mac: [2, 0, 0, 0, 0, 1],
         hostname: "localhost",
@@ -29,9 +26,33 @@ fn open<A: Allocator + Clone>(
         fast_init: 4,
         reinit: 2,
         receive_only: true,
-    };
+    }
+}
+
+/// An agent with these options, whose numbers are in their ranges.
+fn open_with<A: Allocator + Clone>(
+    rt: &impl Abort,
+    alloc: A,
+    options: &Options<'_>,
+) -> Result<Agent<A>, OpenFault> {
     assert!(rt; options.in_range());
-    Agent::open(alloc, &options)
+    Agent::open(alloc, options)
+}
+
+/// An agent whose ports only receive.
+pub fn open<A: Allocator + Clone>(
+    rt: &impl Abort,
+    alloc: A,
+    ports: &[&str],
+    max_neighbors: u8,
+) -> Result<Agent<A>, OpenFault> {
+    open_with(rt, alloc, &options(ports, max_neighbors))
+}
+
+/// An event comes, which the agent allows.
+fn step<A: Allocator>(rt: &impl Abort, agent: &mut Agent<A>, event: Event<'_>) -> Marks {
+    assert!(rt; agent.allows(&event));
+    agent.step(event)
 }
 
 /// A frame with this LLDPDU comes on a port.
@@ -49,8 +70,6 @@ fn hear<A: Allocator>(
         octets.try_extend_from_slice(part).ok().ok_or("room")?;
     }
     let octets = octets.as_slice();
-    let event = Event::Frame { port, octets };
-    assert!(rt; agent.allows(&event));
-    agent.step(event);
+    step(rt, agent, Event::Frame { port, octets });
     Ok(())
 }

@@ -1,9 +1,18 @@
-//! LLDPDUs that are built, and TLVs that are read one by one: the program does neither. All else of
-//! `lldp_pdu` is said by its vectors, and runs in the program.
+//! LLDPDUs that are read and built, by named vectors, whole frames with one octet changed, and TLVs
+//! that are read one by one.
 use arrayvec::ArrayVec;
 use lldp_pdu::*;
 use std::process::Abort;
 
+mod altered;
+mod building;
+mod slow_reader;
+mod vectors;
+
+/// The Ethernet header of a frame to nearest bridge.
+pub const HEADER: &[u8] = &[
+    0x01, 0x80, 0xc2, 0x00, 0x00, 0x0e, 0x00, 0x11, 0x22, 0x33, 0x44, 0x55, 0x88, 0xcc,
+];
 /// Chassis ID, MAC 00:11:22:33:44:55.
 const CHASSIS: &[u8] = &[0x02, 0x07, 0x04, 0x00, 0x11, 0x22, 0x33, 0x44, 0x55];
 /// Port ID, interface name eth0.
@@ -14,8 +23,18 @@ const TTL_0: &[u8] = &[0x06, 0x02, 0x00, 0x00];
 const TTL_120: &[u8] = &[0x06, 0x02, 0x00, 0x78];
 
 const END: &[u8] = &[0x00, 0x00];
-/// A System Name.
+/// System Names.
+const SW1: &[u8] = &[0x0a, 0x03, 0x73, 0x77, 0x31];
+
 const SW2: &[u8] = &[0x0a, 0x03, 0x73, 0x77, 0x32];
+/// A System Name of length 20 with 3 octets left.
+const OVERRUNNING: &[u8] = &[0x0a, 0x14, 0x61, 0x62, 0x63];
+/// System Capabilities of length 5, then with a bit enabled that is not available, then well
+/// formed.
+const CAPABILITIES: &[u8] = &[
+    0x0e, 0x05, 0x00, 0x04, 0x00, 0x04, 0x00, 0x0e, 0x04, 0x00, 0x04, 0x00, 0x14, 0x0e, 0x04, 0x00,
+    0x14, 0x00, 0x04,
+];
 
 /// The parts, one after the other.
 fn joined(rt: &impl Abort, parts: &[&[u8]]) -> ArrayVec<u8, 1600> {
@@ -26,40 +45,6 @@ fn joined(rt: &impl Abort, parts: &[&[u8]]) -> ArrayVec<u8, 1600> {
         }
     }
     octets
-}
-
-/// Begun with the identifiers of CHASSIS and PORT.
-fn begun(ttl: u16) -> Builder {
-    Builder::begin(&CHASSIS[2..], &PORT[2..], ttl)
-}
-
-#[test]
-fn one_name(rt: HostRuntime) {
-    let mut builder = begun(120);
-    assert_eq!(rt; builder.put(5, b"sw2"), Ok(()));
-    assert_eq!(rt; builder.put(5, b"sw3"), Err(BuildFault::Kind));
-    let built = builder.finish();
-    let wanted = joined(&rt, &[CHASSIS, PORT, TTL_120, SW2, END]);
-    assert_eq!(rt; built.as_slice(), wanted.as_slice());
-}
-
-#[test]
-fn shutdown(rt: HostRuntime) {
-    let mut builder = begun(0);
-    assert_eq!(rt; builder.put(5, b"sw2"), Err(BuildFault::Kind));
-    let built = builder.finish();
-    let wanted = joined(&rt, &[CHASSIS, PORT, TTL_0, END]);
-    assert_eq!(rt; built.as_slice(), wanted.as_slice());
-}
-
-#[test]
-fn filled_up(rt: HostRuntime) {
-    let mut builder = begun(120);
-    assert_eq!(rt; builder.put(127, &[1; 511]), Ok(()));
-    assert_eq!(rt; builder.put(127, &[1; 511]), Ok(()));
-    assert_eq!(rt; builder.put(127, &[1; 451]), Err(BuildFault::Full));
-    assert_eq!(rt; builder.put(127, &[1; 450]), Ok(()));
-    assert_eq!(rt; builder.finish().len(), 1500);
 }
 
 #[test]

@@ -1,4 +1,4 @@
-//! The memory of a table. Its worked rows are theorems.
+//! The worked rows of a table, call by call, and its memory.
 ghost use Rattle.std.specs.Prelude.{◌≤◌, length};
 
 use linked_list_allocator::LocalHeap;
@@ -28,6 +28,19 @@ fn told<'a>(rt: &impl Abort, pdu: &'a [u8]) -> Info<'a>
     }
 }
 
+/// The neighbor at place `i` has this frame, with so many ticks left.
+fn expect_entry<A: Allocator>(rt: &impl Abort, table: &Table<A>, i: u8, pdu: &[u8; 22], left: u16) {
+    assert!(rt; i < table.len());
+    let entry = table.entry(i);
+    assert_eq!(rt; entry.octets(), &pdu[..20]);
+    assert_eq!(rt;
+        (entry.msap().chassis, entry.msap().port),
+        (&pdu[2..9], &pdu[11..16])
+    );
+    assert_eq!(rt; (entry.ttl(), entry.left()), (u16::from(pdu[19]), left));
+    assert!(rt; entry.kept().next().is_none());
+}
+
 /// A frame comes, and this becomes of it.
 fn learns<A: Allocator>(rt: &impl Abort, table: &mut Table<A>, pdu: &[u8; 22], answer: Learned) {
     assert_eq!(rt; table.learn(&told(rt, pdu)), answer);
@@ -50,6 +63,62 @@ fn limits<A: Allocator>(rt: &impl Abort, table: &mut Table<A>, limit: u8) {
     assert!(rt; 0 < limit && limit <= table.capacity() && table.len() <= limit);
     table.set_limit(limit);
     assert_eq!(rt; table.limit(), limit);
+}
+
+/// How many neighbors and octets the table holds, and whether too many came.
+fn expect_held<A: Allocator>(rt: &impl Abort, table: &Table<A>, held: (u8, u32, bool)) {
+    assert_eq!(rt; (table.len(), table.octets(), table.too_many()), held);
+}
+
+#[test]
+fn table_of_one(rt: HostRuntime) -> Result<(), Fail> {
+    let (a, b) = (lldpdu(b'0', 120), lldpdu(b'1', 120));
+    let mut table = Table::open(rt.alloc(), 1)?;
+    assert_eq!(rt; (table.len(), table.limit(), table.capacity()), (0, 1, 1));
+    learns(&rt, &mut table, &a, Learned::New);
+    learns(&rt, &mut table, &b, Learned::Dropped);
+    assert!(rt; table.too_many());
+    learns(&rt, &mut table, &a, Learned::Refreshed);
+    table.purge();
+    expect_held(&rt, &table, (0, 0, false));
+    learns(&rt, &mut table, &b, Learned::New);
+    forgets(&rt, &mut table, &a, false);
+    forgets(&rt, &mut table, &b, true);
+    forgets(&rt, &mut table, &b, false);
+    ticks(&rt, &mut table, 1, 0);
+    Ok(())
+}
+
+#[test]
+fn refresh_to_an_earlier_expiry(rt: HostRuntime) -> Result<(), Fail> {
+    let (a, c, d) = (lldpdu(b'0', 120), lldpdu(b'2', 9), lldpdu(b'3', 5));
+    let mut table = Table::open(rt.alloc(), 3)?;
+    learns(&rt, &mut table, &a, Learned::New);
+    learns(&rt, &mut table, &c, Learned::New);
+    learns(&rt, &mut table, &d, Learned::New);
+    learns(&rt, &mut table, &lldpdu(b'0', 1), Learned::Refreshed);
+    ticks(&rt, &mut table, 1, 1);
+    expect_held(&rt, &table, (2, 40, false));
+    expect_entry(&rt, &table, 0, &c, 8);
+    expect_entry(&rt, &table, 1, &d, 4);
+    ticks(&rt, &mut table, 3, 0);
+    ticks(&rt, &mut table, 1, 1);
+    learns(&rt, &mut table, &a, Learned::New);
+    expect_held(&rt, &table, (2, 40, false));
+    expect_entry(&rt, &table, 0, &c, 4);
+    expect_entry(&rt, &table, 1, &a, 120);
+    Ok(())
+}
+
+#[test]
+fn equal_expiries(rt: HostRuntime) -> Result<(), Fail> {
+    let mut table = Table::open(rt.alloc(), 2)?;
+    learns(&rt, &mut table, &lldpdu(b'0', 120), Learned::New);
+    learns(&rt, &mut table, &lldpdu(b'1', 120), Learned::New);
+    ticks(&rt, &mut table, 119, 0);
+    ticks(&rt, &mut table, 1, 2);
+    expect_held(&rt, &table, (0, 0, false));
+    Ok(())
 }
 
 /// The one allocation is for all neighbors, and is refused where there is less room. No call after

@@ -2,6 +2,7 @@
 //! does not call.
 use super::{hear, open};
 use lldp_engine::{Agent, LineSink, Show, Writer};
+use std::alloc::Allocator;
 use std::process::Abort;
 use std::test::Fail;
 
@@ -37,15 +38,15 @@ fn hear_all(rt: &impl Abort, agent: &mut Agent, neighbors: u8) -> Result<(), Fai
 
 /// What compares the lines of a show with `show_line`.
 #[derive(Drop)]
-struct Compared<'a> {
-    agent: &'a Agent,
+struct Compared<'a, A: Allocator> {
+    agent: &'a Agent<A>,
     show: Show,
     lines: u32,
     line: Writer,
     different: u32,
 }
 
-impl Compared<'_> {
+impl<A: Allocator> Compared<'_, A> {
     /// Compares the line that was written last, where there is one, and looks for its line feed.
     fn compare(&mut self) {
         let Some((end, line)) = self.line.as_slice().split_last() else {
@@ -60,7 +61,7 @@ impl Compared<'_> {
     }
 }
 
-impl LineSink for Compared<'_> {
+impl<A: Allocator> LineSink for Compared<'_, A> {
     ghost use Rattle.std.specs.Prelude.{⊤};
 
     ghost takes = { λ old new line. ⊤ };
@@ -77,19 +78,24 @@ impl LineSink for Compared<'_> {
     }
 }
 
-/// The lines of a show are those of `show_line`, which has none behind them.
-fn expect_same(rt: &impl Abort, agent: &Agent, show: Show) {
+/// The lines of a show of one agent are those of `show_line` of another, which has none behind them.
+pub fn expect_same_lines<A: Allocator, B: Allocator>(
+    rt: &impl Abort,
+    one: &Agent<A>,
+    other: &Agent<B>,
+    show: Show,
+) {
     let mut compared = Compared {
-        agent,
+        agent: other,
         show,
         lines: 0,
         line: Writer::new(),
         different: 0,
     };
-    agent.show_lines(&show, &mut compared);
+    one.show_lines(&show, &mut compared);
     compared.compare();
     assert_eq!(rt; compared.different, 0);
-    assert!(rt; compared.lines > 0 && agent.show_line(&show, compared.lines).is_none());
+    assert!(rt; compared.lines > 0 && other.show_line(&show, compared.lines).is_none());
 }
 
 /// Two neighbors on each port, and a full table.
@@ -104,7 +110,7 @@ fn every_line(rt: HostRuntime) -> Result<(), Fail> {
             Show::Chassis,
             Show::Configuration,
         ] {
-            expect_same(&rt, &agent, show);
+            expect_same_lines(&rt, &agent, &agent, show);
         }
     }
     Ok(())

@@ -147,6 +147,18 @@ fn client_that_does_not_read(rt: HostRuntime) -> Result<(), Fail> {
     Server::open(&rt)?.serves(&rt, &clients, &[(5, Ok(1))])
 }
 
+/// A client that leaves with an answer which it did not read may be a fault or none, and the next
+/// one is served.
+#[test]
+fn client_that_leaves(rt: HostRuntime) -> Result<(), Fail> {
+    let mut server = Server::open(&rt)?;
+    let gone: Client<'_> = (&[HEARD, SHOW], None);
+    let waiting = send_all(&rt, &server.listener, &[gone, ASK])?;
+    let faulty = serve(&mut server.agent, &server.listener, 2)?;
+    assert!(rt; faulty <= 1);
+    read_all(&rt, waiting)
+}
+
 /// Where nobody can be accepted, what came before counts.
 #[test]
 fn nobody_to_accept(rt: HostRuntime) -> Result<(), Fail> {
