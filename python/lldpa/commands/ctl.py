@@ -16,9 +16,9 @@ from ..control import DEFAULT_PATH, Client, Gone
 from ..framing import command
 from ..agent import Refused
 from ..metrics import metrics
-from ..people import printable, summary, table, terminal_width
+from ..people import printable, table, terminal_width
 from ..show import ShowFault, read_show
-from ..watching import News, Watch
+from ..watching import News, Watch, news_line
 
 SECONDS_BETWEEN_LOOKS = 0.5
 PARTED_BY_PORTS = ("neighbors", "statistics")  # the shows behind which a port can stand
@@ -57,13 +57,7 @@ def watch(client: Client, as_json: bool) -> None:
         ports = read_show(client.ask("show neighbors")).ports
         now = time.strftime("%Y-%m-%dT%H:%M:%S%z")
         for news in neighbors.news(ports):
-            print(news_object(news, now) if as_json else news_line(news, now), flush=True)
-
-
-def news_line(news: News, now: str) -> str:
-    """What happened to a neighbor, for people."""
-    said = f"{now} {news.neighbor.port} {news.what}: {summary(news.neighbor)}"
-    return printable("; ".join([said, *news.changes]))
+            print(news_object(news, now) if as_json else f"{now} {news_line(news)}", flush=True)
 
 
 def news_object(news: News, now: str) -> str:
