@@ -130,8 +130,10 @@ offers FILES _lldpa_capture lldpa-capture --port eth0 f
 
 offers 'show configure update bridge watch metrics' _lldpa_ctl lldpa-ctl ''
 offers 'show' _lldpa_ctl lldpa-ctl sh
-offers '--control --json --help' _lldpa_ctl lldpa-ctl -
-offers '--control --help' _lldpa_ctl lldpa-ctl --json -
+offers '--control --json --output --help' _lldpa_ctl lldpa-ctl -
+offers '--control --output --help' _lldpa_ctl lldpa-ctl --json -
+offers FILES _lldpa_ctl lldpa-ctl metrics --output /var
+offers 'metrics' _lldpa_ctl lldpa-ctl --output = f m
 offers FILES _lldpa_ctl lldpa-ctl --control /run
 offers 'show configure update bridge watch metrics' _lldpa_ctl lldpa-ctl --control = /run/c --json ''
 offers 'show' _lldpa_ctl lldpa-ctl --control /run/c s
