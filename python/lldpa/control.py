@@ -1,8 +1,7 @@
 """The control socket, at which a running bridge answers: `Server` is its end, `Client` the other.
 
-A question is one line of at most 4,096 octets; its answer is a line `=N` and then N lines.
-`show ..`, `configure ..` and `update` are the agent's commands; `bridge` asks the bridge itself.
-`tick`, `rx`, `up` and `down` are refused: what comes in, and how time goes, the bridge alone tells.
+A question is one line of at most 4,096 octets; its answer is a line `=N` and then N lines. Which
+words it takes is said in `asking`.
 
 Who may connect is said by the socket's mode: 0600, or 0660 for the members of a group. They may
 do all. If the mode is widened to 0666, all may ask, and `configure` and `update` stay with root,
@@ -18,6 +17,7 @@ import socket
 from typing import Awaitable, Callable, Optional
 
 from .agent import LONGEST_LINE, Ended, Refused, checked
+from .asking import OF_ITSELF, first_word, refusal
 from .listening import InUse, Listening
 from .peer import Peer
 
@@ -28,10 +28,6 @@ MOST_CLIENTS = 64
 SECONDS_TO_READ = 10.0
 MOST_UNREAD = 64 * 1024 * 1024  # octets of all answers together that wait for their readers
 SECONDS_TO_ANSWER = 30.0
-
-ASKING = (b"show", b"bridge")
-CHANGING = (b"configure", b"update")
-OF_THE_BRIDGE = (b"tick", b"rx", b"up", b"down")
 
 Ask = Callable[[bytes], Awaitable["list[bytes]"]]
 
@@ -48,13 +44,6 @@ async def read_line(reader: asyncio.StreamReader) -> Optional[bytes]:
             return part or end.partial or None
         except asyncio.LimitOverrunError as overrun:
             part = await reader.readexactly(overrun.consumed)
-
-
-def first_word(line: bytes) -> bytes:
-    """The first word of a line without leading blanks, as the agent reads it."""
-    if line.startswith(b'"'):
-        return line[1:].partition(b'"')[0]
-    return line.replace(b"\t", b" ").partition(b" ")[0]
 
 
 class Server:
@@ -129,18 +118,11 @@ class Server:
 
     async def answer(self, line: bytes, peer: Peer) -> list[bytes]:
         """The lines that answer a question of this peer."""
-        if len(line) > LONGEST_LINE:
-            return [b"error: line too long"]
-        words = line.lstrip(b" \t")
-        if not words or words.startswith(b"#"):
-            return []
-        word = first_word(words)
-        if word in OF_THE_BRIDGE:
-            return [b"error: for the bridge alone"]
-        if word in CHANGING and not peer.may_change(self.path):
-            return [b"error: no permission"]
-        if word not in ASKING + CHANGING:
-            return [b"error: unknown command"]
+        answer = refusal(line, lambda: peer.may_change(self.path))
+        if answer is not None:
+            return answer
+        if first_word(line) == OF_ITSELF:
+            return await self.ask(line)  # at once, whatever the agent is doing
         try:
             async with self.asking:
                 return await asyncio.shield(self.ask(line))

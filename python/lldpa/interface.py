@@ -79,9 +79,13 @@ class Interface:
         """Opens the socket, which hears nothing yet. Raises PermissionError without CAP_NET_RAW."""
         self.name = name
         self.number: Optional[int] = None  # of the interface that it hears
+        self.address = b""  # that it has now
         self.is_up: Optional[bool] = None  # as the agent was told
         self.has_more = False  # whether frames were left in the socket
         self.drops = 0  # frames that the kernel had no room for
+        self.unsent = 0  # frames that the interface did not take
+        self.is_failing = False  # whether the last one was among them
+        self.left_out = 0  # frames of a standstill that later ones took the place of
         self.socket = socket.socket(socket.AF_PACKET, socket.SOCK_RAW, 0)
         self.socket.setblocking(False)
         self.socket.setsockopt(socket.SOL_SOCKET, socket.SO_RCVBUF, ROOM_IN_KERNEL)

@@ -23,6 +23,7 @@ class Ports:
         self.by_name = {interface.name: interface for interface in interfaces}
         self.report = report
         self.waiting: list[tuple[float, Frame]] = []  # frames that were read, by their moments
+        self.awaited: set[str] = set()  # whose interfaces were told to be missing
         self.drops_told = 0
         self.next_report = 0.0
         self.readable = select.epoll()
@@ -39,6 +40,7 @@ class Ports:
                 if port.number is None:
                     self.find(port, news)
                 if port.number is not None:
+                    port.address = news.address
                     lines += told_link(port, news.is_running)
             elif port.number == news.number:
                 lines += self.lose(port, f"now {news.name}" if news.is_there else "gone")
@@ -68,7 +70,8 @@ class Ports:
         lines: list[bytes] = []
         for port in self.by_name.values():
             if port.number is None:
-                self.report(f"{port.name}: no such interface yet; waiting for it")
+                if port.name not in self.awaited:
+                    self.report(f"{port.name}: no such interface yet; waiting for it")
                 lines += told_link(port, False)
         return lines
 
@@ -117,6 +120,8 @@ class Ports:
             lines.append(f"bridge.{port.name}.interface={where}")
             lines.append(f"bridge.{port.name}.link={'up' if port.is_up else 'down'}")
             lines.append(f"bridge.{port.name}.kernel-drops={port.drops}")
+            lines.append(f"bridge.{port.name}.unsent={port.unsent}")
+            lines.append(f"bridge.{port.name}.left-out={port.left_out}")
         return lines
 
     def close(self) -> None:

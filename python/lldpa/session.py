@@ -11,19 +11,13 @@ import os
 import shlex
 import time
 from contextlib import suppress
-from typing import Callable, NamedTuple, Optional, Sequence
+from typing import Callable, Optional, Sequence
 
+from .batch import Entry
 from .seconds import Seconds
 
 MEGABYTE = 1_000_000
 LONGEST_REMARK = 100  # octets that are kept for the last line
-
-
-class Entry(NamedTuple):
-    """A line that the agent is told, and its moment."""
-
-    moment: float
-    line: bytes
 
 
 class Session:
