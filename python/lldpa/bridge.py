@@ -15,25 +15,33 @@ import select
 from contextlib import suppress
 from typing import Iterable, Sequence
 
-from .agent import AsyncAgent, Ended
+from .agent import Ended
+from .asking import first_word
 from .batch import Batch
+from .beginning import Beginning
 from .interface import Frame
 from .links import Links, News
 from .outbox import Outbox
-from .ports import Ports, parted
-from .seconds import Seconds
+from .patient import Patient
+from .ports import MOST_AT_ONCE, Ports, parted
+from .seconds import LEAST_CHANGE, Seconds
 from .session import Session
 from .settings import tell_settings
+from .show import Show, read_show
 
+MOST_TO_CATCH_UP = 1024  # frames at a turn, before a question
+CHANGING_TABLES = b"configure"
 STATUS = "configuration.{}.status="
 
 
 class Bridge:
-    """Stands between ports and an agent, whose frames come to lie in the outbox."""
+    """Stands between ports and an agent, whose frames come to lie in the outbox, and which was
+    opened with that name."""
 
-    def __init__(self, agent: AsyncAgent, outbox: Outbox, ports: Ports, links: Links,
+    def __init__(self, agent: Patient, name: str, outbox: Outbox, ports: Ports, links: Links,
                  session: Session, forgets_on_down: bool = False) -> None:
         self.agent = agent
+        self.name = name
         self.outbox = outbox
         self.ports = ports
         self.links = links
@@ -84,12 +92,13 @@ class Bridge:
             timer.cancel()
             loop.remove_reader(self.sources.fileno())
 
-    async def turn(self) -> None:
+    async def turn(self, most: int = MOST_AT_ONCE) -> float:
         """Tells what has come in: frames by their stamps, and each second at its place among them.
+        Gives the moment up to which it has told all.
 
         A link that came is told before the frames, one that went behind them: none is lost by it.
         """
-        moment = self.ports.read(self.seconds)
+        moment = self.ports.read(self.seconds, most)
         came, went = parted(self.links.read())
         self.take_links(came)
         for stamp, frame in self.ports.frames_until(moment):
@@ -101,11 +110,24 @@ class Bridge:
             raise Ended(None, f"the agent refused what the bridge told it: {refusal}")
         for name in downs:
             await self.forget(name)
+        if self.session.wants_beginning():
+            await self.begin_log()
+        elif self.session.book is not None and self.session.heard.is_full:
+            await self.show_to_log()
+        return moment
+
+    async def catch_up(self) -> None:
+        """Tells all that has come in up to now, however many frames these are."""
+        now = self.seconds.now() + LEAST_CHANGE
+        while await self.turn(MOST_TO_CATCH_UP) < now and self.ports.have_more():
+            pass
 
     def take_frame(self, moment: float, frame: Frame) -> None:
         """What happens to a frame: the seconds before it are told, and then it."""
         self.take_seconds(moment)
         self.batch.add_frame(moment, frame)
+        if self.session.book is not None and self.ports.by_name[frame.port].is_up:
+            self.session.heard.note(frame, self.seconds.told)
 
     def take_seconds(self, moment: float) -> None:
         """What happens to a second: of those that end up to a moment each is told, once."""
@@ -137,7 +159,8 @@ class Bridge:
         async with self.telling:
             if self.stopping.is_set():
                 raise Ended(None, "the bridge has ended")
-            await self.turn()
+            await self.catch_up()
+            self.session.heard.is_full |= first_word(line) == CHANGING_TABLES
             return [text.encode() for text in await self.tell(line)]
 
     async def settle(self, paths: Sequence[str]) -> list[str]:
@@ -149,6 +172,22 @@ class Bridge:
             if self.stopping.is_set():
                 raise Ended(None, "the bridge has ended")
             return await tell_settings(paths, self.tell)
+
+    async def show_to_log(self) -> Show:
+        """Shows the log what the agent holds, so that it keeps no more than that; gives the show
+        with the settings in force."""
+        lines = [line for what in ("neighbors", "chassis", "configuration")
+                 for line in await self.tell(f"show {what}".encode())]
+        show = read_show(lines)
+        self.session.heard.forget_others(show.ports, self.seconds.told)
+        return show
+
+    async def begin_log(self) -> None:
+        """Begins a new file of the log, with what brings an agent to where this one is."""
+        show = await self.show_to_log()
+        downs = [port.name for port in self.ports.by_name.values() if not port.is_up]
+        beginning = Beginning(show, self.session.heard, self.seconds.told, downs)
+        self.session.begin(self.session.words, beginning.lines(self.name))
 
     async def end(self) -> None:
         """The end: each port is disabled, so that its shutdown frame goes."""

@@ -41,8 +41,11 @@ class Desk:
         began = time.strftime("%Y-%m-%dT%H:%M:%SZ", time.gmtime(self.began))
         return [f"bridge.began={began}", f"bridge.agent={self.agent_state()}",
                 f"bridge.seconds={self.bridge.seconds.told if self.bridge else 0}",
-                f"bridge.log={self.session.state()}", *self.ports.about()]
+                f"bridge.log={self.session.state()}",
+                f"bridge.log-lines-lost={self.session.lost()}", *self.ports.about()]
 
     def agent_state(self) -> str:
-        """What is with the agent: `waiting` (for an interface) or `running`."""
-        return "waiting" if self.bridge is None else "running"
+        """What is with the agent: `waiting` (for an interface), `running` or `silent`."""
+        if self.bridge is None:
+            return "waiting"
+        return "silent" if self.bridge.agent.is_silent else "running"

@@ -18,8 +18,10 @@ from .identity import chassis_address, description, host_name, management_addres
 from .interface import Interface
 from .links import Links, News
 from .outbox import Outbox
+from .patient import Patient
 from .patterns import parts_of, ports_of
 from .ports import Ports
+from .privileges import user_of
 from .session import Session
 
 SECONDS_TO_CONNECT = 3
@@ -36,17 +38,18 @@ class Ground:
         self.names = ports_of(parts_of(words.ports), found)
         check(self.names, found, words.only_existing)
         self.ports = Ports([Interface(name) for name in self.names], report)
-        self.session = Session(words.log, words.log_most, report)
+        self.session = Session(words.log, words.log_most, words.log_keep, user_of(words.user),
+                               report)
 
     async def opened(self, options: Options) -> Bridge:
         """A bridge with its agent, once there is an interface that names this host."""
         options = await self.own_options(options)
         outbox = Outbox(self.ports, self.words.own_source)
         self.session.begin(words_of(self.names, self.words.program, options)[1:])
-        agent = await self.agent_of(options, outbox)
+        agent = Patient(await self.agent_of(options, outbox), report)
         try:
-            bridge = Bridge(agent, outbox, self.ports, self.links, self.session,
-                            self.words.forget_on_down)
+            bridge = Bridge(agent, str(options["hostname"]), outbox, self.ports, self.links,
+                            self.session, self.words.forget_on_down)
             await self.settle(bridge)
             bridge.begin(list(self.links.known.values()))
         except BaseException:
@@ -100,10 +103,6 @@ class Ground:
         refused = await bridge.settle(self.words.config)
         if refused:
             raise SettingsRefused(refused)
-
-    def close(self) -> None:
-        """Lets go of all that was opened."""
-        self.session.close()
 
 
 def check(ports: Sequence[str], found: Sequence[News], only_existing: bool) -> None:

@@ -18,6 +18,7 @@ from .signals import Signals
 
 SECONDS_TO_END = 1.5
 SECONDS_FOR_THE_AGENT = 0.3
+SECONDS_FOR_THE_LOG = 0.3
 
 
 async def live(words: argparse.Namespace, options: Options) -> int:
@@ -29,6 +30,7 @@ async def live(words: argparse.Namespace, options: Options) -> int:
     if server is not None:
         server.bind()
     give_up(words.user)
+    ground.session.check()
     try:
         if server is not None:
             await server.start()
@@ -38,7 +40,7 @@ async def live(words: argparse.Namespace, options: Options) -> int:
             await server.close()
         if desk.bridge is not None:
             await desk.bridge.agent.close(SECONDS_FOR_THE_AGENT)
-        ground.close()
+        await ground.session.close(SECONDS_FOR_THE_LOG)
 
 
 async def until_the_end(ground: Ground, desk: Desk, words: argparse.Namespace,

@@ -29,11 +29,12 @@ TEXTS = {
     "user": ("NAME", None, "as root, become this user (nobody) once the sockets are open"),
     "control": ("PATH", DEFAULT_PATH, "the control socket (%(default)s)"),
     "control-group": ("GROUP", None, "let members of this group use the control socket"),
-    "log": ("FOLDER", None, "keep the session there, a trace for lldpa in a file of its own"),
+    "log": ("FOLDER", None, "keep the session there, in files that are traces for lldpa"),
 }
 NUMBERS = {
     "connect": (1, 65535, None, "take the lldpa that listens on this port of 127.0.0.1"),
-    "log-most": (1, 1000000, 64, "end the log before it has more than N megabytes (64)"),
+    "log-most": (1, 1000000, 64, "begin the next file of the log at N megabytes (64)"),
+    "log-keep": (1, 1000000, 1024, "keep N megabytes of logs in the folder (1024)"),
     "once": (1, 86400, None, "print a table once each port has a neighbor, or after N seconds"),
 }
 NOT_HERE = ("listen", "connections", "help", "version")  # options of lldpa that make it no child
