@@ -19,6 +19,7 @@ from .agent import Ended
 from .asking import first_word
 from .batch import Batch
 from .beginning import Beginning
+from .hostname import HostName
 from .interface import Frame
 from .links import Links, News
 from .outbox import Outbox
@@ -35,13 +36,13 @@ STATUS = "configuration.{}.status="
 
 
 class Bridge:
-    """Stands between ports and an agent, whose frames come to lie in the outbox, and which was
-    opened with that name."""
+    """Stands between ports and an agent, whose frames come to lie in the outbox."""
 
-    def __init__(self, agent: Patient, name: str, outbox: Outbox, ports: Ports, links: Links,
+    def __init__(self, agent: Patient, name: HostName, outbox: Outbox, ports: Ports, links: Links,
                  session: Session, forgets_on_down: bool = False) -> None:
         self.agent = agent
         self.name = name
+        self.given_name = name.told
         self.outbox = outbox
         self.ports = ports
         self.links = links
@@ -55,6 +56,7 @@ class Bridge:
         self.sources = select.epoll()
         self.sources.register(links.socket, select.EPOLLIN)
         self.sources.register(ports.readable, select.EPOLLIN)
+        name.wake(self.sources)
 
     def begin(self, found: Iterable[News]) -> None:
         """Takes the interfaces that are there, and awaits the others."""
@@ -110,6 +112,8 @@ class Bridge:
             raise Ended(None, f"the agent refused what the bridge told it: {refusal}")
         for name in downs:
             await self.forget(name)
+        if self.name.has_changed():
+            await self.rename()
         if self.session.wants_beginning():
             await self.begin_log()
         elif self.session.book is not None and self.session.heard.is_full:
@@ -151,6 +155,12 @@ class Bridge:
                 for status in ("disabled", line[len(key):]):
                     await self.tell(f"configure ports {name} lldp status {status}".encode())
 
+    async def rename(self) -> None:
+        """What happens to the host's name: the agent takes it."""
+        refused = await self.name.follow(self.tell)
+        if refused is not None:
+            self.ports.report(refused)
+
     async def ask(self, line: bytes) -> list[bytes]:
         """What happens to a question: the agent answers it, after all that came in before.
 
@@ -187,7 +197,7 @@ class Bridge:
         show = await self.show_to_log()
         downs = [port.name for port in self.ports.by_name.values() if not port.is_up]
         beginning = Beginning(show, self.session.heard, self.seconds.told, downs)
-        self.session.begin(self.session.words, beginning.lines(self.name))
+        self.session.begin(self.session.words, beginning.lines(self.given_name))
 
     async def end(self) -> None:
         """The end: each port is disabled, so that its shutdown frame goes."""

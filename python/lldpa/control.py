@@ -14,17 +14,18 @@ import asyncio
 import contextlib
 import grp
 import socket
+import time
 from typing import Awaitable, Callable, Optional
 
 from .agent import LONGEST_LINE, Ended, Refused, checked
 from .asking import OF_ITSELF, first_word, refusal
 from .listening import InUse, Listening
 from .peer import Peer
+from .places import Place, Places
 
 __all__ = ["DEFAULT_PATH", "Client", "Gone", "InUse", "Server"]
 
 DEFAULT_PATH = "/run/lldpa/control"
-MOST_CLIENTS = 64
 SECONDS_TO_READ = 10.0
 MOST_UNREAD = 64 * 1024 * 1024  # octets of all answers together that wait for their readers
 SECONDS_TO_ANSWER = 30.0
@@ -59,7 +60,8 @@ class Server:
         self.group = None if group is None else number_of_group(group)
         self.listening: Optional[Listening] = None
         self.accepting: Optional[asyncio.Future[None]] = None
-        self.clients: set[asyncio.Future[None]] = set()
+        self.places = Places()
+        self.serving: set[asyncio.Future[None]] = set()
         self.unread: dict[asyncio.StreamWriter, int] = {}
 
     def bind(self) -> None:
@@ -79,7 +81,7 @@ class Server:
 
     async def close(self) -> None:
         """Ends every connection at once, and lets go of the path."""
-        tasks = [*self.clients] if self.accepting is None else [self.accepting, *self.clients]
+        tasks = [*self.serving] if self.accepting is None else [self.accepting, *self.serving]
         for task in tasks:
             task.cancel()
         await asyncio.gather(*tasks, return_exceptions=True)
@@ -96,21 +98,30 @@ class Server:
             except OSError:  # too many files are open
                 await asyncio.sleep(1)
                 continue
-            client = asyncio.ensure_future(self.serve(connection))
-            self.clients.add(client)
-            client.add_done_callback(self.clients.discard)
+            self.take(connection)
 
-    async def serve(self, connection: socket.socket) -> None:
+    def take(self, connection: socket.socket) -> None:
+        """Gives a client its place, or tells it that there is none."""
+        peer, client = Peer(connection), Place()
+        is_served = self.places.admit(client, peer.is_preferred(self.path))
+        client.task = asyncio.ensure_future(self.serve(connection, peer, client, is_served))
+        self.serving.add(client.task)
+        client.task.add_done_callback(self.serving.discard)
+        client.task.add_done_callback(lambda _: self.places.leave(client))
+
+    async def serve(self, connection: socket.socket, peer: Peer, client: Place,
+                    is_served: bool) -> None:
         """Answers one client until it goes, reads too slowly, or the agent or the bridge ends."""
-        peer = Peer(connection)
         reader, writer = await asyncio.open_unix_connection(sock=connection, limit=LONGEST_LINE)
         writer.transport.set_write_buffer_limits(high=0)
         try:
-            if len(self.clients) > MOST_CLIENTS:
+            if not is_served:
                 await self.send(writer, [b"error: too many clients"])
                 return
             while (line := await read_line(reader)) is not None and not writer.is_closing():
+                client.idle_since = None
                 await self.send(writer, await self.answer(line, peer))
+                client.idle_since = time.monotonic()
         except (OSError, Ended):
             pass
         finally:

@@ -14,6 +14,7 @@ from .console import ready, report
 from .desk import Desk
 from .faults import SettingsRefused
 from .framing import NO_ANSWER, command
+from .hostname import HostName
 from .identity import chassis_address, description, host_name, management_address
 from .interface import Interface
 from .links import Links, News
@@ -43,13 +44,14 @@ class Ground:
 
     async def opened(self, options: Options) -> Bridge:
         """A bridge with its agent, once there is an interface that names this host."""
+        is_given = "hostname" in options or self.words.connect is not None
         options = await self.own_options(options)
         outbox = Outbox(self.ports, self.words.own_source)
         self.session.begin(words_of(self.names, self.words.program, options)[1:])
         agent = Patient(await self.agent_of(options, outbox), report)
         try:
-            bridge = Bridge(agent, str(options["hostname"]), outbox, self.ports, self.links,
-                            self.session, self.words.forget_on_down)
+            bridge = Bridge(agent, HostName(str(options["hostname"]), is_given), outbox, self.ports,
+                            self.links, self.session, self.words.forget_on_down)
             await self.settle(bridge)
             bridge.begin(list(self.links.known.values()))
         except BaseException:
