@@ -29,6 +29,7 @@ from .seconds import LEAST_CHANGE, Seconds
 from .session import Session
 from .settings import tell_settings
 from .show import Show, read_show
+from .watched import Watched
 
 MOST_TO_CATCH_UP = 1024  # frames at a turn, before a question
 CHANGING_TABLES = b"configure"
@@ -39,7 +40,7 @@ class Bridge:
     """Stands between ports and an agent, whose frames come to lie in the outbox."""
 
     def __init__(self, agent: Patient, name: HostName, outbox: Outbox, ports: Ports, links: Links,
-                 session: Session, forgets_on_down: bool = False) -> None:
+                 session: Session, watched: Watched, forgets_on_down: bool = False) -> None:
         self.agent = agent
         self.name = name
         self.given_name = name.told
@@ -47,6 +48,7 @@ class Bridge:
         self.ports = ports
         self.links = links
         self.session = session
+        self.watched = watched
         self.forgets_on_down = forgets_on_down
         self.seconds = Seconds()
         self.batch = Batch()
@@ -118,6 +120,7 @@ class Bridge:
             await self.begin_log()
         elif self.session.book is not None and self.session.heard.is_full:
             await self.show_to_log()
+        await self.watched.turned(self.agent, self.seconds.told)
         return moment
 
     async def catch_up(self) -> None:
@@ -217,6 +220,7 @@ class Bridge:
         if not batch.entries:
             return []
         self.session.write(batch.entries)
+        self.watched.take_lines(entry.line for entry in batch.entries)
         answer = await self.agent.tell([entry.line for entry in batch.entries])
         self.outbox.send(batch.seconds)
         return answer

@@ -4,6 +4,7 @@ from __future__ import annotations
 
 import argparse
 import asyncio
+import os
 from typing import Dict, Optional, Sequence
 
 from .addresses import global_addresses
@@ -12,18 +13,21 @@ from .bridge import Bridge
 from .child import Option, words_of
 from .console import ready, report
 from .desk import Desk
+from .events import Events
 from .faults import SettingsRefused
 from .framing import NO_ANSWER, command
 from .hostname import HostName
 from .identity import chassis_address, description, host_name, management_address
 from .interface import Interface
 from .links import Links, News
+from .notify import Manager
 from .outbox import Outbox
 from .patient import Patient
 from .patterns import parts_of, ports_of
 from .ports import Ports
 from .privileges import user_of
 from .session import Session
+from .watched import Watched
 
 SECONDS_TO_CONNECT = 3
 Options = Dict[str, Option]
@@ -41,6 +45,7 @@ class Ground:
         self.ports = Ports([Interface(name) for name in self.names], report)
         self.session = Session(words.log, words.log_most, words.log_keep, user_of(words.user),
                                report)
+        self.watched = Watched(Manager(os.environ), Events(report) if words.events else None)
 
     async def opened(self, options: Options) -> Bridge:
         """A bridge with its agent, once there is an interface that names this host."""
@@ -51,7 +56,8 @@ class Ground:
         agent = Patient(await self.agent_of(options, outbox), report)
         try:
             bridge = Bridge(agent, HostName(str(options["hostname"]), is_given), outbox, self.ports,
-                            self.links, self.session, self.words.forget_on_down)
+                            self.links, self.session, self.watched,
+                            self.words.forget_on_down)
             await self.settle(bridge)
             bridge.begin(list(self.links.known.values()))
         except BaseException:
@@ -85,6 +91,7 @@ class Ground:
             self.ports.awaited.update(self.names)
             report(f"{' '.join(self.names)}: no such interface yet; waiting for it, and until then "
                    "there is no agent")
+            self.watched.manager.show("waiting for an interface")
 
     async def agent_of(self, options: Options, outbox: Outbox) -> AsyncAgent:
         """The agent, a child unless it is to be one that listens."""
@@ -121,6 +128,7 @@ async def bridging(ground: Ground, desk: Desk, options: Options, stopping: async
     """Opens the agent, and bridges until the end."""
     bridge = await ground.opened(options)
     desk.bridge = bridge
+    ground.watched.manager.ready()
     stop = asyncio.ensure_future(stopping.wait())
     stop.add_done_callback(lambda _: bridge.stop())
     await bridge.run()

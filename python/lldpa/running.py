@@ -54,6 +54,7 @@ async def until_the_end(ground: Ground, desk: Desk, words: argparse.Namespace,
         task.add_done_callback(lambda _: stopping.set())
     Signals(stopping, desk, words)
     await stopping.wait()
+    ground.watched.manager.stopping()
     if desk.bridge is None:
         running.cancel()
     await asyncio.wait({running}, timeout=SECONDS_TO_END)

@@ -47,7 +47,10 @@ class Signals:
         to be done: it is told them when it is opened."""
         if self.desk.bridge is None:
             return
+        manager = self.desk.bridge.watched.manager
+        manager.reloading()
         with suppress(Ended):
             for refused in await self.desk.bridge.settle(self.paths):
                 report(refused)
             report("the settings were read anew")
+            manager.ready()

@@ -5,10 +5,10 @@ from __future__ import annotations
 import time
 from typing import Iterable, Optional
 
-from .agent import AsyncAgent
 from .events import Events
 from .looks import Looks
 from .notify import Manager
+from .patient import Patient
 from .people import counted
 from .show import read_show
 
@@ -27,7 +27,7 @@ class Watched:
             for line in lines:
                 self.looks.take_line(line)
 
-    async def turned(self, agent: AsyncAgent, second: int) -> None:
+    async def turned(self, agent: Patient, second: int) -> None:
         """The agent has answered all that came in, up to so many seconds: it is looked at where
         its tables may be others, and that all goes on is told."""
         now = time.monotonic()
@@ -37,7 +37,7 @@ class Watched:
             self.events.take_time(now)
         self.manager.turned()
 
-    async def look(self, agent: AsyncAgent, second: int, began: float) -> None:
+    async def look(self, agent: Patient, second: int, began: float) -> None:
         """Asks the agent for its tables. (The log need not have it: a show changes nothing.)"""
         assert self.looks is not None
         ports = read_show(await agent.tell(["show neighbors"])).ports

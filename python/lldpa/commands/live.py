@@ -22,6 +22,7 @@ FLAGS = {
     "forget-on-down": "empty the table of a port whose link goes down",
     "no-description": "do not announce what this host runs",
     "no-management": "do not announce an address of this host by itself",
+    "events": "say on standard error when a neighbor comes, changes or goes",
     "own-source": "send each frame with the address of the interface that it leaves by",
 }
 TEXTS = {
