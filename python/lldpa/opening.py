@@ -27,6 +27,7 @@ from .patterns import parts_of, ports_of
 from .ports import Ports
 from .privileges import user_of
 from .session import Session
+from .settings import tell_settings
 from .watched import Watched
 
 SECONDS_TO_CONNECT = 3
@@ -69,29 +70,42 @@ class Ground:
         """The agent's options: those given, and what this host says of itself besides."""
         own: Options = {"mac": None, "hostname": host_name()}
         if "mac" not in options and self.words.connect is None:
-            own["mac"] = (await self.address()).hex(":")
+            own["mac"] = (await self.address(options)).hex(":")
         if not self.words.no_management:
             own["management"] = management_address(self.names, self.links.known.values(),
                                                    global_addresses())
         return {**own, **options}
 
-    async def address(self) -> bytes:
-        """The address that names this host, which comes with an interface."""
+    async def address(self, options: Options) -> bytes:
+        """The address that names this host, which comes with an interface. Settings that such an
+        agent would refuse are told before it is awaited."""
         while True:
             address = chassis_address(self.names, self.links.known.values())
             if address is not None:
                 return address
-            self.report_awaited()
+            if not self.ports.awaited:
+                self.report_awaited()
+                await self.try_settings(options)
             await ready(self.links.socket.fileno(), is_output=False)
             self.links.read()
 
+    async def try_settings(self, options: Options) -> None:
+        """Has an agent that sends nothing take the settings. Raises SettingsRefused where some are
+        wrong."""
+        agent = await AsyncAgent.start(self.names, self.words.program, on_frame=None, **options)
+        try:
+            refused = await tell_settings(self.words.config, lambda line: agent.tell([line]))
+        finally:
+            await agent.close()
+        if refused:
+            raise SettingsRefused(refused)
+
     def report_awaited(self) -> None:
-        """Says, once, that there is no agent before an interface comes."""
-        if not self.ports.awaited:
-            self.ports.awaited.update(self.names)
-            report(f"{' '.join(self.names)}: no such interface yet; waiting for it, and until then "
-                   "there is no agent")
-            self.watched.manager.show("waiting for an interface")
+        """Says that there is no agent before an interface comes."""
+        self.ports.awaited.update(self.names)
+        report(f"{' '.join(self.names)}: no such interface yet; waiting for it, and until then "
+               "there is no agent")
+        self.watched.manager.show("waiting for an interface")
 
     async def agent_of(self, options: Options, outbox: Outbox) -> AsyncAgent:
         """The agent, a child unless it is to be one that listens."""

@@ -55,7 +55,7 @@ class Ports:
         except OSError as error:
             self.report(f"{port.name}: the interface cannot be used: {error.strerror}")
             return
-        if port.is_up is not None:
+        if port.is_up is not None or port.name in self.awaited:
             self.report(f"{port.name}: the interface is there, and in use")
 
     def lose(self, port: Interface, what: str) -> list[bytes]:

@@ -148,10 +148,11 @@ class TestAnswers(OnLinks):
         live = self.live("eth0", "eth1")
         told = live.seconds_told()
         os.kill(live.agent(), signal.SIGSTOP)
+        self.assertTrue(eventually(lambda: live.seconds_told() > told))  # a second is not answered
         with socket.socket(socket.AF_UNIX) as asker:
             asker.connect(live.control)
             asker.sendall(b"show neighbors\n")
-            self.assertTrue(eventually(lambda: live.seconds_told() > told))
+            self.assertTrue(live.ask("bridge"))
             began = time.monotonic()
             live.signal(signal.SIGTERM)
             self.assertEqual(live.ends(), 1)
