@@ -62,6 +62,8 @@ files() {
     echo "unit share/systemd/lldpa.service $prefix/lib/systemd/system/lldpa.service"
     echo "plain share/tmpfiles.d/lldpa.conf $prefix/lib/tmpfiles.d/lldpa.conf"
     echo "configuration share/default/lldpa $etc/default/lldpa"
+    echo "configuration share/settings/lldpa.conf $etc/lldpa.conf"
+    echo "configuration share/settings/README $etc/lldpa.d/README"
     echo "plain README.md $documents/README.md"
     echo "packed CHANGELOG.md $documents/changelog.gz"
     find docs -type f | while read -r file; do
@@ -92,7 +94,7 @@ put() {
             chmod 644 "$3"
             ;;
         unit)
-            sed "s,/usr/local/,$prefix/,g; s,/etc/default/,$etc/default/,g" "$2" > "$3"
+            sed "s,/usr/local/,$prefix/,g; s,/etc/default/,$etc/default/,g; s,/etc/lldpa,$etc/lldpa,g" "$2" > "$3"
             chmod 644 "$3"
             ;;
         configuration)
@@ -126,6 +128,7 @@ if [ -n "$uninstall" ]; then
         rm -f "$root$name"
     done
     rm -rf "$root$prefix/lib/lldpa" "$root$documents"
+    [ ! -d "$root$etc/lldpa.d" ] || rmdir --ignore-fail-on-non-empty "$root$etc/lldpa.d"
     echo "uninstalled from $root$prefix"
     exit
 fi
