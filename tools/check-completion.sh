@@ -102,7 +102,8 @@ offers 'eth1 lo' _lldpa lldpa eth0 '<' trace ''
 offers "--listen" _lldpa lldpa eth0 '<' trace --l
 
 offers 'eth0 eth1 lo' _lldpa_live lldpa-live ''
-live='--program --connect --user --control --control-group --log --log-most --once --stay --only-existing --forget-on-down --events --help'
+live='--program --connect --user --control --control-group --log --log-most --log-keep --once --config --stay --only-existing'
+live="$live --forget-on-down --events --no-description --no-management --own-source --help"
 offers "$live" _lldpa_live lldpa-live -
 offers "${live/ --log / }" _lldpa_live lldpa-live --log f -
 offers FILES _lldpa_live lldpa-live --log f

@@ -42,9 +42,6 @@ case $prefix in
     *) etc=$prefix/etc zsh=site-functions interpreter='/usr/bin/env python3' ;;
 esac
 
-# The folder of settings that outlive a restart.
-settings=$etc/lldpa.d
-
 # Each file: how it is installed, where it is, and where it goes. The programs of bin/ stay beside their package.
 files() {
     echo "program $program $prefix/bin/lldpa"
@@ -71,6 +68,8 @@ files() {
     done
     echo "plain share/tmpfiles.d/lldpa.conf $prefix/lib/tmpfiles.d/lldpa.conf"
     echo "configuration share/default/lldpa $etc/default/lldpa"
+    echo "configuration share/settings/lldpa.conf $etc/lldpa.conf"
+    echo "configuration share/settings/README $etc/lldpa.d/README"
     echo "plain README.md $documents/README.md"
     echo "packed CHANGELOG.md $documents/changelog.gz"
     find docs -type f | while read -r file; do
@@ -101,7 +100,7 @@ put() {
             chmod 644 "$3"
             ;;
         unit)
-            sed "s,/usr/local/,$prefix/,g; s,/etc/default/,$etc/default/,g; s,/etc/lldpa\.,$etc/lldpa.,g" "$2" > "$3"
+            sed "s,/usr/local/,$prefix/,g; s,/etc/default/,$etc/default/,g; s,/etc/lldpa,$etc/lldpa,g" "$2" > "$3"
             chmod 644 "$3"
             ;;
         configuration)
@@ -135,7 +134,7 @@ if [ -n "$uninstall" ]; then
         rm -f "$root$name"
     done
     rm -rf "$root$prefix/lib/lldpa" "$root$prefix/share/lldpa" "$root$documents"
-    rmdir "$root$settings" 2> /dev/null || true # what somebody has put there stays
+    [ ! -d "$root$etc/lldpa.d" ] || rmdir --ignore-fail-on-non-empty "$root$etc/lldpa.d"
     echo "uninstalled from $root$prefix"
     exit
 fi
@@ -147,6 +146,5 @@ links | while read -r target name; do
     mkdir -p "$(dirname "$root$name")"
     ln -sfn "$target" "$root$name"
 done
-mkdir -p "$root$settings"
 [ -n "$looks" ] || echo "for import lldpa, put ${package%/lldpa} on PYTHONPATH: python3 does not look below $prefix"
 echo "installed under $root$prefix"
