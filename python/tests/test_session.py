@@ -209,6 +209,16 @@ class TestHeard(unittest.TestCase):
             self.assertIn("lldp.a.too-many=no", shown)
             self.assertEqual(self.begun(agent, heard, second, "max_neighbors=4"), shown)
 
+    def test_port_that_no_longer_receives_has_no_frames(self) -> None:
+        heard = Heard()
+        for port in ("a", "b"):
+            heard.note(Frame(None, port, numbered(1)), 0)
+        heard.note_command(b'configure  ports a lldp status "disabled"')
+        heard.note_command(b"configure ports b lldp status rx-only")
+        heard.note_command(b"configure system hostname tx-only")
+        heard.note_command(b"")
+        self.assertEqual((len(heard.by_port.get("a", {})), len(heard.by_port["b"])), (0, 1))
+
     def test_bounds(self) -> None:
         heard = Heard()
         with Agent.start(["a"], PROGRAM, max_neighbors=2) as agent:
