@@ -16,7 +16,6 @@ from contextlib import suppress
 from typing import Iterable, Sequence
 
 from .agent import Ended
-from .asking import first_word
 from .batch import Batch
 from .beginning import Beginning
 from .hostname import HostName
@@ -32,7 +31,6 @@ from .show import Show, read_show
 from .watched import Watched
 
 MOST_TO_CATCH_UP = 1024  # frames at a turn, before a question
-CHANGING_TABLES = b"configure"
 STATUS = "configuration.{}.status="
 
 
@@ -153,14 +151,14 @@ class Bridge:
     async def forget(self, name: str) -> None:
         """Empties the table of a port that went down: it is disabled for a moment."""
         key = STATUS.format(name)
-        for line in await self.tell(b"show configuration"):
+        for line in await self.look(b"show configuration"):
             if line.startswith(key):
                 for status in ("disabled", line[len(key):]):
                     await self.tell(f"configure ports {name} lldp status {status}".encode())
 
     async def rename(self) -> None:
         """What happens to the host's name: the agent takes it."""
-        refused = await self.name.follow(self.tell)
+        refused = await self.name.follow(self.look, self.tell)
         if refused is not None:
             self.ports.report(refused)
 
@@ -173,7 +171,6 @@ class Bridge:
             if self.stopping.is_set():
                 raise Ended(None, "the bridge has ended")
             await self.catch_up()
-            self.session.heard.is_full |= first_word(line) == CHANGING_TABLES
             return [text.encode() for text in await self.tell(line)]
 
     async def settle(self, paths: Sequence[str]) -> list[str]:
@@ -190,7 +187,7 @@ class Bridge:
         """Shows the log what the agent holds, so that it keeps no more than that; gives the show
         with the settings in force."""
         lines = [line for what in ("neighbors", "chassis", "configuration")
-                 for line in await self.tell(f"show {what}".encode())]
+                 for line in await self.look(f"show {what}".encode())]
         show = read_show(lines)
         self.session.heard.forget_others(show.ports, self.seconds.told)
         return show
@@ -212,10 +209,17 @@ class Bridge:
     async def tell(self, line: bytes) -> list[str]:
         """Tells the agent a line as of now, and gives its answer."""
         self.batch.add(self.seconds.now(), line)
-        return await self.tell_agent()
+        answer = await self.tell_agent()
+        if not answer:
+            self.session.heard.note_command(line)
+        return answer
+
+    async def look(self, line: bytes) -> list[str]:
+        """What the agent shows to the bridge itself, which is not in the log."""
+        return await self.agent.tell([line])
 
     async def tell_agent(self) -> list[str]:
-        """Tells the log and the agent what is to be told, sends its frames, and gives its answer."""
+        """Tells the log and the agent what is to be told, sends its frames, gives its answer."""
         batch, self.batch = self.batch, Batch()
         if not batch.entries:
             return []

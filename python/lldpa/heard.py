@@ -9,6 +9,7 @@ import socket
 from typing import Iterator, NamedTuple, Optional, Sequence
 
 from .interface import Frame
+from .refused import words_of
 from .show import unescaped
 from .shown import Identifier, Neighbor, Port
 
@@ -50,6 +51,14 @@ class Heard:
         if ttl:
             lasts[msap] = Last(frame.octets, max(before.end, second + ttl))
             self.is_full |= len(lasts) > MOST_OF_A_PORT
+
+    def note_command(self, line: bytes) -> None:
+        """Notes a command that the agent has taken: one that takes receiving away from a port
+        empties its table."""
+        words = words_of(line.decode("ascii", "replace"))
+        if words[:2] == ["configure", "ports"] and words[-1] in ("disabled", "tx-only"):
+            self.by_port.pop(words[2], None)
+            self.too_many_until.pop(words[2], None)
 
     def forget_others(self, ports: Sequence[Port], second: int) -> None:
         """Forgets the frames of all but the neighbors that these ports hold. Those of a port that

@@ -33,11 +33,11 @@ class HostName:
         """Whether the host has another name than it had."""
         return self.last is not None and host_name() != self.last
 
-    async def follow(self, tell: Tell) -> Optional[str]:
+    async def follow(self, look: Tell, tell: Tell) -> Optional[str]:
         """Tells the agent the host's name, and gives why that was refused, None where it was not,
         or where somebody else has named it."""
         self.last = host_name()
-        chassis = read_show(await tell(b"show chassis")).chassis
+        chassis = read_show(await look(b"show chassis")).chassis
         if chassis is None or unescaped(chassis.name).decode("ascii") != self.told:
             return None
         try:

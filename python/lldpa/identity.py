@@ -45,10 +45,10 @@ def management_address(ports: Sequence[str], known: Iterable[News],
 def description(paths: Iterable[str] = OS_RELEASE) -> Optional[str]:
     """What this host runs: PRETTY_NAME of os-release, None where that says nothing."""
     for path in paths:
-        with suppress(OSError), open(path, encoding="ascii", errors="replace") as lines:
+        with suppress(OSError), open(path, "rb") as lines:
             for line in lines:
-                if line.startswith("PRETTY_NAME="):
-                    return able_text(line.partition("=")[2])
+                if line.startswith(b"PRETTY_NAME="):
+                    return able_text(line.partition(b"=")[2].decode("ascii", "replace"))
     return None
 
 

@@ -44,6 +44,7 @@ class Logbook:
         self.most = most
         self.report = report
         self.queue: deque[Message] = deque()
+        self.waiting_octets = 0  # in it
         self.under_way: Optional[Message] = None
         self.filled = asyncio.Event()
         self.waiting = Waiting()
@@ -69,8 +70,8 @@ class Logbook:
 
     def write(self, octets: bytes, lines: int) -> None:
         """Adds whole lines to the file, or counts them as lost."""
-        waiting = sum(len(message.octets) for message in self.queue)
-        self.is_whole = self.is_whole and waiting + len(octets) <= MOST_WAITING
+        has_room = self.waiting_octets + len(octets) <= MOST_WAITING
+        self.is_whole = self.is_whole and has_room
         if self.is_whole:
             self.put(Message(logprocess.WRITE, octets, lines))
             self.size += len(octets)
@@ -80,6 +81,7 @@ class Logbook:
     def put(self, message: Message) -> None:
         """Lets a message wait for its turn."""
         self.queue.append(message)
+        self.waiting_octets += len(message.octets)
         self.filled.set()
 
     def wants_beginning(self) -> bool:
@@ -113,6 +115,7 @@ class Logbook:
             parts.append(octets)
             size += len(octets)
             lines += further
+        self.waiting_octets -= size
         if not self.queue:
             self.filled.clear()
         return Message(kind, b"".join(parts), lines)
@@ -158,6 +161,7 @@ class Logbook:
         lost = [*([self.under_way] if self.under_way else []), *self.queue]
         self.lost += sum(message.lines for message in lost)
         self.queue.clear()
+        self.waiting_octets = 0
         self.filled.clear()
         self.under_way = None
         self.is_whole = False

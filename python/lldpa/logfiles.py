@@ -10,7 +10,7 @@ import os
 import re
 import time
 from contextlib import suppress
-from typing import Optional
+from typing import Optional, Sequence
 
 OURS = re.compile(r"(\d{8}T\d{6}Z)(?:-(\d+))?\.trace")
 NEW_FILE = os.O_WRONLY | os.O_APPEND | os.O_CREAT | os.O_EXCL | os.O_NOFOLLOW | os.O_CLOEXEC
@@ -38,7 +38,7 @@ class LogFiles:
         if os.fstat(self.folder).st_nlink == 0:
             self.reopen()
         self.others = sizes_of(self.folder)
-        self.name, self.file = new_file(self.folder)
+        self.name, self.file = new_file(self.folder, [*self.others, *filter(None, [self.name])])
         self.size = 0
         self.write(octets)
 
@@ -118,10 +118,13 @@ def place_of(name: str) -> tuple[str, int]:
     return found[1], int(found[2] or 1)
 
 
-def new_file(folder: int) -> tuple[str, int]:
-    """Makes a file that was not there before, named by the present time in UTC."""
+def new_file(folder: int, before: Sequence[str]) -> tuple[str, int]:
+    """Makes a file that was not there before, named by the present time in UTC, and behind those of
+    these names."""
     start = time.strftime("%Y%m%dT%H%M%SZ", time.gmtime())
-    for number in range(1, MOST_OF_A_SECOND):
+    first = 1 + max((number for second, number in map(place_of, before) if second == start),
+                    default=0)
+    for number in range(first, first + MOST_OF_A_SECOND):
         name = f"{start}-{number}.trace" if number > 1 else f"{start}.trace"
         with suppress(FileExistsError):
             return name, os.open(name, NEW_FILE, 0o640, dir_fd=folder)

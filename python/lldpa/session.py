@@ -79,6 +79,7 @@ class Session:
 
     async def close(self, patience: float) -> None:
         """Ends the log, within so many seconds."""
-        if self.book is not None:
-            await self.book.close(patience)
-            os.close(self.book.files.folder)
+        book, self.book = self.book, None
+        if book is not None:
+            await book.close(patience)
+            os.close(book.files.folder)

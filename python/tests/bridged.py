@@ -148,6 +148,8 @@ class Live:
             if stream is not None:
                 with contextlib.suppress(OSError):
                     stream.close()
+        if "Traceback" in self.errors():
+            raise AssertionError(self.errors())
 
 
 class OnLinks(unittest.TestCase):
