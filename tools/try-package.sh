@@ -65,7 +65,7 @@ tells() { journalctl -u lldpa -g 'eth0 came: sender p1'; }
 published() { sleep 2 && grep -x "lldpa_up $1" /var/lib/prometheus/node-exporter/lldpa.prom; }
 stop_agent() { kill -STOP "$(cat "/proc/$(process)/task/$(process)/children" | tr ' ' '\n' | while read -r one; do
     [ "$(cat "/proc/$one/comm" 2> /dev/null)" = lldpa ] && echo "$one"; done)"; }
-starts_anew() { for _ in $(seq 60); do sleep 1; is_another && [ "$(process)" -ne 0 ] && return; done; false; }
+starts_anew() { for _ in $(seq 60); do sleep 1; is_another && systemctl is-active lldpa && return; done; false; }
 # A neighbor at the other end of the link, which says again each second who it is.
 neighbor() {
     python3 -c 'import socket, time
