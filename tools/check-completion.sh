@@ -102,7 +102,8 @@ offers 'eth1 lo' _lldpa lldpa eth0 '<' trace ''
 offers "--listen" _lldpa lldpa eth0 '<' trace --l
 
 offers 'eth0 eth1 lo' _lldpa_live lldpa-live ''
-live='--program --connect --user --control --control-group --log --log-most --once --stay --only-existing --forget-on-down --help'
+live='--program --connect --user --control --control-group --log --log-most --log-keep --once --config --stay --only-existing'
+live="$live --forget-on-down --events --no-description --no-management --own-source --help"
 offers "$live" _lldpa_live lldpa-live -
 offers "${live/ --log / }" _lldpa_live lldpa-live --log f -
 offers FILES _lldpa_live lldpa-live --log f
@@ -130,8 +131,10 @@ offers FILES _lldpa_capture lldpa-capture --port eth0 f
 
 offers 'show configure update bridge watch metrics' _lldpa_ctl lldpa-ctl ''
 offers 'show' _lldpa_ctl lldpa-ctl sh
-offers '--control --json --help' _lldpa_ctl lldpa-ctl -
-offers '--control --help' _lldpa_ctl lldpa-ctl --json -
+offers '--control --json --output --help' _lldpa_ctl lldpa-ctl -
+offers '--control --output --help' _lldpa_ctl lldpa-ctl --json -
+offers FILES _lldpa_ctl lldpa-ctl metrics --output /var
+offers 'metrics' _lldpa_ctl lldpa-ctl --output = f m
 offers FILES _lldpa_ctl lldpa-ctl --control /run
 offers 'show configure update bridge watch metrics' _lldpa_ctl lldpa-ctl --control = /run/c --json ''
 offers 'show' _lldpa_ctl lldpa-ctl --control /run/c s

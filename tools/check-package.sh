@@ -67,7 +67,7 @@ judge $? "the prefix /usr/local has other files than /usr"
 for prefix in /usr /usr/local /opt/lldpa; do
     install_into "$room/gone" --python /opt/python "$prefix"
     DESTDIR=$room/gone tools/install.sh --uninstall --python /opt/python "$prefix" > "$room/said" 2>&1
-    left=$(find "$room/gone" ! -type d)
+    left=$(find "$room/gone" ! -type d -o -name lldpa.d)
     [ -z "$left" ]
     judge $? "tools/install.sh --uninstall $prefix leaves $left"
 done
@@ -97,8 +97,21 @@ judge $? "the package is $version, and the program says $("$LLDPA" --version)"
 judge $? "import lldpa: $(cat "$room/out")"
 dpkg-deb --info "$package" conffiles | grep -qx /etc/default/lldpa
 judge $? "/etc/default/lldpa is no configuration file of the package"
-grep -q '^ExecStart=/usr/bin/lldpa-live --program /usr/bin/lldpa ' "$room/package/usr/lib/systemd/system/lldpa.service"
-judge $? "the service of the package does not run its programs"
+units=$room/package/usr/lib/systemd/system
+grep -q '^ExecStart=/usr/bin/lldpa-live --program /usr/bin/lldpa ' "$units/lldpa.service" &&
+    grep -q '^ExecStart=/usr/bin/lldpa-ctl metrics ' "$units/lldpa-metrics.service"
+judge $? "the services of the package do not run its programs"
+[ -f "$units/lldpa-metrics.timer" ] && [ -f "$room/package/usr/share/lldpa/lldpa.rules.yml" ]
+judge $? "the package has no timer for metrics, or no rules for Prometheus"
+# The service reads the settings of its folder, which is there; below another prefix that is another.
+[ -d "$room/package/etc/lldpa.d" ] && [ -d "$room/local/etc/lldpa.d" ] &&
+    grep -q '^ExecStart=.* --config /etc/lldpa.conf --config /etc/lldpa.d ' "$units/lldpa.service"
+judge $? "the service of the package does not read /etc/lldpa.d"
+install_into "$room/opt" --python /opt/python /opt/lldpa
+[ -d "$room/opt/opt/lldpa/etc/lldpa.d" ] && grep -q \
+    '^ExecStart=/opt/lldpa/bin/lldpa-live .* --config /opt/lldpa/etc/lldpa.conf --config /opt/lldpa/etc/lldpa.d ' \
+    "$room/opt/opt/lldpa/lib/systemd/system/lldpa.service"
+judge $? "the service below /opt/lldpa does not read /opt/lldpa/etc/lldpa.d"
 
 # The words of zsh's completions are those of each program's help.
 for name in lldpa lldpa-live lldpa-ctl lldpa-capture lldpa-audit; do

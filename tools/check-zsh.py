@@ -30,6 +30,7 @@ TYPED = (
     ("lldpa-ctl sh", "lldpa-ctl show "),
     ("lldpa-ctl --control c sh", "lldpa-ctl --control c show "),
     ("lldpa-ctl br", "lldpa-ctl bridge "),
+    ("lldpa-ctl --output doc", "lldpa-ctl --output docs/"),
     ("lldpa-ctl show st", "lldpa-ctl show statistics "),
     ("lldpa-ctl show neighbors l", "lldpa-ctl show neighbors lo "),
     ("lldpa-ctl configure ports l", "lldpa-ctl configure ports lo "),

@@ -1,6 +1,7 @@
 #!/bin/sh
 # Installs lldpa under a prefix, /usr/local unless given: the program, those of bin/ with the Python package that they
-# stand on, the manual pages, completions for bash and zsh, the service with its configuration, and the documents.
+# stand on, the manual pages, completions for bash and zsh, the service with its configuration, a timer that writes its
+# metrics, alerts for Prometheus, and the documents.
 #     tools/install.sh [--uninstall] [--python FOLDER] [PREFIX]
 # With --uninstall it takes away what it installs, but for a configuration that was changed. `import lldpa` works for
 # the python3 that looks into FOLDER, by itself the first one below the prefix where python3 looks. DESTDIR, where it is
@@ -59,9 +60,16 @@ files() {
     for file in share/zsh/*; do
         echo "plain $file $prefix/share/zsh/$zsh/${file##*/}"
     done
-    echo "unit share/systemd/lldpa.service $prefix/lib/systemd/system/lldpa.service"
+    for file in share/systemd/*; do
+        echo "unit $file $prefix/lib/systemd/system/${file##*/}"
+    done
+    for file in share/prometheus/*; do
+        echo "plain $file $prefix/share/lldpa/${file##*/}"
+    done
     echo "plain share/tmpfiles.d/lldpa.conf $prefix/lib/tmpfiles.d/lldpa.conf"
     echo "configuration share/default/lldpa $etc/default/lldpa"
+    echo "configuration share/settings/lldpa.conf $etc/lldpa.conf"
+    echo "configuration share/settings/README $etc/lldpa.d/README"
     echo "plain README.md $documents/README.md"
     echo "packed CHANGELOG.md $documents/changelog.gz"
     find docs -type f | while read -r file; do
@@ -92,7 +100,7 @@ put() {
             chmod 644 "$3"
             ;;
         unit)
-            sed "s,/usr/local/,$prefix/,g; s,/etc/default/,$etc/default/,g" "$2" > "$3"
+            sed "s,/usr/local/,$prefix/,g; s,/etc/default/,$etc/default/,g; s,/etc/lldpa,$etc/lldpa,g" "$2" > "$3"
             chmod 644 "$3"
             ;;
         configuration)
@@ -125,7 +133,8 @@ if [ -n "$uninstall" ]; then
     links | while read -r _ name; do
         rm -f "$root$name"
     done
-    rm -rf "$root$prefix/lib/lldpa" "$root$documents"
+    rm -rf "$root$prefix/lib/lldpa" "$root$prefix/share/lldpa" "$root$documents"
+    [ ! -d "$root$etc/lldpa.d" ] || rmdir --ignore-fail-on-non-empty "$root$etc/lldpa.d"
     echo "uninstalled from $root$prefix"
     exit
 fi

@@ -200,7 +200,7 @@ check_fields() {
     chassis=$(mac_of "$there" peer0)
     for i in 0 1; do
         check "both see each other on link $i" both_see 15 "$i"
-        for field in "chassis.mac=$mac" chassis.name=bridge-one chassis.descr=lldpa chassis.mgmt-ip=192.0.2.1 chassis.Bridge.enabled=on \
+        for field in "chassis.mac=$mac" chassis.name=bridge-one "chassis.descr=$descr" chassis.mgmt-ip=192.0.2.1 chassis.Bridge.enabled=on \
             "port.ifname=eth$i" "port.descr=eth$i" port.ttl=9; do
             check "lldpd sees $field on link $i" within 3 lldpd_sees "peer$i.$field"
         done
@@ -361,7 +361,11 @@ check_replay() {
 
 check_live() {
     words="--mac $mac --hostname bridge-one --management 192.0.2.1 --role bridge"
-    [ "$mode" = listen ] || words="--role bridge --hostname bridge-one --management 192.0.2.1"
+    descr=lldpa
+    if [ "$mode" = child ]; then
+        words="--role bridge --hostname bridge-one --management 192.0.2.1"
+        descr=$(. /etc/os-release && echo "$PRETTY_NAME")
+    fi
     start_lldpd
     start_lldpa first
     check_fields

@@ -60,7 +60,24 @@ shows() { sleep 2 && lldpa-ctl show chassis | grep "$1"; }
 finds() { python3 -c 'import lldpa.control'; }
 reads() { lldpa-capture --show /usr/share/doc/lldpa/docs/lab.pcap | lldpa --receive-only eth0 | grep -x lldp.eth0.neighbors=2; }
 
+notifies() { systemctl show -p Type -p StatusText lldpa | grep -c -x -e Type=notify -e 'StatusText=[0-9no]* neighbors\? on 1 port' | grep -x 2; }
+tells() { journalctl -u lldpa -g 'eth0 came: sender p1'; }
+published() { sleep 2 && grep -x "lldpa_up $1" /var/lib/prometheus/node-exporter/lldpa.prom; }
+stop_agent() { kill -STOP "$(cat "/proc/$(process)/task/$(process)/children" | tr ' ' '\n' | while read -r one; do
+    [ "$(cat "/proc/$one/comm" 2> /dev/null)" = lldpa ] && echo "$one"; done)"; }
+starts_anew() { for _ in $(seq 60); do sleep 1; is_another && systemctl is-active lldpa && return; done; false; }
+# A neighbor at the other end of the link, which says again each second who it is.
+neighbor() {
+    python3 -c 'import socket, time
+sender = socket.socket(socket.AF_PACKET, socket.SOCK_RAW)
+sender.bind(("far", 0))
+while True:
+    sender.send(bytes.fromhex("0180c200000e02000000000a88cc0207040200000000010403057031060200780a0673656e6465720000"))
+    time.sleep(1)'
+}
+
 ip link add eth0 type veth peer name far && ip link set eth0 up && ip link set far up
+neighbor &
 listed > /root/before
 check "it installs" dpkg -i lldpa_*-1_*.deb
 check "it does not run before it is enabled" inactive
@@ -71,9 +88,23 @@ while read -r command; do
     check "sudo $command" for_a_while "$command"
     sleep 1
 done < /root/commands
+check "systemd is told how it goes" notifies
+check "the journal has who came" tells
+systemctl start lldpa-metrics
+check "its metrics are written" published 1
+systemctl stop lldpa
+systemctl start lldpa-metrics
+check "metrics say that it does not answer" published 0
 rm -r /var/lib/prometheus
 systemctl restart lldpa
 check "the service answers" shows Station:on
+old=$(process)
+stop_agent
+check "an agent that hangs is noticed, and the service starts anew" starts_anew
+mkdir -p /etc/lldpa.d && echo 'configure system description "of the folder"' > /etc/lldpa.d/a.conf
+check "it reloads" systemctl reload lldpa
+check "its settings are those of the folder" shows 'descr=of the folder'
+rm /etc/lldpa.d/a.conf
 check "the service keeps no right" grep -q '^CapEff:\s*0*$' "/proc/$(process)/status"
 sed -i 's/--role station/--role bridge/' /etc/default/lldpa
 old=$(process)
@@ -103,7 +134,7 @@ ln -s ../try.service "$root/etc/systemd/system/multi-user.target.wants/try.servi
 # systemd wants a hierarchy of control groups, whatever this host has.
 unshare --mount --pid --fork --kill-child sh -c 'mount --make-rprivate / && mount -t proc proc /proc &&
     { umount -R -l /sys/fs/cgroup; mount -t cgroup2 none /sys/fs/cgroup; } &&
-    exec timeout 180 systemd-nspawn --quiet --register=no --keep-unit --private-network -D "$0" -b' "$root" \
+    exec timeout 300 systemd-nspawn --quiet --register=no --keep-unit --private-network -D "$0" -b' "$root" \
     < /dev/null > "$room/said" 2>&1
 if ! [ -s "$root/root/tried" ]; then
     tail -n 5 "$room/said"
@@ -112,7 +143,7 @@ fi
 cat "$root/root/tried"
 passed=$(grep -c '^held: ' "$root/root/tried")
 failed=$(grep -c '^FAILED: ' "$root/root/tried")
-wanted=$((15 + $(wc -l < "$root/root/commands")))
+wanted=$((22 + $(wc -l < "$root/root/commands")))
 [ $((passed + failed)) -eq "$wanted" ] || failed=$((wanted - passed))
 echo "$passed passed, $failed failed"
 [ "$failed" -eq 0 ]

@@ -110,6 +110,12 @@ class AsyncAgent:
         self._writer.close()
         await self._ended(patience)
 
+    def kill(self) -> None:
+        """Ends a child at once, and else the connection. Who waits for an answer gets Ended."""
+        if self._child is not None:
+            self._child.kill()
+        self._writer.transport.abort()
+
     async def __aenter__(self) -> AsyncAgent:
         return self
 

@@ -12,52 +12,58 @@ from __future__ import annotations
 
 import asyncio
 import select
-import time
 from contextlib import suppress
-from typing import Iterable
+from typing import Iterable, Sequence
 
-from .agent import AsyncAgent, Ended
-from .framing import LONGEST_LINE, ticks
+from .agent import Ended
+from .batch import Batch
+from .beginning import Beginning
+from .hostname import HostName
 from .interface import Frame
 from .links import Links, News
-from .ports import Ports, parted
-from .seconds import Seconds
-from .session import Entry, Session
+from .outbox import Outbox
+from .patient import Patient
+from .ports import MOST_AT_ONCE, Ports, parted
+from .seconds import LEAST_CHANGE, Seconds
+from .session import Session
+from .settings import tell_settings
+from .show import Show, read_show
+from .watched import Watched
 
-OF_THE_BRIDGE = (b"tick", b"rx", b"up", b"down")
+MOST_TO_CATCH_UP = 1024  # frames at a turn, before a question
 STATUS = "configuration.{}.status="
 
 
 class Bridge:
-    """Stands between ports and an agent, which is to be put into `agent` before `run`."""
+    """Stands between ports and an agent, whose frames come to lie in the outbox."""
 
-    agent: AsyncAgent
-
-    def __init__(self, ports: Ports, links: Links, session: Session,
-                 forgets_on_down: bool = False) -> None:
+    def __init__(self, agent: Patient, name: HostName, outbox: Outbox, ports: Ports, links: Links,
+                 session: Session, watched: Watched, forgets_on_down: bool = False) -> None:
+        self.agent = agent
+        self.name = name
+        self.given_name = name.told
+        self.outbox = outbox
         self.ports = ports
         self.links = links
         self.session = session
+        self.watched = watched
         self.forgets_on_down = forgets_on_down
-        self.began = time.time()
         self.seconds = Seconds()
-        self.entries: list[Entry] = []  # what the agent is to be told next
-        self.new_seconds = 0  # that are among them
-        self.new_downs: list[bytes] = []  # links that went, among them
-        self.sent: list[tuple[str, bytes]] = []  # frames that the agent's ports send
+        self.batch = Batch()
         self.telling = asyncio.Lock()  # one tells the agent at a time
         self.woken = asyncio.Event()
         self.stopping = asyncio.Event()
         self.sources = select.epoll()
         self.sources.register(links.socket, select.EPOLLIN)
         self.sources.register(ports.readable, select.EPOLLIN)
+        name.wake(self.sources)
 
     def begin(self, found: Iterable[News]) -> None:
         """Takes the interfaces that are there, and awaits the others."""
         now = self.seconds.now()
         lines = [line for one in found for line in self.ports.take_link(one)]
         for line in lines + self.ports.await_missing():
-            self.entries.append(Entry(now, line))
+            self.batch.add(now, line)
 
     async def run(self) -> None:
         """Bridges until `stop`; then, and where anything fails, comes the end."""
@@ -88,36 +94,51 @@ class Bridge:
             timer.cancel()
             loop.remove_reader(self.sources.fileno())
 
-    async def turn(self) -> None:
+    async def turn(self, most: int = MOST_AT_ONCE) -> float:
         """Tells what has come in: frames by their stamps, and each second at its place among them.
+        Gives the moment up to which it has told all.
 
         A link that came is told before the frames, one that went behind them: none is lost by it.
         """
-        moment = self.ports.read(self.seconds)
+        moment = self.ports.read(self.seconds, most)
         came, went = parted(self.links.read())
         self.take_links(came)
         for stamp, frame in self.ports.frames_until(moment):
             self.take_frame(stamp, frame)
         self.take_seconds(moment)
         self.take_links(went)
+        downs = self.batch.downs if self.forgets_on_down else []
         for refusal in await self.tell_agent():
             raise Ended(None, f"the agent refused what the bridge told it: {refusal}")
-        while self.new_downs:
-            await self.forget(self.new_downs.pop().decode())
+        for name in downs:
+            await self.forget(name)
+        if self.name.has_changed():
+            await self.rename()
+        if self.session.wants_beginning():
+            await self.begin_log()
+        elif self.session.book is not None and self.session.heard.is_full:
+            await self.show_to_log()
+        await self.watched.turned(self.agent, self.seconds.told)
+        return moment
+
+    async def catch_up(self) -> None:
+        """Tells all that has come in up to now, however many frames these are."""
+        now = self.seconds.now() + LEAST_CHANGE
+        while await self.turn(MOST_TO_CATCH_UP) < now and self.ports.have_more():
+            pass
 
     def take_frame(self, moment: float, frame: Frame) -> None:
         """What happens to a frame: the seconds before it are told, and then it."""
         self.take_seconds(moment)
-        line = b"rx %s %s" % (frame.port.encode(), frame.octets.hex().encode())
-        self.entries.append(Entry(moment, line))
+        self.batch.add_frame(moment, frame)
+        if self.session.book is not None and self.ports.by_name[frame.port].is_up:
+            self.session.heard.note(frame, self.seconds.told)
 
     def take_seconds(self, moment: float) -> None:
         """What happens to a second: of those that end up to a moment each is told, once."""
         missed = self.seconds.until(moment)
-        for line in ["tick"] if missed == 1 else ticks(missed):
-            self.entries.append(Entry(moment, line.encode()))
         if missed:
-            self.new_seconds += missed
+            self.batch.add_seconds(moment, missed)
             self.ports.report_drops()
 
     def take_links(self, news: Iterable[News]) -> None:
@@ -125,42 +146,58 @@ class Bridge:
         now = self.seconds.now()
         for one in news:
             for line in self.ports.take_link(one):
-                self.entries.append(Entry(now, line))
-                if self.forgets_on_down and line.startswith(b"down "):
-                    self.new_downs.append(line[len(b"down "):])
+                self.batch.add_link(now, line)
 
     async def forget(self, name: str) -> None:
         """Empties the table of a port that went down: it is disabled for a moment."""
         key = STATUS.format(name)
-        for line in await self.tell(b"show configuration"):
+        for line in await self.look(b"show configuration"):
             if line.startswith(key):
                 for status in ("disabled", line[len(key):]):
                     await self.tell(f"configure ports {name} lldp status {status}".encode())
 
+    async def rename(self) -> None:
+        """What happens to the host's name: the agent takes it."""
+        refused = await self.name.follow(self.look, self.tell)
+        if refused is not None:
+            self.ports.report(refused)
+
     async def ask(self, line: bytes) -> list[bytes]:
         """What happens to a question: the agent answers it, after all that came in before.
 
-        `bridge` is answered here. Frames, seconds and links are for the bridge alone to tell.
         Raises Ended where the agent or the bridge has ended.
         """
-        word = line.replace(b"\t", b" ").strip(b" ").partition(b" ")[0].replace(b'"', b"")
-        if len(line) > LONGEST_LINE:
-            return [b"error: line too long"]
-        if word in OF_THE_BRIDGE:
-            return [b"error: for the bridge alone"]
-        if word == b"bridge":
-            return [text.encode() for text in self.about()]
         async with self.telling:
             if self.stopping.is_set():
                 raise Ended(None, "the bridge has ended")
-            await self.turn()
+            await self.catch_up()
             return [text.encode() for text in await self.tell(line)]
 
-    def about(self) -> list[str]:
-        """What the bridge says of itself."""
-        began = time.strftime("%Y-%m-%dT%H:%M:%SZ", time.gmtime(self.began))
-        lines = [f"bridge.began={began}", f"bridge.seconds={self.seconds.told}"]
-        return [*lines, f"bridge.log={self.session.state()}", *self.ports.about()]
+    async def settle(self, paths: Sequence[str]) -> list[str]:
+        """What happens to settings: all of these files are told, and those refused are given.
+
+        Raises Ended where the agent or the bridge has ended.
+        """
+        async with self.telling:
+            if self.stopping.is_set():
+                raise Ended(None, "the bridge has ended")
+            return await tell_settings(paths, self.tell)
+
+    async def show_to_log(self) -> Show:
+        """Shows the log what the agent holds, so that it keeps no more than that; gives the show
+        with the settings in force."""
+        lines = [line for what in ("neighbors", "chassis", "configuration")
+                 for line in await self.look(f"show {what}".encode())]
+        show = read_show(lines)
+        self.session.heard.forget_others(show.ports, self.seconds.told)
+        return show
+
+    async def begin_log(self) -> None:
+        """Begins a new file of the log, with what brings an agent to where this one is."""
+        show = await self.show_to_log()
+        downs = [port.name for port in self.ports.by_name.values() if not port.is_up]
+        beginning = Beginning(show, self.session.heard, self.seconds.told, downs)
+        self.session.begin(self.session.words, beginning.lines(self.given_name))
 
     async def end(self) -> None:
         """The end: each port is disabled, so that its shutdown frame goes."""
@@ -171,33 +208,23 @@ class Bridge:
 
     async def tell(self, line: bytes) -> list[str]:
         """Tells the agent a line as of now, and gives its answer."""
-        self.entries.append(Entry(self.seconds.now(), line))
-        return await self.tell_agent()
-
-    async def tell_agent(self) -> list[str]:
-        """Tells the log and the agent what is to be told, sends its frames, and gives its answer.
-
-        Of the frames that a port would have sent in several seconds that were missed, the last
-        one goes out.
-        """
-        if not self.entries:
-            return []
-        entries, self.entries = self.entries, []
-        seconds, self.new_seconds = self.new_seconds, 0
-        self.session.write(entries)
-        self.sent = []
-        answer = await self.agent.tell([entry.line for entry in entries])
-        for name, octets in self.sent if seconds <= 1 else dict(self.sent).items():
-            self.send(name, octets)
+        self.batch.add(self.seconds.now(), line)
+        answer = await self.tell_agent()
+        if not answer:
+            self.session.heard.note_command(line)
         return answer
 
-    def take_sent(self, name: str, octets: bytes) -> None:
-        """Takes a frame from the agent."""
-        self.sent.append((name, octets))
+    async def look(self, line: bytes) -> list[str]:
+        """What the agent shows to the bridge itself, which is not in the log."""
+        return await self.agent.tell([line])
 
-    def send(self, name: str, octets: bytes) -> None:
-        """Sends a frame out of its port."""
-        try:
-            self.ports.by_name[name].send(octets)
-        except OSError as error:
-            self.ports.report(f"{name}: a frame was not sent: {error.strerror}")
+    async def tell_agent(self) -> list[str]:
+        """Tells the log and the agent what is to be told, sends its frames, gives its answer."""
+        batch, self.batch = self.batch, Batch()
+        if not batch.entries:
+            return []
+        self.session.write(batch.entries)
+        self.watched.take_lines(entry.line for entry in batch.entries)
+        answer = await self.agent.tell([entry.line for entry in batch.entries])
+        self.outbox.send(batch.seconds)
+        return answer

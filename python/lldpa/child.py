@@ -56,6 +56,10 @@ class Child:
         """Whether it has not ended yet."""
         return self._process.poll() is None
 
+    def kill(self) -> None:
+        """Ends it at once."""
+        self._process.kill()
+
     def end(self, patience: float = PATIENCE) -> Ended:
         """Waits for its end, kills it where it does not come, and says how that was."""
         if self._end is None:

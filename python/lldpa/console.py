@@ -27,10 +27,10 @@ def open_missing_streams() -> bool:
 
 def report(text: str) -> None:
     """Writes a line on standard error; it is lost where nobody reads it."""
-    line = f"lldpa-live: {text}\n".encode("utf-8", "backslashreplace")
+    line = f"lldpa-live: {text}".encode("utf-8", "backslashreplace")[:select.PIPE_BUF - 1] + b"\n"
     with suppress(OSError):
         if select.select([], [ERRORS], [], 0)[1]:
-            os.write(ERRORS, line[:select.PIPE_BUF])
+            os.write(ERRORS, line)
 
 
 class Console:

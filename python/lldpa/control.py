@@ -1,8 +1,7 @@
 """The control socket, at which a running bridge answers: `Server` is its end, `Client` the other.
 
-A question is one line of at most 4,096 octets; its answer is a line `=N` and then N lines.
-`show ..`, `configure ..` and `update` are the agent's commands; `bridge` asks the bridge itself.
-`tick`, `rx`, `up` and `down` are refused: what comes in, and how time goes, the bridge alone tells.
+A question is one line of at most 4,096 octets; its answer is a line `=N` and then N lines. Which
+words it takes is said in `asking`.
 
 Who may connect is said by the socket's mode: 0600, or 0660 for the members of a group. They may
 do all. If the mode is widened to 0666, all may ask, and `configure` and `update` stay with root,
@@ -15,23 +14,21 @@ import asyncio
 import contextlib
 import grp
 import socket
+import time
 from typing import Awaitable, Callable, Optional
 
 from .agent import LONGEST_LINE, Ended, Refused, checked
+from .asking import OF_ITSELF, first_word, refusal
 from .listening import InUse, Listening
 from .peer import Peer
+from .places import Place, Places
 
 __all__ = ["DEFAULT_PATH", "Client", "Gone", "InUse", "Server"]
 
 DEFAULT_PATH = "/run/lldpa/control"
-MOST_CLIENTS = 64
 SECONDS_TO_READ = 10.0
 MOST_UNREAD = 64 * 1024 * 1024  # octets of all answers together that wait for their readers
 SECONDS_TO_ANSWER = 30.0
-
-ASKING = (b"show", b"bridge")
-CHANGING = (b"configure", b"update")
-OF_THE_BRIDGE = (b"tick", b"rx", b"up", b"down")
 
 Ask = Callable[[bytes], Awaitable["list[bytes]"]]
 
@@ -50,13 +47,6 @@ async def read_line(reader: asyncio.StreamReader) -> Optional[bytes]:
             part = await reader.readexactly(overrun.consumed)
 
 
-def first_word(line: bytes) -> bytes:
-    """The first word of a line without leading blanks, as the agent reads it."""
-    if line.startswith(b'"'):
-        return line[1:].partition(b'"')[0]
-    return line.replace(b"\t", b" ").partition(b" ")[0]
-
-
 class Server:
     """Serves the control socket at a path: asks what clients ask, one question after another.
 
@@ -70,7 +60,8 @@ class Server:
         self.group = None if group is None else number_of_group(group)
         self.listening: Optional[Listening] = None
         self.accepting: Optional[asyncio.Future[None]] = None
-        self.clients: set[asyncio.Future[None]] = set()
+        self.places = Places()
+        self.serving: set[asyncio.Future[None]] = set()
         self.unread: dict[asyncio.StreamWriter, int] = {}
 
     def bind(self) -> None:
@@ -90,7 +81,7 @@ class Server:
 
     async def close(self) -> None:
         """Ends every connection at once, and lets go of the path."""
-        tasks = [*self.clients] if self.accepting is None else [self.accepting, *self.clients]
+        tasks = [*self.serving] if self.accepting is None else [self.accepting, *self.serving]
         for task in tasks:
             task.cancel()
         await asyncio.gather(*tasks, return_exceptions=True)
@@ -107,21 +98,30 @@ class Server:
             except OSError:  # too many files are open
                 await asyncio.sleep(1)
                 continue
-            client = asyncio.ensure_future(self.serve(connection))
-            self.clients.add(client)
-            client.add_done_callback(self.clients.discard)
+            self.take(connection)
 
-    async def serve(self, connection: socket.socket) -> None:
+    def take(self, connection: socket.socket) -> None:
+        """Gives a client its place, or tells it that there is none."""
+        peer, client = Peer(connection), Place()
+        is_served = self.places.admit(client, peer.is_preferred(self.path))
+        client.task = asyncio.ensure_future(self.serve(connection, peer, client, is_served))
+        self.serving.add(client.task)
+        client.task.add_done_callback(self.serving.discard)
+        client.task.add_done_callback(lambda _: self.places.leave(client))
+
+    async def serve(self, connection: socket.socket, peer: Peer, client: Place,
+                    is_served: bool) -> None:
         """Answers one client until it goes, reads too slowly, or the agent or the bridge ends."""
-        peer = Peer(connection)
         reader, writer = await asyncio.open_unix_connection(sock=connection, limit=LONGEST_LINE)
         writer.transport.set_write_buffer_limits(high=0)
         try:
-            if len(self.clients) > MOST_CLIENTS:
+            if not is_served:
                 await self.send(writer, [b"error: too many clients"])
                 return
             while (line := await read_line(reader)) is not None and not writer.is_closing():
+                client.idle_since = None
                 await self.send(writer, await self.answer(line, peer))
+                client.idle_since = time.monotonic()
         except (OSError, Ended):
             pass
         finally:
@@ -129,18 +129,11 @@ class Server:
 
     async def answer(self, line: bytes, peer: Peer) -> list[bytes]:
         """The lines that answer a question of this peer."""
-        if len(line) > LONGEST_LINE:
-            return [b"error: line too long"]
-        words = line.lstrip(b" \t")
-        if not words or words.startswith(b"#"):
-            return []
-        word = first_word(words)
-        if word in OF_THE_BRIDGE:
-            return [b"error: for the bridge alone"]
-        if word in CHANGING and not peer.may_change(self.path):
-            return [b"error: no permission"]
-        if word not in ASKING + CHANGING:
-            return [b"error: unknown command"]
+        answer = refusal(line, lambda: peer.may_change(self.path))
+        if answer is not None:
+            return answer
+        if first_word(line) == OF_ITSELF:
+            return await self.ask(line)  # at once, whatever the agent is doing
         try:
             async with self.asking:
                 return await asyncio.shield(self.ask(line))

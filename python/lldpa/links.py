@@ -16,9 +16,12 @@ RTMGRP_LINK = 1
 NLMSG_ERROR, NLMSG_DONE = 2, 3
 RTM_NEWLINK, RTM_DELLINK, RTM_GETLINK = 16, 17, 18
 NLM_F_REQUEST, NLM_F_DUMP = 0x001, 0x300
-IFLA_ADDRESS, IFLA_IFNAME = 1, 3
+IFLA_ADDRESS, IFLA_IFNAME, IFLA_LINKINFO, IFLA_PERM_ADDRESS = 1, 3, 18, 54
+IFLA_INFO_KIND = 1
+OF_HARDWARE = ("", "dsa")  # a switch's own ports have a kind in newer kernels
 IFF_LOWER_UP = 0x10000
 ARPHRD_ETHER = 1
+KIND_MASK = 0x3FFF  # the bits above say what form the value has
 
 HEADER = struct.Struct("IHHII")  # length, kind, flags, sequence, port
 INTERFACE = struct.Struct("BxHiII")  # family, type of device, index, flags, changed flags
@@ -27,7 +30,8 @@ LONGEST_MESSAGE = 65536
 
 
 class News(NamedTuple):
-    """What became of an interface: its number, its name, whether it is there, and has a carrier."""
+    """What became of an interface: its number, its name, whether it is there, and has a carrier;
+    its address, what kind of a virtual one it is, and the address that it was made with."""
 
     number: int
     name: str
@@ -35,6 +39,13 @@ class News(NamedTuple):
     is_running: bool
     is_ethernet: bool
     address: bytes
+    kind: str = ""
+    permanent: bytes = b""
+
+    @property
+    def is_hardware(self) -> bool:
+        """Whether it is a device, and not one that was made by software."""
+        return self.kind in OF_HARDWARE
 
 
 class Links:
@@ -127,15 +138,17 @@ def news_of(kind: int, body: bytes) -> Optional[News]:
     name = found.get(IFLA_IFNAME, b"").rstrip(b"\0").decode("ascii", "replace")
     is_there = kind == RTM_NEWLINK
     is_running = is_there and bool(flags & IFF_LOWER_UP)
-    address = found.get(IFLA_ADDRESS, b"")
-    return News(index, name, is_there, is_running, device == ARPHRD_ETHER, address)
+    info = dict(attributes(found.get(IFLA_LINKINFO, b"")))
+    made_as = info.get(IFLA_INFO_KIND, b"").rstrip(b"\0").decode("ascii", "replace")
+    return News(index, name, is_there, is_running, device == ARPHRD_ETHER,
+                found.get(IFLA_ADDRESS, b""), made_as, found.get(IFLA_PERM_ADDRESS, b""))
 
 
 def attributes(octets: bytes) -> Iterator[tuple[int, bytes]]:
     """The kind and the value of each attribute."""
     while len(octets) >= ATTRIBUTE.size:
         length, kind = ATTRIBUTE.unpack_from(octets)
-        yield kind, octets[ATTRIBUTE.size:length]
+        yield kind & KIND_MASK, octets[ATTRIBUTE.size:length]
         octets = octets[aligned(max(length, ATTRIBUTE.size)):]
 
 

@@ -2,20 +2,18 @@
 
 from __future__ import annotations
 
-import re
 from dataclasses import fields
 from typing import Iterable, Iterator, Mapping
 
+from .bridge_metrics import Told, bridge_lines
+from .exposition import lines_of
 from .show import Counters, Neighbor, Show
-
-Labels = Mapping[str, str]
-
-KERNEL_DROPS = re.compile(r"bridge\.([^.]+)\.kernel-drops=([0-9]+)")
 
 
 def metrics(show: Show, bridge: Iterable[str]) -> list[str]:
     """The metrics of a show of neighbors and counters, and of the bridge's own lines."""
     return [
+        *bridge_lines(Told(bridge)),
         *lines_of("lldpa_neighbors", "gauge", "Neighbors that the port holds.",
                   [({"port": port.name}, port.neighbors_held) for port in show.ports]),
         *lines_of("lldpa_too_many", "gauge", "Whether a neighbor found no room lately, 1 or 0.",
@@ -25,9 +23,6 @@ def metrics(show: Show, bridge: Iterable[str]) -> list[str]:
         *lines_of("lldpa_expires_seconds", "gauge", "Seconds until the neighbor ages out.",
                   [(identified(neighbor), neighbor.expires) for neighbor in show.neighbors]),
         *counter_lines(show.counters),
-        *lines_of("lldpa_kernel_drops_total", "counter",
-                  "Frames that the kernel dropped since the bridge did not read them in time.",
-                  kernel_drops(bridge)),
     ]
 
 
@@ -58,30 +53,3 @@ def counter_lines(counters: Mapping[str, Counters]) -> Iterator[str]:
         samples = [({"port": port}, getattr(of, counter.name)) for port, of in counters.items()]
         name = f"lldpa_{counter.name}_total"
         yield from lines_of(name, "counter", counter.metadata["counts"], samples)
-
-
-def kernel_drops(bridge: Iterable[str]) -> list[tuple[Labels, int]]:
-    """The drops that the bridge tells in its lines `bridge.PORT.kernel-drops=N`."""
-    found = (KERNEL_DROPS.fullmatch(line) for line in bridge)
-    return [({"port": drops[1]}, int(drops[2])) for drops in found if drops]
-
-
-def lines_of(
-    name: str, kind: str, text: str, samples: Iterable[tuple[Labels, int]]
-) -> Iterator[str]:
-    """The lines of one metric, none where it has no samples."""
-    lines = [f"{name}{{{label_list(labels)}}} {value}" for labels, value in samples]
-    if lines:
-        yield f"# HELP {name} {text}"
-        yield f"# TYPE {name} {kind}"
-        yield from lines
-
-
-def label_list(labels: Labels) -> str:
-    """Labels as they stand between braces."""
-    return ",".join(f'{name}="{escaped(value)}"' for name, value in labels.items())
-
-
-def escaped(value: str) -> str:
-    """A label's value as the format wants it between double quotes."""
-    return value.replace("\\", "\\\\").replace('"', '\\"').replace("\n", "\\n")

@@ -38,6 +38,14 @@ class Peer:
             return bool(now.st_mode & stat.S_IWUSR)
         return now.st_gid in self.groups and bool(now.st_mode & stat.S_IWGRP)
 
+    def is_preferred(self, path: str) -> bool:
+        """Whether it is root, or owns the socket at this path."""
+        try:
+            owner = os.lstat(path).st_uid
+        except OSError:
+            owner = 0
+        return bool(self.user in (0, owner))
+
 
 def further_groups(connection: socket.socket) -> tuple[int, ...]:
     """The supplementary groups of the process at the other end, none where it has over 256."""

@@ -3,15 +3,14 @@
 from __future__ import annotations
 
 import select
-import time
 from typing import Callable, Iterable, Sequence
 
+from .drops import BY_KERNEL, BY_LIMIT, Drops
 from .interface import Frame, Interface
 from .links import News
 from .seconds import Seconds
 
 MOST_AT_ONCE = 64  # frames that are read at a turn, of all ports together
-SECONDS_BETWEEN_REPORTS = 60
 
 Report = Callable[[str], None]
 
@@ -23,8 +22,9 @@ class Ports:
         self.by_name = {interface.name: interface for interface in interfaces}
         self.report = report
         self.waiting: list[tuple[float, Frame]] = []  # frames that were read, by their moments
-        self.drops_told = 0
-        self.next_report = 0.0
+        self.awaited: set[str] = set()  # whose interfaces were told to be missing
+        self.drops = (Drops(BY_KERNEL, lambda port: port.drops, report),
+                      Drops(BY_LIMIT, lambda port: port.limit_drops, report))
         self.readable = select.epoll()
         for interface in interfaces:
             self.readable.register(interface.socket, select.EPOLLIN)
@@ -39,6 +39,7 @@ class Ports:
                 if port.number is None:
                     self.find(port, news)
                 if port.number is not None:
+                    port.address = news.address
                     lines += told_link(port, news.is_running)
             elif port.number == news.number:
                 lines += self.lose(port, f"now {news.name}" if news.is_there else "gone")
@@ -54,7 +55,7 @@ class Ports:
         except OSError as error:
             self.report(f"{port.name}: the interface cannot be used: {error.strerror}")
             return
-        if port.is_up is not None:
+        if port.is_up is not None or port.name in self.awaited:
             self.report(f"{port.name}: the interface is there, and in use")
 
     def lose(self, port: Interface, what: str) -> list[bytes]:
@@ -68,12 +69,14 @@ class Ports:
         lines: list[bytes] = []
         for port in self.by_name.values():
             if port.number is None:
-                self.report(f"{port.name}: no such interface yet; waiting for it")
+                if port.name not in self.awaited:
+                    self.report(f"{port.name}: no such interface yet; waiting for it")
                 lines += told_link(port, False)
         return lines
 
-    def read(self, seconds: Seconds) -> float:
-        """Reads some frames, and gives the moment up to which none is left in any socket.
+    def read(self, seconds: Seconds, most: int = MOST_AT_ONCE) -> float:
+        """Reads some frames, so many at most of all ports together, and gives the moment up to
+        which none is left in any socket.
 
         A port whose frames still wait is not read, so that few wait, however many come.
         """
@@ -84,12 +87,22 @@ class Ports:
         ports = [port for port in self.by_name.values() if port.name not in unfinished
                  and (port.has_more or port.socket.fileno() in readable)]
         for port in ports:
-            for frame in port.read(max(1, MOST_AT_ONCE // len(ports))):
-                self.waiting.append((seconds.moment(frame.stamp), frame))
+            for frame in port.read(max(1, most // len(ports))):
+                self.take_frame(port, seconds.moment(frame.stamp), frame)
         self.waiting.sort(key=lambda entry: entry[0])
-        last = {frame.port: moment for moment, frame in self.waiting}
-        return min([now, *(last[name] for name, port in self.by_name.items()
-                           if port.has_more and name in last)])
+        return min([now, *(port.read_to for port in self.by_name.values() if port.has_more)])
+
+    def take_frame(self, port: Interface, moment: float, frame: Frame) -> None:
+        """Takes a frame that was read, unless its port has sent more than it may."""
+        port.read_to = moment
+        if port.bucket.takes(moment):
+            self.waiting.append((moment, frame))
+        else:
+            port.limit_drops += 1
+
+    def have_more(self) -> bool:
+        """Whether frames were left in a socket."""
+        return any(port.has_more for port in self.by_name.values())
 
     def frames_until(self, moment: float) -> Iterable[tuple[float, Frame]]:
         """Takes out the frames up to a moment, in their order."""
@@ -97,16 +110,11 @@ class Ports:
             yield self.waiting.pop(0)
 
     def report_drops(self) -> None:
-        """Tells of frames that the kernel had no room for, at most once a minute."""
+        """Tells of frames that were dropped, each kind at most once a minute."""
         for port in self.by_name.values():
             port.count_drops()
-        drops = sum(port.drops for port in self.by_name.values())
-        if drops > self.drops_told and Seconds.now() >= self.next_report:
-            each = [f"{name} {port.drops}" for name, port in self.by_name.items() if port.drops]
-            self.report(f"the kernel has dropped {drops} frames that came too fast: "
-                        + ", ".join(each))
-            self.drops_told = drops
-            self.next_report = Seconds.now() + SECONDS_BETWEEN_REPORTS
+        for drops in self.drops:
+            drops.tell(self.by_name.values())
 
     def about(self) -> list[str]:
         """Lines that say of each port what the agent can't know."""
@@ -117,6 +125,9 @@ class Ports:
             lines.append(f"bridge.{port.name}.interface={where}")
             lines.append(f"bridge.{port.name}.link={'up' if port.is_up else 'down'}")
             lines.append(f"bridge.{port.name}.kernel-drops={port.drops}")
+            lines.append(f"bridge.{port.name}.limit-drops={port.limit_drops}")
+            lines.append(f"bridge.{port.name}.unsent={port.unsent}")
+            lines.append(f"bridge.{port.name}.left-out={port.left_out}")
         return lines
 
     def close(self) -> None:

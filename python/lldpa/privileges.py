@@ -6,9 +6,11 @@ import ctypes
 import os
 import pwd
 import struct
+from contextlib import suppress
 from typing import Optional
 
 # linux/prctl.h, linux/capability.h
+PR_CAPBSET_READ, PR_CAPBSET_DROP = 23, 24
 PR_SET_NO_NEW_PRIVS = 38
 PR_CAP_AMBIENT, PR_CAP_AMBIENT_CLEAR_ALL = 47, 4
 LINUX_CAPABILITY_VERSION_3 = 0x20080522
@@ -16,21 +18,40 @@ USER = "nobody"
 
 
 def give_up(user: Optional[str]) -> None:
-    """Keeps no capability, for good, and as root becomes that user, `nobody` unless given.
+    """Keeps no capability, for good, and no group; as root it becomes that user, `nobody` unless
+    given.
 
     Children have none either, and no program that they run gives them any. Raises LookupError
     where there is no such user, and OSError where the kernel refuses.
     """
-    if os.geteuid() == 0:
-        entry = entry_of(user or USER)
+    libc = ctypes.CDLL(None, use_errno=True)
+    empty_bounding_set(libc)
+    is_root = os.geteuid() == 0
+    with suppress(*() if is_root else (PermissionError,)):  # it wants CAP_SETGID
         os.setgroups([])
+    if is_root:
+        entry = entry_of(user or USER)
         os.setresgid(entry.pw_gid, entry.pw_gid, entry.pw_gid)
         os.setresuid(entry.pw_uid, entry.pw_uid, entry.pw_uid)
-    libc = ctypes.CDLL(None, use_errno=True)
     succeeded(libc.prctl(PR_SET_NO_NEW_PRIVS, 1, 0, 0, 0))
     succeeded(libc.prctl(PR_CAP_AMBIENT, PR_CAP_AMBIENT_CLEAR_ALL, 0, 0, 0))
     header = struct.pack("Ii", LINUX_CAPABILITY_VERSION_3, 0)
     succeeded(libc.capset(header, struct.pack("6I", 0, 0, 0, 0, 0, 0)))
+
+
+def user_of(user: Optional[str]) -> Optional[int]:
+    """The number of the user that `give_up` becomes, None where it becomes none."""
+    return entry_of(user or USER).pw_uid if os.geteuid() == 0 else None
+
+
+def empty_bounding_set(libc: ctypes.CDLL) -> None:
+    """Takes each capability out of what any program run from here could get, where that is allowed:
+    it wants CAP_SETPCAP."""
+    capability = 0
+    while libc.prctl(PR_CAPBSET_READ, capability, 0, 0, 0) >= 0:
+        if libc.prctl(PR_CAPBSET_DROP, capability, 0, 0, 0) != 0:
+            return
+        capability += 1
 
 
 def entry_of(user: str) -> pwd.struct_passwd:

@@ -1,107 +1,85 @@
 """The log of a session: the trace that the agent was told, with the wall clock as comments.
 
-Replayed, it gives the session's answers to the octet: `lldpa WORDS < FILE`, with the words of its
-first line. It never grows over its limit, and a fault of its device ends the log alone.
+Each of its files can be replayed alone: `lldpa WORDS < FILE`, with the words of its first line. The
+first one of a session gives the session's answers to the octet, a later one the tables that were
+there: it begins with what brings a new agent to where this one is.
 """
 
 from __future__ import annotations
 
-import errno
 import os
 import shlex
 import time
-from contextlib import suppress
-from typing import Callable, NamedTuple, Optional, Sequence
+from typing import Callable, Iterable, Optional, Sequence
 
+from .batch import Entry
+from .heard import Heard
+from .logbook import Logbook
+from .logfiles import LogFiles, check_folder, open_folder
 from .seconds import Seconds
 
 MEGABYTE = 1_000_000
-LONGEST_REMARK = 100  # octets that are kept for the last line
-
-
-class Entry(NamedTuple):
-    """A line that the agent is told, and its moment."""
-
-    moment: float
-    line: bytes
+CLOCK = "%Y-%m-%dT%H:%M:%SZ"
 
 
 class Session:
-    """A log in a file of its own, or none where no folder is given."""
+    """A log in the files of a folder, or none where no folder is given."""
 
-    def __init__(self, folder: Optional[str], megabytes: int,
+    def __init__(self, folder: Optional[str], most: int, keep: int, user: Optional[int],
                  report: Callable[[str], None]) -> None:
-        """Makes the file, named by the present time in UTC. Raises OSError where it can't."""
-        self.most = megabytes * MEGABYTE - LONGEST_REMARK
-        self.report = report
-        self.size = 0
+        """Opens the folder, and makes it for that user where there is none. A file is followed by
+        the next at `most` megabytes, and all together have `keep` at most. Raises OSError where
+        there can be no such folder."""
+        self.words: Sequence[str] = ()
         self.clock = ""
-        self.path = ""
-        self.file: Optional[int] = None
+        self.heard = Heard()
+        self.book: Optional[Logbook] = None
         if folder is not None:
-            self.path, self.file = new_file(folder)
+            files = LogFiles(folder, open_folder(folder, user), keep * MEGABYTE)
+            self.book = Logbook(files, most * MEGABYTE, report)
 
-    def begin(self, words: Sequence[str]) -> None:
-        """Notes the agent's words, with which it is replayed."""
-        self.append(b"# lldpa %s\n" % shlex.join(words).encode("utf-8", "surrogateescape"))
+    def check(self) -> None:
+        """Raises PermissionError where the files can't be made, now that rights are given up."""
+        if self.book is not None:
+            check_folder(self.book.files.path, self.book.files.folder)
+
+    def begin(self, words: Sequence[str], lines: Iterable[str] = ()) -> None:
+        """Begins a file: notes the agent's words, and the lines that it is told in advance."""
+        self.words = words
+        if self.book is not None:
+            text = "".join(f"{line}\n" for line in [f"# lldpa {shlex.join(words)}", *lines])
+            self.book.begin(text.encode("utf-8", "surrogateescape"))
+        self.clock = ""
 
     def write(self, entries: Sequence[Entry]) -> None:
         """Notes lines, and before those of each second the wall clock."""
-        if self.file is None:
+        if self.book is None:
             return
         offset = time.time() - Seconds.now()
         octets = bytearray()
         for moment, line in entries:
-            clock = time.strftime("%Y-%m-%dT%H:%M:%SZ", time.gmtime(moment + offset))
+            clock = time.strftime(CLOCK, time.gmtime(moment + offset))
             if clock != self.clock:
                 octets += b"# %s\n" % clock.encode()
                 self.clock = clock
             octets += line + b"\n"
-        self.append(octets)
+        self.book.write(bytes(octets), len(entries))
 
-    def append(self, octets: bytes) -> None:
-        """Writes octets, all or none."""
-        if self.file is None:
-            return
-        if self.size + len(octets) > self.most:
-            self.end("it has reached its size (--log-most)")
-            return
-        try:
-            if os.write(self.file, octets) < len(octets):
-                raise OSError(errno.ENOSPC, os.strerror(errno.ENOSPC))
-            self.size += len(octets)
-        except OSError as error:
-            self.end(error.strerror)
+    def wants_beginning(self) -> bool:
+        """Whether a new file should begin now."""
+        return self.book is not None and self.book.wants_beginning()
 
     def state(self) -> str:
-        """What has become of it: `off`, `on` or `ended`."""
-        if not self.path:
-            return "off"
-        return "ended" if self.file is None else "on"
+        """What has become of it: `off`, `on`, `stalled` or `full`."""
+        return "off" if self.book is None else self.book.trouble or "on"
 
-    def end(self, why: str) -> None:
-        """Ends the log before its time, behind the last line that it has whole."""
-        assert self.file is not None
-        with suppress(OSError):
-            os.ftruncate(self.file, self.size)
-            os.write(self.file, f"# the log ends here: {why}"[:LONGEST_REMARK - 1].encode() + b"\n")
-        self.close()
-        self.report(f"the log {self.path} ends, the bridge goes on: {why}")
+    def lost(self) -> int:
+        """How many lines could not be written."""
+        return 0 if self.book is None else self.book.lost
 
-    def close(self) -> None:
-        """Lets go of the file."""
-        if self.file is not None:
-            os.close(self.file)
-            self.file = None
-
-
-def new_file(folder: str) -> tuple[str, int]:
-    """Makes a file that was not there before, and its folder where there is none."""
-    os.makedirs(folder, exist_ok=True)
-    start = time.strftime("%Y%m%dT%H%M%SZ", time.gmtime())
-    flags = os.O_WRONLY | os.O_APPEND | os.O_CREAT | os.O_EXCL | os.O_NOFOLLOW | os.O_CLOEXEC
-    for number in range(1, 1000):
-        path = os.path.join(folder, f"{start}-{number}.trace" if number > 1 else f"{start}.trace")
-        with suppress(FileExistsError):
-            return path, os.open(path, flags, 0o640)
-    raise FileExistsError(errno.EEXIST, os.strerror(errno.EEXIST), folder)
+    async def close(self, patience: float) -> None:
+        """Ends the log, within so many seconds."""
+        book, self.book = self.book, None
+        if book is not None:
+            await book.close(patience)
+            os.close(book.files.folder)

@@ -5,6 +5,7 @@ from __future__ import annotations
 from dataclasses import dataclass
 from typing import Iterable, Iterator, Tuple
 
+from .people import printable, summary
 from .show import Identifier, Neighbor, Port
 
 Name = Tuple[str, Identifier, Identifier]
@@ -38,6 +39,12 @@ class Watch:
                 yield News(CAME, neighbor)
             elif differences := tuple(changes(before[name], neighbor)):
                 yield News(CHANGED, neighbor, differences)
+
+
+def news_line(news: News) -> str:
+    """What happened to a neighbor, for people: `eth0 came: switch-2 swp1 192.0.2.2`."""
+    said = f"{news.neighbor.port} {news.what}: {summary(news.neighbor)}"
+    return printable("; ".join([said, *news.changes]))
 
 
 def by_name(ports: Iterable[Port]) -> dict[Name, Neighbor]:

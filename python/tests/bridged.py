@@ -76,13 +76,13 @@ class Live:
             self.lines.put(line.decode().rstrip("\n"))
 
     def answers(self) -> bool:
-        """Whether its control socket answers, or it has ended."""
+        """Whether its agent runs, or it has ended."""
         return self.process.poll() is not None or self.ask_quietly()
 
     def ask_quietly(self) -> bool:
-        """Whether its control socket answers."""
+        """Whether its control socket answers, and there is an agent."""
         with contextlib.suppress(OSError):
-            return bool(self.ask("bridge"))
+            return "bridge.agent=running" in self.ask("bridge")
         return False
 
     def ask(self, line: str) -> list[str]:
@@ -148,6 +148,8 @@ class Live:
             if stream is not None:
                 with contextlib.suppress(OSError):
                     stream.close()
+        if "Traceback" in self.errors():
+            raise AssertionError(self.errors())
 
 
 class OnLinks(unittest.TestCase):

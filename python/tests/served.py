@@ -17,7 +17,25 @@ REPOSITORY = Path(__file__).resolve().parents[2]
 PROGRAM = os.environ.get("LLDPA") or str(REPOSITORY / "crates" / "lldpa" / "out" / "lldpa")
 CTL = str(REPOSITORY / "bin" / "lldpa-ctl")
 GROUP_ADDRESS = bytes.fromhex("0180c200000e")
-BRIDGE_LINES = [b"bridge.eth0.kernel-drops=7", b"bridge.eth1.kernel-drops=0"]
+BRIDGE_LINES = b"""\
+bridge.began=2026-11-25T09:30:00Z
+bridge.agent=running
+bridge.seconds=77
+bridge.log=on
+bridge.log-lines-lost=5
+bridge.eth0.interface=present
+bridge.eth0.link=up
+bridge.eth0.kernel-drops=7
+bridge.eth0.limit-drops=6
+bridge.eth0.unsent=4
+bridge.eth0.left-out=3
+bridge.eth1.interface=awaited
+bridge.eth1.link=down
+bridge.eth1.kernel-drops=0
+bridge.eth1.limit-drops=0
+bridge.eth1.unsent=0
+bridge.eth1.left-out=0
+""".splitlines()
 
 
 def tlv(kind: int, body: bytes) -> bytes:
@@ -52,6 +70,7 @@ class Served:
     async def open(self, group: Optional[str], options: Any) -> None:
         """Starts agent and server."""
         self.asked: list[bytes] = []
+        self.bridge_lines = BRIDGE_LINES
         self.agent = await AsyncAgent.start(["eth0", "eth1"], PROGRAM, receive_only=True, **options)
         self.server = Server(self.path, self.ask, group)
         await self.server.start()
@@ -60,7 +79,7 @@ class Served:
         """What a bridge does with a question."""
         self.asked.append(line)
         if line == b"bridge":
-            return BRIDGE_LINES
+            return self.bridge_lines
         return [answer.encode() for answer in await self.agent.ask(line)]
 
     def call(self, coroutine: Coroutine[Any, Any, Any]) -> Any:

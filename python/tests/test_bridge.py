@@ -111,7 +111,7 @@ class TestLinks(OnLinks):
         self.assertTrue(eventually(live.neighbors))
 
     def test_interface_that_comes_later(self) -> None:
-        live = self.live("eth1", "--", "--receive-only")
+        live = self.live("eth1", "--", "--receive-only", awaits=False)
         self.assertTrue(live.says("eth1: no such interface yet; waiting for it"))
         self.wires.add_link(1)
         self.assertTrue(eventually(lambda: "bridge.eth1.link=up" in live.ask("bridge")))

@@ -15,6 +15,7 @@ from unittest import mock
 from lldpa import Refused, read_show
 from lldpa import control
 from lldpa.control import Gone
+from lldpa.places import KEPT, MOST_CLIENTS
 from patience import eventually
 from served import Served, numbered, tlv
 
@@ -125,8 +126,8 @@ class Questions(Answered):
 class Clients(Answered):
     """Many clients, and bad ones."""
 
-    def test_64_clients_are_served_and_not_65(self) -> None:
-        clients = [self.served.client() for _ in range(64)]
+    def test_64_clients_are_served_and_some_of_the_owner(self) -> None:
+        clients = [self.served.client() for _ in range(MOST_CLIENTS + KEPT)]
         for client in clients:
             self.assertEqual(len(client.ask("show chassis")), 4)
         with self.served.client() as another, self.assertRaises(Refused) as refused:
@@ -135,7 +136,8 @@ class Clients(Answered):
         for client in clients:
             self.assertEqual(len(client.ask("show chassis")), 4)
         clients.pop().close()
-        self.assertTrue(eventually(lambda: len(self.served.server.clients) < 64))
+        places = self.served.server.places
+        self.assertTrue(eventually(lambda: len(places.clients) < MOST_CLIENTS + KEPT))
         clients.append(self.served.client())
         self.assertEqual(len(clients[-1].ask("show chassis")), 4)
         for client in clients:
@@ -159,7 +161,7 @@ class Clients(Answered):
             lazy = self.raw()
             lazy.sendall(b"show neighbors\n" * 100)
             self.assertTrue(eventually(lambda: self.served.server.unread))
-            self.assertTrue(eventually(lambda: not self.served.server.clients))
+            self.assertTrue(eventually(lambda: not self.served.server.serving))
             self.assertGreater(time.monotonic() - began, 1.5)
             answer = rest_of(lazy)
         self.assertEqual(self.served.asked.count(b"show neighbors"), 1)

@@ -21,7 +21,8 @@ class TestEnds(OnLinks):
     @by_the_clock
     def test_each_signal_sends_shutdown_frames(self) -> None:
         for number in (signal.SIGINT, signal.SIGTERM, signal.SIGHUP):
-            peer, live = self.peer(), self.live("--stay", "eth0")
+            stay = [] if number == signal.SIGHUP else ["--stay"]
+            peer, live = self.peer(), self.live(*stay, "eth0")
             self.assertIsNotNone(peer.hears(), number)
             live.signal(number)
             self.assertIsNotNone(peer.hears(2, ttl=0), (number, live.errors()))

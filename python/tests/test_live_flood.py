@@ -43,7 +43,7 @@ def numbers(live: Live) -> dict[str, int]:
     """How many frames were dropped, and how many were received."""
     shown = "\n".join(live.ask("bridge") + live.ask("show statistics"))
     return {name: int(re.search(rf"[.]{name}=(\d+)$", shown, re.M)[1])
-            for name in ("kernel-drops", "received")}
+            for name in ("kernel-drops", "limit-drops", "received")}
 
 
 @on_links
@@ -74,6 +74,8 @@ class TestFlood(OnLinks):
         told = numbers(live)
         self.assertEqual(sum(told.values()), 20_000, told)
         self.assertGreater(told["kernel-drops"], 0)
+        self.assertTrue(live.says("frames were dropped that came faster than 64 a second at a port:"
+                                  " eth0 ") or not told["limit-drops"])
 
     def test_hundred_frames_find_room_while_the_bridge_sleeps(self) -> None:
         live, peer = self.live("eth0", "--", "--receive-only"), self.peer()

@@ -98,28 +98,8 @@ class TestLog(OnLinks):
         self.assertTrue(began - 1.1 < first.timestamp() < time.time() + 0.1)
         self.assertRegex(lines[1], CLOCK)
 
-    def test_log_ends_at_its_size_and_the_bridge_goes_on(self) -> None:
-        live = self.live("--log", str(self.folder), "--log-most", "1", "eth0",
-                         "--", "--receive-only")
-        frames = [numbered(number).ljust(1500, b"\0") for number in range(100)]
-        text = "ends, the bridge goes on: it has reached its size (--log-most)"
-
-        def ends_by_frames() -> bool:
-            flood(self.wires, "peer0", frames, 100).wait()
-            return text in live.errors()
-
-        self.assertTrue(eventually(ends_by_frames))
-        log = self.logs()[0].read_bytes()
-        self.assertLessEqual(len(log), 1_000_000)
-        self.assertGreater(len(log), 100_000)
-        last = b"# the log ends here: it has reached its size (--log-most)"
-        self.assertEqual(log.splitlines()[-1], last)
-        self.assertIn("bridge.log=ended", live.ask("bridge"))
-        self.assertGreater(live.neighbors(), 0)
-        self.assertEqual(live.errors().count("ends, the bridge goes on"), 1)
-
     @by_the_clock
-    def test_full_device_ends_the_log_and_not_the_bridge(self) -> None:
+    def test_full_device_stops_the_log_and_not_the_bridge(self) -> None:
         self.folder.mkdir()
         subprocess.run(["mount", "-t", "tmpfs", "-o", "size=64k", "none", self.folder], check=True)
         self.addCleanup(subprocess.run, ["umount", "-l", str(self.folder)], check=True)
@@ -128,7 +108,8 @@ class TestLog(OnLinks):
         for number in range(60):
             peer.send(numbered(number).ljust(1500, b"\0"))
             time.sleep(0.01)
-        self.assertTrue(live.says("ends, the bridge goes on: No space left on device"))
+        self.assertTrue(live.says("stops, the bridge goes on: No space left on device"))
+        self.assertIn("bridge.log=full", live.ask("bridge"))
         self.assertTrue(self.logs()[0].read_bytes().endswith(b"\n"))
         live.signal(signal.SIGTERM)
         self.assertIsNotNone(peer.hears(2, ttl=0))

@@ -10,11 +10,12 @@ from dataclasses import fields
 from typing import Dict, Tuple
 
 from lldpa import read_show
-from lldpa.metrics import escaped, metrics
+from lldpa.exposition import escaped
+from lldpa.metrics import metrics
 from lldpa.show import Counters
-from served import CTL, Served, frame, numbered, tlv
+from served import BRIDGE_LINES, CTL, Served, frame, numbered, tlv
 
-SAMPLE = re.compile(r'([a-z_]+)\{((?:[a-z_]+="(?:[^"\\\n]|\\["\\n])*",?)*)\} ([0-9]+)')
+SAMPLE = re.compile(r'([a-z_]+)(?:\{((?:[a-z_]+="(?:[^"\\\n]|\\["\\n])*",?)+)\})? ([0-9]+)')
 LABEL = re.compile(r'([a-z_]+)="((?:[^"\\\n]|\\["\\n])*)"')
 Series = Dict[Tuple[str, Tuple[Tuple[str, str], ...]], int]
 
@@ -32,7 +33,7 @@ def series_of(lines: list[str]) -> Series:
             continue
         found = SAMPLE.fullmatch(line)
         assert found, line
-        labels = tuple((name, read(value)) for name, value in LABEL.findall(found[2]))
+        labels = tuple((name, read(value)) for name, value in LABEL.findall(found[2] or ""))
         assert (found[1], labels) not in series, line
         series[found[1], labels] = int(found[3])
     return series
@@ -57,7 +58,7 @@ class Metrics(unittest.TestCase):
         self.served.frame("eth1", numbered(0)[:20])
         series = self.shown()
         told = {(name, labels[0][1]): value for (name, labels), value in series.items()
-                if len(labels) == 1}
+                if [label for label, _ in labels] == ["port"]}
         counters = {counter.name: 0 for counter in fields(Counters)}
         counters.update(received=4, drops=1)
         for name, value in counters.items():
@@ -68,7 +69,46 @@ class Metrics(unittest.TestCase):
         self.assertEqual(told, {
             ("lldpa_neighbors", "eth0"): 3, ("lldpa_neighbors", "eth1"): 0,
             ("lldpa_too_many", "eth0"): 1, ("lldpa_too_many", "eth1"): 0,
-            ("lldpa_kernel_drops_total", "eth0"): 7, ("lldpa_kernel_drops_total", "eth1"): 0})
+            ("lldpa_interface_present", "eth0"): 1, ("lldpa_interface_present", "eth1"): 0,
+            ("lldpa_link_up", "eth0"): 1, ("lldpa_link_up", "eth1"): 0,
+            ("lldpa_kernel_drops_total", "eth0"): 7, ("lldpa_kernel_drops_total", "eth1"): 0,
+            ("lldpa_limit_drops_total", "eth0"): 6, ("lldpa_limit_drops_total", "eth1"): 0,
+            ("lldpa_unsent_total", "eth0"): 4, ("lldpa_unsent_total", "eth1"): 0,
+            ("lldpa_left_out_total", "eth0"): 3, ("lldpa_left_out_total", "eth1"): 0})
+
+    def own(self, *lines: bytes) -> Series:
+        """What a bridge that tells these lines as well has of itself."""
+        lines_by_key = {line.partition(b"=")[0]: line for line in (*BRIDGE_LINES, *lines)}
+        self.served.bridge_lines = list(lines_by_key.values())
+        return {(name, labels): value for (name, labels), value in self.shown().items()
+                if not {"port"} & dict(labels).keys()}
+
+    def test_the_bridge_itself(self) -> None:
+        agent, log = "lldpa_agent_state", "lldpa_log_state"
+        self.assertEqual(self.own(), {
+            ("lldpa_up", ()): 1, ("lldpa_start_time_seconds", ()): 1795599000,
+            (agent, (("state", "running"),)): 1, (agent, (("state", "silent"),)): 0,
+            (agent, (("state", "waiting"),)): 0,
+            (log, (("state", "full"),)): 0, (log, (("state", "off"),)): 0,
+            (log, (("state", "on"),)): 1, (log, (("state", "stalled"),)): 0,
+            ("lldpa_log_lines_lost_total", ()): 5})
+        for state in ("off", "on", "stalled", "full"):
+            series = self.own(b"bridge.log=" + state.encode())
+            self.assertEqual([labels[0][1] for (name, labels), value in series.items()
+                              if name == log and value], [state])
+        for state, is_up in (("running", 1), ("silent", 0), ("waiting", 0)):
+            series = self.own(b"bridge.agent=" + state.encode())
+            self.assertEqual(series["lldpa_up", ()], is_up)
+            self.assertEqual([labels[0][1] for (name, labels), value in series.items()
+                              if name == agent and value], [state])
+
+    def test_what_a_bridge_does_not_tell_is_left_out(self) -> None:
+        self.served.bridge_lines = [b"bridge.eth0.kernel-drops=1", b"bridge.eth0.1.since=2",
+                                    b"bridge.later=3"]
+        names = {name for name, _ in self.shown() if not name.startswith("lldpa_neighbor")}
+        counters = {f"lldpa_{counter.name}_total" for counter in fields(Counters)}
+        self.assertEqual(names - counters,
+                         {"lldpa_up", "lldpa_too_many", "lldpa_kernel_drops_total"})
 
     def test_neighbors(self) -> None:
         text = b'a "quoted" \\ back\nslash\x1b'

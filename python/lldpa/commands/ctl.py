@@ -15,10 +15,10 @@ from ..as_json import neighbor_object, show_object
 from ..control import DEFAULT_PATH, Client, Gone
 from ..framing import command
 from ..agent import Refused
-from ..metrics import metrics
-from ..people import printable, summary, table, terminal_width
+from ..people import printable, table, terminal_width
+from ..publishing import NotWritten, publish
 from ..show import ShowFault, read_show
-from ..watching import News, Watch
+from ..watching import News, Watch, news_line
 
 SECONDS_BETWEEN_LOOKS = 0.5
 PARTED_BY_PORTS = ("neighbors", "statistics")  # the shows behind which a port can stand
@@ -43,12 +43,6 @@ def print_table(client: Client) -> None:
     print("\n".join(table(ports, terminal_width())))
 
 
-def print_metrics(client: Client) -> None:
-    """Prometheus' text format."""
-    lines = client.ask("show neighbors") + client.ask("show statistics")
-    print("\n".join(metrics(read_show(lines), client.ask("bridge"))))
-
-
 def watch(client: Client, as_json: bool) -> None:
     """A line for each neighbor that comes, changes or goes, without end."""
     neighbors = Watch(read_show(client.ask("show neighbors")).ports)
@@ -57,13 +51,7 @@ def watch(client: Client, as_json: bool) -> None:
         ports = read_show(client.ask("show neighbors")).ports
         now = time.strftime("%Y-%m-%dT%H:%M:%S%z")
         for news in neighbors.news(ports):
-            print(news_object(news, now) if as_json else news_line(news, now), flush=True)
-
-
-def news_line(news: News, now: str) -> str:
-    """What happened to a neighbor, for people."""
-    said = f"{now} {news.neighbor.port} {news.what}: {summary(news.neighbor)}"
-    return printable("; ".join([said, *news.changes]))
+            print(news_object(news, now) if as_json else f"{now} {news_line(news)}", flush=True)
 
 
 def news_object(news: News, now: str) -> str:
@@ -113,12 +101,16 @@ def read_words(words: Optional[Sequence[str]]) -> argparse.Namespace:
     parser.add_argument("--control", metavar="PATH", default=DEFAULT_PATH,
                         help=f"the control socket of lldpa-live ({DEFAULT_PATH} unless given)")
     parser.add_argument("--json", action="store_true", help="print answers as JSON")
+    parser.add_argument("--output", metavar="FILE",
+                        help="write metrics there, whole or not at all")
     parser.add_argument("words", nargs="*", metavar="COMMAND", help="what to ask, see below")
     given = parser.parse_intermixed_args(words)
     if given.words[:1] in (["watch"], ["metrics"]) and len(given.words) > 1:
         parser.error(f"nothing can stand behind {given.words[0]}")
     if given.words == ["metrics"] and given.json:
         parser.error("metrics have a form of their own, which is not JSON")
+    if given.words != ["metrics"] and given.output is not None:
+        parser.error("--output is for metrics alone")
     return given
 
 
@@ -126,8 +118,6 @@ def run(given: argparse.Namespace, client: Client) -> None:
     """Asks and prints what was asked for."""
     if given.words == ["watch"]:
         watch(client, given.json)
-    elif given.words == ["metrics"]:
-        print_metrics(client)
     elif given.words:
         print_answer(client, given.words, given.json)
     elif given.json:
@@ -155,15 +145,18 @@ def main(words: Optional[Sequence[str]] = None) -> int:
     if isinstance(sys.stdout, io.TextIOWrapper):
         sys.stdout.reconfigure(errors="replace")  # where the terminal has no such character
     try:
-        with Client(given.control) as client:
-            run(given, client)
+        if given.words == ["metrics"]:
+            publish(given.control, given.output)
+        else:
+            with Client(given.control) as client:
+                run(given, client)
         sys.stdout.flush()
     except KeyboardInterrupt:
         return 130
     except BrokenPipeError:  # who reads the output has gone; nothing is left to be flushed into it
         os.dup2(os.open(os.devnull, os.O_WRONLY), sys.stdout.fileno())
         return 1
-    except (Refused, Gone, ShowFault, OSError) as fault:
+    except (Refused, Gone, ShowFault, NotWritten, OSError) as fault:
         print(f"lldpa-ctl: {said_of(fault, given.control)}", file=sys.stderr)
         return 1
     except ValueError as fault:

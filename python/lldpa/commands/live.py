@@ -5,34 +5,37 @@ from __future__ import annotations
 import argparse
 import asyncio
 import os
-import re
 import sys
 from typing import Callable, Dict, Sequence, Tuple
 
-from ..agent import Ended
 from ..child import Option
-from ..console import open_missing_streams, report
+from ..console import open_missing_streams
 from ..control import DEFAULT_PATH
+from ..faults import report_all, report_fault
+from ..patterns import MOST_PORTS, is_able, is_pattern, parts_of
 from ..running import live
 
 USAGE = "lldpa-live [OPTION...] PORT... [-- OPTIONS OF LLDPA]"
-PORT_NAME = re.compile("[A-Za-z0-9_/:-]{1,15}")
-MOST_PORTS = 64
 FLAGS = {
     "stay": "go on when standard input has ended, until a signal",
     "only-existing": "refuse to start where an interface is not there",
     "forget-on-down": "empty the table of a port whose link goes down",
+    "no-description": "do not announce what this host runs",
+    "no-management": "do not announce an address of this host by itself",
+    "events": "say on standard error when a neighbor comes, changes or goes",
+    "own-source": "send each frame with the address of the interface that it leaves by",
 }
 TEXTS = {
     "program": ("PATH", "lldpa", "the agent, found on the search path unless given"),
     "user": ("NAME", None, "as root, become this user (nobody) once the sockets are open"),
     "control": ("PATH", DEFAULT_PATH, "the control socket (%(default)s)"),
     "control-group": ("GROUP", None, "let members of this group use the control socket"),
-    "log": ("FOLDER", None, "keep the session there, a trace for lldpa in a file of its own"),
+    "log": ("FOLDER", None, "keep the session there, in files that are traces for lldpa"),
 }
 NUMBERS = {
     "connect": (1, 65535, None, "take the lldpa that listens on this port of 127.0.0.1"),
-    "log-most": (1, 1000000, 64, "end the log before it has more than N megabytes (64)"),
+    "log-most": (1, 1000000, 64, "begin the next file of the log at N megabytes (64)"),
+    "log-keep": (1, 1000000, 1024, "keep N megabytes of logs in the folder (1024)"),
     "once": (1, 86400, None, "print a table once each port has a neighbor, or after N seconds"),
 }
 NOT_HERE = ("listen", "connections", "help", "version")  # options of lldpa that make it no child
@@ -41,26 +44,13 @@ NOT_HERE = ("listen", "connections", "help", "version")  # options of lldpa that
 def main() -> int:
     """Runs the program, and gives its status."""
     is_closed = open_missing_streams()
+    report_all()
     words, options = words_given(sys.argv[1:])
     words.stay |= is_closed
     try:
         return asyncio.run(live(words, options))
-    except (OSError, LookupError) as error:
-        report(text_of(error))
-    except Ended as ended:
-        report(f"{words.program}: {ended.text}")
-    return 1
-
-
-def text_of(error: Exception) -> str:
-    """An error as a text for people."""
-    if not isinstance(error, OSError) or not error.strerror:
-        return str(error)
-    if error.filename:
-        return f"{error.filename}: {error.strerror}"
-    if isinstance(error, PermissionError):
-        return f"{error.strerror} (to open packet sockets it needs root or CAP_NET_RAW)"
-    return error.strerror
+    except Exception as fault:  # pylint: disable=broad-except
+        return report_fault(words.program, fault)
 
 
 def words_given(words: Sequence[str]) -> Tuple[argparse.Namespace, Dict[str, Option]]:
@@ -69,25 +59,37 @@ def words_given(words: Sequence[str]) -> Tuple[argparse.Namespace, Dict[str, Opt
     parser = the_parser()
     cut = words.index("--") if "--" in words else len(words)
     given = parser.parse_args(words[:cut])
-    for name in given.ports:
-        if not PORT_NAME.fullmatch(name):
-            parser.error(f"{name}: a port's name has 1 to 15 letters, digits, -, _, / and : "
-                         "(a VLAN interface cannot be a port)")
-    if len(set(given.ports)) < len(given.ports):
-        parser.error("the same port twice")
-    if len(given.ports) > MOST_PORTS:
-        parser.error(f"{len(given.ports)} ports, and {MOST_PORTS} are the most")
+    check_ports(parts_of(given.ports), parser)
     if given.user is not None and os.geteuid() != 0:
         parser.error("--user: only root can become another user")
     options = options_of(words[cut + 1:], parser)
     return given, options
 
 
+def check_ports(parts: Sequence[str], parser: argparse.ArgumentParser) -> None:
+    """Ends the program where a name can be no port's, or two are the same."""
+    for part in parts:
+        if not is_able(part):
+            parser.error(f"{part}: a port's name has 1 to 15 letters, digits, -, _, / and : "
+                         "(a VLAN interface cannot be a port)")
+    names = [part for part in parts if not is_pattern(part)]
+    if len(set(names)) < len(names):
+        parser.error("the same port twice")
+    if len(names) > MOST_PORTS:
+        parser.error(f"{len(names)} ports, and {MOST_PORTS} are the most of an agent: run a second "
+                     "service for the others")
+    if not parts:
+        parser.error("no PORT")
+
+
 def the_parser() -> argparse.ArgumentParser:
     """What reads the words before `--`."""
     parser = argparse.ArgumentParser(prog="lldpa-live", usage=USAGE, description=__doc__,
                                      allow_abbrev=False)
-    parser.add_argument("ports", nargs="+", metavar="PORT", help="an Ethernet interface")
+    parser.add_argument("ports", nargs="+", metavar="PORT",
+                        help="an Ethernet interface, or a pattern: 'swp*', '!swp3'")
+    parser.add_argument("--config", metavar="PATH", action="append", default=[],
+                        help="settings, a file or a folder of *.conf; may be repeated")
     for name, text in FLAGS.items():
         parser.add_argument(f"--{name}", action="store_true", help=text)
     for name, (metavar, default, text) in TEXTS.items():

@@ -1,0 +1,49 @@
+"""What the agent's ports send, from the agent to the interfaces."""
+
+from __future__ import annotations
+
+from .interface import Interface
+from .ports import Ports
+
+LENGTH_OF_ADDRESS = 6
+
+
+class Outbox:
+    """Keeps the frames that the agent hands over until they go out of their ports, with their own
+    source address or, where it is wished, that of the interface that they leave by."""
+
+    def __init__(self, ports: Ports, own_source: bool = False) -> None:
+        self.ports = ports
+        self.own_source = own_source
+        self.frames: list[tuple[str, bytes]] = []
+
+    def take(self, name: str, octets: bytes) -> None:
+        """Takes a frame from the agent."""
+        self.frames.append((name, octets))
+
+    def send(self, seconds: int) -> None:
+        """Sends the frames of so many seconds. Of those that a port would have sent in several
+        seconds that were missed, the last one goes out, and the others are counted."""
+        frames, self.frames = self.frames, []
+        last = {name: place for place, (name, _) in enumerate(frames)}
+        for place, (name, octets) in enumerate(frames):
+            port = self.ports.by_name[name]
+            if seconds > 1 and place != last[name]:
+                port.left_out += 1
+            else:
+                self.send_frame(port, octets)
+
+    def send_frame(self, port: Interface, octets: bytes) -> None:
+        """Sends a frame out of its port. That it was not sent is counted, and told once until
+        one goes again."""
+        if self.own_source and len(port.address) == LENGTH_OF_ADDRESS:
+            octets = octets[:6] + port.address + octets[12:]
+        try:
+            port.send(octets)
+        except OSError as error:
+            port.unsent += 1
+            if not port.is_failing:
+                self.ports.report(f"{port.name}: a frame was not sent: {error.strerror}")
+            port.is_failing = True
+        else:
+            port.is_failing = False

@@ -1,0 +1,48 @@
+"""Who looks on while a bridge runs: systemd, and who reads the lines of who comes and goes."""
+
+from __future__ import annotations
+
+import time
+from typing import Iterable, Optional
+
+from .events import Events
+from .looks import Looks
+from .notify import Manager
+from .patient import Patient
+from .people import counted
+from .show import read_show
+
+
+class Watched:
+    """Tells them of the tables. Where nobody looks on, it costs nothing."""
+
+    def __init__(self, manager: Manager, events: Optional[Events]) -> None:
+        self.manager = manager
+        self.events = events
+        self.looks = Looks() if manager.is_there or events is not None else None
+
+    def take_lines(self, lines: Iterable[bytes]) -> None:
+        """Lines that the agent is told."""
+        if self.looks is not None:
+            for line in lines:
+                self.looks.take_line(line)
+
+    async def turned(self, agent: Patient, second: int) -> None:
+        """The agent has answered all that came in, up to so many seconds: it is looked at where
+        its tables may be others, and that all goes on is told."""
+        now = time.monotonic()
+        if self.looks is not None and self.looks.is_due(second, now):
+            await self.look(agent, second, now)
+        elif self.events is not None:
+            self.events.take_time(now)
+        self.manager.turned()
+
+    async def look(self, agent: Patient, second: int, began: float) -> None:
+        """Asks the agent for its tables. (The log need not have it: a show changes nothing.)"""
+        assert self.looks is not None
+        ports = read_show(await agent.tell(["show neighbors"])).ports
+        if self.events is not None:
+            self.events.take(ports, began)
+        held = sum(port.neighbors_held for port in ports)
+        self.manager.show(f"{counted(held, 'neighbor')} on {counted(len(ports), 'port')}")
+        self.looks.looked(ports, second, began, time.monotonic())

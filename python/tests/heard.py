@@ -1,0 +1,51 @@
+"""For tests: who hears what a service tells systemd, at a socket of the test's own."""
+
+from __future__ import annotations
+
+import os
+import select
+import socket
+import time
+from typing import Dict, List
+
+from patience import SECONDS
+
+
+class Heard:
+    """A datagram socket as NOTIFY_SOCKET names one, and what has come in there."""
+
+    def __init__(self, folder: str) -> None:
+        self.path = os.path.join(folder, "notify")
+        self.socket = socket.socket(socket.AF_UNIX, socket.SOCK_DGRAM)
+        self.socket.bind(self.path)
+        os.chmod(self.path, 0o777)
+        self.datagrams: List[List[str]] = []
+
+    def environment(self, seconds: float = 0) -> Dict[str, str]:
+        """What a service is started with, which gives a sign of life within so many seconds."""
+        watched = {"WATCHDOG_USEC": str(int(1e6 * seconds))} if seconds else {}
+        return {**os.environ, "NOTIFY_SOCKET": self.path, **watched}
+
+    def next(self, seconds: float = SECONDS) -> List[str]:
+        """The lines of the next datagram; none where there comes none within that time."""
+        if not select.select([self.socket], [], [], seconds)[0]:
+            return []
+        self.datagrams.append(self.socket.recv(65536).decode().split("\n"))
+        return self.datagrams[-1]
+
+    def hears(self, line: str, seconds: float = SECONDS) -> bool:
+        """Whether a datagram with that line comes within some seconds."""
+        last = time.monotonic() + seconds
+        while (left := last - time.monotonic()) > 0:
+            if line in self.next(left):
+                return True
+        return False
+
+    def forget(self) -> None:
+        """Passes over what has come in."""
+        while self.next(0):
+            pass
+
+    def close(self) -> None:
+        """Lets go of the socket."""
+        self.socket.close()

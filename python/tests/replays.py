@@ -1,0 +1,51 @@
+"""For tests: whether a log, replayed, gives the tables that were there at some moments."""
+
+from __future__ import annotations
+
+import shlex
+import subprocess
+from pathlib import Path
+from typing import Optional
+
+from bridged import Live
+from served import PROGRAM
+
+
+class Moments:
+    """Asks a bridge for its tables, each time in words of their own, so that the log's line is
+    found again."""
+
+    def __init__(self, live: Live) -> None:
+        self.live = live
+        self.answers: dict[str, list[str]] = {}
+
+    def take(self) -> None:
+        """Takes the tables of now."""
+        line = f"show{' ' * (len(self.answers) + 2)}neighbors"
+        self.answers[line] = self.live.ask(line)
+
+
+def replayed(log: Path, line: str) -> Optional[list[str]]:
+    """The tables where that line stands in a log, as a replay of this file alone has them; None
+    where the line is not in it."""
+    lines = log.read_text().split("\n")
+    if line not in lines:
+        return None
+    before = [one for one in lines[:lines.index(line)] if not one.startswith("show")]
+    words = shlex.split(lines[0][len("# lldpa "):])
+    told = "\n".join([*before, "show neighbors", ""])
+    run = subprocess.run([PROGRAM, *words], input=told, capture_output=True, text=True, check=True)
+    return [one for one in run.stdout.splitlines() if one.startswith("lldp.")]
+
+
+def differing(folder: Path, moments: Moments) -> list[str]:
+    """What is wrong with the logs of a folder: moments that none has, or whose tables differ."""
+    wrong = []
+    for line, answer in moments.answers.items():
+        found = {log.name: tables for log in sorted(folder.iterdir())
+                 if (tables := replayed(log, line)) is not None}
+        if len(found) != 1:
+            wrong.append(f"moment {len(line)} is in {len(found)} files")
+        wrong += [f"{name}: {lines}" for name, tables in found.items() if tables != answer
+                  for lines in [[pair for pair in zip(tables, answer) if pair[0] != pair[1]][:4]]]
+    return wrong

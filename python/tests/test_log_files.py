@@ -1,0 +1,179 @@
+"""The files of a log: each replays alone, together they stay in bounds, no disk holds the bridge."""
+
+from __future__ import annotations
+
+import os
+import shutil
+import signal
+import subprocess
+import time
+import unittest
+from pathlib import Path
+
+from bridged import Live, OnLinks, on_links
+from patience import by_the_clock, eventually
+from replays import Moments, differing
+from served import numbered, tlv
+from wires import flood
+
+LONG = [numbered(number, 600 + number, tlv(5, b"n%d" % number)).ljust(1514, b"\0")
+        for number in range(200)]
+
+
+def log_process(live: Live) -> int:
+    """The process that writes a bridge's log."""
+    pid = live.process.pid
+    children = Path(f"/proc/{pid}/task/{pid}/children").read_text().split()
+    return next(int(one) for one in children if int(one) != live.agent())
+
+
+@on_links
+class TestFiles(OnLinks):
+    """Logs that follow one another."""
+
+    links = 2
+
+    def setUp(self) -> None:
+        super().setUp()
+        self.folder = Path(self.wires.folder, "log")
+
+    def size(self) -> int:
+        """The octets of all logs."""
+        return sum(path.stat().st_size for path in self.folder.iterdir())
+
+    def test_each_file_replays_alone_to_the_tables_that_were_there(self) -> None:
+        live = self.live("--log", str(self.folder), "--log-most", "1", "--log-keep", "9",
+                         "eth0", "eth1", "--", "--max-neighbors", "20")
+        peer, moments = self.peer("peer1"), Moments(live)
+        live.ask('configure system description "a log\'s own"')
+        live.ask("configure lldp tx-interval 7")
+        for number in range(6):
+            peer.send(numbered(number, 20 + 40 * number))
+        self.assertTrue(eventually(lambda: live.neighbors("eth1") == 6))
+        flood(self.wires, "peer0", LONG, 20_000)
+        for number in range(10):
+            peer.send(numbered(5 - number % 3, 30 + number))
+            told = live.seconds_told()
+            self.assertTrue(eventually(lambda: live.seconds_told() > told))
+            moments.take()
+            self.assertLessEqual(self.size(), 9_000_000)
+        peer.send(numbered(0, ttl=0))
+        moments.take()
+        self.wires.set_link("eth1", "down")
+        self.assertTrue(eventually(lambda: "bridge.eth1.link=down" in live.ask("bridge")))
+        live.signal(signal.SIGTERM)
+        self.assertEqual(live.ends(), 0)
+        self.assertGreater(len(list(self.folder.iterdir())), 2)
+        self.assertTrue(any(line == "lldp.eth0.too-many=yes" for line in
+                            list(moments.answers.values())[-1]))
+        self.assertEqual(differing(self.folder, moments), [])
+
+    def test_oldest_files_give_way(self) -> None:
+        self.folder.mkdir()
+        shutil.chown(self.folder, "nobody")
+        for hour in range(3):
+            old = self.folder / f"2020010{hour + 1}T000000Z.trace"
+            old.write_bytes(b"#" * 999_999)
+        (self.folder / "of-somebody-else").write_bytes(b"x")
+        live = self.live("--log", str(self.folder), "--log-most", "1", "--log-keep", "2", "eth0")
+        self.assertTrue(eventually(lambda: not (self.folder / "20200101T000000Z.trace").exists()))
+        self.assertTrue((self.folder / "of-somebody-else").exists())
+        flood(self.wires, "peer0", LONG, 5_000).wait()
+        self.assertTrue(eventually(lambda: not list(self.folder.glob("2020*"))))
+        self.assertTrue(live.answers())
+        self.assertLessEqual(self.size(), 2_000_001)
+
+    def test_folder_that_is_removed_is_told_and_found_again(self) -> None:
+        live = self.live("--log", str(self.folder), "eth0")
+        self.assertTrue(eventually(lambda: list(self.folder.iterdir())))
+        shutil.rmtree(self.folder)
+        self.assertTrue(live.says("its file was removed"))
+        self.assertIn("bridge.log=stalled", live.ask("bridge"))
+        self.assertTrue(eventually(lambda: "bridge.log-lines-lost=0" not in live.ask("bridge")))
+        os.chmod(self.wires.folder, 0o777)
+        self.assertTrue(eventually(lambda: "bridge.log=on" in live.ask("bridge")))
+        self.assertEqual(len(list(self.folder.iterdir())), 1)
+        self.assertTrue(live.says("the log goes on in"))
+
+    def test_folder_without_permission_is_told_at_the_start(self) -> None:
+        self.folder.mkdir(mode=0o755)
+        live = self.live("--log", str(self.folder), "eth0")
+        self.assertEqual(live.ends(), 1)
+        self.assertIn(f"{self.folder}: the log's user may make no files there", live.errors())
+
+    @by_the_clock
+    def test_log_that_stands_still_holds_nothing_up(self) -> None:
+        peer, live = self.peer(), self.live("--log", str(self.folder), "eth0")
+        writer = log_process(live)
+        self.addCleanup(lambda: os.path.exists(f"/proc/{writer}") and os.kill(writer, 9))
+        os.kill(writer, signal.SIGSTOP)
+        self.assertTrue(live.says("has stood still for 5 seconds"))
+        self.assertIn("bridge.log=stalled", live.ask("bridge"))
+        peer.send(numbered(1))
+        self.assertTrue(eventually(live.neighbors, 1))
+        os.kill(writer, signal.SIGCONT)
+        self.assertTrue(live.says("the log goes on in"))
+        self.assertTrue(eventually(lambda: len(list(self.folder.iterdir())) == 2))
+        self.assertIn("bridge.log-lines-lost=0", live.ask("bridge"))
+        os.kill(writer, signal.SIGSTOP)
+        while peer.hears(0.1):
+            pass
+        live.signal(signal.SIGTERM)
+        self.assertIsNotNone(peer.hears(2, ttl=0))
+        self.assertEqual(live.ends(2), 0)
+
+    def test_killed_process_of_the_log_is_followed_by_another(self) -> None:
+        live = self.live("--log", str(self.folder), "eth0")
+        os.kill(log_process(live), signal.SIGKILL)
+        self.assertTrue(live.says("its process has ended"))
+        self.assertTrue(eventually(lambda: "bridge.log=on" in live.ask("bridge")))
+        self.assertEqual(len(list(self.folder.iterdir())), 2)
+
+
+@on_links
+class TestFrozenDisk(OnLinks):
+    """A file system that takes nothing for a while."""
+
+    def setUp(self) -> None:
+        super().setUp()
+        disk = Path(self.wires.folder, "disk")
+        self.folder = Path(self.wires.folder, "log")
+        self.folder.mkdir()
+        with disk.open("wb") as file:
+            file.truncate(16_000_000)
+        made = subprocess.run(["mkfs.ext4", "-q", disk], capture_output=True)
+        mounted = subprocess.run(["mount", "-o", "loop", disk, self.folder], capture_output=True)
+        if made.returncode or mounted.returncode:
+            self.skipTest("no loop-mounted file system is allowed here")
+        self.addCleanup(subprocess.run, ["umount", "-l", self.folder], check=False)
+        self.addCleanup(subprocess.run, ["fsfreeze", "-u", self.folder], capture_output=True)
+        shutil.chown(self.folder, "nobody")
+
+    def freeze(self) -> None:
+        """Freezes it."""
+        subprocess.run(["fsfreeze", "-f", self.folder], check=True)
+
+    @by_the_clock
+    def test_frames_answers_and_the_end_do_not_wait_for_it(self) -> None:
+        peer, live = self.peer(), self.live("--log", str(self.folder), "eth0")
+        self.assertTrue(eventually(lambda: list(self.folder.glob("*.trace"))))
+        self.freeze()
+        self.assertTrue(live.says("has stood still for 5 seconds"))
+        live.ask("configure lldp tx-interval 1")
+        self.assertIsNotNone(peer.hears())
+        began = time.monotonic()
+        self.assertIn("lldp.eth0.neighbors=0", live.ask("show neighbors"))
+        self.assertLess(time.monotonic() - began, 1)
+        subprocess.run(["fsfreeze", "-u", self.folder], check=True)
+        self.assertTrue(live.says("the log goes on in"))
+        self.assertTrue(eventually(lambda: len(list(self.folder.glob("*.trace"))) == 2))
+        self.freeze()
+        told = live.seconds_told()
+        self.assertTrue(eventually(lambda: live.seconds_told() > told + 1))
+        live.signal(signal.SIGTERM)
+        self.assertIsNotNone(peer.hears(2, ttl=0))
+        self.assertEqual(live.ends(2), 0)
+
+
+if __name__ == "__main__":
+    unittest.main()

@@ -1,0 +1,123 @@
+"""When the tables are looked at: each time that they may be others, and else not."""
+
+from __future__ import annotations
+
+import random
+import unittest
+from typing import Sequence
+
+from lldpa import Agent
+from lldpa.framing import rx
+from lldpa.looks import MOST_SENDERS, Looks, sender_of
+from lldpa.show import Port
+from lldpa.watching import Watch
+from served import PROGRAM, frame, numbered, tlv
+
+FOREVER = 1e9
+
+
+class BesideAnAgent(unittest.TestCase):
+    """Whatever an agent is told, nothing is new in its tables unless a look is due."""
+
+    def setUp(self) -> None:
+        self.agent = Agent.start(["eth0", "eth1"], PROGRAM, receive_only=True, max_neighbors=3)
+        self.addCleanup(self.agent.close)
+        self.looks = Looks()
+        self.watch = Watch(())
+        self.second = self.made = self.seen = 0
+        self.look(self.ports())
+
+    def ports(self) -> Sequence[Port]:
+        """The tables as they are."""
+        return self.agent.show("neighbors").ports
+
+    def look(self, ports: Sequence[Port]) -> None:
+        """Looks at the tables."""
+        self.seen += len(list(self.watch.news(ports)))
+        self.looks.looked(ports, self.second, 0, 0)
+        self.made += 1
+
+    def tell(self, line: str) -> None:
+        """Tells the agent and the looks a line, and looks if that is due. If not, nothing is new
+        but what they are told again is theirs."""
+        self.agent.tell([line])
+        self.looks.take_line(line.encode())
+        if line.startswith("tick"):
+            self.second += int(line[5:] or 1)
+        ports = self.ports()
+        if self.looks.is_due(self.second, FOREVER):
+            self.look(ports)
+        else:
+            known = self.watch.known
+            self.assertEqual(list(self.watch.news(ports)), [], line)
+            self.watch.known = known
+
+    def test_nothing_new_is_missed(self) -> None:
+        chance = random.Random(42)
+        lines = 6000
+        for _ in range(lines):
+            self.tell(a_line(chance))
+        self.assertGreater(self.seen, 500)
+        self.assertLess(self.made, lines * 2 // 3)
+
+    def test_a_quiet_network_is_looked_at_seldom(self) -> None:
+        for second in range(1200):
+            if second % 30 == 0:
+                self.tell(rx("eth0", numbered(1, 120)))
+                self.tell(rx("eth1", numbered(2, 120)))
+            self.tell("tick")
+        self.assertLess(self.made, 20)
+
+
+def a_line(chance: random.Random) -> str:
+    """Something that an agent is told: mostly frames of a few senders, who mostly say the same."""
+    port = chance.choice(["eth0", "eth1"])
+    kind = chance.randrange(20)
+    if kind < 13:
+        said = tlv(5, b"other") if chance.random() < 0.05 else tlv(5, b"name")
+        ttl = 0 if chance.random() < 0.05 else 6
+        octets = numbered(chance.randrange(5), ttl, said)
+        return rx(port, octets[:chance.randrange(60)] if chance.random() < 0.05 else octets)
+    if kind < 17:
+        return chance.choice(["tick", "tick", "tick 2", "show statistics"])
+    if kind == 17:
+        status = "disabled" if chance.random() < 0.05 else "rx-only"
+        return f"configure ports {port} lldp status {status}"
+    if kind == 18:
+        return f"down {port}" if chance.random() < 0.05 else f"up {port}"
+    return "update" if chance.random() < 0.05 else "show chassis"
+
+
+class Bounds(unittest.TestCase):
+    """What looks cost, and what they keep."""
+
+    def test_a_look_takes_no_more_than_a_twentieth_of_the_time(self) -> None:
+        looks = Looks()
+        self.assertTrue(looks.is_due(0, 0))
+        looks.looked((), 0, 100, 100.001)
+        looks.take_line(b"update")
+        self.assertFalse(looks.is_due(0, 100.5))
+        self.assertTrue(looks.is_due(0, 100.502))
+        looks.looked((), 0, 200, 201)
+        looks.take_line(b"update")
+        self.assertFalse(looks.is_due(0, 220.9))
+        self.assertTrue(looks.is_due(0, 221.1))
+
+    def test_of_many_senders_few_are_kept(self) -> None:
+        looks = Looks()
+        for number in range(3 * MOST_SENDERS):
+            looks.take_line(b"rx eth0 " + numbered(1)[:18].hex().encode() + b"%08x" % number)
+            self.assertLessEqual(len(looks.frames[b"eth0"]), MOST_SENDERS)
+
+    def test_who_sends_is_told_by_chassis_and_port(self) -> None:
+        octets = frame(b"\x07chassis", b"\x05port", 9, tlv(5, b"name"))
+        sender = sender_of(octets.hex().encode())
+        self.assertEqual(bytes.fromhex(sender.decode()),
+                         tlv(1, b"\x07chassis") + tlv(2, b"\x05port"))
+        for end in range(len(octets)):
+            self.assertTrue(octets[14:end].hex().startswith(
+                sender_of(octets[:end].hex().encode()).decode()))
+
+
+if __name__ == "__main__":
+    unittest.main()

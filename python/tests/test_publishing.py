@@ -1,0 +1,161 @@
+"""lldpa-ctl metrics --output: a file that is whole, and says so where nobody answers."""
+
+from __future__ import annotations
+
+import os
+import resource
+import signal
+import socket
+import stat
+import subprocess
+import threading
+import unittest
+from pathlib import Path
+from typing import Any, List
+
+from patience import SECONDS
+from served import BRIDGE_LINES, CTL, Served, numbered
+
+DOWN = """\
+# HELP lldpa_up Whether the bridge answers and its agent does, 1 or 0.
+# TYPE lldpa_up gauge
+lldpa_up 0
+"""
+
+
+class Publishing(unittest.TestCase):
+    """With a bridge's socket, and a folder for the file."""
+
+    def setUp(self) -> None:
+        self.served = Served()
+        self.addCleanup(self.served.close)
+        self.folder = Path(self.served.folder, "collected")
+        self.folder.mkdir()
+        self.file = self.folder / "lldpa.prom"
+
+    def ctl(self, *words: str, said: str = "", status: int = 0, **options: Any) -> str:
+        """What lldpa-ctl prints; its status and what it says are looked at."""
+        told = subprocess.run([CTL, "--control", self.served.path, "metrics", *words], check=False,
+                              capture_output=True, text=True, timeout=SECONDS, **options)
+        self.assertEqual((told.stderr, told.returncode), (said and f"lldpa-ctl: {said}\n", status))
+        return told.stdout
+
+    def names(self) -> List[str]:
+        """The files in the folder."""
+        return sorted(os.listdir(self.folder))
+
+    def test_the_file_has_what_is_printed(self) -> None:
+        self.served.frame("eth0", numbered(1))
+        printed = self.ctl()
+        self.assertIn("\nlldpa_up 1\n", printed)
+        for _ in range(2):
+            self.assertEqual(self.ctl("--output", str(self.file), umask=0o077), "")
+            self.assertEqual((self.names(), self.file.read_text()), (["lldpa.prom"], printed))
+            self.assertEqual(stat.S_IMODE(self.file.stat().st_mode), 0o644)
+        self.assertEqual(self.ctl("--output", "lldpa.prom", cwd=self.folder), "")
+        self.assertEqual((self.names(), self.file.read_text()), (["lldpa.prom"], printed))
+
+    def test_where_nobody_answers_it_says_so_and_nothing_else(self) -> None:
+        self.ctl("--output", str(self.file))
+        self.served.path += "-none"
+        said = f"nobody answers at {self.served.path}: is lldpa-live running?"
+        self.ctl("--output", str(self.file), said=said, status=1)
+        self.assertEqual((self.names(), self.file.read_text()), (["lldpa.prom"], DOWN))
+        self.assertEqual(self.ctl(said=said, status=1), DOWN)
+        with socket.socket(socket.AF_UNIX, socket.SOCK_STREAM) as left_behind:
+            left_behind.bind(self.served.path)
+        self.assertEqual(self.ctl(said=said, status=1), DOWN)
+
+    def test_an_agent_that_does_not_answer_is_not_waited_for(self) -> None:
+        for state in ("silent", "waiting"):
+            self.served.bridge_lines = [*BRIDGE_LINES, b"bridge.agent=" + state.encode()]
+            self.served.asked.clear()
+            printed = self.ctl(said=f"the agent is {state}", status=1)
+            self.assertEqual(self.served.asked, [b"bridge"])
+            self.assertIn("\nlldpa_up 0\n", printed)
+            self.assertIn(f'\nlldpa_agent_state{{state="{state}"}} 1\n', printed)
+            self.assertIn('\nlldpa_link_up{port="eth0"} 1\n', printed)
+            self.assertNotIn("lldpa_neighbors", printed)
+
+    def test_a_bridge_that_ends_or_answers_nonsense_is_down(self) -> None:
+        answers = {b"": "the bridge has ended the connection",
+                   b"=1\n": "the bridge has ended the connection",
+                   b"hello\n": "no answer of a bridge: 'hello'",
+                   b"=1\nbridge.began=now\n=0\n=0\n": "no answer of a bridge: time data 'now' does not "
+                                              "match format '%Y-%m-%dT%H:%M:%SZ'",
+                   b"=0\n=1\nx\n=0\n": "line 1"}
+        for answer, said in answers.items():
+            path = os.path.join(self.served.folder, f"other-{len(answer)}")
+            with socket.socket(socket.AF_UNIX, socket.SOCK_STREAM) as other:
+                other.bind(path)
+                other.listen()
+                thread = threading.Thread(target=answer_once, args=[other, answer])
+                thread.start()
+                told = subprocess.run([CTL, "--control", path, "metrics", "--output",
+                                       str(self.file)], check=False, capture_output=True, text=True)
+                thread.join()
+            self.assertEqual((told.returncode, self.file.read_text()), (1, DOWN), answer)
+            self.assertIn(said, told.stderr)
+            self.file.unlink()
+
+    def test_a_file_that_cannot_be_written_stays_as_it_was(self) -> None:
+        missing = self.folder / "none" / "lldpa.prom"
+        self.ctl("--output", str(missing), said=f"{missing}: No such file or directory", status=1)
+        self.file.write_text("before\n")
+        is_full = lambda: resource.setrlimit(resource.RLIMIT_FSIZE, (100, 100))
+        self.ctl("--output", str(self.file), said=f"{self.file}: File too large", status=1,
+                 preexec_fn=is_full)
+        self.assertEqual((self.names(), self.file.read_text()), (["lldpa.prom"], "before\n"))
+
+    def test_who_reads_meanwhile_sees_a_whole_file(self) -> None:
+        self.ctl("--output", str(self.file))
+        whole, seen, is_over = self.file.read_text(), set(), threading.Event()
+
+        def read() -> None:
+            while not is_over.is_set():
+                seen.add(self.file.read_text())
+
+        thread = threading.Thread(target=read)
+        thread.start()
+        for _ in range(5):
+            self.ctl("--output", str(self.file))
+        is_over.set()
+        thread.join()
+        self.assertEqual(seen, {whole})
+
+    def test_who_is_killed_while_asking_leaves_the_file_as_it_was(self) -> None:
+        self.file.write_text("before\n")
+        path = os.path.join(self.served.folder, "silent")
+        with socket.socket(socket.AF_UNIX, socket.SOCK_STREAM) as silent:
+            silent.bind(path)
+            silent.listen()
+            asking = subprocess.Popen([CTL, "--control", path, "metrics", "--output",
+                                       str(self.file)])
+            with silent.accept()[0] as connection:
+                self.assertEqual(connection.recv(4096), b"bridge\n")
+                asking.kill()
+                self.assertEqual(asking.wait(SECONDS), -signal.SIGKILL)
+        self.assertEqual((self.names(), self.file.read_text()), (["lldpa.prom"], "before\n"))
+
+    def test_words(self) -> None:
+        for words in (["--output", "x", "show", "neighbors"], ["--output", "x"],
+                      ["metrics", "--output"], ["--output", "x", "--json", "metrics"]):
+            told = subprocess.run([CTL, *words], check=False, capture_output=True, text=True)
+            self.assertEqual((told.returncode, told.stdout), (2, ""), words)
+            self.assertIn("lldpa-ctl: error: ", told.stderr)
+
+
+def answer_once(listener: socket.socket, answer: bytes) -> None:
+    """Answers who connects, whatever is asked, and ends the connection."""
+    connection, _ = listener.accept()
+    with connection:
+        connection.settimeout(SECONDS)
+        connection.recv(4096)
+        connection.sendall(answer)
+        connection.shutdown(socket.SHUT_WR)
+        while connection.recv(4096):
+            pass
+
+
+if __name__ == "__main__":
+    unittest.main()

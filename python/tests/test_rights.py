@@ -1,0 +1,155 @@
+"""What is left to who takes over the bridge: LLDP frames, and no right."""
+
+from __future__ import annotations
+
+import array
+import ctypes
+import os
+import socket
+import struct
+import subprocess
+import sys
+import unittest
+from pathlib import Path
+
+from lldpa.interface import IS_OURS, SO_ATTACH_FILTER, filter_program
+
+from bridged import Live, OnLinks, on_links
+from patience import eventually
+from served import REPOSITORY, numbered
+from wires import inside
+
+SO_DETACH_FILTER, SO_LOCK_FILTER = 27, 44
+SYS_PIDFD_OPEN, SYS_PIDFD_GETFD = 434, 438
+
+# opens a port as the bridge does, gives up all rights, and tries to get more out of its socket
+WITHIN = """
+import socket, sys
+sys.path.insert(0, sys.argv[1])
+from lldpa.interface import IS_OURS, Interface, filter_program
+from lldpa.privileges import give_up
+from test_rights import what_is_refused
+port = Interface("eth0")
+give_up(None)
+port.take(socket.if_nametoindex("eth0"))
+print(what_is_refused(port.socket))
+"""
+
+
+def what_is_refused(packets: socket.socket) -> list[str]:
+    """Which of the calls that would let a packet socket read more are refused."""
+    code = array.array("B", struct.pack("HBBI", 6, 0, 0, 0xFFFF))
+    program = struct.pack("HP", 1, code.buffer_info()[0])
+    refused = []
+    for name, number, value in (("detach", SO_DETACH_FILTER, struct.pack("i", 0)),
+                                ("attach", SO_ATTACH_FILTER, program),
+                                ("unlock", SO_LOCK_FILTER, struct.pack("i", 0))):
+        try:
+            packets.setsockopt(socket.SOL_SOCKET, number, value)
+        except PermissionError:
+            refused.append(name)
+    return refused
+
+
+def sockets_of(live: Live) -> list[socket.socket]:
+    """The packet sockets of a bridge, the very ones."""
+    libc = ctypes.CDLL(None, use_errno=True)
+    pid = libc.syscall(SYS_PIDFD_OPEN, live.process.pid, 0)
+    found = []
+    for name in os.listdir(f"/proc/{live.process.pid}/fd"):
+        number = libc.syscall(SYS_PIDFD_GETFD, pid, int(name), 0)
+        if number >= 0:
+            try:
+                one = socket.socket(fileno=number)
+            except OSError:
+                os.close(number)
+                continue
+            if one.family == socket.AF_PACKET:
+                found.append(one)
+            else:
+                one.close()
+    os.close(pid)
+    return found
+
+
+def status_of(pid: int) -> dict[str, str]:
+    """What the kernel says of a process."""
+    lines = Path(f"/proc/{pid}/status").read_text().splitlines()
+    return dict(line.split(":\t", 1) for line in lines if ":\t" in line)
+
+
+@on_links
+class TestFilter(OnLinks):
+    """The filter of a packet socket is there for good."""
+
+    links = 2
+
+    def test_kernel_refuses_from_within_the_process(self) -> None:
+        with inside(self.wires.here):
+            run = subprocess.run([sys.executable, "-c", WITHIN, str(REPOSITORY / "python")],
+                                 capture_output=True, text=True, check=False,
+                                 env={**os.environ, "PYTHONPATH": os.path.dirname(__file__)})
+        self.assertEqual(run.stdout.strip(), "['detach', 'attach', 'unlock']", run.stderr)
+
+    def test_kernel_refuses_on_the_sockets_of_a_running_bridge(self) -> None:
+        live = self.live("eth0", "eth1")
+        found = sockets_of(live)
+        self.assertEqual(len(found), 2)
+        for one in found:
+            self.assertEqual(what_is_refused(one), ["detach", "attach", "unlock"])
+            one.close()
+        peer = self.peer()
+        peer.send(numbered(1))
+        self.assertTrue(eventually(live.neighbors))
+
+    def test_bound_to_another_interface_it_reads_lldp_frames_alone(self) -> None:
+        live = self.live("eth0", "--", "--receive-only")
+        one = sockets_of(live)[0]
+        self.addCleanup(one.close)
+        with inside(self.wires.here):
+            number = socket.if_nametoindex("eth1")
+        one.bind(("eth1", 3)) if not number else None
+        with inside(self.wires.here):
+            one.bind(("eth1", 3))
+        sender = self.peer("peer1")
+        sender.send(bytes.fromhex("ffffffffffff02005e0053770800") + b"a secret" * 9)
+        sender.send(numbered(1))
+        one.settimeout(5)
+        self.assertEqual(one.recv(2000), numbered(1))
+
+    def test_filter_stands_before_the_first_frame_could_come(self) -> None:
+        self.assertTrue(filter_program(IS_OURS))
+        live = self.live("eth0", "eth7", "--", "--receive-only")
+        for one in sockets_of(live):
+            self.assertEqual(what_is_refused(one), ["detach", "attach", "unlock"])
+            one.close()
+
+
+@on_links
+class TestSets(OnLinks):
+    """Capabilities and groups of the bridge, its agent and the process of its log."""
+
+    def test_bounding_set_is_empty(self) -> None:
+        live = self.live("--log", os.path.join(self.wires.folder, "log"), "eth0")
+        pid = live.process.pid
+        children = Path(f"/proc/{pid}/task/{pid}/children").read_text().split()
+        self.assertEqual(len(children), 2)
+        for process in (pid, *map(int, children)):
+            status = status_of(process)
+            for kind in ("CapBnd", "CapInh", "CapPrm", "CapEff", "CapAmb"):
+                self.assertEqual(int(status[kind], 16), 0, (process, kind))
+            self.assertEqual(status["Groups"].strip(), "")
+            self.assertEqual(status["NoNewPrivs"].strip(), "1")
+            self.assertEqual(set(status["Uid"].split()), {"65534"})
+
+    def test_groups_are_dropped_where_it_is_not_root(self) -> None:
+        Path(self.wires.folder).chmod(0o777)
+        live = self.live("eth0", before=[
+            "setpriv", "--reuid=1", "--regid=1", "--groups=4,24", "--inh-caps=+net_raw,+setgid",
+            "--ambient-caps=+net_raw,+setgid"])
+        self.assertEqual(status_of(live.process.pid)["Groups"].strip(), "")
+        self.assertEqual(int(status_of(live.process.pid)["CapEff"], 16), 0)
+
+
+if __name__ == "__main__":
+    unittest.main()

@@ -1,0 +1,166 @@
+"""lldpa-live as a service: what systemd hears of it, what metrics say, and the lines of --events."""
+
+from __future__ import annotations
+
+import os
+import re
+import signal
+import subprocess
+import time
+from typing import Any
+
+from bridged import Live, OnLinks, on_links
+from heard import Heard
+from patience import Standstill, by_the_clock, eventually
+from served import CTL, numbered, tlv
+
+
+@on_links
+class Service(OnLinks):
+    """A bridge that is watched."""
+
+    def setUp(self) -> None:
+        super().setUp()
+        self.heard = Heard(self.wires.folder)
+        os.chmod(self.wires.folder, 0o755)
+        self.addCleanup(self.heard.close)
+
+    def service(self, *words: str, seconds: float = 4, **options: Any) -> Live:
+        """A bridge that tells the test how it goes, with a sign of life in so many seconds."""
+        return self.live("--stay", *words, env=self.heard.environment(seconds), **options)
+
+    def metrics(self, live: Live) -> str:
+        """What Prometheus would be told."""
+        return subprocess.run([CTL, "--control", live.control, "metrics"], check=False,
+                              capture_output=True, text=True).stdout
+
+
+class Systemd(Service):
+    """Datagrams."""
+
+    def test_it_is_ready_when_the_agent_is_open(self) -> None:
+        live = self.service("eth1", awaits=False)
+        self.assertEqual(self.heard.next(), ["STATUS=waiting for an interface"])
+        self.assertIn("bridge.agent=waiting", live.ask("bridge"))
+        self.assertIn("\nlldpa_agent_state{state=\"waiting\"} 1\n", self.metrics(live))
+        self.assertEqual(self.heard.next(1.5), [])
+        self.wires.add_link(1)
+        self.assertTrue(self.heard.hears("READY=1"))
+        self.assertIn("bridge.agent=running", live.ask("bridge"))
+        self.assertTrue(self.heard.hears("STATUS=no neighbors on 1 port"))
+
+    def test_its_status_has_ports_and_neighbors(self) -> None:
+        self.service("eth0", "eth1", "--", "--receive-only")
+        self.assertTrue(self.heard.hears("STATUS=no neighbors on 2 ports"))
+        peer = self.peer()
+        peer.send(numbered(1))
+        self.assertTrue(self.heard.hears("STATUS=1 neighbor on 2 ports"))
+        peer.send(numbered(2, 2))
+        self.assertTrue(self.heard.hears("STATUS=2 neighbors on 2 ports"))
+        self.assertTrue(self.heard.hears("STATUS=1 neighbor on 2 ports"))  # one has aged out
+        peer.send(numbered(1, 0))
+        self.assertTrue(self.heard.hears("STATUS=no neighbors on 2 ports"))
+
+    def test_it_tells_that_it_reloads_and_that_it_ends(self) -> None:
+        live = self.service("eth0")
+        self.assertTrue(self.heard.hears("READY=1"))
+        live.signal(signal.SIGHUP)
+        self.assertTrue(self.heard.hears("RELOADING=1"))
+        self.assertRegex(self.heard.datagrams[-1][1], "^MONOTONIC_USEC=[0-9]+$")
+        self.assertTrue(self.heard.hears("READY=1"))
+        live.signal(signal.SIGTERM)
+        self.assertTrue(self.heard.hears("STOPPING=1"))
+        self.assertEqual(live.ends(), 0)
+
+    def test_signs_of_life_come_while_it_turns(self) -> None:
+        live = self.service("eth0", seconds=8)
+        for _ in range(3):
+            self.assertTrue(self.heard.hears("WATCHDOG=1", 8))
+        live.signal(signal.SIGSTOP)
+        self.heard.forget()
+        self.assertFalse(self.heard.hears("WATCHDOG=1", 4))
+        live.signal(signal.SIGCONT)
+        self.assertTrue(self.heard.hears("WATCHDOG=1"))
+
+    @by_the_clock
+    def test_a_stopped_agent_is_told_and_gives_no_sign_of_life(self) -> None:
+        live = self.service("eth0")
+        self.assertTrue(self.heard.hears("WATCHDOG=1"))
+        self.assertIn("\nlldpa_up 1\n", self.metrics(live))
+        with Standstill() as standstill:
+            began = time.monotonic()
+            os.kill(live.agent(), signal.SIGSTOP)
+            self.assertTrue(live.says("the agent has not answered for 5 seconds"))
+            took = time.monotonic() - began
+        self.assertLess(took - standstill.overslept, 6)
+        self.assertIn("bridge.agent=silent", live.ask("bridge"))
+        self.assertIn("\nlldpa_up 0\n", self.metrics(live))
+        self.heard.forget()
+        self.assertFalse(self.heard.hears("WATCHDOG=1", 4))
+        os.kill(live.agent(), signal.SIGCONT)
+        self.assertTrue(self.heard.hears("WATCHDOG=1"))
+        self.assertTrue(eventually(lambda: "\nlldpa_up 1\n" in self.metrics(live)))
+
+    def test_without_events_nobody_is_told(self) -> None:
+        live, peer = self.service("eth0", "--", "--receive-only"), self.peer()
+        peer.send(numbered(1))
+        self.assertTrue(self.heard.hears("STATUS=1 neighbor on 1 port"))
+        self.assertEqual(live.errors(), "")
+
+
+class Events(Service):
+    """Who comes, changes and goes."""
+
+    def told(self, live: Live) -> list[str]:
+        """The lines of neighbors on standard error."""
+        return re.findall("^lldpa-live: (eth0 (?:came|changed|gone): .*)$", live.errors(), re.M)
+
+    def test_a_line_for_each_that_comes_changes_or_goes(self) -> None:
+        live, peer = self.live("--stay", "--events", "eth0", "--", "--receive-only"), self.peer()
+        steps = ((numbered(1, 60, tlv(5, b"a")), "eth0 came: a p1"),
+                 (numbered(1, 60, tlv(5, b"b")), "eth0 changed: b p1; chassis.name: a -> b"),
+                 (numbered(1, 0), "eth0 gone: b p1"),
+                 (numbered(2, 2), "eth0 came: 02:00:00:00:00:02 p2"))
+        for number, (octets, line) in enumerate(steps, 1):
+            peer.send(octets)
+            self.assertTrue(eventually(lambda: len(self.told(live)) >= number), line)
+            self.assertEqual(self.told(live)[-1], line)
+        self.assertTrue(live.says("eth0 gone: 02:00:00:00:00:02 p2"))  # it has aged out
+        peer.send(numbered(3))
+        self.assertTrue(live.says("eth0 came: 02:00:00:00:00:03 p3"))
+        live.ask("configure ports eth0 lldp status disabled")
+        self.assertTrue(live.says("eth0 gone: 02:00:00:00:00:03 p3"))
+        self.assertEqual(len(self.told(live)), 7)
+
+    def test_who_repeats_what_was_said_is_no_news(self) -> None:
+        live, peer = self.live("--stay", "--events", "eth0", "--", "--receive-only"), self.peer()
+        for _ in range(5):
+            peer.send(numbered(1))
+        self.assertTrue(live.says("eth0 came: "))
+        told = live.seconds_told()
+        self.assertTrue(eventually(lambda: live.seconds_told() >= told + 2))
+        self.assertEqual(len(self.told(live)), 1)
+
+    def test_no_more_than_a_hundred_lines_a_minute(self) -> None:
+        live = self.live("--stay", "--events", "eth0", "--", "--receive-only", "--max-neighbors",
+                         "128")
+        peer = self.peer()
+        for ttl, held in ((120, 120), (0, 0), (120, 120)):
+            for number in range(120):
+                peer.send(numbered(number, ttl))
+            self.assertTrue(eventually(lambda: live.neighbors() == held), live.errors())
+        self.assertTrue(eventually(lambda: len(self.told(live)) == 100), live.errors())
+        second = live.seconds_told()
+        self.assertTrue(eventually(lambda: live.seconds_told() >= second + 2))
+        self.assertEqual(len(self.told(live)), 100)
+
+    def test_a_name_that_would_write_to_a_terminal_is_escaped(self) -> None:
+        live, peer = self.live("--stay", "--events", "eth0", "--", "--receive-only"), self.peer()
+        peer.send(numbered(1, 60, tlv(5, b"\x1b[2J\nlldpa-live: eth0 gone: all")))
+        self.assertTrue(live.says(r"eth0 came: \x1b[2J\x0alldpa-live: eth0 gone: all p1"))
+        self.assertEqual(live.errors().count("\n"), 1)
+
+
+if __name__ == "__main__":
+    import unittest
+    unittest.main()

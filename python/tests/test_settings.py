@@ -1,0 +1,124 @@
+"""Settings that outlive a restart."""
+
+from __future__ import annotations
+
+import signal
+import unittest
+from pathlib import Path
+
+from bridged import OnLinks, on_links
+from lldpa.refused import explained
+from patience import eventually
+from served import numbered
+
+
+class TestExplained(unittest.TestCase):
+    """Which word is wrong, and what may stand there."""
+
+    def test_words_and_ranges(self) -> None:
+        for line, text, wanted in (
+                ("configure lldp tx-interval 0", "out of range",
+                 "out of range: 0 (a number from 1 to 3600)"),
+                ("configure lldp tx-hold x", "not a number",
+                 "not a number: x (a number from 1 to 100)"),
+                ("configure lldp max-neighbors 99", "out of range",
+                 "out of range: 99 (a number from 1 to that of --max-neighbors)"),
+                ("configure ports eth9 lldp status disabled", "no such port",
+                 "no such port: eth9 (a port of this agent)"),
+                ("configure ports eth0 lldp status on", "unknown command",
+                 "unknown command: on (rx-and-tx, rx-only, tx-only or disabled)"),
+                ("configure lldp", "unknown command",
+                 "unknown command: nothing follows (tx-interval or tx-hold or max-neighbors)"),
+                ("configure lldp tx-hold 4 5", "extra word", "extra word: 5 (nothing follows)"),
+                ('configure system hostname "a', "bad quote", "bad quote")):
+            self.assertEqual(explained(line, text), wanted)
+
+
+@on_links
+class TestSettings(OnLinks):
+    """Files of settings, at the start and at SIGHUP."""
+
+    links = 2
+
+    def setUp(self) -> None:
+        super().setUp()
+        self.file = Path(self.wires.folder, "lldpa.conf")
+        self.folder = Path(self.wires.folder, "lldpa.d")
+        self.folder.mkdir()
+        Path(self.wires.folder).chmod(0o755)
+
+    def words(self) -> list[str]:
+        """The words of a bridge with both."""
+        return ["--stay", "--config", str(self.file), "--config", str(self.folder)]
+
+    def test_they_are_told_before_any_frame_goes_and_outlive_a_restart(self) -> None:
+        self.file.write_text("# of this host\n\nconfigure lldp tx-interval 7\r\n"
+                             "configure lldp tx-hold 9\n")
+        (self.folder / "20-hold.conf").write_text("configure lldp tx-hold 3")
+        (self.folder / "10-hold.conf").write_text("configure lldp tx-hold 5\n"
+                                                  "configure ports eth1 lldp status rx-only\n"
+                                                  'configure system description "a b"\n')
+        (self.folder / "30-hold.conf.bak").write_text("configure lldp tx-hold 8\n")
+        for _ in range(2):
+            peers = [self.peer("peer0"), self.peer("peer1")]
+            live = self.live(*self.words(), "eth0", "eth1")
+            shown = live.ask("show configuration")
+            for line in ("tx-interval=7", "tx-hold=3", "eth0.status=rx-and-tx",
+                         "eth1.status=rx-only"):
+                self.assertIn(f"configuration.{line}", shown)
+            self.assertIn("local-chassis.descr=a b", live.ask("show chassis"))
+            self.assertIsNotNone(peers[0].hears())
+            self.assertIsNone(peers[1].hears(0.2))
+            self.assertIn("lldp.eth1.sent=0", live.ask("show statistics"))
+            live.signal(signal.SIGTERM)
+            self.assertEqual(live.ends(), 0)
+
+    def test_wrong_lines_end_it_at_the_start_each_told(self) -> None:
+        self.file.write_text("configure lldp tx-hold 3\n#\nconfigure lldp tx-interval 3601\n"
+                             "show neighbors\nconfigure ports eth9 lldp status disabled\n")
+        peer = self.peer("peer0")
+        live = self.live(*self.words(), "eth0", "eth1")
+        self.assertEqual(live.ends(), 2)
+        self.assertEqual(live.errors().splitlines(), [
+            f"lldpa-live: {self.file}:3: configure lldp tx-interval 3601: "
+            "out of range: 3601 (a number from 1 to 3600)",
+            f"lldpa-live: {self.file}:4: show neighbors: show is not `configure`",
+            f"lldpa-live: {self.file}:5: configure ports eth9 lldp status disabled: "
+            "no such port: eth9 (a port of this agent)"])
+        self.assertIsNone(peer.hears(0.2))
+
+    def test_wrong_lines_end_it_also_where_it_waits_for_an_interface(self) -> None:
+        self.file.write_text("configure lldp tx-hold 0\n")
+        live = self.live(*self.words(), "eth7")
+        self.assertEqual(live.ends(), 2)
+        self.assertIn(f"{self.file}:1: configure lldp tx-hold 0: out of range: 0", live.errors())
+
+    def test_reload_takes_changes_without_a_frame_lost(self) -> None:
+        self.file.write_text("configure lldp tx-interval 7\n")
+        live, peer = self.live(*self.words(), "eth0", "eth1"), self.peer("peer0")
+        for round_ in range(20):
+            self.file.write_text(f"configure lldp tx-interval {10 + round_}\n"
+                                 "configure lldp tx-hold 101\n"
+                                 f"configure system description d{round_}\n")
+            for number in range(10):
+                peer.send(numbered(number, 500))
+            live.signal(signal.SIGHUP)
+            self.assertTrue(eventually(lambda: f"local-chassis.descr=d{round_}"  # pylint: disable=W0640
+                                       in live.ask("show chassis")))
+        self.assertIn("lldp.eth0.received=200", live.ask("show statistics"))
+        self.assertIn("configuration.tx-interval=29", live.ask("show configuration"))
+        self.assertIn(f"{self.file}:2: configure lldp tx-hold 101: out of range: 101 "
+                      "(a number from 1 to 100)", live.errors())
+        self.assertIn("configuration.tx-hold=4", live.ask("show configuration"))
+        self.assertIsNone(live.process.poll())
+
+    def test_file_that_cannot_be_read_is_told(self) -> None:
+        self.file.write_text("configure lldp tx-hold 3\n")
+        self.file.chmod(0o600)
+        live = self.live(*self.words(), "eth0")
+        self.assertEqual(live.ends(), 2)
+        self.assertIn(f"{self.file}: Permission denied", live.errors())
+
+
+if __name__ == "__main__":
+    unittest.main()
