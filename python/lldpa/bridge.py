@@ -108,6 +108,7 @@ class Bridge:
     def take_frame(self, moment: float, frame: Frame) -> None:
         """What happens to a frame: the seconds before it are told, and then it."""
         self.take_seconds(moment)
+        self.ports.arrivals.hear(frame.port, frame.octets)
         line = b"rx %s %s" % (frame.port.encode(), frame.octets.hex().encode())
         self.entries.append(Entry(moment, line))
 
@@ -117,6 +118,7 @@ class Bridge:
         for line in ["tick"] if missed == 1 else ticks(missed):
             self.entries.append(Entry(moment, line.encode()))
         if missed:
+            self.ports.arrivals.second = self.seconds.told
             self.new_seconds += missed
             self.ports.report_drops()
 
@@ -171,6 +173,7 @@ class Bridge:
 
     async def tell(self, line: bytes) -> list[str]:
         """Tells the agent a line as of now, and gives its answer."""
+        self.ports.arrivals.obey(line)
         self.entries.append(Entry(self.seconds.now(), line))
         return await self.tell_agent()
 

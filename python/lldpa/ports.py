@@ -6,6 +6,7 @@ import select
 import time
 from typing import Callable, Iterable, Sequence
 
+from .arrivals import Arrivals
 from .interface import Frame, Interface
 from .links import News
 from .seconds import Seconds
@@ -22,6 +23,7 @@ class Ports:
     def __init__(self, interfaces: Sequence[Interface], report: Report) -> None:
         self.by_name = {interface.name: interface for interface in interfaces}
         self.report = report
+        self.arrivals = Arrivals([*self.by_name])
         self.waiting: list[tuple[float, Frame]] = []  # frames that were read, by their moments
         self.drops_told = 0
         self.next_report = 0.0
@@ -117,7 +119,7 @@ class Ports:
             lines.append(f"bridge.{port.name}.interface={where}")
             lines.append(f"bridge.{port.name}.link={'up' if port.is_up else 'down'}")
             lines.append(f"bridge.{port.name}.kernel-drops={port.drops}")
-        return lines
+        return lines + self.arrivals.about()
 
     def close(self) -> None:
         """Lets go of all sockets."""

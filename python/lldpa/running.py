@@ -8,9 +8,10 @@ import signal
 import socket
 import traceback
 from contextlib import suppress
-from typing import Dict, Iterable, Optional, Sequence
+from typing import Dict, Optional, Sequence
 
 from .agent import AsyncAgent, Ended
+from .answering import answered, encoded
 from .bridge import Bridge
 from .child import Option, words_of
 from .console import Console, report
@@ -30,15 +31,6 @@ SECONDS_FOR_THE_AGENT = 0.3
 SECONDS_BETWEEN_LOOKS = 0.1
 SIGNALS = (signal.SIGINT, signal.SIGTERM, signal.SIGHUP)
 Options = Dict[str, Option]
-
-HELP = (
-    "  neighbors        a table of the neighbors",
-    "  show neighbors | statistics | chassis | configuration",
-    "  configure ...    changes the agent, see lldpa(1)",
-    "  update           sends the present state",
-    "  bridge           what the bridge says of itself",
-    "  help             this",
-)
 
 
 async def live(words: argparse.Namespace, options: Options) -> int:
@@ -168,26 +160,12 @@ async def serve(bridge: Bridge, stays: bool) -> int:
                                      "Ctrl-D or Ctrl-C ends it."]))
     with suppress(Ended):
         while (line := await console.read_line()) is not None:
-            await console.write(await answered(bridge, line))
+            await console.write(await answered(bridge.ask, line, terminal_width()))
     if stays:
         await bridge.stopping.wait()
     return 0
 
 
-async def answered(bridge: Bridge, line: bytes) -> list[bytes]:
-    """The answer to a line: of the two that are for people here, or the bridge's."""
-    if line.split() == [b"help"]:
-        return encoded(HELP)
-    if line.split() == [b"neighbors"]:
-        return encoded(table(await ports_of(bridge), terminal_width()))
-    return await bridge.ask(line)
-
-
 async def ports_of(bridge: Bridge) -> Sequence[Port]:
     """The ports with their neighbors."""
     return read_show([line.decode() for line in await bridge.ask(b"show neighbors")]).ports
-
-
-def encoded(lines: Iterable[str]) -> list[bytes]:
-    """Lines for standard output."""
-    return [line.encode("utf-8", "backslashreplace") for line in lines]
