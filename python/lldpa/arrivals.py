@@ -9,7 +9,7 @@ import re
 import time
 from typing import Dict, Iterable, List, Mapping, NamedTuple, Optional, Sequence, Tuple
 
-from .texts import shown_text
+from .escapes import shown_text
 
 # when a neighbor came, by its port and its MSAP identifier
 Since = Mapping[Tuple[str, str], str]

@@ -11,7 +11,6 @@ from contextlib import suppress
 from typing import Dict, Optional, Sequence
 
 from .agent import AsyncAgent, Ended
-from .answering import answered, encoded
 from .bridge import Bridge
 from .child import Option, words_of
 from .console import Console, report
@@ -19,11 +18,9 @@ from .control import Server
 from .framing import NO_ANSWER
 from .interface import Interface
 from .links import Links, News
-from .people import table, terminal_width
 from .ports import Ports
 from .privileges import give_up
 from .session import Session
-from .show import Port, read_show
 
 SECONDS_TO_CONNECT = 3
 SECONDS_TO_END = 1.5
@@ -140,13 +137,14 @@ def status_of(task: asyncio.Task[Optional[int]], program: str) -> int:
 
 async def once(bridge: Bridge, seconds: int) -> int:
     """Waits until each port has a neighbor, prints the table, and tells by its status if so."""
+    from .answering import ports_of, table_of  # what people read is loaded where they ask
     last = bridge.seconds.now() + seconds
     with suppress(Ended):
-        ports = await ports_of(bridge)
+        ports = await ports_of(bridge.ask)
         while not all(port.neighbors for port in ports) and bridge.seconds.now() < last:
             await asyncio.sleep(SECONDS_BETWEEN_LOOKS)
-            ports = await ports_of(bridge)
-        await Console().write(encoded(table(ports, terminal_width())))
+            ports = await ports_of(bridge.ask)
+        await Console().write(table_of(ports))
         return 0 if all(port.neighbors for port in ports) else 1
     return 1
 
@@ -156,16 +154,12 @@ async def serve(bridge: Bridge, stays: bool) -> int:
     console = Console()
     if console.is_terminal:
         names = " ".join(bridge.ports.by_name)
-        await console.write(encoded([f"lldpa on {names}. Type help for the commands; "
-                                     "Ctrl-D or Ctrl-C ends it."]))
+        await console.write([f"lldpa on {names}. Type help for the commands; "
+                             "Ctrl-D or Ctrl-C ends it.".encode()])
     with suppress(Ended):
         while (line := await console.read_line()) is not None:
-            await console.write(await answered(bridge.ask, line, terminal_width()))
+            from .answering import answered  # loaded where somebody asks: it takes 2 MB
+            await console.write(await answered(bridge.ask, line))
     if stays:
         await bridge.stopping.wait()
     return 0
-
-
-async def ports_of(bridge: Bridge) -> Sequence[Port]:
-    """The ports with their neighbors."""
-    return read_show([line.decode() for line in await bridge.ask(b"show neighbors")]).ports

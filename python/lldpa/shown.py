@@ -12,9 +12,12 @@ from typing import List, Mapping, NamedTuple, Optional, Tuple
 # the keys of what a neighbor says, but for TLVs of other types, which are named by their numbers
 SAID_KEYS = ("port.descr", "chassis.name", "chassis.descr", "chassis.caps", "chassis.mgmt")
 
-# a key of what a neighbor says
+# a key of what a neighbor says; one that is not known here may come from an agent of later days, but
+# those of the lines before it stand there once
 SAID_KEY = (f"(?:{'|'.join(map(re.escape, SAID_KEYS))}"
-            r"|unknown\.[1-9][0-9]{0,2}|org\.[0-9a-f]{6}\.(?:0|[1-9][0-9]{0,2}))")
+            r"|unknown\.[1-9][0-9]{0,2}|org\.[0-9a-f]{6}\.(?:0|[1-9][0-9]{0,2})"
+            r"|(?!(?:org|unknown)(?:\.|=|$)|(?:ttl|expires|(?:chassis|port)\.(?:mac|ip|ifname|ifalias"
+            r"|local|component|portcomp|circuit|unhandled))(?:=|$))[a-z][a-z0-9-]*(?:\.[a-z0-9-]+)*)")
 
 
 class Identifier(NamedTuple):
@@ -31,7 +34,8 @@ class Neighbor:
     """A neighbor of a port. `place` counts from 1 and changes when another one goes; `id` stays.
 
     `ttl` is the time to live that it sent, `expires` what is left of it, both in seconds. `said`
-    has the key and the value of each further line, in the order in which the neighbor sent them.
+    has the key and the value of each further line, in the order in which the neighbor sent them,
+    those too whose keys are not known here.
     """
     port: str
     place: int

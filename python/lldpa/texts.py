@@ -1,13 +1,13 @@
 """Texts of neighbors: as Unicode for programs, and as a terminal may show them to people.
 
-A neighbor's text is octets, mostly UTF-8. The agent shows each octet that is no printable ASCII as
-`\\x` and two digits, and a backslash as two; `shown_octets` gives the octets again.
+A neighbor's text is octets, mostly UTF-8, which a show has escaped; `shown_octets` gives them again.
 """
 from __future__ import annotations
 
 import unicodedata
 from typing import NamedTuple, Optional
 
+from .escapes import shown_text
 from .show import unescaped
 
 CUT = "…"
@@ -31,18 +31,6 @@ def text_of(octets: bytes) -> Text:
         return Text(octets.decode("utf-8"), None)
     except UnicodeDecodeError:
         return Text(shown_text(octets), octets.hex())
-
-
-def shown_text(octets: bytes) -> str:
-    """Octets as the agent shows them."""
-    return "".join(shown_octet(octet) for octet in octets)
-
-
-def shown_octet(octet: int) -> str:
-    """An octet as the agent shows it."""
-    if octet == 0x5C:
-        return "\\\\"
-    return chr(octet) if 0x20 <= octet <= 0x7E else f"\\x{octet:02x}"
 
 
 def shown_octets(shown: str) -> bytes:

@@ -11,6 +11,7 @@ import sys
 import time
 from typing import Optional, Sequence
 
+from ..arrivals import Since, since_of
 from ..as_json import neighbor_object
 from ..control import DEFAULT_PATH, Client, Gone
 from ..framing import Refused
@@ -60,7 +61,8 @@ def watch(client: Client, as_json: bool) -> None:
         ports = read_show(client.ask("show neighbors")).ports
         now = time.strftime("%Y-%m-%dT%H:%M:%S%z")
         for news in neighbors.news(ports):
-            print(news_object(news, now) if as_json else news_line(news, now), flush=True)
+            since = since_of(client.ask("bridge")) if as_json else {}
+            print(news_object(news, now, since) if as_json else news_line(news, now), flush=True)
 
 
 def news_line(news: News, now: str) -> str:
@@ -69,10 +71,10 @@ def news_line(news: News, now: str) -> str:
     return printable("; ".join([said, *news.changes]))
 
 
-def news_object(news: News, now: str) -> str:
+def news_object(news: News, now: str, since: Since) -> str:
     """What happened to a neighbor, as JSON in one line."""
     told = {"time": now, "what": news.what, "changes": list(news.changes)}
-    return json.dumps({**told, "neighbor": neighbor_object(news.neighbor)})
+    return json.dumps({**told, "neighbor": neighbor_object(news.neighbor, since)})
 
 
 def print_answer(client: Client, words: Sequence[str], as_json: bool) -> None:
