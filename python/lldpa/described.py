@@ -9,10 +9,11 @@ from .organizational import (ApplicationPriorities, ApplicationPriority, CivicAd
                              MedPower, MudUrl, NetworkPolicy, Organizational, Pfc, PortVlan, Power,
                              PowerOfPairs, PowerRequest, ProtocolIdentity, ProtocolVlan,
                              VidUsageDigest, VlanName)
-from .organizational.dcb import ALGORITHMS, SELECTORS
+from .organizational.dcb import SELECTORS
 from .organizational.location import ALTITUDES, DATUMS, ELEMENTS
 from .texts import readable_octets
 
+SHORT = {0: "strict", 1: "CBS", 2: "ETS", 255: "vendor"}  # algorithms of traffic classes
 One = TypeVar("One")
 Wording = Callable[[Organizational], str]
 
@@ -133,10 +134,10 @@ def application_text(one: ApplicationPriority) -> str:
 
 
 def tables_text(tables: EtsTables) -> str:
-    """The classes of the priorities, and what each class gets."""
-    shares = [f"{place} {ALGORITHMS.get(algorithm, f'algorithm {algorithm}')} {share}%"
-              for place, (share, algorithm) in enumerate(zip(tables.bandwidths, tables.algorithms))]
-    return f"priorities in classes {' '.join(map(str, tables.classes))}; {', '.join(shares)}"
+    """The class of each priority; the share and the algorithm of each class."""
+    classes, shares = " ".join(map(str, tables.classes)), " ".join(map(str, tables.bandwidths))
+    algorithms = " ".join(SHORT.get(one, str(one)) for one in tables.algorithms)
+    return f"classes {classes}, percent {shares}, algorithms {algorithms}"
 
 
 def policy_text(policy: NetworkPolicy) -> str:

@@ -177,13 +177,13 @@ def check(ports: Sequence[str], known: Sequence[str]) -> None:
             raise Refused(f"no such port: {port or 'nothing'} ({', '.join(known)})")
 
 
-def explanation(words: Sequence[str], text: str) -> str:
+def explanation(words: Sequence[str], text: str, commands: Sequence[str] = COMMANDS) -> str:
     """What the agent says of a refused command, with the word that it is about and what may stand
-    in its place."""
+    in its place; `commands` are the first words that there are."""
     if text not in OF_A_WORD or not words:
         return text
-    if words[0] not in COMMANDS:
-        return f"{text}: {words[0]} ({', '.join(COMMANDS)})"
+    if words[0] not in commands:
+        return f"{text}: {words[0]} ({', '.join(commands)})"
     if words[0] == "configure":
         return explained(command(*words), text)
     if words[0] == "show" and (len(words) == 1 or words[1] not in SHOWS):

@@ -1,6 +1,6 @@
 """Texts of neighbors: as Unicode for programs, and as a terminal may show them to people.
 
-A neighbor's text is octets, mostly UTF-8, which a show has escaped; `shown_octets` gives them again.
+A neighbor's text is octets, mostly UTF-8. A show has them escaped; `shown_octets` gives them again.
 """
 from __future__ import annotations
 

@@ -93,9 +93,10 @@ class Table(unittest.TestCase):
     def test_columns_of_wide_letters_end_below_each_other(self) -> None:
         names = ("\\xe4\\xba\\xac\\xe9\\x83\\xbd", "caf\\xc3\\xa9", "e\\xcc\\x81")
         ports = [port("eth0", *(neighbor("eth0", name, "p") for name in names))]
-        self.assertEqual(table(ports, 80)[1:4], ["eth0  京都      p                     98 s",
-                                                 "eth0  café      p                     98 s",
-                                                 "eth0  e\u0301         p                     98 s"])
+        self.assertEqual(table(ports, 80)[1:4], [
+            "eth0  京都      p                     98 s",
+            "eth0  café      p                     98 s",
+            "eth0  e\u0301         p                     98 s"])
 
     def test_cut_keeps_what_fits(self) -> None:
         self.assertEqual([cut("abc", width) for width in (1, 2, 3, 4)], ["…", "a…", "abc", "abc"])

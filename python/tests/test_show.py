@@ -153,7 +153,8 @@ class WhatIsRead(unittest.TestCase):
         self.assertEqual((neighbor.management, neighbor.org, neighbor.unknown), ((), (), ()))
 
     def test_a_key_that_is_not_known_is_kept(self) -> None:
-        for line in ("vlan.9=00", "age=7", "chassis.names=x", "port.macs=y", "a-b.c-1.d=", "orga=1"):
+        for line in ("vlan.9=00", "age=7", "chassis.names=x", "port.macs=y", "a-b.c-1.d=",
+                     "orga=1"):
             number = NEIGHBORS.index("lldp.eth0.1.unknown.9=00")
             lines = NEIGHBORS[:number] + [f"lldp.eth0.1.{line}"] + NEIGHBORS[number:]
             show = read_show(lines)

@@ -44,7 +44,8 @@ class ForPeople(unittest.TestCase):
                     self.assertTrue(kind[0] in "LMNPS" or letter == " ", hex(number))
 
     def test_octets_that_are_no_utf8_are_escaped(self) -> None:
-        for octets, shown in ((b"caf\xe9", "caf\\xe9"), (b"\xc3", "\\xc3"), (b"\xff\xfe", "\\xff\\xfe"),
+        for octets, shown in ((b"caf\xe9", "caf\\xe9"), (b"\xc3", "\\xc3"),
+                              (b"\xff\xfe", "\\xff\\xfe"),
                               (b"\xed\xa0\x80", "\\xed\\xa0\\x80"), (b"\xc0\xaf", "\\xc0\\xaf"),
                               (b"a\xc3\xa9\xe9", "aé\\xe9")):
             self.assertEqual(readable(shown_text(octets)), shown)

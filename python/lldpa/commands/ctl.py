@@ -17,7 +17,7 @@ from ..control import DEFAULT_PATH, Client, Gone
 from ..framing import Refused
 from ..metrics import metrics
 from ..people import summary, terminal_width
-from ..questions import check, explanation, question
+from ..questions import COMMANDS, check, explanation, question
 from ..refused import words_of
 from ..show import ShowFault, read_show
 from ..texts import printable
@@ -27,7 +27,7 @@ SECONDS_BETWEEN_LOOKS = 0.5
 NO_PORT = "no such port"
 ALONE = ("watch", "metrics")  # the commands that only this program has
 
-COMMANDS = """\
+EPILOG = """\
 commands, none for a table of the neighbors:
   neighbors [PORT..]       the table, of all ports or of these
   details [PORT..]         all that neighbors say
@@ -98,7 +98,7 @@ def answer(client: Client, line: str) -> list[str]:
     if text == NO_PORT and len(words) > 2:
         configuration = read_show(client.ask("show configuration")).configuration
         check(words[2:3], [*configuration.statuses] if configuration else [])
-    raise Refused(explanation(words, text))
+    raise Refused(explanation(words, text, (*COMMANDS, *ALONE)))
 
 
 def read_words(words: Optional[Sequence[str]]) -> argparse.Namespace:
@@ -106,7 +106,7 @@ def read_words(words: Optional[Sequence[str]]) -> argparse.Namespace:
     parser = argparse.ArgumentParser(
         prog="lldpa-ctl",
         description="Asks a running lldpa-live who the neighbors are, and prints its answers.",
-        epilog=COMMANDS,
+        epilog=EPILOG,
         formatter_class=argparse.RawDescriptionHelpFormatter,
         allow_abbrev=False,
     )
