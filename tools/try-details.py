@@ -1,13 +1,14 @@
 #!/usr/bin/env python3
 """Compares what is read of organizationally specific TLVs with what lldpcli and tshark show of the same frames.
 
-    tools/try-details.py [--program PATH] [--save FILE]
+    tools/try-details.py [--program PATH] [--save FILE] [--octets]
 
 Frames of real senders (lldpd, ladvd, lldpad) come from python/tests/judged.json; further ones are sent by an lldpd that is
 configured for it, and frames with a TLV of each kind and with each value that has a name are made. Each goes over a link to a
 receiving lldpd, whose lldpcli is asked (-f json0), and to tshark. Each value that they show and each that is read here must be
 equal, but for what python/tests/by_lldpcli.py and by_tshark.py list with its reason. --save keeps the frames with the answers
-of both, which python/tests/test_judged.py compares without them. It needs Linux, root, and Debian's packages lldpd, iproute2
+of both, which python/tests/test_judged.py compares without them. --octets gives tshark each front of one of each kind too, and
+each of its octets changed to each other value. It needs Linux, root, and Debian's packages lldpd, iproute2
 and tshark. The last line is `N passed, M failed`.
 """
 import argparse
@@ -25,10 +26,12 @@ import time
 TOP = pathlib.Path(__file__).resolve().parent.parent
 sys.path[:0] = [str(TOP / "python"), str(TOP / "python" / "tests")]
 from by_lldpcli import PARTS  # noqa: E402
-from by_tshark import is_left_out  # noqa: E402
-from judges import Judged, compare, flat, leaves, sender_of_frame  # noqa: E402
+from by_tshark import compared, is_left_out  # noqa: E402
+from encoding import encoded  # noqa: E402
+from judges import Judged, compare, flat, leaves, sender_of_frame, wanted  # noqa: E402
 from served import frame, tlv  # noqa: E402
-from test_organizational import SAMPLES  # noqa: E402
+from lldpa.organizational import read_tlv  # noqa: E402
+from test_organizational import SAMPLES, changed  # noqa: E402
 from wires import inside  # noqa: E402
 
 JUDGED = TOP / "python" / "tests" / "judged.json"
@@ -60,7 +63,12 @@ SENDERS = {
         "configure inventory asset \"asset-42\""),
     "lldpd-custom": (
         "configure lldp custom-tlv add oui 00,80,c2 subtype 1 oui-info 00,78",
+        "configure lldp custom-tlv add oui 00,80,c2 subtype 2 oui-info 06,00,7b",
         "configure lldp custom-tlv add oui 00,80,c2 subtype 3 oui-info 00,78,06,6f,66,66,69,63,65",
+        "configure lldp custom-tlv add oui 00,80,c2 subtype 4 oui-info 05,88,cc,00,01,02",
+        "configure lldp custom-tlv add oui 00,80,c2 subtype 7 oui-info 03,00,00,00,07",
+        "configure lldp custom-tlv add oui 00,80,c2 subtype 11 oui-info 84,09",
+        "configure lldp custom-tlv add oui 00,12,0f subtype 5 oui-info 00,11,00,12,00,13,00,14,00,15",
         "configure lldp custom-tlv add oui 00,12,0f subtype 4 oui-info 05,f2",
         "configure lldp custom-tlv add oui 33,44,55 subtype 44 oui-info 45,45,45,45,45"),
 }
@@ -207,6 +215,36 @@ def shown_by_lldpcli(frames, room):
     receiver.close()
 
 
+def compare_octets(room):
+    """How many fronts and changed octets are read as tshark reads them, and which are not. Those are passed over that stay
+    in hexadecimal, that have reserved bits, and that have a text with a NUL, which tshark cuts, or without UTF-8."""
+    equal, differences = 0, []
+    for sample in SAMPLES:
+        octets = bytes.fromhex(sample.octets)
+        variants = [(some, read_tlv(*sample.kind, some))
+                    for some in [*(octets[:end] for end in range(1, len(octets))), *changed(octets)]]
+        read = [(some, tlv) for some, tlv in variants if tlv is not None and encoded(tlv) == some and not has_odd_text(tlv)]
+        frames = [frame(b"\x04\x02\0\0\0\0\1", b"\x05p1", 120, tlv_of(sample.kind, some)) for some, _ in read]
+        for (some, tlv), (shown,) in zip(read, shown_by_tshark(frames, room)):
+            is_equal = [tuple(pair) for pair in compared(shown)] == wanted(sample.kind, tlv)
+            equal += is_equal
+            if not is_equal:
+                differences.append(f"{sample.kind} {some.hex()}: tshark shows {shown}, and read is {tlv}")
+    return equal, differences
+
+
+def has_odd_text(tlv):
+    """Whether a text in it has a NUL, or is no UTF-8."""
+    texts = [value for value in vars(tlv).values() if isinstance(value, bytes)] if not hasattr(tlv, "protocol") else []
+    texts += [text for _, text in getattr(tlv, "elements", ())]
+    return any(b"\0" in text or text != text.decode("utf-8", "replace").encode() for text in texts)
+
+
+def tlv_of(kind, octets):
+    """The TLV of a kind."""
+    return tlv(127, bytes.fromhex(kind[0]) + bytes([kind[1]]) + octets)
+
+
 def run(given, room):
     """The comparison."""
     make_link()
@@ -229,20 +267,22 @@ def main():
     parser = argparse.ArgumentParser(description=__doc__, formatter_class=argparse.RawDescriptionHelpFormatter)
     parser.add_argument("--program", default=str(TOP / "crates" / "lldpa" / "out" / "lldpa"))
     parser.add_argument("--save", metavar="FILE")
+    parser.add_argument("--octets", action="store_true")
     given = parser.parse_args()
     os.makedirs("/run/lldpd", exist_ok=True)
     with tempfile.TemporaryDirectory() as room:
         os.chmod(room, 0o755)
         try:
-            judged = run(given, room)
+            equal, differences = compare(run(given, room), given.program)
+            print(f"{equal} values are those of lldpcli and tshark, {len(differences)} are not")
+            more, others = compare_octets(room) if given.octets else (0, [])
         finally:
             for name in (HERE, THERE):
                 subprocess.run(["ip", "netns", "del", name], check=False)
-    equal, differences = compare(judged, given.program)
-    for text in differences:
+    for text in differences + others:
         print(f"FAILED: {text}")
-    print(f"{equal} passed, {len(differences)} failed")
-    return 1 if differences or not equal else 0
+    print(f"{equal + more} passed, {len(differences + others)} failed")
+    return 1 if differences or others or not equal else 0
 
 
 if __name__ == "__main__":

@@ -145,7 +145,9 @@ def policy_text(policy: NetworkPolicy) -> str:
     application = policy.application_name or f"application {policy.application}"
     if policy.is_unknown:
         return f"{application}: unknown"
-    vlan = f"VLAN {policy.vid}" if policy.is_tagged else "untagged"
+    vlan = "untagged"
+    if policy.is_tagged:
+        vlan = f"VLAN {policy.vid}" if policy.vid else "priority tagged"
     return f"{application}: {vlan}, priority {policy.priority}, DSCP {policy.dscp}"
 
 

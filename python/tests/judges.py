@@ -7,7 +7,7 @@ from typing import Any, Iterable, Iterator, List, NamedTuple, Tuple
 import by_lldpcli
 import by_tshark
 from lldpa import Agent, Neighbor
-from lldpa.organizational import LinkAggregation, read_tlv
+from lldpa.organizational import LinkAggregation, Tlv, read_tlv
 
 Pair = Tuple[str, Any]
 
@@ -81,11 +81,17 @@ def of_frame(one: Judged, neighbor: Neighbor) -> Iterator[Tuple[Any, Any, str]]:
         if tlv is None:
             yield unknown_octets(pairs), octets.hex(":"), f"tshark {kind}"
             continue
-        wanted = by_tshark.by_tshark(tlv)
-        if isinstance(tlv, LinkAggregation):
-            front = "lldp.ieee.802_1." if kind[0] == "0080c2" else "lldp.ieee.802_3."
-            wanted = [(front + key, value) for key, value in wanted]
-        yield [tuple(pair) for pair in by_tshark.compared(pairs)], wanted, f"tshark {kind}"
+        shown_here = [tuple(pair) for pair in by_tshark.compared(pairs)]
+        yield shown_here, wanted(kind, tlv), f"tshark {kind}"
+
+
+def wanted(kind: Tuple[str, int], tlv: Tlv) -> List[Pair]:
+    """What tshark must show of a TLV of a kind."""
+    pairs = by_tshark.by_tshark(tlv)
+    if isinstance(tlv, LinkAggregation):
+        front = "lldp.ieee.802_1." if kind[0] == "0080c2" else "lldp.ieee.802_3."
+        return [(front + key, value) for key, value in pairs]
+    return pairs
 
 
 def unknown_octets(pairs: List[Any]) -> Any:
