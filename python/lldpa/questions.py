@@ -22,30 +22,35 @@ Answers = Sequence[Lines]
 SHOWS = ("neighbors", "statistics", "chassis", "configuration", "interfaces")
 OF_PORTS = ("neighbors", "statistics")  # the shows that ports can follow
 SET_PORTS = ("configure", "ports")
+# what lldpcli calls otherwise
+OF_LLDPCLI = {("show", "interfaces"): ("interfaces",),
+              ("show", "neighbors", "details"): ("details",),
+              ("show", "neighbors", "summary"): ("neighbors",),
+              ("show", "statistics", "summary"): ("statistics", "summary")}
 # why the agent refuses a word; other refusals are of a whole line
 OF_A_WORD = ("unknown command", "no such port", "not a number", "out of range", "bad text",
              "extra word")
 
 
 class Question(NamedTuple):
-    """The lines to ask, and what their answers say as lines of a width and as JSON."""
+    """The lines to ask, and what their answers say as lines of a width and as JSON, for which
+    `further` lines are asked too."""
 
     lines: Sequence[str]
     text: Callable[[Answers, int], List[str]]
     object: Callable[[Answers], Any]
+    further: Sequence[str] = ()
 
 
 def question(words: Sequence[str]) -> Question:
     """What a command asks. Raises Refused where a word of it has no meaning here."""
-    name, rest = words[0], list(words[1:])
-    if name == "show" and rest[:1] == ["interfaces"]:
-        name, rest = "interfaces", rest[1:]
-    if name == "show" and rest[:2] in (["neighbors", "details"], ["statistics", "summary"]):
-        name, rest = ("details", rest[2:]) if rest[1] == "details" else ("statistics", rest[1:])
-    if name in OWN:
-        return OWN[name](rest)
-    if name == "show" and len(rest) > 1 and rest[0] in OF_PORTS:
-        return ask_show_of(rest[0], listed(rest[1:]))
+    for front, short in OF_LLDPCLI.items():
+        if tuple(words[:len(front)]) == front:
+            words = [*short, *words[len(front):]]
+    if words[0] in OWN:
+        return OWN[words[0]](words[1:])
+    if words[0] == "show" and len(words) > 2 and words[1] in OF_PORTS:
+        return ask_show_of(words[1], listed(words[2:]))
     if tuple(words[:2]) == SET_PORTS and len(words) > 2 and "," in words[2]:
         return ask_lines([command(*words[:2], port, *words[3:]) for port in listed(words[2:3])])
     return ask_lines([command(*words)])
@@ -57,8 +62,8 @@ def ask_neighbors(rest: Sequence[str]) -> Question:
 
     def text(answers: Answers, width: int) -> List[str]:
         return table(only(read_show(answers[0]), ports).ports, width)
-    return Question(["show neighbors", "bridge"], text, lambda answers: neighbors_object(
-        answers, ports))
+    return Question(["show neighbors"], text, lambda answers: neighbors_object(answers, ports),
+                    ["bridge"])
 
 
 def ask_details(rest: Sequence[str]) -> Question:
@@ -68,8 +73,8 @@ def ask_details(rest: Sequence[str]) -> Question:
     def text(answers: Answers, width: int) -> List[str]:
         found = only(read_show(answers[0]), ports).ports
         return details(found, since_of(answers[1]), width) or count_of(found, width)
-    return Question(["show neighbors", "bridge"], text, lambda answers: neighbors_object(
-        answers, ports))
+    return Question(["show neighbors", "bridge"], text,
+                    lambda answers: neighbors_object(answers, ports))
 
 
 def neighbors_object(answers: Answers, ports: Sequence[str]) -> Any:
@@ -122,21 +127,20 @@ def ask_show_of(name: str, ports: Sequence[str]) -> Question:
         check(ports, ports_of(read_show(answers[0])))
         fronts = tuple(f"lldp.{port}." for port in ports)
         return [line for line in answers[0] if line.startswith(fronts)]
-    lines = [f"show {name}", *(["bridge"] if name == "neighbors" else [])]
-    return Question(lines, text, lambda answers: show_object(
-        only(read_show(answers[0]), ports), since_of(answers[-1])))
+    if name == "neighbors":
+        return Question(["show neighbors"], text, lambda answers: neighbors_object(answers, ports),
+                        ["bridge"])
+    return Question([f"show {name}"], text,
+                    lambda answers: show_object(only(read_show(answers[0]), ports)))
 
 
 def ask_lines(lines: Sequence[str]) -> Question:
     """Lines of the agent, and their answers as they are."""
-    is_of_neighbors = lines == ["show neighbors"]
-
-    def as_object(answers: Answers) -> Any:
-        since = since_of(answers[-1]) if is_of_neighbors else {}
-        return show_object(read_show(answers[0]), since)
-    return Question([*lines, *(["bridge"] if is_of_neighbors else [])],
-                    lambda answers, width: [line for answer in answers[:len(lines)]
-                                            for line in answer], as_object)
+    def text(answers: Answers, width: int) -> List[str]:
+        return [line for answer in answers for line in answer]
+    if lines == ["show neighbors"]:
+        return Question(lines, text, lambda answers: neighbors_object(answers, ()), ["bridge"])
+    return Question(lines, text, lambda answers: show_object(read_show(answers[0])))
 
 
 OWN: Dict[str, Callable[[Sequence[str]], Question]] = {

@@ -75,6 +75,8 @@ class Words(unittest.TestCase):
                 "eth1  02:00:00:00:00:02  p2                           60 s"]
         self.assertEqual(self.both("neighbors"), [*rows, "2 neighbors on 2 ports."])
         self.assertEqual(self.ctl(), self.ctl("neighbors"))
+        self.assertEqual(self.both("show neighbors summary"), self.ctl("neighbors"))
+        self.assertEqual(self.both("show neighbors summary ports eth1"), self.ctl("neighbors", "eth1"))
         self.assertEqual(self.both("neighbors eth1,eth0"), self.both("neighbors"))
         self.assertEqual(len(self.both("neighbors eth1")), 3)
         self.assertEqual(self.both("neighbors eth1 eth0"), self.both("neighbors"))

@@ -82,10 +82,9 @@ def print_answer(client: Client, words: Sequence[str], as_json: bool) -> None:
     asked = question(words)
     answers = [answer(client, line) for line in asked.lines]
     if as_json:
+        answers += [answer(client, line) for line in asked.further]
         print(json.dumps(asked.object(answers), indent=2))
-        return
-    lines = asked.text(answers, terminal_width())
-    if lines:
+    elif lines := asked.text(answers, terminal_width()):
         print("\n".join(lines))
 
 
