@@ -160,7 +160,8 @@ def of_power(power: Power) -> Iterator[Pair]:
     """Power via MDI."""
     values: Dict[str, Any] = {
         "supported": power.is_supported, "enabled": power.is_enabled,
-        "paircontrol": power.can_control_pairs, "device-type.value": "PSE" if power.is_pse else "PD",
+        "paircontrol": power.can_control_pairs,
+        "device-type.value": "PSE" if power.is_pse else "PD",
         "pairs.value": power.pairs_name or "unknown",
         "class.value": "unknown" if power.power_class is None else f"class {power.power_class}"}
     if power.request is not None:

@@ -72,7 +72,8 @@ class ForPeople(unittest.TestCase):
                 "ETS willing, 8 classes", "ETS wanted classes 0 1 2", "priorities 0, 3",
                 "EtherType 0x8906 priority 3", "TCP or SCTP port 3260 priority 4",
                 "endpoint class III", "voice: VLAN 500, priority 5, DSCP 46",
-                "48.50000 N, 2.25000 E", "35.5 meters, WGS84", "NL, additional Rack 12", "ELIN 9115551212",
+                "48.50000 N, 2.25000 E", "35.5 meters, WGS84", "NL, additional Rack 12",
+                "ELIN 9115551212",
                 "PD, source PSE, priority high, 5 W", "hardware rev B", "asset rev B", "https://x"):
             self.assertIn(told, text)
 

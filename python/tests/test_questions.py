@@ -76,7 +76,8 @@ class Words(unittest.TestCase):
         self.assertEqual(self.both("neighbors"), [*rows, "2 neighbors on 2 ports."])
         self.assertEqual(self.ctl(), self.ctl("neighbors"))
         self.assertEqual(self.both("show neighbors summary"), self.ctl("neighbors"))
-        self.assertEqual(self.both("show neighbors summary ports eth1"), self.ctl("neighbors", "eth1"))
+        self.assertEqual(self.both("show neighbors summary ports eth1"),
+                         self.ctl("neighbors", "eth1"))
         self.assertEqual(self.both("neighbors eth1,eth0"), self.both("neighbors"))
         self.assertEqual(len(self.both("neighbors eth1")), 3)
         self.assertEqual(self.both("neighbors eth1 eth0"), self.both("neighbors"))
