@@ -108,7 +108,8 @@ class Bridge:
     def take_frame(self, moment: float, frame: Frame) -> None:
         """What happens to a frame: the seconds before it are told, and then it."""
         self.take_seconds(moment)
-        self.ports.arrivals.hear(frame.port, frame.octets)
+        if self.ports.by_name[frame.port].is_up:
+            self.ports.arrivals.hear(frame.port, frame.octets)
         line = b"rx %s %s" % (frame.port.encode(), frame.octets.hex().encode())
         self.entries.append(Entry(moment, line))
 
