@@ -21,6 +21,12 @@ compopt() {
     COMPREPLY=(FILES)
 }
 
+# What the completion of lldpa-ctl offers, in the order of the alphabet.
+_sorted_ctl() {
+    _lldpa_ctl
+    mapfile -t COMPREPLY < <(printf '%s\n' "${COMPREPLY[@]}" | sort)
+}
+
 # The agent, where its help is asked for.
 lldpa() {
     if [ -n "$program" ]; then
@@ -129,19 +135,27 @@ offers FILES _lldpa_capture lldpa-capture --show swp1 = a.pcap b
 offers 'eth0 eth1' _lldpa_capture lldpa-capture --port e
 offers FILES _lldpa_capture lldpa-capture --port eth0 f
 
-offers 'show configure update bridge watch metrics' _lldpa_ctl lldpa-ctl ''
+ctl='show configure update neighbors details interfaces statistics bridge watch metrics'
+offers "$ctl" _lldpa_ctl lldpa-ctl ''
 offers 'show' _lldpa_ctl lldpa-ctl sh
 offers '--control --json --output --help' _lldpa_ctl lldpa-ctl -
 offers '--control --output --help' _lldpa_ctl lldpa-ctl --json -
 offers FILES _lldpa_ctl lldpa-ctl metrics --output /var
 offers 'metrics' _lldpa_ctl lldpa-ctl --output = f m
 offers FILES _lldpa_ctl lldpa-ctl --control /run
-offers 'show configure update bridge watch metrics' _lldpa_ctl lldpa-ctl --control = /run/c --json ''
-offers 'show' _lldpa_ctl lldpa-ctl --control /run/c s
+offers "$ctl" _lldpa_ctl lldpa-ctl --control = /run/c --json ''
+offers 'show statistics' _lldpa_ctl lldpa-ctl --control /run/c s
+offers 'eth0 eth1 lo' _lldpa_ctl lldpa-ctl neighbors ''
+offers 'eth0 eth1' _lldpa_ctl lldpa-ctl details e
+offers 'eth0 eth1' _lldpa_ctl lldpa-ctl details eth0 e
+offers 'eth0 eth1 lo' _lldpa_ctl lldpa-ctl interfaces ''
+offers 'summary eth0 eth1 lo' _lldpa_ctl lldpa-ctl statistics ''
+offers '' _lldpa_ctl lldpa-ctl statistics summary ''
+offers 'lo' _lldpa_ctl lldpa-ctl statistics eth0 l
 offers 'neighbors statistics chassis configuration' _lldpa_ctl lldpa-ctl show ''
 offers 'eth0 eth1' _lldpa_ctl lldpa-ctl show neighbors e
 offers '' _lldpa_ctl lldpa-ctl show chassis ''
-offers '' _lldpa_ctl lldpa-ctl show neighbors eth0 ''
+offers 'eth0 eth1 lo' _lldpa_ctl lldpa-ctl show neighbors eth0 ''
 offers 'system lldp ports' _lldpa_ctl lldpa-ctl configure ''
 offers 'hostname description' _lldpa_ctl lldpa-ctl configure system ''
 offers "$(grep -o '^  configure lldp [^ ]*' ../../../examples/help.txt | cut -d ' ' -f 5 | paste -s -d ' ')" \
@@ -154,6 +168,9 @@ offers 'status' _lldpa_ctl lldpa-ctl configure ports eth0 lldp ''
 offers 'rx-and-tx rx-only' _lldpa_ctl lldpa-ctl configure ports eth0 lldp status r
 offers '' _lldpa_ctl lldpa-ctl configure ports eth0 lldp status rx-only ''
 offers FILES _lldpa_ctl lldpa-ctl metrics '>' f
+
+# lldpa-ctl's words are those of its help, which has no others
+offers "$(../../../bin/lldpa-ctl --help | sed -n 's/^  \([a-z][a-z]*\)  *.*/\1/p' | sort -u | paste -s -d ' ')" _sorted_ctl lldpa-ctl ''
 
 # lldpa-live's words are those of its help
 for word in $(../../../bin/lldpa-live --help | grep -o '^  [-a-z, ]*--[a-z-]*' | grep -o -e '--[a-z-]*'); do

@@ -176,7 +176,7 @@ def run(given, room, processes):
         happen(second)
         if second % 60 == 59:
             compare(second // 60 + 1, here, client)
-    told = int(dict(line.split("=") for line in client.ask("bridge"))["bridge.seconds"])
+    told = int(dict(line.split("=", 1) for line in client.ask("bridge"))["bridge.seconds"])
     passed = time.clock_gettime(time.CLOCK_BOOTTIME) - begin
     print(f"{told} seconds were told in {passed:.1f}")
     judge(-1 <= told - passed <= 2, "the seconds told are not those of the clock")

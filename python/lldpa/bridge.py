@@ -131,14 +131,17 @@ class Bridge:
         """What happens to a frame: the seconds before it are told, and then it."""
         self.take_seconds(moment)
         self.batch.add_frame(moment, frame)
-        if self.session.book is not None and self.ports.by_name[frame.port].is_up:
-            self.session.heard.note(frame, self.seconds.told)
+        if self.ports.by_name[frame.port].is_up:
+            self.ports.arrivals.hear(frame.port, frame.octets)
+            if self.session.book is not None:
+                self.session.heard.note(frame, self.seconds.told)
 
     def take_seconds(self, moment: float) -> None:
         """What happens to a second: of those that end up to a moment each is told, once."""
         missed = self.seconds.until(moment)
         if missed:
             self.batch.add_seconds(moment, missed)
+            self.ports.arrivals.second = self.seconds.told
             self.ports.report_drops()
 
     def take_links(self, news: Iterable[News]) -> None:
@@ -208,6 +211,7 @@ class Bridge:
 
     async def tell(self, line: bytes) -> list[str]:
         """Tells the agent a line as of now, and gives its answer."""
+        self.ports.arrivals.obey(line)
         self.batch.add(self.seconds.now(), line)
         answer = await self.tell_agent()
         if not answer:

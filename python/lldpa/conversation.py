@@ -4,37 +4,28 @@ from __future__ import annotations
 
 import asyncio
 from contextlib import suppress
-from typing import Iterable, Sequence
+from typing import Sequence
 
 from .agent import Ended
 from .console import Console
 from .desk import Desk
-from .people import table, terminal_width
 from .seconds import Seconds
-from .show import Port, read_show
+from .show import Port
 
 SECONDS_BETWEEN_LOOKS = 0.1
-
-HELP = (
-    "  neighbors        a table of the neighbors",
-    "  show neighbors | statistics | chassis | configuration",
-    "  configure ...    changes the agent, see lldpa(1)",
-    "  update           sends the present state",
-    "  bridge           what the bridge says of itself",
-    "  help             this",
-)
 
 
 async def once(desk: Desk, seconds: int) -> int:
     """Waits until each port has a neighbor, prints the table, and tells by its status if so."""
+    from .answering import ports_of, table_of  # what people read is loaded where they ask
     last = Seconds.now() + seconds
     ports: Sequence[Port] = []
     with suppress(Ended):
         while not are_complete(ports) and Seconds.now() < last:
             if desk.bridge is not None:
-                ports = await ports_of(desk)
+                ports = await ports_of(desk.ask)
             await asyncio.sleep(0 if are_complete(ports) else SECONDS_BETWEEN_LOOKS)
-        await Console().write(encoded(table(ports, terminal_width())))
+        await Console().write(table_of(ports))
     return 0 if are_complete(ports) else 1
 
 
@@ -48,30 +39,12 @@ async def serve(desk: Desk, stopping: asyncio.Event, stays: bool) -> int:
     console = Console()
     if console.is_terminal:
         names = " ".join(desk.ports.by_name)
-        await console.write(encoded([f"lldpa on {names}. Type help for the commands; "
-                                     "Ctrl-D or Ctrl-C ends it."]))
+        await console.write([f"lldpa on {names}. Type help for the commands; "
+                             "Ctrl-D or Ctrl-C ends it.".encode()])
     with suppress(Ended):
         while (line := await console.read_line()) is not None:
-            await console.write(await answered(desk, line))
+            from .answering import answered  # loaded where somebody asks: it takes 2 MB
+            await console.write(await answered(desk.ask, line))
     if stays:
         await stopping.wait()
     return 0
-
-
-async def answered(desk: Desk, line: bytes) -> list[bytes]:
-    """The answer to a line: of the two that are for people here, or the desk's."""
-    if line.split() == [b"help"]:
-        return encoded(HELP)
-    if line.split() == [b"neighbors"] and desk.bridge is not None:
-        return encoded(table(await ports_of(desk), terminal_width()))
-    return await desk.ask(b"show neighbors" if line.split() == [b"neighbors"] else line)
-
-
-async def ports_of(desk: Desk) -> Sequence[Port]:
-    """The ports with their neighbors."""
-    return read_show([line.decode() for line in await desk.ask(b"show neighbors")]).ports
-
-
-def encoded(lines: Iterable[str]) -> list[bytes]:
-    """Lines for standard output."""
-    return [line.encode("utf-8", "backslashreplace") for line in lines]

@@ -7,6 +7,7 @@ from typing import Iterable, Iterator, Mapping
 
 from .bridge_metrics import Told, bridge_lines
 from .exposition import lines_of
+from .organizational import said_by
 from .show import Counters, Neighbor, Show
 
 
@@ -39,11 +40,14 @@ def identified(neighbor: Neighbor) -> dict[str, str]:
 
 def described(neighbor: Neighbor) -> dict[str, str]:
     """The labels of what a neighbor says of itself; what it does not say is empty."""
+    said = said_by(neighbor.org)
     return {
         **identified(neighbor),
         "name": neighbor.name or "",
         "port_descr": neighbor.port_descr or "",
         "management": neighbor.management[0] if neighbor.management else "",
+        "pvid": "" if said.pvid is None else str(said.pvid),
+        "max_frame_size": "" if said.max_frame_size is None else str(said.max_frame_size),
     }
 
 

@@ -2,17 +2,19 @@
 
 from __future__ import annotations
 
+import ipaddress
 import os
-import re
 import sys
 import textwrap
-from typing import Sequence
+from typing import Dict, Sequence
 
-from .show import Neighbor, Port
+from .organizational import said_by
+from .show import Identifier, Neighbor, Port
+from .texts import cut, padded, printable, readable, width_of
 
-HEADINGS = ("PORT", "NEIGHBOR", "ITS PORT", "MANAGEMENT", "LEFT")
+VLAN, MANAGEMENT = "VLAN", "MANAGEMENT"
+HEADINGS = ("PORT", "NEIGHBOR", "ITS PORT", VLAN, MANAGEMENT, "LEFT")
 BETWEEN = "  "
-CUT = "…"
 NOT_CUT = 1_000_000  # a width that cuts nothing
 LEAST_WIDTH_OF_TEXT = 20
 MOST_NEIGHBORS = 128
@@ -27,39 +29,78 @@ def terminal_width() -> int:
 
 
 def table(ports: Sequence[Port], width: int) -> list[str]:
-    """The neighbors of these ports in lines of at most that many columns, and a count below."""
+    """The neighbors of these ports in lines of at most that many columns, and a count below.
+
+    The VLAN is there where a neighbor says one; where the lines are too wide, the management
+    address goes first.
+    """
     rows = [row_of(neighbor) for port in ports for neighbor in port.neighbors]
-    lines = laid_out([HEADINGS, *rows], width) if rows else []
+    headings = [heading for heading in HEADINGS
+                if heading != VLAN or any(row[VLAN] for row in rows)]
+    if natural_width(headings, rows) > width:
+        headings.remove(MANAGEMENT)
+    lines = laid_out(headings, rows, width) if rows else []
     return lines + count_of(ports, width)
 
 
-def row_of(neighbor: Neighbor) -> tuple[str, ...]:
-    """What the table says of a neighbor, in the order of its headings."""
-    port = neighbor.port_id.text
-    if neighbor.port_id.kind == "unhandled" and neighbor.port_descr:
-        port = neighbor.port_descr
+def row_of(neighbor: Neighbor) -> Dict[str, str]:
+    """What the table says of a neighbor, by its headings."""
+    pvid = said_by(neighbor.org).pvid
     management = neighbor.management[0] if neighbor.management else ""
-    texts = (neighbor.port, neighbor.name or neighbor.chassis.text, port, management)
-    return tuple(printable(text) for text in texts) + (f"{neighbor.expires} s",)
+    return dict(zip(HEADINGS, (
+        readable(neighbor.port), name_of(neighbor), port_of(neighbor),
+        str(pvid) if pvid else "", address_text(management), f"{neighbor.expires} s")))
+
+
+def name_of(neighbor: Neighbor) -> str:
+    """Its System Name, or its chassis ID where it says none."""
+    return readable(neighbor.name) if neighbor.name else identifier_text(neighbor.chassis)
+
+
+def port_of(neighbor: Neighbor) -> str:
+    """Its Port ID, or its Port Description where the Port ID does not read well."""
+    if neighbor.port_id.kind in ("mac", "unhandled") and neighbor.port_descr:
+        return readable(neighbor.port_descr)
+    return identifier_text(neighbor.port_id)
+
+
+def identifier_text(identifier: Identifier) -> str:
+    """A chassis ID or port ID without its kind."""
+    return address_text(identifier.text) if identifier.kind == "ip" else readable(identifier.text)
+
+
+def address_text(address: str) -> str:
+    """An address for people, who shorten those of IPv6."""
+    try:
+        return ipaddress.ip_address(address).compressed
+    except ValueError:
+        return readable(address)
 
 
 def summary(neighbor: Neighbor) -> str:
     """The neighbor, its port and its management address in one line."""
-    _, name, port, management, _ = row_of(neighbor)
-    return f"{name} {port} {management}".rstrip()
+    row = row_of(neighbor)
+    return f"{row['NEIGHBOR']} {row['ITS PORT']} {row[MANAGEMENT]}".rstrip()
 
 
-def printable(text: str) -> str:
-    """The text with all but the characters from the space to the tilde escaped. The agent's texts
-    come escaped; so nothing that a neighbor sent reaches a terminal as it is, whatever was read."""
-    return re.sub("[^ -~]", lambda found: found[0].encode("unicode_escape").decode(), text)
+def natural_width(headings: Sequence[str], rows: Sequence[Dict[str, str]]) -> int:
+    """The width of the lines where nothing is cut."""
+    widths = [max([len(heading), *(width_of(row[heading]) for row in rows)])
+              for heading in headings]
+    return sum(widths) + len(BETWEEN) * (len(headings) - 1)
 
 
-def laid_out(rows: Sequence[Sequence[str]], width: int) -> list[str]:
-    """Rows as lines of columns; where they are too wide, the widest columns are cut alike."""
-    natural = [max(map(len, column)) for column in zip(*rows)]
+def laid_out(headings: Sequence[str], rows: Sequence[Dict[str, str]], width: int) -> list[str]:
+    """Rows as lines below their headings."""
+    return columns([headings, *([row[heading] for heading in headings] for row in rows)], width)
+
+
+def columns(rows: Sequence[Sequence[str]], width: int, numbers: int = 1) -> list[str]:
+    """Rows as lines of columns, of which so many at the end hold numbers; where they are too wide,
+    the widest columns are cut alike."""
+    natural = [max(map(width_of, column)) for column in zip(*rows)]
     widths = fitted(natural, width - len(BETWEEN) * (len(natural) - 1))
-    return [cut(line_of(row, widths), width) for row in rows]
+    return [cut(line_of(row, widths, numbers), width) for row in rows]
 
 
 def fitted(widths: Sequence[int], room: int) -> list[int]:
@@ -70,18 +111,12 @@ def fitted(widths: Sequence[int], room: int) -> list[int]:
     return [min(width, most) for width in widths]
 
 
-def line_of(row: Sequence[str], widths: Sequence[int]) -> str:
-    """A row as a line: texts begin below each other, the seconds end below each other."""
-    *texts, last = (cut(text, width) for text, width in zip(row, widths))
-    columns = [text.ljust(width) for text, width in zip(texts, widths)]
-    return BETWEEN.join([*columns, last.rjust(widths[-1])])
-
-
-def cut(text: str, width: int) -> str:
-    """The text, or what fits of it with a mark at its end."""
-    if len(text) <= width:
-        return text
-    return text[:max(width - 1, 0)] + CUT
+def line_of(row: Sequence[str], widths: Sequence[int], numbers: int) -> str:
+    """A row as a line: texts begin below each other, numbers end below each other."""
+    parts = [cut(text, width) for text, width in zip(row, widths)]
+    first = len(parts) - numbers
+    return BETWEEN.join(padded(part, width) if place < first else part.rjust(width)
+                        for place, (part, width) in enumerate(zip(parts, widths)))
 
 
 def count_of(ports: Sequence[Port], width: int) -> list[str]:

@@ -5,6 +5,7 @@ from __future__ import annotations
 import select
 from typing import Callable, Iterable, Sequence
 
+from .arrivals import Arrivals
 from .drops import BY_KERNEL, BY_LIMIT, Drops
 from .interface import Frame, Interface
 from .links import News
@@ -21,6 +22,7 @@ class Ports:
     def __init__(self, interfaces: Sequence[Interface], report: Report) -> None:
         self.by_name = {interface.name: interface for interface in interfaces}
         self.report = report
+        self.arrivals = Arrivals([*self.by_name])
         self.waiting: list[tuple[float, Frame]] = []  # frames that were read, by their moments
         self.awaited: set[str] = set()  # whose interfaces were told to be missing
         self.drops = (Drops(BY_KERNEL, lambda port: port.drops, report),
@@ -128,7 +130,7 @@ class Ports:
             lines.append(f"bridge.{port.name}.limit-drops={port.limit_drops}")
             lines.append(f"bridge.{port.name}.unsent={port.unsent}")
             lines.append(f"bridge.{port.name}.left-out={port.left_out}")
-        return lines
+        return lines + self.arrivals.about()
 
     def close(self) -> None:
         """Lets go of all sockets."""

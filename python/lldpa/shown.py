@@ -12,9 +12,16 @@ from typing import List, Mapping, NamedTuple, Optional, Tuple
 # the keys of what a neighbor says, but for TLVs of other types, which are named by their numbers
 SAID_KEYS = ("port.descr", "chassis.name", "chassis.descr", "chassis.caps", "chassis.mgmt")
 
+# a key that is not known here: an agent of later days may have it. Those of the lines before are
+# not among them, since each stands there once.
+EARLIER = (r"(?:ttl|expires|(?:chassis|port)\.(?:mac|ip|ifname|ifalias|local|component|portcomp"
+           r"|circuit|unhandled))(?:=|$)")
+FURTHER_KEY = rf"(?!{EARLIER}|(?:org|unknown)(?:\.|=|$))[a-z][a-z0-9-]*(?:\.[a-z0-9-]+)*"
+
 # a key of what a neighbor says
 SAID_KEY = (f"(?:{'|'.join(map(re.escape, SAID_KEYS))}"
-            r"|unknown\.[1-9][0-9]{0,2}|org\.[0-9a-f]{6}\.(?:0|[1-9][0-9]{0,2}))")
+            r"|unknown\.[1-9][0-9]{0,2}|org\.[0-9a-f]{6}\.(?:0|[1-9][0-9]{0,2})"
+            rf"|{FURTHER_KEY})")
 
 
 class Identifier(NamedTuple):
@@ -31,7 +38,8 @@ class Neighbor:
     """A neighbor of a port. `place` counts from 1 and changes when another one goes; `id` stays.
 
     `ttl` is the time to live that it sent, `expires` what is left of it, both in seconds. `said`
-    has the key and the value of each further line, in the order in which the neighbor sent them.
+    has the key and the value of each further line, in the order in which the neighbor sent them,
+    those too whose keys are not known here.
     """
     port: str
     place: int

@@ -3,10 +3,13 @@
 from __future__ import annotations
 
 from dataclasses import dataclass
-from typing import Iterable, Iterator, Tuple
+from typing import Dict, Iterable, Iterator, Tuple
 
-from .people import printable, summary
+from .described import rows_of
+from .organizational import said_by
+from .people import summary
 from .show import Identifier, Neighbor, Port
+from .texts import printable, readable
 
 Name = Tuple[str, Identifier, Identifier]
 CAME, CHANGED, GONE = "came", "changed", "gone"
@@ -15,7 +18,7 @@ CAME, CHANGED, GONE = "came", "changed", "gone"
 @dataclass(frozen=True)
 class News:
     """What happened to a neighbor: `came`, `changed` or `gone`; `changes` are texts such as
-    `chassis.name: a -> b`."""
+    `chassis.name: a -> b` or `pvid: 120 -> 121`."""
 
     what: str
     neighbor: Neighbor
@@ -59,12 +62,19 @@ def changes(old: Neighbor, new: Neighbor) -> Iterator[str]:
         yield f"ttl: {old.ttl} -> {new.ttl}"
     if old.said == new.said:
         return
-    for key in dict.fromkeys(key for key, _ in (*old.said, *new.said)):
-        was, now = values_of(old, key), values_of(new, key)
-        if was != now:
-            yield f"{key}: {' '.join(was) or 'nothing'} -> {' '.join(now) or 'nothing'}"
+    was, now = words_of(old), words_of(new)
+    for key in dict.fromkeys([*was, *now]):
+        if was.get(key) != now.get(key):
+            yield f"{key}: {was.get(key, 'nothing')} -> {now.get(key, 'nothing')}"
 
 
-def values_of(neighbor: Neighbor, key: str) -> list[str]:
-    """All that a neighbor says under a key."""
-    return [value for said, value in neighbor.said if said == key]
+def words_of(neighbor: Neighbor) -> Dict[str, str]:
+    """All that a neighbor says, by keys: in words where its meaning is known."""
+    said = said_by(neighbor.org)
+    plain = [(key, value) for key, value in neighbor.said if not key.startswith("org.")]
+    rest = [(f"org.{kind}", octets) for kind, octets in said.rest]
+    words: Dict[str, str] = {}
+    for key, value in [*plain, *((row.key, row.text) for row in rows_of(said)), *rest]:
+        text = readable(value) if value else "empty"
+        words[key] = f"{words[key]} {text}" if key in words else text
+    return words

@@ -113,7 +113,7 @@ class Live:
 
     def seconds_told(self) -> int:
         """How many seconds its agent was told."""
-        return int(dict(line.split("=") for line in self.ask("bridge"))["bridge.seconds"])
+        return int(dict(line.split("=", 1) for line in self.ask("bridge"))["bridge.seconds"])
 
     def says(self, text: str) -> bool:
         """Whether it comes to say that on standard error."""

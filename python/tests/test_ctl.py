@@ -68,13 +68,15 @@ class Answers(Program):
         eth0 = [line for line in counters if line.startswith("lldp.eth0.")]
         self.assertEqual(len(eth0), len(counters) // 2)
         self.assertEqual(self.run_ctl("show", "statistics", "eth0").splitlines(), eth0)
-        self.run_ctl("show", "neighbors", "eth", status=1, said="no such port")
+        self.run_ctl("show", "neighbors", "eth", status=1,
+                     said="no such port: eth (eth0, eth1)")
 
     def test_what_changes_the_agent(self) -> None:
         self.assertEqual(self.run_ctl("configure", "system", "description", "a  b#"), "")
         self.assertIn("descr=a  b#\n", self.run_ctl("show", "chassis"))
         self.assertEqual(self.run_ctl("update"), "")
-        self.run_ctl("configure", "lldp", "tx-hold", "0", status=1, said="out of range")
+        self.run_ctl("configure", "lldp", "tx-hold", "0", status=1,
+                     said="out of range: 0 (a number from 1 to 100)")
         self.run_ctl("tick", status=1, said="for the bridge alone")
 
     def test_json_tells_the_same(self) -> None:
@@ -83,15 +85,22 @@ class Answers(Program):
                                            tlv(127, b"\0\x12\x0f\x01abc"), tlv(126, b"\xff")))
         told = json.loads(self.run_ctl("--json", "show", "neighbors"))
         self.assertEqual(told, json.loads(self.run_ctl("--json")))
+        self.assertEqual(told, json.loads(self.run_ctl("--json", "details")))
         self.assertEqual([port["name"] for port in told["ports"]], ["eth0", "eth1"])
         self.assertEqual(told["ports"][0]["neighbors"], [{
-            "port": "eth0", "place": 1, "id": "mac=02:00:00:00:00:01 ifname=p1",
+            "port": "eth0", "place": 1, "id": "mac=02:00:00:00:00:01 ifname=p1", "since": None,
             "chassis": {"kind": "mac", "text": "02:00:00:00:00:01"},
             "port_id": {"kind": "ifname", "text": "p1"}, "ttl": 120, "expires": 120,
-            "name": r"\x1b[31m\x0d\x0a\x9b2J\x07", "descr": None, "port_descr": None,
+            "name": r"\x1b[31m\x0d\x0a\x9b2J\x07", "octets": {"name": HOSTILE.hex()},
+            "descr": None, "port_descr": None,
             "capabilities": {"Bridge": True, "Router": False}, "management": ["192.0.2.1"],
             "org": [{"kind": "00120f.1", "octets": "616263"}],
-            "unknown": [{"type": 126, "octets": "ff"}]}])
+            "unknown": [{"type": 126, "octets": "ff"}],
+            "vlan": {"pvid": None, "names": [], "protocol_vlans": [], "protocols": [],
+                     "usage_digest": None, "management": None},
+            "max_frame_size": None, "link_aggregation": None, "mac_phy": None, "power": None,
+            "eee": None, "dcb": None, "med": None, "mud_url": None,
+            "organizational": [{"oui": "00120f", "subtype": 1, "octets": "616263"}]}])
         eth1 = json.loads(self.run_ctl("show", "neighbors", "eth1", "--json"))
         self.assertEqual(eth1, {"ports": told["ports"][1:]})
         counters = json.loads(self.run_ctl("--json", "show", "statistics"))["counters"]
@@ -109,7 +118,8 @@ class Answers(Program):
         for kind in range(8):
             identifier = bytes([kind]) + HOSTILE
             self.served.frame("eth0", frame(identifier, identifier, 120, *texts))
-        questions: list[list[str]] = [[], ["show", "neighbors"], ["--json"], ["metrics"]]
+        questions: list[list[str]] = [[], ["show", "neighbors"], ["--json"], ["metrics"],
+                                      ["details"], ["interfaces"], ["statistics"]]
         for words in questions:
             octets = self.on_a_terminal(60, *words)
             self.assertRegex(octets.replace("…".encode(), b"").decode("latin-1"), "^([ -~]|\r\n)*$")
@@ -243,7 +253,8 @@ class Faults(Program):
 
     def test_help_names_each_command(self) -> None:
         told = self.run_ctl("--help")
-        for word in ("show neighbors", "configure", "update", "watch", "metrics", "--json"):
+        for word in ("neighbors", "details", "interfaces", "statistics summary", "show neighbors",
+                     "configure", "update", "bridge", "watch", "metrics", "--json"):
             self.assertTrue(re.search(rf"\b{word.lstrip('-')}\b", told), word)
         self.assertLessEqual(max(map(len, told.splitlines())), 80)
 

@@ -113,7 +113,8 @@ class Metrics(unittest.TestCase):
     def test_neighbors(self) -> None:
         text = b'a "quoted" \\ back\nslash\x1b'
         address = bytes([5, 1, 192, 0, 2, 1, 2, 0, 0, 0, 1, 0])
-        said = [tlv(4, b"uplink"), tlv(5, text), tlv(8, address)]
+        said = [tlv(4, b"uplink"), tlv(5, text), tlv(8, address),
+                tlv(127, b"\0\x80\xc2\1\0\x78"), tlv(127, b"\0\x12\x0f\4\5\xf2")]
         self.served.frame("eth0", frame(b"\x07" + text, b"\x05swp1", 90, *said))
         series = {name: (labels, value) for (name, labels), value in self.shown().items()}
         shown = 'a "quoted" \\\\ back\\x0aslash\\x1b'
@@ -121,7 +122,23 @@ class Metrics(unittest.TestCase):
                     ("port_id_kind", "ifname"), ("port_id", "swp1"))
         self.assertEqual(series["lldpa_expires_seconds"], (identity, 90))
         self.assertEqual(series["lldpa_neighbor_info"], (
-            (*identity, ("name", shown), ("port_descr", "uplink"), ("management", "192.0.2.1")), 1))
+            (*identity, ("name", shown), ("port_descr", "uplink"), ("management", "192.0.2.1"),
+             ("pvid", "120"), ("max_frame_size", "1522")), 1))
+
+    def test_what_is_not_said_is_empty(self) -> None:
+        self.served.frame("eth0", numbered(1, 90, tlv(127, b"\0\x80\xc2\1\xff\xff")))
+        labels = [dict(labels) for name, labels in self.shown() if name == "lldpa_neighbor_info"]
+        self.assertEqual([(one["pvid"], one["max_frame_size"], one["port_descr"])
+                          for one in labels], [("", "", "")])
+
+    def test_series_of_neighbors_are_as_many_as_a_table_holds(self) -> None:
+        for number in range(200):
+            vlan = tlv(127, b"\0\x80\xc2\1" + bytes([0, number]))
+            self.served.frame("eth0", numbered(number, 90, vlan, tlv(5, b"n%d" % number)))
+            self.served.frame("eth0", numbered(1, 90, vlan, tlv(4, b"%d" % number)))
+        names = [name for name, _ in self.shown()]
+        self.assertEqual(names.count("lldpa_neighbor_info"), 3)
+        self.assertEqual(names.count("lldpa_expires_seconds"), 3)
 
     def test_neighbors_of_one_text_are_told_apart(self) -> None:
         for chassis in (b"\x04\x02\0\0\0\0\x01", b"\x0702:00:00:00:00:01"):

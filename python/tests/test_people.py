@@ -6,8 +6,9 @@ import re
 import unittest
 
 from lldpa import Neighbor, Port, read_show
-from lldpa.people import cut, printable, summary, table
+from lldpa.people import summary, table
 from lldpa.shown import Identifier
+from lldpa.texts import cut
 from served import Served, frame, numbered, tlv
 
 HOSTILE = bytes([0x1B]) + b"[31m\r\n\x9b2J\x07\x00\xc2\x9b\xff\x7f\\"
@@ -56,15 +57,50 @@ class Table(unittest.TestCase):
         for width in range(1, 400):
             lines = table(ports, width)
             self.assertLessEqual(max(map(len, lines[:2])), width)
-            self.assertEqual("…" in lines[1], width < 356, width)
+            self.assertEqual("192.0.2.2" in lines[1], width >= 356, width)
+            self.assertEqual("…" in lines[1], width < 344, width)
         wide = table(ports, 80)[1]
         self.assertTrue(wide.startswith("eth0  nnnnnnnnnnnnnnnnnnn") and wide.endswith("98 s"))
         self.assertIn("…  ppppppp", wide)
-        self.assertIn("192.0.2.2", wide)
         self.assertGreater(len(wide), 75)
+
+    def test_a_column_for_vlans_where_one_is_said(self) -> None:
+        ports = [port("eth0", neighbor("eth0", "a", "p1", ("org.0080c2.1", "0078")),
+                      neighbor("eth0", "b", "p2", ("org.0080c2.1", "0000")),
+                      neighbor("eth0", "c", "p3", ("org.0080c2.1", "ffff")))]
+        self.assertEqual(table(ports, 80)[:4], [
+            "PORT  NEIGHBOR  ITS PORT  VLAN  MANAGEMENT  LEFT",
+            "eth0  a         p1        120               98 s",
+            "eth0  b         p2                          98 s",
+            "eth0  c         p3                          98 s"])
+        self.assertEqual(table(ports, 47)[:2], ["PORT  NEIGHBOR  ITS PORT  VLAN  LEFT",
+                                                "eth0  a         p1        120   98 s"])
+        no_vlan = [port("eth0", *ports[0].neighbors[1:])]
+        self.assertNotIn("VLAN", table(no_vlan, 80)[0])
+
+    def test_a_description_stands_for_an_address(self) -> None:
+        for kind, text, shown in (("mac", "02:00:00:00:00:02", "uplink"), ("local", "7", "7"),
+                                  ("unhandled", "ff01", "uplink"), ("ip", "192.0.2.1", "192.0.2.1"),
+                                  ("ip", "2001:0db8:0000:0000:0000:0000:0000:0001", "2001:db8::1")):
+            said = (("port.descr", "uplink"),)
+            one = Neighbor("eth0", 1, Identifier("local", "a"), Identifier(kind, text), 9, 5, said)
+            self.assertEqual(summary(one), f"a {shown}")
+        bare = Neighbor("eth0", 1, Identifier("ip", "fe80:0000:0000:0000:0000:0000:0000:0001"),
+                        Identifier("mac", "02:00:00:00:00:02"), 9, 5, (
+                            ("chassis.mgmt", "2001:0db8:0000:0000:0000:0000:0000:0001,2,1,"),))
+        self.assertEqual(summary(bare), "fe80::1 02:00:00:00:00:02 2001:db8::1")
+
+    def test_columns_of_wide_letters_end_below_each_other(self) -> None:
+        names = ("\\xe4\\xba\\xac\\xe9\\x83\\xbd", "caf\\xc3\\xa9", "e\\xcc\\x81")
+        ports = [port("eth0", *(neighbor("eth0", name, "p") for name in names))]
+        self.assertEqual(table(ports, 80)[1:4], [
+            "eth0  京都      p                     98 s",
+            "eth0  café      p                     98 s",
+            "eth0  e\u0301         p                     98 s"])
 
     def test_cut_keeps_what_fits(self) -> None:
         self.assertEqual([cut("abc", width) for width in (1, 2, 3, 4)], ["…", "a…", "abc", "abc"])
+        self.assertEqual([cut("京都", width) for width in (1, 2, 3, 4)], ["…", "…", "京…", "京都"])
 
     def test_each_full_port_is_told_with_what_to_raise(self) -> None:
         lines = table([port("eth0", too_many=True), port("eth1"),
@@ -96,12 +132,11 @@ class Escapes(unittest.TestCase):
         self.assertIn(r"\x1b[31m\x0d\x0a\x9b2J", table(shown.ports, 10_000)[1])
 
     def test_what_no_agent_shows_is_escaped_too(self) -> None:
-        for text in ("\x1b[31m", "\r", "\n", "\x9b", "\x85", "\u202e", "é", "\x7f"):
+        for text in ("\x1b[31m", "\r", "\n", "\x9b", "\x85", "\u202e", "\x7f"):
             hostile = neighbor(text, text, text, ("chassis.mgmt", text))
             lines = table([port(text, hostile, too_many=True)], 200)
             self.assertRegex("".join(lines), "^[ -~]*$")
             self.assertRegex(summary(hostile), "^[ -~]*$")
-        self.assertEqual(printable("a\x1b\\\n\u202e"), "a\\x1b\\\\n\\u202e")
 
     def test_a_number_of_neighbors_is_laid_out(self) -> None:
         with Served() as served:

@@ -152,6 +152,17 @@ class WhatIsRead(unittest.TestCase):
         self.assertIsNone(neighbor.capabilities)
         self.assertEqual((neighbor.management, neighbor.org, neighbor.unknown), ((), (), ()))
 
+    def test_a_key_that_is_not_known_is_kept(self) -> None:
+        for line in ("vlan.9=00", "age=7", "chassis.names=x", "port.macs=y", "a-b.c-1.d=",
+                     "orga=1"):
+            number = NEIGHBORS.index("lldp.eth0.1.unknown.9=00")
+            lines = NEIGHBORS[:number] + [f"lldp.eth0.1.{line}"] + NEIGHBORS[number:]
+            show = read_show(lines)
+            key, _, value = line.partition("=")
+            self.assertIn((key, value), show.neighbors[0].said)
+            self.assertEqual(lines_of(show), lines)
+            self.assertEqual(show.neighbors[0].unknown, ((9, "00"),))
+
     def test_ports_and_counters(self) -> None:
         show = read_show(ALL)
         eth0, p1 = show.ports
@@ -197,7 +208,11 @@ class Refused(unittest.TestCase):
             ("lldp.eth0.1.ttl=120", ["lldp.eth0.1.ttl=-1"]),
             ("lldp.eth0.1.chassis.mac=00:11:22:33:44:55", ["lldp.eth0.1.chassis.name=x"]),
             ("lldp.eth0.1.org.00120f.1=0080000036", ["lldp.eth0.1.org.00120F.1=00"]),
-            ("lldp.eth0.1.unknown.9=00", ["lldp.eth0.1.vlan.9=00"]),
+            ("lldp.eth0.1.unknown.9=00", ["lldp.eth0.1.unknown.x=00"]),
+            ("lldp.eth0.1.unknown.9=00", ["lldp.eth0.1.unknown=00"]),
+            ("lldp.eth0.1.unknown.9=00", ["lldp.eth0.1.ttl=00"]),
+            ("lldp.eth0.1.unknown.9=00", ["lldp.eth0.1.chassis.mac=00"]),
+            ("lldp.eth0.1.unknown.9=00", ["lldp.eth0.1.=00"]),
             ("lldp.eth0.1.unknown.9=00", ["tx eth0 00"]),
             ("lldp.eth0.1.unknown.9=00", ["error: unknown command"]),
             ("lldp.eth0.2.chassis.local=a b", ["lldp.eth0.3.chassis.local=a b"]),

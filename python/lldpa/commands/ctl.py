@@ -9,24 +9,33 @@ import os
 import socket
 import sys
 import time
-from typing import Mapping, Optional, Sequence
+from typing import Optional, Sequence
 
-from ..as_json import neighbor_object, show_object
+from ..arrivals import Since, since_of
+from ..as_json import neighbor_object
 from ..control import DEFAULT_PATH, Client, Gone
-from ..framing import command
-from ..agent import Refused
-from ..people import printable, table, terminal_width
+from ..framing import Refused
+from ..people import terminal_width
 from ..publishing import NotWritten, publish
+from ..questions import COMMANDS, check, explanation, question
+from ..refused import words_of
 from ..show import ShowFault, read_show
+from ..texts import printable
 from ..watching import News, Watch, news_line
 
 SECONDS_BETWEEN_LOOKS = 0.5
-PARTED_BY_PORTS = ("neighbors", "statistics")  # the shows behind which a port can stand
+NO_PORT = "no such port"
+ALONE = ("watch", "metrics")  # the commands that only this program has
 
-COMMANDS = """\
+EPILOG = """\
 commands, none for a table of the neighbors:
-  show neighbors [PORT]    the neighbors of all ports, or of one
-  show statistics [PORT]   the counters
+  neighbors [PORT..]       the table, of all ports or of these
+  details [PORT..]         all that neighbors say
+  interfaces [PORT..]      the state of the ports
+  statistics [PORT..]      the counters as a table
+  statistics summary       the sums of the counters
+  show neighbors [PORT..]  the agent's lines of the neighbors
+  show statistics [PORT..] those of the counters
   show chassis             what this host says of itself
   show configuration       the numbers in force, and the status of each port
   configure ...            changes the agent, see lldpa(1)
@@ -34,13 +43,10 @@ commands, none for a table of the neighbors:
   bridge                   what lldpa-live tells of itself
   watch                    a line when a neighbor comes, changes or goes
   metrics                  all of it for Prometheus
+ports are parted by blanks or commas, also in configure ports
 """
 
 
-def print_table(client: Client) -> None:
-    """The table for people."""
-    ports = read_show(client.ask("show neighbors")).ports
-    print("\n".join(table(ports, terminal_width())))
 
 
 def watch(client: Client, as_json: bool) -> None:
@@ -51,42 +57,38 @@ def watch(client: Client, as_json: bool) -> None:
         ports = read_show(client.ask("show neighbors")).ports
         now = time.strftime("%Y-%m-%dT%H:%M:%S%z")
         for news in neighbors.news(ports):
-            print(news_object(news, now) if as_json else f"{now} {news_line(news)}", flush=True)
+            since = since_of(client.ask("bridge")) if as_json else {}
+            line = news_object(news, now, since) if as_json else f"{now} {news_line(news)}"
+            print(line, flush=True)
 
 
-def news_object(news: News, now: str) -> str:
+def news_object(news: News, now: str, since: Since) -> str:
     """What happened to a neighbor, as JSON in one line."""
     told = {"time": now, "what": news.what, "changes": list(news.changes)}
-    return json.dumps({**told, "neighbor": neighbor_object(news.neighbor)})
+    return json.dumps({**told, "neighbor": neighbor_object(news.neighbor, since)})
 
 
 def print_answer(client: Client, words: Sequence[str], as_json: bool) -> None:
-    """What the agent, or the bridge, answers to a command."""
-    port = None
-    if len(words) == 3 and words[0] == "show" and words[1] in PARTED_BY_PORTS:
-        *words, port = words
-    line = words[0] if len(words) == 1 else command(*words)
-    lines = client.ask(line)
-    if port is not None:
-        lines = of_port(lines, port)
+    """What is told for a command."""
+    asked = question(words)
+    answers = [answer(client, line) for line in asked.lines]
     if as_json:
-        told = bridge_object(lines) if words[0] == "bridge" else show_object(read_show(lines))
-        print(json.dumps(told, indent=2))
-    elif lines:
+        answers += [answer(client, line) for line in asked.further]
+        print(json.dumps(asked.object(answers), indent=2))
+    elif lines := asked.text(answers, terminal_width()):
         print("\n".join(lines))
 
 
-def of_port(lines: Sequence[str], port: str) -> list[str]:
-    """The lines of one port. Raises Refused where there are none."""
-    its_lines = [line for line in lines if line.startswith(f"lldp.{port}.")]
-    if not its_lines:
-        raise Refused("no such port")
-    return its_lines
-
-
-def bridge_object(lines: Sequence[str]) -> Mapping[str, str]:
-    """The bridge's lines by their keys."""
-    return {key: value for key, _, value in (line.partition("=") for line in lines)}
+def answer(client: Client, line: str) -> list[str]:
+    """The answer to a line. Raises Refused with the word that the refusal is about."""
+    try:
+        return client.ask(line)
+    except Refused as refused:
+        words, text = words_of(line), refused.text
+    if text == NO_PORT and len(words) > 2:
+        configuration = read_show(client.ask("show configuration")).configuration
+        check(words[2:3], [*configuration.statuses] if configuration else [])
+    raise Refused(explanation(words, text, (*COMMANDS, *ALONE)))
 
 
 def read_words(words: Optional[Sequence[str]]) -> argparse.Namespace:
@@ -94,7 +96,7 @@ def read_words(words: Optional[Sequence[str]]) -> argparse.Namespace:
     parser = argparse.ArgumentParser(
         prog="lldpa-ctl",
         description="Asks a running lldpa-live who the neighbors are, and prints its answers.",
-        epilog=COMMANDS,
+        epilog=EPILOG,
         formatter_class=argparse.RawDescriptionHelpFormatter,
         allow_abbrev=False,
     )
@@ -105,7 +107,9 @@ def read_words(words: Optional[Sequence[str]]) -> argparse.Namespace:
                         help="write metrics there, whole or not at all")
     parser.add_argument("words", nargs="*", metavar="COMMAND", help="what to ask, see below")
     given = parser.parse_intermixed_args(words)
-    if given.words[:1] in (["watch"], ["metrics"]) and len(given.words) > 1:
+    if len(given.words) == 1:
+        given.words = words_of(given.words[0])
+    if given.words and given.words[0] in ALONE and len(given.words) > 1:
         parser.error(f"nothing can stand behind {given.words[0]}")
     if given.words == ["metrics"] and given.json:
         parser.error("metrics have a form of their own, which is not JSON")
@@ -118,12 +122,8 @@ def run(given: argparse.Namespace, client: Client) -> None:
     """Asks and prints what was asked for."""
     if given.words == ["watch"]:
         watch(client, given.json)
-    elif given.words:
-        print_answer(client, given.words, given.json)
-    elif given.json:
-        print_answer(client, ["show", "neighbors"], True)
     else:
-        print_table(client)
+        print_answer(client, given.words or ["neighbors"], given.json)
 
 
 def said_of(fault: Exception, path: str) -> str:

@@ -1,0 +1,163 @@
+"""Since when each neighbor is there."""
+
+from __future__ import annotations
+
+import calendar
+import time
+import unittest
+from typing import Dict, Optional
+
+from bridged import OnLinks, on_links
+from lldpa import Agent
+from lldpa.arrivals import MOST_OF_A_PORT, Arrivals, sender_of, since_of
+from patience import eventually
+from served import PROGRAM, frame, numbered, tlv
+
+CLOCK = "%Y-%m-%dT%H:%M:%SZ"
+
+
+def id_of(number: int) -> str:
+    """The MSAP identifier of one of many neighbors."""
+    return f"mac=02:00:00:00:00:{number:02x} ifname=p{number}"
+
+
+class Senders(unittest.TestCase):
+    """Whose frame it is."""
+
+    def test_it_is_whom_the_agent_shows(self) -> None:
+        values = [b"\x00", b"a b\\\xff", b"123456", b"\x01\xc0\x00\x02\x01", b"\x02abcd",
+                  b"\x02" + bytes(range(16)), b"\x01" + bytes(16), b"x" * 255]
+        with Agent.start(["eth0"], PROGRAM, max_neighbors=128, receive_only=True) as agent:
+            for kind in (*range(10), 255):
+                for value in values:
+                    for sent in (frame(bytes([kind]) + value, b"\x05p", 120),
+                                 frame(b"\x07c", bytes([kind]) + value, 120)):
+                        agent.tick(121)
+                        agent.frame("eth0", sent)
+                        neighbor, = agent.neighbors()
+                        self.assertEqual(sender_of(sent[14:]), (neighbor.id, 120))
+
+    def test_frames_of_nobody(self) -> None:
+        whole = numbered(1)[14:]
+        for end in range(18):  # the three TLVs have 9, 5 and 4 octets
+            self.assertIsNone(sender_of(whole[:end]))
+        for bad in (whole[9:], whole[:9] + whole[:9], b"", b"\x02", tlv(1, b"\x07") + whole[9:]):
+            self.assertIsNone(sender_of(bad))
+
+
+class Noting(unittest.TestCase):
+    """What is noted, as seconds pass."""
+
+    def setUp(self) -> None:
+        self.arrivals = Arrivals(["eth0", "eth1"])
+
+    def came(self, number: int = 1, port: str = "eth0") -> Optional[str]:
+        """When a neighbor came."""
+        return since_of(self.arrivals.about()).get((port, id_of(number)))
+
+    def set_back(self) -> None:
+        """Lets all have come long ago."""
+        for heard in self.arrivals.ports.values():
+            heard.update({sender: one._replace(came=0.0) for sender, one in heard.items()})
+
+    def test_it_stays_while_the_neighbor_stays(self) -> None:
+        before = int(time.time())
+        self.arrivals.hear("eth0", numbered(1, 30))
+        came = self.came()
+        assert came is not None
+        self.assertTrue(before <= calendar.timegm(time.strptime(came, CLOCK)) <= time.time())
+        self.set_back()
+        self.arrivals.second = 29
+        self.arrivals.hear("eth0", numbered(1, 30))
+        self.arrivals.second = 58
+        self.assertEqual(self.came(), "1970-01-01T00:00:00Z")
+        self.assertIsNone(self.came(1, "eth1"))
+
+    def test_it_is_another_where_the_neighbor_was_gone(self) -> None:
+        self.arrivals.hear("eth0", numbered(1, 30))
+        self.set_back()
+        self.arrivals.second = 30
+        self.assertIsNone(self.came())
+        self.arrivals.hear("eth0", numbered(1, 30))
+        self.assertNotIn(self.came(), (None, "1970-01-01T00:00:00Z"))
+        self.set_back()
+        self.arrivals.hear("eth0", numbered(1, 0))
+        self.assertIsNone(self.came())
+        self.arrivals.hear("eth0", numbered(1, 30))
+        self.assertNotIn(self.came(), (None, "1970-01-01T00:00:00Z"))
+
+    def test_a_port_that_may_not_receive_has_nobody(self) -> None:
+        for status, again in (("disabled", "rx-and-tx"), ("tx-only", "rx-only")):
+            self.arrivals.hear("eth0", numbered(1))
+            self.arrivals.hear("eth1", numbered(1))
+            self.arrivals.obey(f'configure "ports" eth0\tlldp status {status}'.encode())
+            self.arrivals.hear("eth0", numbered(1))
+            self.assertEqual([self.came(1, port) is None for port in ("eth0", "eth1")],
+                             [True, False])
+            self.arrivals.obey(f"configure ports eth0 lldp status {again}".encode())
+            self.assertIsNone(self.came())
+            self.arrivals.hear("eth0", numbered(1))
+            self.assertIsNotNone(self.came())
+
+    def test_other_commands_change_nothing(self) -> None:
+        self.arrivals.hear("eth0", numbered(1))
+        for line in (b"configure ports eth0 lldp status rx-only", b"update", b"", b"\xff",
+                     b"configure ports eth0 lldp status off", b"show neighbors",
+                     b"configure ports eth9 lldp status disabled",
+                     b"configure ports eth0 lldp status disabled now",
+                     b"configure port eth0 lldp status disabled"):
+            self.arrivals.obey(line)
+            self.assertIsNotNone(self.came())
+
+    def test_a_flood_is_bounded(self) -> None:
+        self.arrivals.hear("eth0", numbered(1, 30))
+        for number in range(1000):
+            name = b"\x07%d" % number
+            self.arrivals.hear("eth0", frame(name, name, 30))
+        self.assertEqual(len(self.arrivals.about()), MOST_OF_A_PORT)
+        self.assertIsNotNone(self.came())
+        self.assertIsNone(self.came(2))
+        self.arrivals.second = 30
+        self.arrivals.hear("eth0", numbered(2, 30))
+        self.assertEqual((self.came(1), len(self.arrivals.about())), (None, 1))
+        self.assertIsNotNone(self.came(2))
+
+    def test_lines_of_a_bridge(self) -> None:
+        lines = ["bridge.began=2026-11-23T19:40:00Z", "bridge.eth0.kernel-drops=0",
+                 "bridge.eth0.since.1=2026-11-23T19:45:02Z mac=02:00:00:00:00:01 ifname=p1",
+                 "bridge.eth0.since.2=2026-11-23T19:46:02Z local=a ifname=b\\x20c"]
+        self.assertEqual(since_of(lines), {
+            ("eth0", id_of(1)): "2026-11-23T19:45:02Z",
+            ("eth0", "local=a ifname=b\\x20c"): "2026-11-23T19:46:02Z"})
+
+
+@on_links
+class OnARealLink(OnLinks):
+    """A bridge tells it."""
+
+    def test_a_bridge_knows_since_when(self) -> None:
+        live = self.live("--stay", "eth0", "--", "--receive-only")
+
+        def told() -> Dict[str, str]:
+            return {who: when for (_, who), when in since_of(live.ask("bridge")).items()}
+        peer = self.peer()
+        before = int(time.time())
+        peer.send(numbered(1, 100))
+        peer.send(numbered(2, 2))
+        self.assertTrue(eventually(lambda: live.neighbors() == 2))
+        came = told()
+        self.assertEqual(set(came), {id_of(1), id_of(2)})
+        for when in came.values():
+            self.assertTrue(before <= calendar.timegm(time.strptime(when, CLOCK)) <= time.time())
+        self.assertTrue(eventually(lambda: live.neighbors() == 1))
+        self.assertEqual(told(), {id_of(1): came[id_of(1)]})
+        peer.send(numbered(1, 100))
+        peer.send(numbered(3, 100))
+        self.assertTrue(eventually(lambda: live.neighbors() == 2))
+        self.assertEqual(told()[id_of(1)], came[id_of(1)])
+        live.ask("configure ports eth0 lldp status disabled")
+        self.assertEqual(told(), {})
+
+
+if __name__ == "__main__":
+    unittest.main()

@@ -1,0 +1,53 @@
+"""What is read of organizationally specific TLVs beside what lldpcli and tshark show of them.
+
+`judged.json` has frames of real senders and made ones, with what lldpcli 1.0.16 and tshark 4.0.17
+showed of each; `tools/try-details.py --save` asks them again.
+"""
+
+from __future__ import annotations
+
+import json
+import unittest
+
+import by_lldpcli
+import by_tshark
+from judges import Judged, compare
+from served import PROGRAM, REPOSITORY
+
+
+class BesideOthers(unittest.TestCase):
+    """Each value that is shown, and each that is read."""
+
+    def setUp(self) -> None:
+        text = (REPOSITORY / "python" / "tests" / "judged.json").read_text()
+        self.judged = [Judged(**one) for one in json.loads(text)]
+
+    def test_all_values_are_equal(self) -> None:
+        equal, differences = compare(self.judged, PROGRAM)
+        self.assertEqual(differences, [])
+        self.assertGreater(equal, 13_000)
+
+    def test_values_of_real_senders_are_equal(self) -> None:
+        for sender, least in (("real-", 600), ("lldpd-", 300)):
+            some = [one for one in self.judged if one.name.startswith(sender)]
+            equal, differences = compare(some, PROGRAM)
+            self.assertEqual(differences, [])
+            self.assertGreater(equal, least)
+
+    def test_a_difference_is_seen(self) -> None:
+        one = next(one for one in self.judged if one.name == "lldpd-custom")
+        for key in ("vlan.vlan-id", "port.mfs.value", "lldp-med.inventory.software.value"):
+            pairs = [[name, "7" if name == key else value] for name, value in one.lldpcli]
+            self.assertEqual(len(compare([one._replace(lldpcli=pairs)], PROGRAM)[1]), 1)
+        for key in ("lldp.ieee.802_1.port_vlan.id", "lldp.ieee.802_3.max_frame_size"):
+            told = [[[name, "7" if name == key else value] for name, value in tlv]
+                    for tlv in one.tshark]
+            self.assertEqual(len(compare([one._replace(tshark=told)], PROGRAM)[1]), 1)
+
+    def test_what_is_left_out_has_a_reason(self) -> None:
+        for reason in (*by_lldpcli.LEFT_OUT.values(), *by_tshark.LEFT_OUT.values()):
+            self.assertTrue(reason)
+
+
+if __name__ == "__main__":
+    unittest.main()

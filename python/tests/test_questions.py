@@ -1,0 +1,226 @@
+"""The words for people, of lldpa-ctl and of the console of lldpa-live."""
+
+from __future__ import annotations
+
+import json
+import re
+import subprocess
+import unittest
+from dataclasses import fields
+from typing import List
+
+from bridged import OnLinks, on_links
+from lldpa.answering import HELP, answered
+from lldpa.framing import Refused
+from lldpa.questions import COMMANDS, explanation, listed, question
+from lldpa.shown import Counters
+from patience import eventually
+from served import CTL, REPOSITORY, Served, numbered, tlv
+
+BRIDGE = [b"bridge.began=2026-11-23T19:40:00Z", b"bridge.eth0.interface=present",
+          b"bridge.eth0.link=up", b"bridge.eth1.interface=awaited", b"bridge.eth1.link=down",
+          b"bridge.eth0.since.1=2026-11-23T19:45:02Z mac=02:00:00:00:00:01 ifname=p1"]
+
+
+class Told(Served):
+    """A socket with a bridge that tells more of itself."""
+
+    async def ask(self, line: bytes) -> List[bytes]:
+        """The bridge's lines, or the agent's answer."""
+        return BRIDGE if line == b"bridge" else await super().ask(line)
+
+
+class Words(unittest.TestCase):
+    """With a bridge's socket: what both print."""
+
+    def setUp(self) -> None:
+        self.served = Told()
+        self.addCleanup(self.served.close)
+        self.served.frame("eth0", numbered(1, 120, tlv(5, b"sw"), tlv(127, b"\0\x80\xc2\1\0\x78")))
+        self.served.frame("eth1", numbered(2, 60))
+
+    def ctl(self, *words: str, status: int = 0) -> List[str]:
+        """What lldpa-ctl prints, or what it says where its status is another."""
+        told = subprocess.run([CTL, "--control", self.served.path, *words], check=False,
+                              capture_output=True, text=True)
+        self.assertEqual(told.returncode, status, told.stderr)
+        self.assertEqual(told.stderr if not status else told.stdout, "")
+        return (told.stderr if status else told.stdout).splitlines()
+
+    def console(self, line: str) -> List[str]:
+        """What the console answers to a line, as a bridge's."""
+        async def ask(asked: bytes) -> List[bytes]:
+            try:
+                return await self.served.ask(asked)
+            except Refused as refused:
+                return [b"error: " + refused.text.encode()]
+        lines = self.served.call(answered(ask, line.encode("latin-1")))
+        return [one.decode() for one in lines]
+
+    def both(self, line: str) -> List[str]:
+        """What both print, which is the same."""
+        lines = self.ctl(*line.split())
+        self.assertEqual(self.console(line), lines, line)
+        return lines
+
+    def refused(self, line: str) -> str:
+        """What both say of a line that is refused, which is the same."""
+        said, = self.ctl(*line.split(), status=1)
+        self.assertEqual(self.console(line), ["error: " + said[len("lldpa-ctl: "):]])
+        return said[len("lldpa-ctl: "):]
+
+    def test_tables(self) -> None:
+        rows = ["PORT  NEIGHBOR           ITS PORT  VLAN  MANAGEMENT   LEFT",
+                "eth0  sw                 p1        120               120 s",
+                "eth1  02:00:00:00:00:02  p2                           60 s"]
+        self.assertEqual(self.both("neighbors"), [*rows, "2 neighbors on 2 ports."])
+        self.assertEqual(self.ctl(), self.ctl("neighbors"))
+        self.assertEqual(self.both("show neighbors summary"), self.ctl("neighbors"))
+        self.assertEqual(self.both("show neighbors summary ports eth1"),
+                         self.ctl("neighbors", "eth1"))
+        self.assertEqual(self.both("neighbors eth1,eth0"), self.both("neighbors"))
+        self.assertEqual(len(self.both("neighbors eth1")), 3)
+        self.assertEqual(self.both("neighbors eth1 eth0"), self.both("neighbors"))
+
+    def test_details(self) -> None:
+        lines = self.both("details")
+        self.assertEqual([lines[0], lines[7]], ["eth0: sw p1", "eth1: 02:00:00:00:00:02 p2"])
+        self.assertRegex(lines[1], "^  Heard       since .*:45:02, 120 s of 120 s left$")
+        self.assertEqual(self.both("details eth1"), lines[7:])
+        self.assertEqual(self.both("show neighbors details ports eth1"), lines[7:])
+        self.served.frame("eth0", numbered(1, 0))
+        self.assertEqual(self.both("details eth0"), ["no neighbors on 1 port."])
+
+    def test_interfaces(self) -> None:
+        rows = ["PORT  INTERFACE  LINK  STATUS   NEIGHBORS",
+                "eth0  present    up    rx-only          1",
+                "eth1  awaited    down  rx-only          1"]
+        self.assertEqual(self.both("interfaces"), rows)
+        self.assertEqual(self.both("show interfaces"), rows)
+        self.assertEqual(self.both("interfaces eth1"), [rows[0], rows[2]])
+        told = json.loads("\n".join(self.ctl("--json", "interfaces", "eth1")))
+        self.assertEqual(told, {"interfaces": [{
+            "name": "eth1", "interface": "awaited", "link": "down", "status": "rx-only",
+            "neighbors": 1}]})
+
+    def test_statistics(self) -> None:
+        names = [one.name.replace("_", "-").upper() for one in fields(Counters)]
+        lines = [line.split() for line in self.both("statistics")]
+        self.assertEqual(lines[0], ["PORT", *names])
+        self.served.frame("eth0", numbered(1, 120)[:20])
+        lines = [line.split() for line in self.both("statistics")]
+        at = names.index("RECEIVED") + 1
+        self.assertEqual([(line[0], line[at]) for line in lines[1:]],
+                         [("eth0", "2"), ("eth1", "1"), ("all", "3")])
+        self.assertEqual(self.both("statistics eth1")[1].split(), lines[2])
+        self.assertEqual([line.split() for line in self.both("statistics summary")],
+                         [lines[0], lines[3]])
+        told = json.loads("\n".join(self.ctl("--json", "statistics", "summary")))
+        self.assertEqual((told["summary"]["received"], told["summary"]["discarded"]), (3, 1))
+
+    def test_lists_of_ports(self) -> None:
+        for show in ("neighbors", "statistics"):
+            lines = self.both(f"show {show}")
+            self.assertEqual(self.both(f"show {show} eth0,eth1"), lines)
+            self.assertEqual(self.both(f"show {show} eth1 eth0"), lines)
+            self.assertEqual(self.both(f"show {show} eth1"),
+                             [line for line in lines if ".eth1." in line])
+        self.assertEqual(self.both("configure ports eth0,eth1 lldp status tx-only"), [])
+        self.assertEqual([line.split("=")[1] for line in self.both("show configuration")[-2:]],
+                         ["tx-only", "tx-only"])
+        asked = [line for line in self.served.asked if line.startswith(b"configure")]
+        self.assertEqual(asked[:2], [b"configure ports eth0 lldp status tx-only",
+                                     b"configure ports eth1 lldp status tx-only"])
+        self.assertEqual(listed(["ports", "a,b", "c"]), ["a", "b", "c"])
+
+    def test_json_has_since_when(self) -> None:
+        for words in ((), ("details",), ("neighbors",), ("show", "neighbors"),
+                      ("show", "neighbors", "eth0")):
+            told = json.loads("\n".join(self.ctl("--json", *words)))
+            self.assertEqual(told["ports"][0]["neighbors"][0]["since"], "2026-11-23T19:45:02Z")
+        told = json.loads("\n".join(self.ctl("--json", "details", "eth1")))
+        self.assertIsNone(told["ports"][0]["neighbors"][0]["since"])
+
+    def test_what_is_refused_is_named(self) -> None:
+        for line, said in (
+                ("details eth7", "no such port: eth7 (eth0, eth1)"),
+                ("neighbors eth0,eth7", "no such port: eth7 (eth0, eth1)"),
+                ("neighbors eth0,", "no such port: nothing (eth0, eth1)"),
+                ("interfaces x", "no such port: x (eth0, eth1)"),
+                ("statistics x", "no such port: x (eth0, eth1)"),
+                ("show statistics x", "no such port: x (eth0, eth1)"),
+                ("bridge x", "extra word: x (nothing follows)"),
+                ("update x", "extra word: x (nothing follows)"),
+                ("show chassis x", "extra word: x (nothing follows)"),
+                ("show neighbour", "unknown command: neighbour (neighbors, statistics, chassis, "
+                 "configuration, interfaces)"),
+                ("show", "unknown command: nothing follows (neighbors, statistics, chassis, "
+                 "configuration, interfaces)"),
+                ("configure lldp tx-hold 0", "out of range: 0 (a number from 1 to 100)"),
+                ("configure lldp tx-hold x", "not a number: x (a number from 1 to 100)"),
+                ("configure lldp tx-interval 3601", "out of range: 3601 (a number from 1 to 3600)"),
+                ("configure ports eth0,eth1 lldp status off",
+                 "unknown command: off (rx-and-tx, rx-only, tx-only or disabled)")):
+            self.assertEqual(self.refused(line), said)
+        said, = self.ctl("configure", "ports", "eth9", "lldp", "status", "disabled", status=1)
+        self.assertEqual(said, "lldpa-ctl: no such port: eth9 (eth0, eth1)")
+        said, = self.ctl("neighbours", status=1)
+        self.assertEqual(said, "lldpa-ctl: unknown command: neighbours (neighbors, details, "
+                         "interfaces, statistics, bridge, show, configure, update, watch, metrics)")
+        self.assertEqual(self.ctl("tick", status=1), ["lldpa-ctl: for the bridge alone"])
+
+    def test_other_lines_of_the_console_go_to_the_agent_as_they_are(self) -> None:
+        self.assertEqual(self.console("nonsense"), ["error: unknown command"])
+        self.assertEqual(self.console('show "neighbors'), ["error: bad quote"])
+        self.assertEqual(self.console(""), [])
+        self.assertEqual(self.console("# a comment"), [])
+        self.assertEqual(self.console('configure system description "a b"'), [])
+        self.assertIn("local-chassis.descr=a b", self.console("show chassis"))
+        self.assertEqual(self.console("help"), list(HELP))
+
+
+class WhatIsKnown(unittest.TestCase):
+    """The commands that are known here, and what the agent has."""
+
+    def test_ranges_are_those_of_the_agents_help(self) -> None:
+        text = (REPOSITORY / "examples" / "help.txt").read_text()
+        ranges = {"tx-interval": "1 to 3600", "tx-hold": "1 to 100"}
+        for name, range_of in ranges.items():
+            shown = re.search(rf"configure lldp {name} N .*?(1 to [0-9]+)", text, re.DOTALL)
+            assert shown is not None
+            self.assertEqual(shown[1], range_of)
+            words = ["configure", "lldp", name, "0"]
+            self.assertEqual(explanation(words, "out of range"),
+                             f"out of range: 0 (a number from {range_of})")
+
+    def test_each_first_word_asks_something(self) -> None:
+        for word in COMMANDS:
+            self.assertTrue(question([word]).lines)
+
+    def test_refusals_of_whole_lines_stay(self) -> None:
+        for text in ("no permission", "waiting for an interface", "too many held"):
+            self.assertEqual(explanation(["configure", "lldp", "tx-hold", "0"], text), text)
+
+
+@on_links
+class Console(OnLinks):
+    """lldpa-live's standard input."""
+
+    def test_it_takes_the_words(self) -> None:
+        live = self.live("eth0", "--", "--receive-only")
+        self.peer().send(numbered(1, 120, tlv(5, b"sw"), tlv(127, b"\0\x80\xc2\1\0\x78")))
+        self.assertTrue(eventually(live.neighbors))
+        self.assertEqual(live.told("neighbors")[0].split(),
+                         ["PORT", "NEIGHBOR", "ITS", "PORT", "VLAN", "MANAGEMENT", "LEFT"])
+        details = live.told("details eth0")
+        self.assertEqual(details[0], "eth0: sw p1")
+        self.assertRegex(details[1], r"^  Heard       since \d{4}-\d\d-\d\d \d\d:\d\d:\d\d, 1\d\d")
+        self.assertEqual(live.told("interfaces")[1].split(),
+                         ["eth0", "present", "up", "rx-only", "1"])
+        self.assertEqual(len(live.told("statistics summary")), 2)
+        self.assertEqual(live.told("configure lldp tx-hold 0"),
+                         ["error: out of range: 0 (a number from 1 to 100)"])
+
+
+if __name__ == "__main__":
+    unittest.main()

@@ -1,0 +1,99 @@
+"""Texts of neighbors as Unicode, and as a terminal may show them."""
+
+from __future__ import annotations
+
+import json
+import unicodedata
+import unittest
+
+from lldpa.escapes import shown_text
+from lldpa.show import unescaped
+from lldpa.texts import printable, readable, shown_octets, text_of, width_of, wrapped
+
+SHOWN = ("a", "é", "ß", "Ω", "ж", "א", "ع", "京", "한", "€", "→", "😀", "½", "\\", "~", "¡")
+# controls, breaks, blanks, what turns the direction of writing, joins, fills or selects, private
+# use, and what has no meaning
+NEVER = ("\x00", "\x07", "\x1b", "\x7f", "\x80", "\x9b", "\x85", "\xa0", "\xad", "\u034f", "\u061c",
+         "\u115f", "\u1160", "\u17b4", "\u180e", "\u2000", "\u200b", "\u200c", "\u200d", "\u200e",
+         "\u200f", "\u2028", "\u2029", "\u202a", "\u202b", "\u202c", "\u202d", "\u202e", "\u2060",
+         "\u2066", "\u2067", "\u2068", "\u2069", "\u206f", "\u2800", "\u3000", "\u3164", "\ue000",
+         "\ufe0f", "\ufeff", "\uffa0", "\ufff9", "\uffff", "\U000e0001", "\U000e0041", "\U000e0100",
+         "\U0010ffff")
+
+
+class ForPeople(unittest.TestCase):
+    """What gets to a terminal."""
+
+    def test_letters_and_signs_are_shown_as_they_are(self) -> None:
+        for letter in SHOWN:
+            self.assertEqual(readable(shown_text(f"a{letter}b".encode())), f"a{letter}b")
+
+    def test_what_does_something_else_is_escaped(self) -> None:
+        for letter in NEVER:
+            octets = letter.encode()
+            escaped = "".join(f"\\x{octet:02x}" for octet in octets)
+            self.assertEqual(readable(shown_text(b"a" + octets + b"b")), f"a{escaped}b")
+            self.assertEqual(printable(letter), escaped)
+
+    def test_no_letter_of_all_controls_a_terminal(self) -> None:
+        for number in range(0x110000):
+            if not 0xD800 <= number < 0xE000:
+                letter = chr(number)
+                if printable("a" + letter) == "a" + letter:
+                    kind = unicodedata.category(letter)
+                    self.assertTrue(kind[0] in "LMNPS" or letter == " ", hex(number))
+
+    def test_octets_that_are_no_utf8_are_escaped(self) -> None:
+        for octets, shown in ((b"caf\xe9", "caf\\xe9"), (b"\xc3", "\\xc3"),
+                              (b"\xff\xfe", "\\xff\\xfe"),
+                              (b"\xed\xa0\x80", "\\xed\\xa0\\x80"), (b"\xc0\xaf", "\\xc0\\xaf"),
+                              (b"a\xc3\xa9\xe9", "aé\\xe9")):
+            self.assertEqual(readable(shown_text(octets)), shown)
+
+    def test_marks_do_not_pile_up(self) -> None:
+        mark = "\u0301"
+        escaped = "\\xcc\\x81"
+        self.assertEqual(printable(f"e{mark}{mark}x"), f"e{mark}{mark}x")
+        self.assertEqual(printable(f"e{mark * 4}x"), f"e{mark * 2}{escaped * 2}x")
+        self.assertEqual(printable(f"{mark}a"), f"{escaped}a")
+
+    def test_widths(self) -> None:
+        widths = (("abc", 3), ("é", 1), ("e\u0301", 1), ("京都", 4), ("", 0), ("ｱ", 1), ("Ａ", 2))
+        for text, width in widths:
+            self.assertEqual(width_of(text), width, text)
+
+    def test_wrapping(self) -> None:
+        self.assertEqual(wrapped("one two three", 7), ["one two", "three"])
+        self.assertEqual(wrapped("abcdefgh ij", 3), ["abc", "def", "gh", "ij"])
+        self.assertEqual(wrapped("京都京都", 3), ["京", "都", "京", "都"])
+        self.assertEqual(wrapped("", 3), [""])
+        self.assertEqual(wrapped("京", 1), ["京"])
+
+
+class ForPrograms(unittest.TestCase):
+    """Texts in JSON."""
+
+    def test_unicode_where_the_octets_are_utf8(self) -> None:
+        for octets in (b"", b"abc", "café 京 😀".encode(), b"\x00\x1b", b"a\\b"):
+            self.assertEqual(text_of(octets), (octets.decode(), None))
+
+    def test_escaped_where_they_are_not(self) -> None:
+        self.assertEqual(text_of(b"caf\xe9\\"), ("caf\\xe9\\\\", "636166e95c"))
+        for octets in (b"\xed\xa0\x80", b"\xed\xb2\x80", b"\xf4\x90\x80\x80", b"\xc0\x80", b"\x80"):
+            text, digits = text_of(octets)
+            self.assertTrue(text.isascii())
+            self.assertEqual(digits, octets.hex())
+
+    def test_all_octets_are_valid_json(self) -> None:
+        for first in range(256):
+            for octets in (bytes([first]), bytes([first, 0x80]), bytes([0x41, first, 0xbf, 0xbf])):
+                text, digits = text_of(octets)
+                line = json.dumps(text)
+                self.assertEqual(json.loads(line), text)
+                self.assertEqual(text.encode("utf-8"), octets if digits is None else text.encode())
+                self.assertEqual(unescaped(shown_text(octets)), octets)
+                self.assertEqual(shown_octets(shown_text(octets)), octets)
+
+
+if __name__ == "__main__":
+    unittest.main()
