@@ -6,7 +6,7 @@ from typing import Iterator, NamedTuple, Optional, Sequence
 
 from .names import End, Seen
 from .plan import Plan, Wish
-from .tables import Tables
+from .seen.tables import Tables
 
 
 class Verdict(Enum):

@@ -7,7 +7,7 @@ from .audit import Finding, Verdict
 from .findings import in_order
 from .hints import Hints
 from .plan import Plan
-from .tables import Tables
+from .seen.tables import Tables
 
 # how many neighbors of an end are named in its line
 MOST_NAMED = 3

@@ -6,7 +6,7 @@ from typing import Optional, Sequence
 from .audit import Finding
 from .names import End, Names, Seen, shown, what_differs
 from .plan import Plan, Wish
-from .tables import Tables
+from .seen.tables import Tables
 
 
 class Hints:

@@ -9,7 +9,7 @@ from typing import Dict, List, Sequence, Tuple
 from lldpa.audit import Finding, Verdict, audit
 from lldpa.names import NAMELESS, End, Names, Seen
 from lldpa.plan import Link, Plan, PlanFault
-from lldpa.tables import Tables
+from lldpa.seen.tables import Tables
 
 from slow_judge import SlowJudge
 

@@ -10,7 +10,7 @@ from lldpa.faultlines import FaultLines
 from lldpa.findings import as_json, count, in_order
 from lldpa.names import NAMELESS, End, Names, Seen, shown, what_differs, without_domain
 from lldpa.plan import Link, Plan
-from lldpa.tables import Tables
+from lldpa.seen.tables import Tables
 
 Known = Mapping[str, Sequence[Seen]]
 

@@ -16,13 +16,13 @@ from ..control import DEFAULT_PATH
 from ..faultlines import FaultLines
 from ..findings import as_json, count, in_order
 from ..framing import Refused
-from ..gather import Gathering, What, of_hosts, read_what
 from ..names import Names, shown
 from ..picture import PictureFault, draw
 from ..plan import Plan, PlanFault, read_plan
+from ..seen.files import ShowFile, read_show_files
+from ..seen.gather import Gathering, What, of_hosts, read_what
+from ..seen.tables import Tables
 from ..show import ShowFault
-from ..showfiles import ShowFile, read_show_files
-from ..tables import Tables
 
 WORDS = """\
 WHAT is any number of:

@@ -7,7 +7,7 @@ from __future__ import annotations
 
 import re
 
-from .shown import SAID_KEY
+from ..shown import SAID_KEY
 
 NUMBER = "(?:0|[1-9][0-9]*)"
 TEXT = "[ -~]*"

@@ -3,7 +3,7 @@ from __future__ import annotations
 
 from typing import Mapping, NamedTuple, Sequence
 
-from .names import End, Names, Seen
+from ..names import End, Names, Seen
 
 
 class Told(NamedTuple):

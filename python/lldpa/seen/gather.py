@@ -5,12 +5,12 @@ import os
 import time
 from typing import Callable, Iterable, Iterator, NamedTuple, Sequence
 
-from .control import Client
-from .names import End
-from .plan import Plan
-from .recorded import Recorded, read_interfaces, read_port
-from .seen import read_ports
-from .showfiles import ShowFile
+from ..control import Client
+from ..names import End
+from ..plan import Plan
+from .captures import Recorded, read_interfaces, read_port
+from .files import ShowFile
+from .shows import read_ports
 from .tables import Tables
 
 SECONDS_BETWEEN_LOOKS = 0.5

@@ -4,12 +4,12 @@ from __future__ import annotations
 from itertools import islice
 from typing import Iterator, NamedTuple, Sequence
 
-from .agent import Agent
-from .capture import ETHERNET, BadCapture, interfaces_of, reader_of
-from .pcap import PcapReader
-from .seen import Ports, read_ports
-from .source import MOST_PORTS, Source, opened
-from .trace import Told, trace_of
+from ..agent import Agent
+from ..capture import ETHERNET, BadCapture, interfaces_of, reader_of
+from ..pcap import PcapReader
+from ..source import MOST_PORTS, Source, opened
+from ..trace import Told, trace_of
+from .shows import Ports, read_ports
 
 MOST_NEIGHBORS = 128
 LINES_AT_ONCE = 1000

@@ -5,8 +5,8 @@ import os
 from concurrent.futures import ProcessPoolExecutor
 from typing import Iterator, NamedTuple, Sequence
 
-from .seen import Ports, read_ports
-from .show import ShowFault
+from ..show import ShowFault
+from .shows import Ports, read_ports
 
 BEGIN_OF_SHOW = b"lldp."
 

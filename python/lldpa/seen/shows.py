@@ -4,9 +4,9 @@ from __future__ import annotations
 import ipaddress
 from typing import Iterable, Iterator, Sequence, Tuple
 
-from .names import NAMELESS, Seen
+from ..names import NAMELESS, Seen
+from ..show import Port, Show, ShowFault, read_show, unescaped
 from .quickshow import NAMES, USUAL_PORT
-from .show import Port, Show, ShowFault, read_show, unescaped
 
 Ports = dict[str, Sequence[Seen]]
 
