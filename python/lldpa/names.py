@@ -4,6 +4,8 @@ from __future__ import annotations
 import ipaddress
 from typing import Iterable, NamedTuple, Optional
 
+from .settings import Settings
+
 
 class End(NamedTuple):
     """A port of a host: one end of a link."""
@@ -16,12 +18,18 @@ class End(NamedTuple):
 
 
 class Seen(NamedTuple):
-    """A neighbor as an audit looks at it: the names of its host and of its port, the best first."""
+    """A neighbor as an audit looks at it: the names of its host and of its port, the best first.
+
+    `aggregated` tells whether its port is a member of an aggregate, `settings` what else it says of
+    its link.
+    """
 
     hosts: tuple[str, ...]
     ports: tuple[str, ...]
     chassis: str = ""
     port_id: str = ""
+    aggregated: bool = False
+    settings: Optional[Settings] = None
 
     def __str__(self) -> str:
         if self == NAMELESS:

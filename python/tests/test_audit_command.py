@@ -36,7 +36,7 @@ class Words(InAFolder):
         for words, said in (
                 ("", "nothing to audit: give captures, shows, or --live"),
                 ("swp1=none", "none: No such file or directory"),
-                (str(self.folder), "Is a directory"),
+                (f"swp1={self.folder}", "Is a directory"),
                 ("--wait x swp1=a", "invalid seconds value: 'x'"),
                 (f"--live --control {none}", "none: No such file or directory"),
                 ("--liv", "unrecognized arguments: --liv")):

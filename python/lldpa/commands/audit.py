@@ -19,8 +19,9 @@ from ..framing import Refused
 from ..names import Names, shown
 from ..picture import PictureFault, draw
 from ..plan import Plan, PlanFault, read_plan
-from ..seen.files import ShowFile, read_show_files
-from ..seen.gather import Gathering, What, of_hosts, read_what
+from ..seen.files import SeenFile, read_files
+from ..seen.folders import read_whats
+from ..seen.gather import Gathering, What, of_hosts
 from ..seen.tables import Tables
 from ..show import ShowFault
 
@@ -77,7 +78,7 @@ def seconds(text: str) -> float:
     return number
 
 
-def gathered(given: argparse.Namespace, whats: Sequence[What], files: Iterator[ShowFile],
+def gathered(given: argparse.Namespace, whats: Sequence[What], files: Iterator[SeenFile],
              plan: Plan, names: Names) -> tuple[Tables, bool]:
     """What is known of the audited hosts, and whether a file of it is damaged."""
     tables = Tables(names)
@@ -85,6 +86,7 @@ def gathered(given: argparse.Namespace, whats: Sequence[What], files: Iterator[S
     gathering.add_files(whats, files)
     if given.live:
         gathering.add_live(given.host, given.control, plan, given.wait)
+    tables.add_unlisted(plan)
     unplanned = [host for key, host in tables.hosts.items() if key not in plan.hosts]
     told = [f"{plan.file} plans nothing of the host {shown(host)}{nearly(host, plan)}"
             for host in unplanned]
@@ -106,8 +108,8 @@ def run(given: argparse.Namespace) -> int:
     """Audits, prints and draws. Gives the status."""
     gc.disable()  # what is made stays to the end; to look for garbage costs a third of the time
     names = Names(given.ignore_case, given.short_names)
-    whats = [read_what(word, given.host) for word in given.what]
-    files = read_show_files([what.file for what in of_hosts(whats)])  # beside the plan
+    whats = list(read_whats(given.what, given.host))
+    files = read_files([what.file for what in of_hosts(whats)])  # beside the plan
     plan = read_plan(given.plan, names)
     tables, is_damaged = gathered(given, whats, files, plan, names)
     findings = audit(plan, tables, given.planned_only)

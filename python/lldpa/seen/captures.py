@@ -9,7 +9,8 @@ from ..capture import ETHERNET, BadCapture, interfaces_of, reader_of
 from ..pcap import PcapReader
 from ..source import MOST_PORTS, Source, opened
 from ..trace import Told, trace_of
-from .shows import Ports, read_ports
+from .listing import Ports
+from .shows import read_ports
 
 MOST_NEIGHBORS = 128
 LINES_AT_ONCE = 1000

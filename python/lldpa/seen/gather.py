@@ -1,4 +1,4 @@
-"""What an audit is given, as tables: captures, shows, and a bridge that runs."""
+"""What an audit is given, as tables: files of any form, captures, and a bridge that runs."""
 from __future__ import annotations
 
 import os
@@ -9,7 +9,7 @@ from ..control import Client
 from ..names import End
 from ..plan import Plan
 from .captures import Recorded, read_interfaces, read_port
-from .files import ShowFile
+from .files import SeenFile
 from .shows import read_ports
 from .tables import Tables
 
@@ -58,7 +58,7 @@ class Gathering:
         self.say = say
         self.is_damaged = False
 
-    def add_files(self, whats: Sequence[What], files: Iterator[ShowFile]) -> None:
+    def add_files(self, whats: Sequence[What], files: Iterator[SeenFile]) -> None:
         """Takes files, those of hosts as they were read. Several captures of one port are one."""
         for what, file in zip(of_hosts(whats), files):
             self.add_file(what, file)
@@ -72,14 +72,16 @@ class Gathering:
             recorded = read_port(captures, end.port, self.program)
             self.add_recorded(end.host, end.port, recorded)
 
-    def add_file(self, what: What, file: ShowFile) -> None:
-        """Takes a show, or a capture that names its interfaces."""
-        if not file.is_show:
-            self.add_recorded(what.host, "", read_interfaces(what.file, self.program))
-        elif file.fault:
+    def add_file(self, what: What, file: SeenFile) -> None:
+        """Takes a file of a form, or a capture that names its interfaces."""
+        if file.fault:
             self.damaged(what.host, "", file.fault)
+        elif file.listing is None:
+            self.add_recorded(what.host, "", read_interfaces(what.file, self.program))
         else:
-            self.tables.add_ports(what.host, file.ports)
+            self.tables.add_ports(what.host, file.listing.ports)
+            if file.listing.has_all_heard:
+                self.tables.add_listed(what.host)
 
     def add_recorded(self, host: str, port: str, recorded: Recorded) -> None:
         """Takes the ports of captures, all of a host where no port is named."""
