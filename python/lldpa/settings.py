@@ -18,13 +18,13 @@ class Settings(NamedTuple):
     """What a port says of its link; None where it does not say it.
 
     The maximum frame size is in octets, the speed in Mb/s. No port says a PVID of 0, which stands
-    for none.
+    for none. Duplex is `full` or `half`.
     """
 
     max_frame_size: Optional[int] = None
     pvid: Optional[int] = None
     speed: Optional[int] = None
-    is_full_duplex: Optional[bool] = None
+    duplex: Optional[str] = None
     is_aggregated: Optional[bool] = None
 
 
@@ -35,9 +35,13 @@ def settings_of(max_frame_size: str, pvid: str, mau_type: str, is_aggregated: bo
                 ) -> Optional[Settings]:
     """Settings as lldpcli writes them; None where nothing is said. Its texts are empty where there
     is none, and it writes nothing of a port that is not aggregated."""
-    speed, is_full_duplex = speed_and_duplex(mau_type)
-    settings = Settings(number(max_frame_size) or None, number(pvid) or None, speed,
-                        is_full_duplex, True if is_aggregated else None)
+    speed, duplex = speed_and_duplex(mau_type)
+    return none_if_empty(Settings(number(max_frame_size) or None, number(pvid) or None, speed,
+                                  duplex, True if is_aggregated else None))
+
+
+def none_if_empty(settings: Settings) -> Optional[Settings]:
+    """Settings, or None where nothing is said."""
     return None if settings == NO_SETTINGS else settings
 
 
@@ -47,11 +51,11 @@ def number(text: str) -> Optional[int]:
     return found if found <= MOST else None
 
 
-def speed_and_duplex(mau_type: str) -> tuple[Optional[int], Optional[bool]]:
-    """The speed in Mb/s and whether duplex is full, as far as the name of a MAU type tells them."""
-    is_full = True if FULL.search(mau_type) else False if HALF.search(mau_type) else None
+def speed_and_duplex(mau_type: str) -> tuple[Optional[int], Optional[str]]:
+    """The speed in Mb/s and the duplex mode, as far as the name of a MAU type tells them."""
+    duplex = "full" if FULL.search(mau_type) else "half" if HALF.search(mau_type) else None
     found = SPEED.match(mau_type)
     if found is None:
-        return None, is_full
+        return None, duplex
     tenths = int(found["whole"]) * 10 + int(found["part"] or 0)
-    return tenths * (GIGA if found["giga"] else 1) // 10, is_full
+    return tenths * (GIGA if found["giga"] else 1) // 10, duplex

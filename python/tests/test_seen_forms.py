@@ -35,8 +35,8 @@ HEARD = [
     (("value", "ifn"), ("02:00:00:00:00:0c",)),
     (("x=y\ttab<&>", "zz"), ("e=f",)),
 ]
-SETTINGS: Dict[int, Settings] = {2: Settings(9216, 10, 1000, True, True),
-                                 11: Settings(None, None, 100, True, None)}
+SETTINGS: Dict[int, Settings] = {2: Settings(9216, 10, 1000, "full", True),
+                                 11: Settings(None, None, 100, "full", None)}
 
 
 def read(octets: bytes) -> Listing:
@@ -93,6 +93,10 @@ class Lldpcli(unittest.TestCase):
         ours = of_our_agent(lldpd_heard.CLEAN)
         self.assertEqual([(set(hosts), set(ports)) for hosts, ports in names_of(ours)],
                          [(set(hosts), set(ports)) for hosts, ports in HEARD])
+        said = {at: one.settings for at, one in enumerate(ours) if one.settings}
+        aggregated = SETTINGS[11]._replace(is_aggregated=False)  # which lldpcli does not write
+        self.assertEqual(said, {**SETTINGS, 11: aggregated})
+        self.assertEqual([at for at, one in enumerate(ours) if one.aggregated], [2])
 
     def test_names_that_are_no_utf_8(self) -> None:
         for form in ("keyvalue", "json", "plain"):

@@ -8,6 +8,7 @@ from ..show import Port, Show, ShowFault, read_show, unescaped
 from .listing import Listing, Ports
 from .neighbor import names_of_address
 from .quickshow import NAMES, USUAL_PORT
+from .tlvs import IS_SETTING, settings_of_tlvs
 
 
 def read_shows(octets: bytes) -> Listing:
@@ -79,7 +80,7 @@ def seen_neighbor(chassis: str, kind: str, port_id: str, said: Iterable[Tuple[st
     The System Name reads best, and so does the Port Description, unless the Port ID names an
     interface.
     """
-    hosts, ports = [*names_of_address(chassis)], [port_id]
+    hosts, ports, tlvs = [*names_of_address(chassis)], [port_id], []
     for key, value in said:
         if key == "chassis.name":
             hosts.insert(0, value)
@@ -87,7 +88,13 @@ def seen_neighbor(chassis: str, kind: str, port_id: str, said: Iterable[Tuple[st
             hosts += names_of_address(value.partition(",")[0])
         elif key == "port.descr":
             ports.insert(1 if kind == "ifname" else 0, value)
-    return Seen(plain(hosts), plain(ports), chassis, port_id)
+        elif IS_SETTING.fullmatch(key):
+            tlvs.append((key, value))
+    if not tlvs:
+        return Seen(plain(hosts), plain(ports), chassis, port_id)
+    settings = settings_of_tlvs(tuple(tlvs))
+    aggregated = settings is not None and bool(settings.is_aggregated)
+    return Seen(plain(hosts), plain(ports), chassis, port_id, aggregated, settings)
 
 
 def plain(texts: Sequence[str]) -> tuple[str, ...]:
