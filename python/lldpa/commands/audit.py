@@ -18,7 +18,9 @@ from ..findings import as_json, count, in_order
 from ..framing import Refused
 from ..names import Names, shown
 from ..picture import PictureFault, draw
-from ..plan import Plan, PlanFault, read_plan
+from ..plan import Plan
+from ..planfault import PlanFault
+from ..planfile import read_plan
 from ..seen.files import ShowFile, read_show_files
 from ..seen.gather import Gathering, What, of_hosts, read_what
 from ..seen.tables import Tables
