@@ -8,7 +8,8 @@ from typing import Dict, List, Sequence, Tuple
 
 from lldpa.audit import Finding, Verdict, audit
 from lldpa.names import NAMELESS, End, Names, Seen
-from lldpa.plan import Link, Plan, PlanFault
+from lldpa.plan import Link, Plan
+from lldpa.planfault import PlanFault
 from lldpa.seen.tables import Tables
 
 from slow_judge import SlowJudge

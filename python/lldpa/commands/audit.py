@@ -6,30 +6,32 @@ import gc
 import io
 import json
 import os
-import socket
 import sys
-from typing import Iterator, Optional, Sequence
+from typing import Optional, Sequence
 
 from ..audit import audit
 from ..child import Ended
-from ..control import DEFAULT_PATH
 from ..faultlines import FaultLines
 from ..findings import as_json, count, in_order
 from ..framing import Refused
-from ..names import Names, shown
+from ..mismatches import mismatches
+from ..names import Names
 from ..picture import PictureFault, draw
-from ..plan import Plan, PlanFault, read_plan
-from ..seen.files import SeenFile, read_files
+from ..planfault import PlanFault
+from ..planfile import read_plan
+from ..seen.files import read_files
 from ..seen.folders import read_whats
-from ..seen.gather import Gathering, What, of_hosts
-from ..seen.tables import Tables
+from ..seen.gather import of_hosts
 from ..show import ShowFault
+from .seenwords import add_reader_options, gathered, is_nothing_given
 
 WORDS = """\
 WHAT is any number of:
   PORT=FILE    a capture that was taken at a port of this host; several of one port are one
-  FILE         a pcapng capture that names its interfaces, or a `show neighbors`, of this host
+  FILE         a pcapng capture that names its interfaces, or neighbors, of this host: a `show
+               neighbors` of lldpa or lldpcli (any form), or NAPALM's JSON
   HOST:FILE    the same of another host
+  FOLDER       such files of many hosts, each named by its host: HOST.json, or files below HOST/
 
 The status is 0 if all is right, 1 if something is not, 2 if an argument is wrong or a file cannot
 be read. The manual page lldpa-audit(1) has the verdicts.
@@ -51,13 +53,7 @@ def read_words(words: Optional[Sequence[str]]) -> argparse.Namespace:
     add = parser.add_argument
     add("plan", metavar="PLAN", help="CSV with the columns host,port,peer,peer_port, or DOT")
     add("what", metavar="WHAT", nargs="*", help="what is seen, see below")
-    add("--live", action="store_true", help="ask the lldpa-live that runs on this host")
-    add("--control", metavar="PATH", default=DEFAULT_PATH,
-        help=f"its control socket ({DEFAULT_PATH} unless given)")
-    add("--wait", metavar="SECONDS", type=seconds, default=0.0,
-        help="wait until each planned port has a neighbor, so many seconds at most")
-    add("--host", metavar="NAME", default=socket.gethostname(),
-        help="this host's name in the plan (the system's unless given)")
+    add_reader_options(parser)
     add("--ignore-case", action="store_true", help="take names for the same that differ in case")
     add("--short-names", action="store_true", help="take hosts' names up to the first dot")
     add("--planned-only", action="store_true", help="say nothing of ports that are not planned")
@@ -65,43 +61,9 @@ def read_words(words: Optional[Sequence[str]]) -> argparse.Namespace:
     add("--svg", metavar="FILE", help="draw hosts and links (wants graphviz)")
     add("--program", metavar="FILE", default="lldpa", help="the agent that reads captures")
     given = parser.parse_intermixed_args(words)
-    if not given.what and not given.live:
-        parser.error("nothing to audit: give captures, shows, or --live")
+    if is_nothing_given(given):
+        parser.error("nothing to audit: give captures, shows, --live or --prometheus")
     return given
-
-
-def seconds(text: str) -> float:
-    """A number of seconds of an option."""
-    number = float(text)
-    if not 0 <= number <= 86400:
-        raise ValueError
-    return number
-
-
-def gathered(given: argparse.Namespace, whats: Sequence[What], files: Iterator[SeenFile],
-             plan: Plan, names: Names) -> tuple[Tables, bool]:
-    """What is known of the audited hosts, and whether a file of it is damaged."""
-    tables = Tables(names)
-    gathering = Gathering(tables, given.program, say)
-    gathering.add_files(whats, files)
-    if given.live:
-        gathering.add_live(given.host, given.control, plan, given.wait)
-    tables.add_unlisted(plan)
-    unplanned = [host for key, host in tables.hosts.items() if key not in plan.hosts]
-    told = [f"{plan.file} plans nothing of the host {shown(host)}{nearly(host, plan)}"
-            for host in unplanned]
-    if len(unplanned) == len(tables.hosts):
-        raise ValueError(told[0])
-    for text in told:
-        say(text)
-    return tables, gathering.is_damaged
-
-
-def nearly(host: str, plan: Plan) -> str:
-    """The planned host that has nearly this name, in words."""
-    loose = Names(ignore_case=True, short_names=True)
-    like = [one for one in plan.hosts.values() if loose.host(one) == loose.host(host)]
-    return f", but {shown(like[0])}: see --host, --ignore-case, --short-names" if like else ""
 
 
 def run(given: argparse.Namespace) -> int:
@@ -111,17 +73,18 @@ def run(given: argparse.Namespace) -> int:
     whats = list(read_whats(given.what, given.host))
     files = read_files([what.file for what in of_hosts(whats)])  # beside the plan
     plan = read_plan(given.plan, names)
-    tables, is_damaged = gathered(given, whats, files, plan, names)
+    tables, is_damaged = gathered(given, whats, files, plan, names, say)
     findings = audit(plan, tables, given.planned_only)
     lines = FaultLines(plan, tables, findings)
     counted = count(findings)
+    differing = mismatches(findings, tables) if given.settings else {}
     if given.json:
         print(json.dumps(as_json(in_order(findings), lines.text)))
     else:
-        print("\n".join([*lines.lines(), str(counted)]))
+        print("\n".join([*lines.lines(), *differing.values(), str(counted)]))
     if given.svg:
         draw(given.svg, findings, lines)
-    return 0 if counted.is_all_right and not is_damaged else 1
+    return 0 if counted.is_all_right and not is_damaged and not differing else 1
 
 
 def main(words: Optional[Sequence[str]] = None) -> int:

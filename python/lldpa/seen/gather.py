@@ -8,8 +8,10 @@ from typing import Callable, Iterable, Iterator, NamedTuple, Sequence
 from ..control import Client
 from ..names import End
 from ..plan import Plan
+from ..source import opened
 from .captures import Recorded, read_interfaces, read_port
 from .files import SeenFile
+from .fleet import Fleet
 from .shows import read_ports
 from .tables import Tables
 
@@ -68,7 +70,7 @@ class Gathering:
                 of_ports.setdefault(End(what.host, what.port), []).append(what.file)
         for end, captures in of_ports.items():
             for capture in captures:
-                open(capture, "rb").close()
+                opened(capture).close()
             recorded = read_port(captures, end.port, self.program)
             self.add_recorded(end.host, end.port, recorded)
 
@@ -117,6 +119,14 @@ class Gathering:
                     break
                 time.sleep(SECONDS_BETWEEN_LOOKS)
         self.tables.add_ports(host, ports)
+
+    def add_fleet(self, fleet: Fleet, plan: Plan) -> None:
+        """Takes the hosts of a Prometheus. Of those that have no ports, the planned ones count."""
+        for host, ports in fleet.ports.items():
+            self.tables.add_ports(host, ports)
+        for host, reason in fleet.reasons.items():
+            if self.tables.names.host(host) in plan.hosts:
+                self.tables.add_reason(host, "", reason)
 
     def damaged(self, host: str, port: str, why: str) -> None:
         """Says what is wrong with a file, whose port, or whose host's ports, are not known."""

@@ -7,8 +7,9 @@ from __future__ import annotations
 import base64
 import json
 import re
+from http.client import HTTPException
 from typing import Any, Mapping, NamedTuple, Optional
-from urllib.error import HTTPError, URLError
+from urllib.error import HTTPError
 from urllib.parse import unquote, urlencode, urlsplit, urlunsplit
 from urllib.request import Request, urlopen
 
@@ -85,7 +86,7 @@ def fetched(url: str, words: Mapping[str, str]) -> Any:
             return json.loads(answer.read())
     except HTTPError as fault:
         why = reason_of(fault.read(LONGEST_FAULT)) or str(fault)
-    except (URLError, OSError) as fault:
+    except (HTTPException, OSError) as fault:
         why = str(getattr(fault, "reason", fault))
     except (ValueError, RecursionError):
         why = "its answer is no JSON"
