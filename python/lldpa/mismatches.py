@@ -1,7 +1,7 @@
 """In what the two ends of right links differ, by what both say of the link."""
 from __future__ import annotations
 
-from typing import Iterable, Iterator, Optional, Union
+from typing import Iterable, Iterator, Union
 
 from .audit import Finding, Verdict
 from .names import End
@@ -40,14 +40,15 @@ def mismatch(one: Finding, other: Finding) -> str:
 
 def differing(one: Settings, other: Settings) -> Iterator[tuple[str, str]]:
     """What each of two ends says that the other one says otherwise, the first with its name."""
-    for name, value, its in (
-            ("MTU", one.max_frame_size, other.max_frame_size), ("PVID", one.pvid, other.pvid),
-            ("Mb/s", one.speed, other.speed), ("duplex", one.duplex, other.duplex),
-            ("aggregation", one.is_aggregated, other.is_aggregated)):
+    for name, unit, value, its in (
+            ("MTU", "", one.max_frame_size, other.max_frame_size),
+            ("PVID", "", one.pvid, other.pvid), ("speed", " Mb/s", one.speed, other.speed),
+            ("duplex", "", one.duplex, other.duplex),
+            ("aggregation", "", one.is_aggregated, other.is_aggregated)):
         if value is not None and its is not None and value != its:
-            yield f"{name} {worded(value)}", worded(its)
+            yield f"{name} {worded(value)}{unit}", f"{worded(its)}{unit}"
 
 
-def worded(value: Optional[Value]) -> str:
+def worded(value: Value) -> str:
     """A value as a line has it."""
     return str(value) if not isinstance(value, bool) else "yes" if value else "no"

@@ -29,8 +29,8 @@ def fleet_of(answers: Answers, hosts: Hosts, stale_after: float) -> Fleet:
     ports = {host: of_host for host, of_host in ports_of(answers, hosts).items()
              if host not in stale}
     if not ports and not stale:
-        raise PrometheusFault(f"it has no series lldpa_too_many whose label {hosts.label} names a "
-                              f"host by the pattern {hosts.pattern.pattern}")
+        raise PrometheusFault(f"Prometheus: no series lldpa_too_many has a label {hosts.label} of "
+                              f"the pattern {hosts.pattern.pattern}")
     return Fleet(ports, {**targets_without(answers, hosts, ports), **stale})
 
 

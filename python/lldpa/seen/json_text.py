@@ -36,7 +36,8 @@ def parsed(text: str) -> Any:
 def parsed_with_names_escaped(text: str, fault: json.JSONDecodeError) -> Any:
     """What lldpcli says where a name has a quote or a backslash, or the fault of the text."""
     text = text.replace("\r\n", "\n")
+    text = NAME_LINE.sub(lambda line: f"{line[1]}{json.dumps(line[2])}: {line[3]}", text)
     try:
-        return parsed(NAME_LINE.sub(lambda line: f"{line[1]}{json.dumps(line[2])}: {line[3]}", text))
+        return parsed(text)
     except (json.JSONDecodeError, RecursionError):
         raise SeenFault(f"it is no JSON: line {fault.lineno}: {fault.msg}") from None

@@ -65,7 +65,10 @@ class Hosts(NamedTuple):
 
 def answers_of(url: str) -> Answers:
     """What a Prometheus has now. Raises PrometheusFault."""
-    now = vector(url, "vector(time())", None)[0].value
+    times = vector(url, "vector(time())", None)
+    if len(times) != 1:
+        raise no_prometheus(url)
+    now = times[0].value
     return Answers(vector(url, "up", now), vector(url, "lldpa_too_many", now),
                    vector(url, "lldpa_neighbor_info", now), vector(url, AGES, now))
 
@@ -74,9 +77,17 @@ def vector(url: str, query: str, time: Optional[float]) -> list[Sample]:
     """The samples of a query at a time, now where none is given. Raises PrometheusFault."""
     told = fetched(url, {"query": query} if time is None else {"query": query, "time": str(time)})
     try:
-        return [Sample(one["metric"], float(one["value"][1])) for one in told["data"]["result"]]
+        samples = [Sample(one["metric"], float(one["value"][1])) for one in told["data"]["result"]]
+        if all(set(map(type, sample.labels.values())) <= {str} for sample in samples):
+            return samples
     except (AttributeError, IndexError, KeyError, TypeError, ValueError):
-        raise PrometheusFault(f"{shown_url(url)}: it has no such answer as a Prometheus") from None
+        pass
+    raise no_prometheus(url)
+
+
+def no_prometheus(url: str) -> PrometheusFault:
+    """The fault of an answer that is none of the API's."""
+    return PrometheusFault(f"{shown_url(url)}: it has no such answer as a Prometheus")
 
 
 def fetched(url: str, words: Mapping[str, str]) -> Any:
