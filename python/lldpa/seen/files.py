@@ -6,6 +6,7 @@ from concurrent.futures import ProcessPoolExecutor
 from typing import Iterator, NamedTuple, Sequence
 
 from ..show import ShowFault
+from ..source import opened
 from .shows import Ports, read_ports
 
 BEGIN_OF_SHOW = b"lldp."
@@ -25,7 +26,7 @@ class ShowFile(NamedTuple):
 
 def read_show_file(path: str) -> ShowFile:
     """What is in a file. Raises OSError."""
-    with open(path, "rb") as file:
+    with opened(path) as file:
         octets = file.read(len(BEGIN_OF_SHOW))
         if octets != BEGIN_OF_SHOW:
             return ShowFile(False, {}, "")
