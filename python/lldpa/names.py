@@ -2,8 +2,9 @@
 from __future__ import annotations
 
 import ipaddress
-from typing import Iterable, NamedTuple, Sequence
+from typing import Iterable, NamedTuple, Optional, Sequence
 
+from .settings import Settings
 from .spelling import is_aggregate, plain, plain_port
 
 
@@ -20,7 +21,8 @@ class End(NamedTuple):
 class Seen(NamedTuple):
     """A neighbor as an audit looks at it: the names of its host and of its port, the best first.
 
-    `aggregated` says that by its own words its link is one of an aggregate.
+    `aggregated` tells whether its port is a member of an aggregate by its own words, and `settings`
+    what else it says of its link.
     """
 
     hosts: tuple[str, ...]
@@ -28,6 +30,7 @@ class Seen(NamedTuple):
     chassis: str = ""
     port_id: str = ""
     aggregated: bool = False
+    settings: Optional[Settings] = None
 
     def __str__(self) -> str:
         if self == NAMELESS:

@@ -37,10 +37,13 @@ class Words(InAFolder):
     def test_bad_words_and_files(self) -> None:
         none = f"{self.folder}/none"
         for words, said in (
-                ("", "nothing to audit: give captures, shows, or --live"),
+                ("", "nothing to audit: give captures, shows, --live or --prometheus"),
                 ("swp1=none", "none: No such file or directory"),
-                (str(self.folder), "Is a directory"),
+                (f"swp1={self.folder}", "Is a directory"),
                 ("--wait x swp1=a", "invalid seconds value: 'x'"),
+                ("--prometheus localhost:9090", "invalid address value: 'localhost:9090'"),
+                ("--prometheus http:///x", "invalid address value: 'http:///x'"),
+                ("--instance-pattern ( swp1=a", "'(' is no pattern: missing )"),
                 (f"--live --control {none}", "none: No such file or directory"),
                 ("--liv", "unrecognized arguments: --liv")):
             status, out, err = self.audit(*words.split())

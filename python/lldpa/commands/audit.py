@@ -4,15 +4,15 @@ from __future__ import annotations
 import argparse
 import gc
 import json
-from typing import Iterator, Optional, Sequence
+from typing import Optional, Sequence
 
 from .. import output
 from ..aliases import read_aliases
 from ..audit import audit
 from ..child import Ended
 from ..framing import Refused
-from ..names import NO_ALIASES, Names, shown
-from ..plan import Plan
+from ..mismatches import mismatches
+from ..names import NO_ALIASES, Names
 from ..planfault import PlanFault
 from ..planfile import read_plan
 from ..progress import Progress
@@ -20,19 +20,15 @@ from ..report.files import FileFault, write
 from ..report.page import page_of
 from ..report.picture import drawn
 from ..report.report import Report
-from ..seen.files import ShowFile, read_show_files
-from ..seen.gather import Gathering
-from ..seen.tables import Tables
+from ..seen.files import read_files
+from ..seen.folders import read_whats
 from ..show import ShowFault
 from ..source import hold
-from ..what import What, of_hosts, placed, read_what
+from ..what import of_hosts, placed
 from .auditwords import read_words
+from .seenwords import ControlFault, gathered
 
 NAME = "lldpa-audit"
-
-
-class ControlFault(Exception):
-    """Why the bridge that runs here does not answer."""
 
 
 class Audit:
@@ -47,17 +43,20 @@ class Audit:
         gc.disable()  # what is made stays to the end; to look for garbage costs a third of the time
         given = self.given
         names = self.names()
-        whats = [read_what(word, given.host) for word in given.what]
+        whats = list(read_whats(given.what, given.host))
         for what in whats:
             hold(what.file)
-        files = read_show_files([what.file for what in of_hosts(whats)])  # beside the plan
+        files = read_files([what.file for what in of_hosts(whats)])  # beside the plan
         plan = read_plan(given.plan, names, given.columns, given.panels, bool(given.html))
         for note in plan.notes:
             self.say(note)
         whats = [placed(what, plan, names) for what in whats]
-        tables, is_damaged = self.gathered(whats, files, plan, names)
+        files = self.progress.over(files, len(whats), "files")
+        tables, is_damaged = gathered(given, whats, files, plan, names, self.say)
         self.progress.show("comparing")
-        report = Report(plan, tables, audit(plan, tables, given.planned_only))
+        findings = audit(plan, tables, given.planned_only)
+        differing = mismatches(findings, tables) if given.settings else {}
+        report = Report(plan, tables, findings, differing)
         self.print(report)
         self.write(report)
         is_right = report.count.is_all_right and not (given.all and report.count.unseen)
@@ -69,31 +68,6 @@ class Audit:
         rules = given.ignore_case, given.short_names, given.vendor_names
         aliases = read_aliases(given.aliases, Names(*rules)) if given.aliases else NO_ALIASES
         return Names(*rules, aliases)
-
-    def gathered(self, whats: Sequence[What], files: Iterator[ShowFile], plan: Plan,
-                 names: Names) -> tuple[Tables, bool]:
-        """What is known of the audited hosts, and whether a file of it is damaged."""
-        tables = Tables(names)
-        gathering = Gathering(tables, self.given.program, self.say)
-        gathering.add_files(whats, self.progress.over(files, len(whats), "files"))
-        if self.given.live:
-            self.add_live(gathering, plan)
-        unplanned = [host for key, host in tables.hosts.items() if key not in plan.hosts]
-        told = [f"{plan.file} plans nothing of the host {shown(host)}{nearly(host, plan)}"
-                for host in unplanned]
-        if len(unplanned) == len(tables.hosts):
-            raise ValueError(told[0])
-        for text in told:
-            self.say(text)
-        return tables, gathering.is_damaged
-
-    def add_live(self, gathering: Gathering, plan: Plan) -> None:
-        """Takes what the bridge that runs here knows."""
-        given = self.given
-        try:
-            gathering.add_live(given.host, given.control, plan, given.wait)
-        except OSError as fault:
-            raise ControlFault(f"{given.control}: {fault.strerror or fault}") from None
 
     def print(self, report: Report) -> None:
         """Prints what was found."""
@@ -114,13 +88,6 @@ class Audit:
         """A line on standard error."""
         self.progress.clear()
         output.complain(NAME, text)
-
-
-def nearly(host: str, plan: Plan) -> str:
-    """The planned host that has nearly this name, in words."""
-    loose = Names(ignore_case=True, short_names=True)
-    like = [one for one in plan.hosts.values() if loose.host(one) == loose.host(host)]
-    return f", but {shown(like[0])}: see --host, --ignore-case, --short-names" if like else ""
 
 
 def status_of(words: Optional[Sequence[str]]) -> int:

@@ -2,18 +2,19 @@
 from __future__ import annotations
 
 import argparse
-import socket
 from typing import Optional, Sequence
 
 from ..columns import given_columns
-from ..control import DEFAULT_PATH
+from .seenwords import add_reader_options, is_nothing_given
 
 WORDS = """\
 WHAT is any number of:
   PORT=FILE       a capture that was taken at a port of this host; several of one port are one
   HOST:PORT=FILE  the same of another host
-  FILE            a pcapng capture that names its interfaces, or a `show neighbors`, of this host
+  FILE            a pcapng capture that names its interfaces, or neighbors, of this host: a `show
+                  neighbors` of lldpa or lldpcli (any form), or NAPALM's JSON
   HOST:FILE       the same of another host
+  FOLDER          such files of many hosts, each named by its host: HOST.json, or files below HOST/
 
 The status is 0 if all is right, 1 if something is not, 2 if an argument is wrong or a file cannot
 be read or written. The manual page lldpa-audit(1) has the verdicts.
@@ -29,12 +30,14 @@ def read_words(words: Optional[Sequence[str]]) -> argparse.Namespace:
     parser.add_argument("plan", metavar="PLAN", help="CSV that names its columns, or DOT")
     parser.add_argument("what", metavar="WHAT", nargs="*", help="what is seen, see below")
     add_words_of_plan(parser)
-    add_words_of_seen(parser)
+    add_reader_options(parser)
+    parser.add_argument("--program", metavar="FILE", default="lldpa",
+                        help="the agent that reads captures")
     add_words_of_names(parser)
     add_words_of_report(parser)
     given = parser.parse_intermixed_args(words)
-    if not given.what and not given.live:
-        parser.error("nothing to audit: give captures, shows, or --live")
+    if is_nothing_given(given):
+        parser.error("nothing to audit: give captures, shows, --live or --prometheus")
     if given.only_faults and not given.svg:
         parser.error("--only-faults is for the picture of --svg")
     return given
@@ -46,19 +49,6 @@ def add_words_of_plan(parser: argparse.ArgumentParser) -> None:
     add("--columns", metavar="NAMES", type=columns,
         help="the plan's columns, such as host=device,port=interface,peer=to,peer_port=to_port")
     add("--panels", metavar="FILE", help="the pairs of ports that patch panels join, as a plan")
-
-
-def add_words_of_seen(parser: argparse.ArgumentParser) -> None:
-    """What is seen, and by whom."""
-    add = parser.add_argument
-    add("--live", action="store_true", help="ask the lldpa-live that runs on this host")
-    add("--control", metavar="PATH", default=DEFAULT_PATH,
-        help=f"its control socket ({DEFAULT_PATH} unless given)")
-    add("--wait", metavar="SECONDS", type=seconds, default=0.0,
-        help="wait until each planned port has a neighbor, so many seconds at most")
-    add("--host", metavar="NAME", default=socket.gethostname(),
-        help="this host's name in the plan (the system's unless given)")
-    add("--program", metavar="FILE", default="lldpa", help="the agent that reads captures")
 
 
 def add_words_of_names(parser: argparse.ArgumentParser) -> None:
@@ -90,10 +80,3 @@ def columns(text: str) -> "dict[str, str]":
         raise argparse.ArgumentTypeError(
             f"{text!r} is not like host=NAME,port=NAME,peer=NAME,peer_port=NAME") from None
 
-
-def seconds(text: str) -> float:
-    """A number of seconds of an option."""
-    number = float(text)
-    if not 0 <= number <= 86400:
-        raise ValueError
-    return number

@@ -10,7 +10,8 @@ from ..capture import ETHERNET, BadCapture, interfaces_of, reader_of
 from ..pcap import PcapReader
 from ..source import Source, opened
 from ..trace import MOST_PORTS, Told, frames_of
-from .shows import Ports, read_ports
+from .listing import Ports
+from .shows import read_ports
 
 MOST_NEIGHBORS = 128
 LINES_AT_ONCE = 1000

@@ -1,4 +1,4 @@
-"""What an audit is given, as tables: captures, shows, and a bridge that runs."""
+"""What an audit is given, as tables: files of any form, captures, and a bridge that runs."""
 from __future__ import annotations
 
 import time
@@ -10,7 +10,8 @@ from ..plan import Plan
 from ..source import opened
 from ..what import What, of_hosts
 from .captures import Recorded, read_interfaces, read_port
-from .files import ShowFile
+from .files import SeenFile
+from .fleet import Fleet
 from .shows import read_ports
 from .tables import Tables
 
@@ -30,7 +31,7 @@ class Gathering:
         self.say = say
         self.is_damaged = False
 
-    def add_files(self, whats: Sequence[What], files: Iterator[ShowFile]) -> None:
+    def add_files(self, whats: Sequence[What], files: Iterator[SeenFile]) -> None:
         """Takes files, those of hosts as they were read. Several captures of one port are one."""
         for what, file in zip(of_hosts(whats), files):
             self.add_file(what, file)
@@ -44,14 +45,16 @@ class Gathering:
             recorded = read_port(captures, end.port, self.program)
             self.add_recorded(end.host, end.port, recorded)
 
-    def add_file(self, what: What, file: ShowFile) -> None:
-        """Takes a show, or a capture that names its interfaces."""
-        if not file.is_show:
-            self.add_recorded(what.host, "", read_interfaces(what.file, self.program))
-        elif file.fault:
+    def add_file(self, what: What, file: SeenFile) -> None:
+        """Takes a file of a form, or a capture that names its interfaces."""
+        if file.fault:
             self.damaged(what.host, "", file.fault)
+        elif file.listing is None:
+            self.add_recorded(what.host, "", read_interfaces(what.file, self.program))
         else:
-            self.tables.add_ports(what.host, file.ports)
+            self.tables.add_ports(what.host, file.listing.ports)
+            if file.listing.has_all_heard:
+                self.tables.add_listed(what.host)
 
     def add_recorded(self, host: str, port: str, recorded: Recorded) -> None:
         """Takes the ports of captures, all of a host where no port is named."""
@@ -87,6 +90,14 @@ class Gathering:
                     break
                 time.sleep(SECONDS_BETWEEN_LOOKS)
         self.tables.add_ports(host, ports)
+
+    def add_fleet(self, fleet: Fleet, plan: Plan) -> None:
+        """Takes the hosts of a Prometheus. Of those that have no ports, the planned ones count."""
+        for host, ports in fleet.ports.items():
+            self.tables.add_ports(host, ports)
+        for host, reason in fleet.reasons.items():
+            if self.tables.names.host(host) in plan.hosts:
+                self.tables.add_reason(host, "", reason)
 
     def damaged(self, host: str, port: str, why: str) -> None:
         """Says what is wrong with a file, whose port, or whose host's ports, are not known."""

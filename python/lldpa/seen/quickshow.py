@@ -8,6 +8,7 @@ from __future__ import annotations
 import re
 
 from ..shown import SAID_KEY
+from .tlvs import SETTING
 
 NUMBER = "(?:0|[1-9][0-9]{0,18})"
 TEXT = "[ -~]*"
@@ -26,5 +27,6 @@ USUAL_PORT = re.compile(
     rf"(?P=port)1\.expires={NUMBER}"
     rf"((?:\n(?P=port)1\.{SAID_KEY}={TEXT})*)\n", re.MULTILINE)
 
-# the lines among the further ones that name the neighbor: key and value
-NAMES = re.compile(r"\nlldp\.[^.]+\.1\.(chassis\.name|chassis\.mgmt|port\.descr)=(.*)")
+# the lines among the further ones that name the neighbor, or tell of its link: key and value
+NAMES = re.compile(
+    rf"\nlldp\.[^.]+\.1\.(chassis\.name|chassis\.mgmt|port\.descr|{SETTING})=(.*)")

@@ -1,14 +1,19 @@
 """The ports of a show and their neighbors, as an audit looks at them."""
 from __future__ import annotations
 
-import ipaddress
 from typing import Iterable, Iterator, Sequence, Tuple
 
 from ..names import NAMELESS, Seen
 from ..show import Port, Show, ShowFault, read_show, unescaped
+from .listing import Listing, Ports
+from .neighbor import names_of_address
 from .quickshow import NAMES, USUAL_PORT
+from .tlvs import IS_SETTING, settings_of_tlvs
 
-Ports = dict[str, Sequence[Seen]]
+
+def read_shows(octets: bytes) -> Listing:
+    """The neighbors of each port. Raises ShowFault. A show has each port of its agent, or one."""
+    return Listing(read_ports(octets.decode("latin-1")), False)
 
 
 def read_ports(text: str) -> Ports:
@@ -75,7 +80,7 @@ def seen_neighbor(chassis: str, kind: str, port_id: str, said: Iterable[Tuple[st
     The System Name reads best, and so does the Port Description, unless the Port ID names an
     interface.
     """
-    hosts, ports = [chassis], [port_id]
+    hosts, ports, tlvs = [*names_of_address(chassis)], [port_id], []
     for key, value in said:
         if key == "chassis.name":
             hosts.insert(0, value)
@@ -83,7 +88,13 @@ def seen_neighbor(chassis: str, kind: str, port_id: str, said: Iterable[Tuple[st
             hosts += names_of_address(value.partition(",")[0])
         elif key == "port.descr":
             ports.insert(1 if kind == "ifname" else 0, value)
-    return Seen(plain(hosts), plain(ports), chassis, port_id)
+        elif IS_SETTING.fullmatch(key):
+            tlvs.append((key, value))
+    if not tlvs:
+        return Seen(plain(hosts), plain(ports), chassis, port_id)
+    settings = settings_of_tlvs(tuple(tlvs))
+    aggregated = settings is not None and bool(settings.is_aggregated)
+    return Seen(plain(hosts), plain(ports), chassis, port_id, aggregated, settings)
 
 
 def plain(texts: Sequence[str]) -> tuple[str, ...]:
@@ -93,13 +104,3 @@ def plain(texts: Sequence[str]) -> tuple[str, ...]:
             octets = [unescaped(text) for text in texts if text]
             return tuple([text.decode(errors="surrogateescape") for text in octets])
     return tuple(texts)
-
-
-def names_of_address(address: str) -> Sequence[str]:
-    """An address as a show writes it, and as people do, who shorten those of IPv6."""
-    if address.count(":") != 7:
-        return (address,)
-    try:
-        return address, ipaddress.ip_address(address).compressed
-    except ValueError:
-        return (address,)

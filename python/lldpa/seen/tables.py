@@ -4,6 +4,7 @@ from __future__ import annotations
 from typing import Mapping, NamedTuple, Sequence
 
 from ..names import End, Names, Seen
+from ..plan import Plan
 
 
 class Told(NamedTuple):
@@ -24,6 +25,7 @@ class Tables:
         self.hosts: dict[str, str] = {}
         self.ends: dict[End, Told] = {}
         self._reasons: dict[End, str] = {}
+        self._listed: set[str] = set()
 
     def add_host(self, host: str) -> None:
         """A host is audited, also where none of its ports is known."""
@@ -42,6 +44,20 @@ class Tables:
             if key in self.ends:
                 raise ValueError(f"the neighbors of {end} are told twice")
             self.ends[key] = Told(end, neighbors)
+
+    def add_listed(self, host: str) -> None:
+        """Each port of a host that has a neighbor was told, or is told later."""
+        self.add_host(host)
+        self._listed.add(self.names.host(host))
+
+    def add_unlisted(self, plan: Plan) -> None:
+        """The planned ports of such hosts that were not told: they have no neighbor.
+
+        Where something of a host, or of such a port, is damaged, its neighbors are not known.
+        """
+        for key, wish in plan.ends.items():
+            if key.host in self._listed and key not in self.ends and not self.reason(key):
+                self.ends[key] = Told(wish.end, ())
 
     def add_reason(self, host: str, port: str, reason: str) -> None:
         """Why a port is not known, or further ports of a host where the port's name is empty."""

@@ -1,0 +1,228 @@
+"""Organizationally specific TLVs: what each says, and that nothing else is ever read of it."""
+
+from __future__ import annotations
+
+import unittest
+from typing import NamedTuple, Tuple
+
+from encoding import encoded
+from lldpa.organizational import (ApplicationPriorities, ApplicationPriority, CivicAddress,
+                                  Coordinates, Eee, Elin, Ets, EtsRecommendation, EtsTables,
+                                  Inventory, LinkAggregation, MacPhy, ManagementVlan, MaxFrameSize,
+                                  MedCapabilities, MedPower, MudUrl, NetworkPolicy, Pfc, PortVlan,
+                                  Power, PowerOfPairs, PowerRequest, ProtocolIdentity,
+                                  ProtocolVlan, Tlv, VidUsageDigest, VlanName, mau_of, read_tlv,
+                                  said_by)
+
+TABLES = EtsTables((0, 1, 2, 3, 4, 5, 6, 7), (10, 20, 30, 40, 0, 0, 0, 0),
+                   (2, 2, 2, 2, 0, 0, 1, 255))
+TABLES_HEX = "01234567 0a141e2800000000 02020202000001ff"
+REQUEST = PowerRequest(1, 1, 2, 255, 200)
+PAIRS = PowerOfPairs(100, 101, 102, 103, 2, 1, 3, 4, 5, 6, 3, True, 999, True, False, True, 29,
+                     60)
+
+
+class Sample(NamedTuple):
+    """A TLV and what it says. Of its octets with one of them changed, so many have its form too;
+    so have its fronts of these lengths. `ignored` are bits that mean nothing."""
+
+    kind: Tuple[str, int]
+    octets: str
+    tlv: Tlv
+    changed: int
+    fronts: Tuple[int, ...] = ()
+    ignored: str = ""
+
+
+SAMPLES = (
+    Sample(("0080c2", 1), "0078", PortVlan(120), 15 + 255),
+    Sample(("0080c2", 2), "06 0078", ProtocolVlan(True, True, 120), 255 + 15 + 255,
+           ignored="f9 0000"),
+    Sample(("0080c2", 3), "0078 06 6f6666696365", VlanName(120, b"office"), 15 + 255 + 6 * 255),
+    Sample(("0080c2", 4), "05 88cc000102", ProtocolIdentity(b"\x88\xcc\0\x01\x02"), 5 * 255),
+    Sample(("0080c2", 5), "01020304", VidUsageDigest(0x01020304), 4 * 255),
+    Sample(("0080c2", 6), "0001", ManagementVlan(1), 15 + 255),
+    Sample(("0080c2", 7), "03 00000007", LinkAggregation(True, True, 7), 5 * 255,
+           ignored="fc 00000000"),
+    Sample(("00120f", 3), "01 00010002", LinkAggregation(True, False, 65538), 5 * 255,
+           ignored="fc 00000000"),
+    Sample(("0080c2", 9), "c0" + TABLES_HEX, Ets(True, True, 8, TABLES), 21 * 255,
+           ignored="38" + "00" * 20),
+    Sample(("0080c2", 10), "00" + TABLES_HEX, EtsRecommendation(TABLES), 21 * 255,
+           ignored="ff" + "00" * 20),
+    Sample(("0080c2", 11), "84 09", Pfc(True, False, 4, (0, 3)), 2 * 255, ignored="30 00"),
+    Sample(("0080c2", 12), "00 618906 820cbc", ApplicationPriorities((
+        ApplicationPriority(3, 1, 0x8906), ApplicationPriority(4, 2, 3260))), 7 * 255, (1, 4),
+           "ff 180000 180000"),
+    Sample(("00120f", 1), "03 6c01 001e", MacPhy(True, True, 0x6c01, 30), 5 * 255,
+           ignored="fc 0000 0000"),
+    Sample(("00120f", 2), "0f 01 05", Power(True, True, True, True, 1, 5), 3 * 255,
+           ignored="f0 00 00"),
+    Sample(("00120f", 2), "06 02 04 52 00ff 00c8",
+           Power(False, True, True, False, 2, 4, REQUEST), 8 * 255, (3,),
+           "f0 00 00 0c 0000 0000"),
+    Sample(("00120f", 2), "06 02 04 52 00ff 00c8 0064 0065 0066 0067 9e56 07 03e7 05 74003c",
+           Power(False, True, True, False, 2, 4, REQUEST, PAIRS), 25 * 255, (3, 8),
+           "f0 00 00 0c 0000 0000 0000 0000 0000 0000 0000 f0 0000 f8 000000"),
+    Sample(("00120f", 4), "05f2", MaxFrameSize(1522), 2 * 255),
+    Sample(("00120f", 5), "0011 0012 0013 0014 0015", Eee(17, 18, 19, 20, 21), 10 * 255),
+    Sample(("0012bb", 1), "003f 03", MedCapabilities(63, 3), 3 * 255),
+    Sample(("0012bb", 2), "01 43e96e", NetworkPolicy(1, False, True, 500, 5, 46), 4 * 255,
+           ignored="00 200000"),
+    # changed, its resolutions are up to 34 and 30, and no place is beyond a pole or half the globe
+    Sample(("0012bb", 3), "01 48 61000000 48 04800000 12 40 00 2380 01",
+           Coordinates(18, 97 << 24, 18, 9 << 23, 1, 9, 0x2380, 1),
+           (35 * 2 - 1) + 180 + 3 * 255 + (35 * 3 - 1) + 4 * 255 + (16 * 8 - 1) + 5 * 255),
+    Sample(("0012bb", 3), "02 0c 02 4e4c 16 07 5261636b203132",
+           CivicAddress(2, b"NL", ((22, b"Rack 12"),)), 4 * 255 + 7 * 255),
+    Sample(("0012bb", 3), "03 39313135353531323132", Elin("9115551212"), 10 * 9,
+           tuple(range(2, 11))),
+    Sample(("0012bb", 4), "52 0032", MedPower(1, 1, 2, 50), 3 * 255),
+    *(Sample(("0012bb", subtype), b"rev B".hex(), Inventory(kind, b"rev B"), 5 * 255,
+             tuple(range(5))) for subtype, kind in (
+                 (5, "hardware"), (6, "firmware"), (7, "software"), (8, "serial"),
+                 (9, "manufacturer"), (10, "model"), (11, "asset"))),
+    Sample(("00005e", 1), b"https://x".hex(), MudUrl(b"https://x"), 9 * 255, tuple(range(1, 9))),
+)
+
+
+def changed(octets: bytes) -> list[bytes]:
+    """The octets with each of them changed to each other value."""
+    return [octets[:at] + bytes([value]) + octets[at + 1:]
+            for at in range(len(octets)) for value in range(256) if value != octets[at]]
+
+
+class EachKind(unittest.TestCase):
+    """One of each kind, its fronts, and each change of an octet."""
+
+    def test_what_is_said(self) -> None:
+        for sample in SAMPLES:
+            octets = bytes.fromhex(sample.octets)
+            self.assertEqual(read_tlv(*sample.kind, octets), sample.tlv)
+            self.assertEqual(encoded(sample.tlv), octets)
+
+    def test_each_kind_is_there(self) -> None:
+        kinds = {sample.kind for sample in SAMPLES}
+        subtypes = {"0080c2": (*range(1, 8), *range(9, 13)), "00120f": range(1, 6),
+                    "0012bb": range(1, 12), "00005e": (1,)}
+        self.assertEqual(kinds, {(oui, one) for oui, some in subtypes.items() for one in some})
+
+    def test_each_front(self) -> None:
+        for sample in SAMPLES:
+            octets = bytes.fromhex(sample.octets)
+            for length in range(len(octets)):
+                with self.subTest(sample.kind, length=length):
+                    self.check(sample, octets[:length])
+                    is_read = read_tlv(*sample.kind, octets[:length]) is not None
+                    self.assertEqual(is_read, length in sample.fronts)
+            for further in (b"\0", b"\xff", bytes(20)):
+                self.check(sample, octets + further)
+
+    def test_each_change_of_an_octet(self) -> None:
+        for sample in SAMPLES:
+            with self.subTest(sample.kind):
+                variants = changed(bytes.fromhex(sample.octets))
+                count = sum(self.check(sample, octets) for octets in variants)
+                self.assertEqual(count, sample.changed)
+
+    def check(self, sample: Sample, octets: bytes) -> bool:
+        """Whether octets are read; if so, what is read has all of them, and in `said_by` too."""
+        tlv = read_tlv(*sample.kind, octets)
+        oui, subtype = sample.kind
+        shown = (f"{oui}.{subtype}", octets.hex())
+        said = said_by([shown])
+        self.assertEqual((said.tlvs, said.rest), ((), (shown,)) if tlv is None else ((tlv,), ()))
+        if tlv is not None:
+            ignored = bytes.fromhex(sample.ignored).ljust(len(octets), b"\0")
+            meant = bytes(octet & ~none for octet, none in zip(octets, ignored))
+            self.assertEqual(encoded(tlv), meant)
+        return tlv is not None
+
+
+class Forms(unittest.TestCase):
+    """What has no form, and what numbers mean."""
+
+    def test_what_is_no_vlan(self) -> None:
+        for kind, octets in ((1, "0fff"), (1, "1001"), (2, "060fff"), (3, "0fff00"), (6, "0fff")):
+            self.assertIsNone(read_tlv("0080c2", kind, bytes.fromhex(octets)))
+        self.assertIsNone(read_tlv("0012bb", 2, bytes.fromhex("015fff00")))
+        self.assertEqual(read_tlv("0080c2", 1, bytes.fromhex("0ffe")), PortVlan(4094))
+        self.assertEqual(read_tlv("0080c2", 1, bytes(2)), PortVlan(0))
+
+    def test_a_name_has_at_most_32_octets(self) -> None:
+        for length in (0, 1, 32):
+            name = VlanName(7, b"n" * length)
+            self.assertEqual(read_tlv("0080c2", 3, encoded(name)), name)
+        self.assertIsNone(read_tlv("0080c2", 3, encoded(VlanName(7, b"n" * 33))))
+
+    def test_places(self) -> None:
+        whole = Coordinates(34, 90 << 25, 34, -180 << 25, 2, 30, -(1 << 29), 3)
+        self.assertEqual(read_tlv("0012bb", 3, encoded(whole)), whole)
+        for beyond in (Coordinates(34, (90 << 25) + 1, 34, 0, 1, 30, 0, 1),
+                       Coordinates(34, 0, 34, (180 << 25) + 1, 1, 30, 0, 1),
+                       Coordinates(35, 0, 34, 0, 1, 30, 0, 1),
+                       Coordinates(34, 0, 35, 0, 1, 30, 0, 1),
+                       Coordinates(34, 0, 34, 0, 1, 31, 0, 1)):
+            self.assertIsNone(read_tlv("0012bb", 3, encoded(beyond)))
+
+    def test_other_kinds_are_not_read(self) -> None:
+        for oui, subtype in (("0080c2", 0), ("0080c2", 8), ("0080c2", 13), ("00120f", 0),
+                             ("00120f", 6), ("0012bb", 0), ("0012bb", 12), ("00005e", 0),
+                             ("00005e", 2), ("001122", 1), ("0080C2", 1)):
+            for length in range(30):
+                self.assertIsNone(read_tlv(oui, subtype, bytes(length)))
+
+    def test_names_of_numbers(self) -> None:
+        self.assertEqual(mau_of(30), ("1000BASE-T", 1000, "full"))
+        self.assertEqual(mau_of(16), ("100BASE-TX", 100, "full"))
+        self.assertEqual(mau_of(54), ("10GBASE-T", 10_000, None))
+        self.assertEqual(mau_of(103), ("2.5GBASE-T", 2500, None))
+        self.assertEqual(mau_of(144), ("10BASE-T1S", 10, "full"))
+        self.assertEqual([mau_of(number) for number in (0, 145, 65535)], [None] * 3)
+        self.assertEqual(mau_of(59), ("10/1GBASE-PRX-D1", None, None))
+        modes = MacPhy(True, True, 0x6c01, 30).modes
+        self.assertEqual(modes, ("10BASE-T/half", "10BASE-T/full", "100BASE-TX/half",
+                                 "100BASE-TX/full", "1000BASE-T/full"))
+        self.assertEqual([Power(True, True, True, True, 0, number).power_class
+                          for number in range(7)], [None, 0, 1, 2, 3, 4, None])
+
+
+class OfANeighbor(unittest.TestCase):
+    """All TLVs of a neighbor."""
+
+    def test_together(self) -> None:
+        said = said_by([("0080c2.1", "0078"), ("0080c2.3", "0078026162"), ("0080c2.3", "00790163"),
+                        ("00120f.4", "05f2"), ("001122.5", "68"), ("0012bb.5", "41"),
+                        ("0012bb.8", "42"), ("0080c2.7", "00")])
+        self.assertEqual((said.pvid, said.max_frame_size), (120, 1522))
+        self.assertEqual(said.all(VlanName), (VlanName(120, b"ab"), VlanName(121, b"c")))
+        self.assertEqual(said.inventory, {"hardware": b"A", "serial": b"B"})
+        self.assertEqual(said.rest, (("001122.5", "68"), ("0080c2.7", "00")))
+        self.assertIsNone(said.one(MacPhy))
+        nothing = said_by([])
+        self.assertEqual((nothing.pvid, nothing.max_frame_size), (None, None))
+        self.assertEqual(nothing.inventory, {})
+
+    def test_of_two_that_differ_none_is_taken(self) -> None:
+        two = [("0080c2.1", "0078"), ("00120f.4", "05f2"), ("0080c2.1", "0079")]
+        said = said_by(two)
+        self.assertIsNone(said.pvid)
+        self.assertEqual(said.rest, (two[0], two[2]))
+        self.assertEqual(said.max_frame_size, 1522)
+        alike = said_by([two[0], two[0]])
+        self.assertEqual((alike.tlvs, alike.rest), ((PortVlan(120),), ()))
+
+    def test_both_kinds_of_link_aggregation(self) -> None:
+        alike = said_by([("00120f.3", "0300000007"), ("0080c2.7", "0700000007")])
+        self.assertEqual(alike.tlvs, (LinkAggregation(True, True, 7),))
+        other = said_by([("00120f.3", "0300000007"), ("0080c2.7", "0300000008")])
+        self.assertEqual((other.tlvs, len(other.rest)), ((), 2))
+
+    def test_what_no_agent_shows_is_kept(self) -> None:
+        for shown in (("0080c2.1", "007"), ("0080c2.1", "xx"), ("0080c2", "0078"),
+                      ("0080c2.x", "0078"), ("0080c2.1", "00\u0660\u0660"), ("", "")):
+            self.assertEqual(said_by([shown]).rest, (shown,))
+
+
+if __name__ == "__main__":
+    unittest.main()
