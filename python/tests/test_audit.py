@@ -29,7 +29,7 @@ class Case:
         self.names = Names(self.rng.random() < 0.3, self.rng.random() < 0.3)
         hosts = self.rng.sample(HOSTS, self.rng.randint(2, len(HOSTS)))
         self.hosts = list({self.names.host(host): host for host in hosts}.values())
-        self.ports = list({self.names.port(port): port for port in PORTS}.values())
+        self.ports = list({self.names.plain_port(port): port for port in PORTS}.values())
         self.pairs = self.random_pairs()
         self.audited = self.rng.sample(self.hosts, self.rng.randint(1, len(self.hosts)))
         self.known: Dict[End, List[Seen]] = {}

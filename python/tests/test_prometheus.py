@@ -112,7 +112,8 @@ class Api(InAFolder):
         return ran.returncode, ran.stdout, ran.stderr
 
     def test_all_right(self) -> None:
-        self.assertEqual(self.audit(), (0, "3 planned: 3 right, 0 not\n", ""))
+        self.assertEqual(self.audit(), (0, "6 planned: 3 right, 0 not, 3 not looked at "
+                "(host01, host02, host03)\n", ""))
         self.assertEqual({path for path, _, _ in self.asked}, {"/api/v1/query"})
         self.assertEqual([words.get("time") for _, words, _ in self.asked],
                          [None, *[str(NOW)] * 4])
@@ -122,17 +123,22 @@ class Api(InAFolder):
         self.plan = self.file("plan.csv", PLAN + "spine1,swp1,host09,eth0\n")
         self.assertEqual(self.audit(), (
             1, "spine1 swp1  no data: wants host09 eth0 (Prometheus: spine1:9100 is down)\n"
-               "4 planned: 3 right, 1 not\n", ""))
+               "8 planned: 3 right, 1 not, 4 not looked at "
+                "(host01, host02, host03, 1 more)\n", ""))
 
     def test_nobody_is_heard(self) -> None:
         del self.fake.neighbors[2]
         self.assertEqual(self.audit()[:2], (
-            1, "leaf2 swp1  silent: wants host03 eth0\n3 planned: 2 right, 1 not\n"))
+            1, "leaf2 swp1  silent: wants host03 eth0\n6 planned: 2 right, "
+               "1 not, 3 not looked at "
+                "(host01, host02, host03)\n"))
 
     def test_files_beside_it(self) -> None:
         self.plan = self.file("plan.csv", PLAN + "leaf3,swp1,host09,eth0\n")
         seen = self.file("leaf3.json", '{"swp1": [{"hostname": "host09", "port": "eth0"}]}')
-        self.assertEqual(self.audit(f"leaf3:{seen}"), (0, "4 planned: 4 right, 0 not\n", ""))
+        self.assertEqual(self.audit(f"leaf3:{seen}"), (
+            0, "8 planned: 4 right, 0 not, 4 not looked at "
+                "(host01, host02, host03, 1 more)\n", ""))
 
     def test_no_such_host_is_planned(self) -> None:
         self.fake.__init__()  # type: ignore[misc]

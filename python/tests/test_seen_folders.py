@@ -52,7 +52,9 @@ class Folders(InAFolder):
         self.file("seen/leaf2.lab.txt", keyvalue(("swp1", "host03", "eth0")))
         self.file("seen/.hidden", "x")
         self.assertEqual(self.audit(self.seen), (
-            1, "leaf2.lab swp2  silent: wants host04 eth0\n4 planned: 3 right, 1 not\n", ""))
+            1, "leaf2.lab swp2  silent: wants host04 eth0\n8 planned: 3 right, "
+               "1 not, 4 not looked at "
+                "(host01, host02, host03, 1 more)\n", ""))
 
     def test_folders_named_by_host(self) -> None:
         (self.folder / "seen" / "leaf1").mkdir()
@@ -62,9 +64,11 @@ class Folders(InAFolder):
             (self.folder / "seen" / "leaf1" / f"{port}.pcap").write_bytes(octets)
         self.file("seen/leaf2.lab/lldp/neighbors.json",
                   napalm(("swp1", "host03", "eth0"), ("swp2", "host04", "eth0")))
-        self.assertEqual(self.audit(self.seen), (0, "4 planned: 4 right, 0 not\n", ""))
+        self.assertEqual(self.audit(self.seen), (0, "8 planned: 4 right, 0 not, 4 not looked at "
+                "(host01, host02, host03, 1 more)\n", ""))
         self.assertEqual(self.audit(f"leaf1:{self.seen}/leaf1", f"leaf2.lab:{self.seen}/leaf2.lab"),
-                         (0, "4 planned: 4 right, 0 not\n", ""))
+                         (0, "8 planned: 4 right, 0 not, 4 not looked at "
+                "(host01, host02, host03, 1 more)\n", ""))
 
     def test_damaged_file(self) -> None:
         self.file("seen/leaf1.json", napalm(("swp1", "host01", "eth0"), ("swp2", "host02", "eth0")))

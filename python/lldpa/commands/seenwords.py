@@ -12,11 +12,16 @@ from ..names import Names, shown
 from ..plan import Plan
 from ..seen.files import SeenFile
 from ..seen.fleet import fleet_of
-from ..seen.gather import Gathering, What
+from ..seen.gather import Gathering
 from ..seen.prometheus import HOST_OF_INSTANCE, INSTANCE, STALE_AFTER, Hosts, answers_of
 from ..seen.tables import Tables
+from ..what import What
 
 Say = Callable[[str], None]
+
+
+class ControlFault(Exception):
+    """Why the bridge that runs on this host does not answer."""
 
 
 def add_reader_options(parser: argparse.ArgumentParser) -> None:
@@ -77,7 +82,10 @@ def gathered(given: argparse.Namespace, whats: Sequence[What], files: Iterator[S
     gathering = Gathering(tables, given.program, say)
     gathering.add_files(whats, files)
     if given.live:
-        gathering.add_live(given.host, given.control, plan, given.wait)
+        try:
+            gathering.add_live(given.host, given.control, plan, given.wait)
+        except OSError as fault:
+            raise ControlFault(f"{given.control}: {fault.strerror or fault}") from None
     if given.prometheus:
         hosts = Hosts(given.instance_label, given.instance_pattern)
         answers = answers_of(given.prometheus)

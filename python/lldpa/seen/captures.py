@@ -1,14 +1,15 @@
 """The neighbors of ports at the end of captures: those of an agent that hears what was taken."""
 from __future__ import annotations
 
+from contextlib import ExitStack
 from itertools import islice
 from typing import Iterator, NamedTuple, Sequence
 
 from ..agent import Agent
 from ..capture import ETHERNET, BadCapture, interfaces_of, reader_of
 from ..pcap import PcapReader
-from ..source import MOST_PORTS, Source, opened
-from ..trace import Told, trace_of
+from ..source import Source, opened
+from ..trace import MOST_PORTS, Told, frames_of
 from .listing import Ports
 from .shows import read_ports
 
@@ -58,28 +59,34 @@ def interface_names(file: str) -> Sequence[str]:
     names = [one.name for one in interfaces if one.name]
     if is_pcap or len(names) < len(interfaces):
         raise NoPortNamed(f"{file}: it does not name the port of its frames: write PORT={file}")
-    names = list(dict.fromkeys(names))
-    if len(names) > MOST_PORTS:
-        raise NoPortNamed(f"{file}: it has {len(names)} interfaces, and {MOST_PORTS} are the most")
-    return names
+    return list(dict.fromkeys(names))
 
 
 def recorded(sources: Sequence[Source], names: Sequence[str], program: str) -> Recorded:
-    """What an agent holds at the end of captures. Its ports are p0, p1 .. for these names."""
+    """What agents hold at the end of captures, each of some of the names. Their ports are p0 .."""
     faults: list[str] = []
     notes: list[str] = []
-    ports = {f"p{number}": name for number, name in enumerate(names)}
-    lines = trace_of(sources, Told(notes.append, faults.append))
-    with Agent.start(list(ports) or ["p0"], program, receive_only=True,
-                     max_neighbors=MOST_NEIGHBORS) as agent:
-        for some_lines in parts(lines):
-            agent.tell(some_lines)
-        shown = agent.ask("show neighbors")
-    seen = read_ports("\n".join(shown) + "\n")
-    return Recorded({name: seen[port] for port, name in ports.items()}, faults, notes)
+    ports = {f"p{number}": name for number, name in enumerate(names)} or {"p0": ""}
+    lines = frames_of(sources, Told(notes.append, faults.append), True)
+    seen: Ports = {}
+    with ExitStack() as stack:
+        agents = [(set(some), stack.enter_context(Agent.start(
+            some, program, receive_only=True, max_neighbors=MOST_NEIGHBORS)))
+            for some in parts(iter(ports), MOST_PORTS)]
+        for some_lines in parts(lines, LINES_AT_ONCE):
+            for its_ports, agent in agents:
+                agent.tell(some_lines if len(agents) == 1 else of_ports(some_lines, its_ports))
+        for _, agent in agents:
+            seen.update(read_ports("\n".join([*agent.ask("show neighbors"), ""])))
+    return Recorded({name: seen[port] for port, name in ports.items() if name}, faults, notes)
 
 
-def parts(lines: Iterator[str]) -> Iterator[list[str]]:
-    """Lines in lists that are handed over at once."""
-    while some_lines := list(islice(lines, LINES_AT_ONCE)):
-        yield some_lines
+def of_ports(lines: Sequence[str], ports: set[str]) -> list[str]:
+    """The seconds among lines, and the frames of these ports."""
+    return [line for line in lines if not line.startswith("rx ") or line.split(" ", 2)[1] in ports]
+
+
+def parts(texts: Iterator[str], size: int) -> Iterator[list[str]]:
+    """Texts in lists of this size."""
+    while some := list(islice(texts, size)):
+        yield some

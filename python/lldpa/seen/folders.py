@@ -6,7 +6,7 @@ from typing import Iterator, Sequence
 
 from ..pcap import form_of
 from ..source import opened
-from .gather import What, read_what
+from ..what import What, read_what
 
 # what ends the name of a file, and is no part of a host's name or a port's
 ENDINGS = (".gz", ".json", ".json0", ".xml", ".keyvalue", ".kv", ".plain", ".txt", ".show", ".out",

@@ -1,14 +1,14 @@
 """What an audit is given, as tables: files of any form, captures, and a bridge that runs."""
 from __future__ import annotations
 
-import os
 import time
-from typing import Callable, Iterable, Iterator, NamedTuple, Sequence
+from typing import Callable, Iterator, Sequence
 
 from ..control import Client
 from ..names import End
 from ..plan import Plan
 from ..source import opened
+from ..what import What, of_hosts
 from .captures import Recorded, read_interfaces, read_port
 from .files import SeenFile
 from .fleet import Fleet
@@ -16,35 +16,6 @@ from .shows import read_ports
 from .tables import Tables
 
 SECONDS_BETWEEN_LOOKS = 0.5
-
-
-class What(NamedTuple):
-    """A file of a host, and the port where it is a capture of one."""
-
-    host: str
-    port: str
-    file: str
-
-
-def read_what(word: str, ours: str) -> What:
-    """A word as FILE, PORT=FILE or HOST:FILE: the first of these whose file is there."""
-    forms = [What(ours, "", word)]
-    forms += [What(ours, port, file) for port, file in parted(word, "=")]
-    forms += [What(host, "", file) for host, file in parted(word, ":")]
-    there = (form for form in forms if os.path.exists(form.file))
-    return next(there, forms[min(1, len(forms) - 1)])
-
-
-def of_hosts(whats: Iterable[What]) -> list[What]:
-    """Those that are not captures of one port."""
-    return [what for what in whats if not what.port]
-
-
-def parted(word: str, mark: str) -> Iterator[tuple[str, str]]:
-    """What stands before and behind each mark in a word, where neither is empty."""
-    for at, letter in enumerate(word):
-        if letter == mark and 0 < at < len(word) - 1:
-            yield word[:at], word[at + 1:]
 
 
 class Gathering:

@@ -10,7 +10,7 @@ import re
 from ..shown import SAID_KEY
 from .tlvs import SETTING
 
-NUMBER = "(?:0|[1-9][0-9]*)"
+NUMBER = "(?:0|[1-9][0-9]{0,18})"
 TEXT = "[ -~]*"
 
 # Its groups: what each line begins with, the port's name, the neighbor's chassis ID, the kind of

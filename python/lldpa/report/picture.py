@@ -3,13 +3,13 @@ from __future__ import annotations
 
 import html
 import subprocess
-from pathlib import Path
 from typing import Optional, Sequence
 
-from .audit import Finding, Verdict
-from .faultlines import FaultLines
-from .findings import count, natural
-from .names import NAMELESS, End, Seen, shown
+from ..audit import Finding, Verdict
+from ..names import NAMELESS, End, Seen, shown
+from .files import FileFault
+from .order import by_port
+from .report import Report
 
 # where there are more right links than this, they are left out
 MOST_RIGHT = 500
@@ -34,10 +34,6 @@ STYLES = {
 }
 
 
-class PictureFault(Exception):
-    """Why there is no picture."""
-
-
 class Box:
     """A host: its ports in the order of their names, and the texts of those with a fault."""
 
@@ -54,7 +50,7 @@ class Box:
 
     def node(self) -> str:
         """The host as a node: a table with a row for each port."""
-        ports = sorted(self.ports, key=lambda port: natural(End(self.name, port)))
+        ports = sorted(self.ports, key=lambda port: by_port(End(self.name, port)))
         name = f'<B>{text(self.name)}</B></TD>'
         if self.is_left or self.faults:
             head = ['<TD BORDER="0"></TD>', f'<TD BORDER="0">{name}']
@@ -84,20 +80,20 @@ class Box:
 
 
 class Picture:
-    """Hosts and links of findings."""
+    """Hosts and links of a report, those with a fault alone where only these are asked for."""
 
-    def __init__(self, findings: Sequence[Finding], lines: FaultLines) -> None:
-        self.lines = lines
-        self.names = lines.names
+    def __init__(self, report: Report, only_faults: bool) -> None:
+        self.lines = report.fault_lines
+        self.names = report.names
         self.boxes: dict[str, Box] = {}
         self.edges: dict[tuple[str, str, str], None] = {}
-        self.left = {key for key, wish in lines.hints.plan.ends.items() if wish.place % 2 == 0}
+        self.left = {key for key, wish in report.plan.ends.items() if wish.place % 2 == 0}
         self.left_hosts = {key.host for key in self.left}
-        right = [one for one in findings if one.verdict is Verdict.RIGHT]
-        self.caption = str(count(findings))
-        if len(right) > MOST_RIGHT:
+        self.caption = str(report.count)
+        findings = report.findings
+        if only_faults or report.count.right > MOST_RIGHT:
             self.caption += " (right links are left out)"
-            findings = lines.faults
+            findings = self.lines.faults
         for finding in findings:
             self.add(finding)
 
@@ -153,15 +149,16 @@ def text(name: str) -> str:
     return html.escape(shown(name) if " " not in name else name)
 
 
-def draw(file: str, findings: Sequence[Finding], lines: FaultLines) -> None:
-    """Draws findings into a file. Raises PictureFault, and OSError."""
+def drawn(report: Report, only_faults: bool) -> bytes:
+    """The picture of a report in SVG. Raises FileFault."""
     try:
-        ran = subprocess.run(["dot", "-Tsvg"], input=str(Picture(findings, lines)).encode(),
+        ran = subprocess.run(["dot", "-Tsvg"], input=str(Picture(report, only_faults)).encode(),
                              capture_output=True, timeout=SECONDS)
     except FileNotFoundError:
-        raise PictureFault("--svg wants dot, which is not installed (Debian: graphviz)") from None
+        raise FileFault("--svg wants dot, which is not installed (Debian: graphviz)") from None
     except subprocess.TimeoutExpired:
-        raise PictureFault(f"dot has not drawn {file} within {SECONDS} seconds") from None
+        raise FileFault(f"dot has not drawn it within {SECONDS} seconds: see --only-faults and "
+                        "--html") from None
     if ran.returncode != 0:
-        raise PictureFault(f"dot: {ran.stderr.decode(errors='replace').strip()}")
-    Path(file).write_bytes(ran.stdout)
+        raise FileFault(f"dot: {ran.stderr.decode(errors='replace').strip()}")
+    return ran.stdout

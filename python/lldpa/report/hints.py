@@ -3,10 +3,11 @@ from __future__ import annotations
 
 from typing import Optional, Sequence
 
-from .audit import Finding
-from .names import End, Names, Seen, shown, what_differs
-from .plan import Plan, Wish
-from .seen.tables import Tables
+from ..audit import Finding
+from ..differs import Differences
+from ..names import End, Seen, shown
+from ..plan import Plan, Wish
+from ..seen.tables import Tables
 
 
 class Hints:
@@ -16,6 +17,7 @@ class Hints:
         self.plan = plan
         self.tables = tables
         self.names = tables.names
+        self.differences = Differences(self.names)
         self.seen = self._places_of_wanted(faults)
         self.beside = self._ports_beside_the_plan()
 
@@ -29,9 +31,8 @@ class Hints:
         return places
 
     def _ports_beside_the_plan(self) -> dict[End, End]:
-        loose = Names(True, self.names.short_names)
-        return {loose.end(told.end): told.end for key, told in self.tables.ends.items()
-                if key not in self.plan.ends}
+        return {self.differences.loosest(told.end): told.end
+                for key, told in self.tables.ends.items() if key not in self.plan.ends}
 
     def place(self, end: End) -> str:
         """An end as a person at the audited host names it: where there is one host, by its port."""
@@ -47,7 +48,7 @@ class Hints:
 
     def neighbor(self, neighbor: Seen, end: End, wants: Optional[End]) -> str:
         """Who is seen at an end, and where that one is planned, or in what its name differs."""
-        differs = what_differs(neighbor, wants, self.names) if wants else None
+        differs = self.differences.of_neighbor(neighbor, wants) if wants else None
         if differs:
             return f"{neighbor} ({differs})"
         wish = self.planned(neighbor)
@@ -64,6 +65,10 @@ class Hints:
 
     def reason(self, end: End) -> str:
         """Why nothing is known of an end."""
-        given = self.tables.reason(self.names.end(end))
-        like = self.beside.get(Names(True, self.names.short_names).end(end))
-        return given or (f"{self.place(like)} is known: only the case differs" if like else "")
+        return self.tables.reason(self.names.end(end)) or self.like(end)
+
+    def like(self, end: End) -> str:
+        """A port beside the plan that has nearly the name of an end."""
+        like = self.beside.get(self.differences.loosest(end))
+        differs = self.differences.of_ends(like, end) if like else None
+        return f"{self.place(like)} is known: {differs}" if like and differs else ""
