@@ -110,13 +110,20 @@ class Judge:
         Each has what the other one wants, and not what it wants itself. Where there are several it
         is the first one of the plan.
         """
-        wishes = [self.plan.ends[key] for key in self.names.ends(neighbor) if key in self.plan.ends]
+        wishes = [self.plan.ends[key] for key in self.ends(neighbor) if key in self.plan.ends]
         others = {wish.wanted for wish in wishes} - {end, wanted}
         for other in sorted(others, key=lambda other: self.plan.ends[other].place):
             its_wish = self.plan.ends[other]
             if self.has_alone(other, wanted) and not self.sees(other, its_wish.wanted):
                 return its_wish.end
         return None
+
+    def ends(self, neighbor: Seen) -> Iterator[End]:
+        """Each end that a neighbor answers to: one that names its aggregate may be any member."""
+        yield from self.names.ends(neighbor)
+        if self.names.is_any_member(neighbor):
+            for host in map(self.names.host, neighbor.hosts):
+                yield from self.plan.ends_of_hosts.get(host, ())
 
     def has_alone(self, end: End, other: End) -> bool:
         """Whether an end has one neighbor, who answers to the other end."""

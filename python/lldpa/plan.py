@@ -1,7 +1,8 @@
 """A plan of the cabling: which end is to be joined to which."""
 from __future__ import annotations
 
-from typing import Iterable, NamedTuple, Optional, Sequence
+from functools import cached_property
+from typing import Iterable, Mapping, NamedTuple, Optional, Sequence
 
 from .names import End, Names
 from .planfault import Faults
@@ -62,6 +63,14 @@ class Plan:
         elif before is None or before.wanted != other_key:
             twice = one if before else other
             faults.add(line, planned_twice(twice, before or other_before, line))
+
+    @cached_property
+    def ends_of_hosts(self) -> Mapping[str, Sequence[End]]:
+        """The planned ends of each host, all as they are compared."""
+        ends: dict[str, list[End]] = {}
+        for key in self.ends:
+            ends.setdefault(key.host, []).append(key)
+        return ends
 
     def row(self, wish: Wish) -> str:
         """The line of the file in which an end stands, if lines are kept."""
