@@ -56,14 +56,33 @@ class Judge:
 
     def planned(self) -> Iterator[Finding]:
         """The findings on the planned ends of the audited hosts."""
+        right = Verdict.RIGHT
         for end, wish in self.plan.ends.items():
             if end.host in self.tables.hosts:
-                yield self.finding(end, wish)
+                neighbors = self.usual(end, wish.wanted)
+                if neighbors is not None:
+                    yield Finding(wish.end, right, wish.wants, neighbors)
+                else:
+                    yield self.finding(end, wish)
+
+    def usual(self, end: End, wanted: End) -> Optional[Sequence[Seen]]:
+        """The one neighbor of an end that is right as nearly all are; None where more is to be asked.
+
+        It spares an audit of a large network half of its time.
+        """
+        told, other = self.tables.ends.get(end), self.tables.ends.get(wanted)
+        if told is None or len(told.neighbors) != 1:
+            return None
+        if other is not None:
+            if len(other.neighbors) != 1 or not self.names.answers(other.neighbors[0], end):
+                return None
+        return told.neighbors if self.names.answers(told.neighbors[0], wanted) else None
 
     def unplanned(self) -> Iterator[Finding]:
         """The findings on ports beside the plan."""
-        for end, told in self.tables.ends.items():
-            if told.neighbors and end not in self.plan.ends:
+        for end in sorted(self.tables.ends.keys() - self.plan.ends.keys()):
+            told = self.tables.ends[end]
+            if told.neighbors:
                 yield Finding(told.end, Verdict.UNPLANNED, None, told.neighbors)
 
     def finding(self, end: End, wish: Wish) -> Finding:
