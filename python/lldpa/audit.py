@@ -6,7 +6,7 @@ from typing import Iterator, NamedTuple, Optional, Sequence
 
 from .names import End, Seen
 from .plan import Plan, Wish
-from .seen.tables import Tables
+from .seen.tables import Tables, Told
 
 
 class Verdict(Enum):
@@ -56,27 +56,10 @@ class Judge:
 
     def planned(self) -> Iterator[Finding]:
         """The findings on the planned ends of the audited hosts."""
-        right = Verdict.RIGHT
+        hosts, ends = self.tables.hosts, self.tables.ends
         for end, wish in self.plan.ends.items():
-            if end.host in self.tables.hosts:
-                neighbors = self.usual(end, wish.wanted)
-                if neighbors is not None:
-                    yield Finding(wish.end, right, wish.wants, neighbors)
-                else:
-                    yield self.finding(end, wish)
-
-    def usual(self, end: End, wanted: End) -> Optional[Sequence[Seen]]:
-        """The one neighbor of an end that is right as nearly all are; None where more is to be asked.
-
-        It spares an audit of a large network half of its time.
-        """
-        told, other = self.tables.ends.get(end), self.tables.ends.get(wanted)
-        if told is None or len(told.neighbors) != 1:
-            return None
-        if other is not None:
-            if len(other.neighbors) != 1 or not self.names.answers(other.neighbors[0], end):
-                return None
-        return told.neighbors if self.names.answers(told.neighbors[0], wanted) else None
+            if end.host in hosts:
+                yield self.finding(end, wish, ends.get(end), ends.get(wish.wanted))
 
     def unplanned(self) -> Iterator[Finding]:
         """The findings on ports beside the plan."""
@@ -85,17 +68,22 @@ class Judge:
             if told.neighbors:
                 yield Finding(told.end, Verdict.UNPLANNED, None, told.neighbors)
 
-    def finding(self, end: End, wish: Wish) -> Finding:
-        """The finding on a planned end."""
-        told = self.tables.ends.get(end)
+    def finding(self, end: End, wish: Wish, told: Optional[Told], other: Optional[Told]) -> Finding:
+        """The finding on a planned end, by what is told of it and of the end that it wants."""
         if told is None:
             return Finding(wish.end, Verdict.NO_DATA, wish.wants)
+        if self.has_only(told, wish.wanted) and (other is None or self.has_only(other, end)):
+            return Finding(wish.end, Verdict.RIGHT, wish.wants, told.neighbors)
         verdict = self.verdict(end, wish.wanted, told.neighbors)
         if verdict is Verdict.WRONG:
             partner = self.partner(end, wish.wanted, told.neighbors[0])
             if partner is not None:
                 return Finding(wish.end, Verdict.SWAPPED, wish.wants, told.neighbors, partner)
         return Finding(wish.end, verdict, wish.wants, told.neighbors)
+
+    def has_only(self, told: Told, end: End) -> bool:
+        """Whether a port has one neighbor, who answers to an end."""
+        return len(told.neighbors) == 1 and self.names.answers(told.neighbors[0], end)
 
     def verdict(self, end: End, wanted: End, neighbors: Sequence[Seen]) -> Verdict:
         """The verdict on an end that is told of. One that is swapped is still wrong here."""
@@ -141,4 +129,4 @@ class Judge:
     def has_alone(self, end: End, other: End) -> bool:
         """Whether an end has one neighbor, who answers to the other end."""
         told = self.tables.ends.get(end)
-        return told is not None and len(told.neighbors) == 1 and self.sees(end, other)
+        return told is not None and self.has_only(told, other)
