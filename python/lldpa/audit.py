@@ -63,8 +63,9 @@ class Judge:
 
     def unplanned(self) -> Iterator[Finding]:
         """The findings on ports beside the plan."""
-        for end, told in self.tables.ends.items():
-            if told.neighbors and end not in self.plan.ends:
+        for end in sorted(self.tables.ends.keys() - self.plan.ends.keys()):
+            told = self.tables.ends[end]
+            if told.neighbors:
                 yield Finding(told.end, Verdict.UNPLANNED, None, told.neighbors)
 
     def finding(self, end: End, wish: Wish, told: Optional[Told], other: Optional[Told]) -> Finding:

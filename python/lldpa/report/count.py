@@ -45,12 +45,12 @@ class Count(NamedTuple):
 def count(findings: Sequence[Finding], plan: Plan, tables: Tables, mismatches: int = 0) -> Count:
     """Counts findings, and the planned ends beside them."""
     unseen = {key: name for key, name in plan.hosts.items() if key not in tables.hosts}
-    verdicts = [finding.verdict for finding in findings]
-    unplanned = verdicts.count(Verdict.UNPLANNED)
-    judged = len(verdicts) - unplanned
+    is_right, beside = Verdict.RIGHT, Verdict.UNPLANNED
+    right = sum(1 for finding in findings if finding.verdict is is_right)
+    unplanned = sum(1 for finding in findings if finding.verdict is beside)
+    judged = len(findings) - unplanned
     hosts = sorted(unseen.values(), key=lambda name: natural(name, {}))
-    return Count(len(plan.ends), verdicts.count(Verdict.RIGHT), unplanned,
-                 len(plan.ends) - judged, hosts, mismatches)
+    return Count(len(plan.ends), right, unplanned, len(plan.ends) - judged, hosts, mismatches)
 
 
 def named(hosts: Sequence[str]) -> str:

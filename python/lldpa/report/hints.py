@@ -31,8 +31,9 @@ class Hints:
         return places
 
     def _ports_beside_the_plan(self) -> dict[End, End]:
-        return {self.differences.loosest(told.end): told.end
-                for key, told in self.tables.ends.items() if key not in self.plan.ends}
+        beside = self.tables.ends.keys() - self.plan.ends.keys()
+        ends = [self.tables.ends[key].end for key in sorted(beside)]
+        return {self.differences.loosest(end): end for end in ends}
 
     def place(self, end: End) -> str:
         """An end as a person at the audited host names it: where there is one host, by its port."""

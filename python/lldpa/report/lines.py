@@ -22,9 +22,13 @@ class FaultLines:
                  mismatches: Optional[Mapping[End, str]] = None) -> None:
         self.names = tables.names
         self.mismatches = mismatches or {}
-        self.told = in_order(one for one in findings if one.verdict is not Verdict.RIGHT
-                             or one.end in self.mismatches)
-        self.faults = [one for one in self.told if one.verdict is not Verdict.RIGHT]
+        right = Verdict.RIGHT
+        faults = [one for one in findings if one.verdict is not right]
+        if self.mismatches:
+            faults += [one for one in findings
+                       if one.verdict is right and one.end in self.mismatches]
+        self.told = in_order(faults)
+        self.faults = [one for one in self.told if one.verdict is not right]
         self.ranks = {self.names.end(fault.end): rank for rank, fault in enumerate(self.faults)}
         self.hints = Hints(plan, tables, self.faults)
         self.exchanges = Exchanges(self.faults, self.names)
