@@ -2,6 +2,7 @@
 from __future__ import annotations
 
 import ipaddress
+from sys import intern
 from typing import NamedTuple, Optional, Sequence
 
 from ..names import Seen
@@ -46,9 +47,12 @@ def texts(names: Sequence[str]) -> tuple[str, ...]:
 
 
 def clean(text: str) -> str:
-    """A text whose surrogates all stand for octets that are not UTF-8. JSON can have others."""
+    """A text whose surrogates all stand for octets that are not UTF-8. JSON can have others.
+
+    One that many neighbors have is kept, and handed on by a process, once.
+    """
     if text.isascii():
-        return text
+        return intern(text)
     try:
         text.encode(errors="surrogateescape")
         return text

@@ -1,6 +1,7 @@
 """The ports of a show and their neighbors, as an audit looks at them."""
 from __future__ import annotations
 
+from sys import intern
 from typing import Iterable, Iterator, Sequence, Tuple
 
 from ..names import NAMELESS, Seen
@@ -47,7 +48,7 @@ def port_by_port(text: str) -> Iterator[Tuple[str, Sequence[Seen]]]:
         if found.start() > at:
             yield from seen_ports(only_ports(text[at:found.start()]))
         _, name, chassis, kind, port_id, further = found.groups()
-        yield name, [seen_neighbor(chassis, kind, port_id, NAMES.findall(further))]
+        yield intern(name), [seen_neighbor(chassis, kind, port_id, NAMES.findall(further))]
         at = found.end()
     if at < len(text):
         yield from seen_ports(read_show(text[at:-1].split("\n")))
@@ -78,8 +79,9 @@ def seen_neighbor(chassis: str, kind: str, port_id: str, said: Iterable[Tuple[st
     """A neighbor by its chassis ID, the kind of its port ID, that ID, and what else it said.
 
     The System Name reads best, and so does the Port Description, unless the Port ID names an
-    interface.
+    interface. A text that many neighbors have is kept, and handed on by a process, once.
     """
+    chassis, port_id = intern(chassis), intern(port_id)
     hosts, ports, tlvs = [*names_of_address(chassis)], [port_id], []
     for key, value in said:
         if key == "chassis.name":
@@ -103,4 +105,4 @@ def plain(texts: Sequence[str]) -> tuple[str, ...]:
         if not text or "\\" in text:
             octets = [unescaped(text) for text in texts if text]
             return tuple([text.decode(errors="surrogateescape") for text in octets])
-    return tuple(texts)
+    return tuple(map(intern, texts))
