@@ -55,7 +55,7 @@ class PlanFile:
 
 def read_plan(file: str, names: Names, columns: Optional[Mapping[str, str]] = None,
               panels: Optional[str] = None, keep_rows: bool = False) -> Plan:
-    """The plan of a file, whose columns may be given, and a file of the panels that it goes through.
+    """The plan of a file, whose columns may be given, through the panels of another file.
 
     Raises PlanFault and OSError.
     """
