@@ -108,6 +108,8 @@ def status_of(words: Optional[Sequence[str]]) -> int:
         program.say(f"{where}{fault.strerror or fault}")
     except (ControlFault, FileFault, ShowFault, Refused, Ended, ValueError) as fault:
         program.say(str(fault))
+    finally:
+        program.progress.clear()
     return 2
 
 
