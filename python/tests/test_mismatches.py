@@ -83,7 +83,8 @@ class Mismatches(unittest.TestCase):
 
     def test_each_setting(self) -> None:
         for said, its, text in (
-                (tlvs(kind=TYPES[0]), tlvs(kind=TYPES[1]), "speed 1000 Mb/s, host1 p0 says 100 Mb/s"),
+                (tlvs(kind=TYPES[0]), tlvs(kind=TYPES[1]),
+                 "speed 1000 Mb/s, host1 p0 says 100 Mb/s"),
                 (tlvs(kind=TYPES[1]), tlvs(kind=TYPES[2]), "duplex full, host1 p0 says half"),
                 (tlvs(kind=TYPES[0]), tlvs(kind=TYPES[2]),
                  "speed 1000 Mb/s and duplex full, host1 p0 says 100 Mb/s and half"),
@@ -118,7 +119,7 @@ class Texts(unittest.TestCase):
                 ("1000BaseTFD - Four-pair Category 5 UTP, full duplex mode", 1000, "full"),
                 ("1000baseKX - X backplane, full duplex mode only", 1000, "full"),
                 ("10GigBaseLR - R fiber over 1310 nm optics", 10000, None),
-                ("10GbaseT - Four-pair Category 6A or better, full duplex mode only", 10000, "full"),
+                ("10GbaseT - Category 6A or better, full duplex mode only", 10000, "full"),
                 ("2p5GigT - 2.5GBASE-T PHY", 2500, None),
                 ("100GbaseLR4 - 100GBASE-R PCS/PMA over 4 WDM lane", 100000, None),
                 ("unknown", None, None), ("", None, None), ("9" * 5000 + "Base", None, None)):

@@ -193,7 +193,8 @@ class Series(unittest.TestCase):
                 ("instance", None, "leaf1:9100", "leaf1"), ("instance", None, "leaf1", "leaf1"),
                 ("instance", None, "[2001:db8::1]:9100", "2001:db8::1"),
                 ("nodename", r"(.+)\.lab", "leaf1.lab", "leaf1"),
-                ("nodename", r"(.+)\.lab", "leaf1.web", ""), ("nodename", "leaf.*", "leaf1", "leaf1"),
+                ("nodename", r"(.+)\.lab", "leaf1.web", ""),
+                ("nodename", "leaf.*", "leaf1", "leaf1"),
                 ("nodename", r"(?:a-(.+)|b-(.+))", "b-leaf1", "leaf1"), ("other", None, "x", "")):
             hosts = Hosts(label, re.compile(pattern)) if pattern else Hosts(label)
             labels = {"nodename": value, "instance": value}

@@ -1,13 +1,16 @@
 """The forms of lldpcli, as a real lldpd wrote them, beside the show of our own agent."""
 from __future__ import annotations
 
+import gzip
 import random
+import tempfile
 import unittest
 from typing import Dict, List, Optional, Sequence, Tuple
 
 import lldpd_heard
 from lldpa import Agent
 from lldpa.names import Seen
+from lldpa.seen.files import MOST_OCTETS, read_file
 from lldpa.seen.forms import reader_of
 from lldpa.seen.listing import Listing, SeenFault
 from lldpa.seen.shows import read_ports
@@ -187,6 +190,26 @@ class Faults(unittest.TestCase):
             text = f'<?xml version="1.0"?><!DOCTYPE lldp [<!ENTITY e0 "ten">{inner}]><lldp>&e20;'
             self.assertIn("document type", fault_of(text.encode()) or "")
         self.assertIn("undefined entity", fault_of(b"<lldp>&lol;</lldp>") or "")
+
+    def test_compressed(self) -> None:
+        whole = lldpd_heard.sample("clean", "json0")
+        packed = gzip.compress(whole)
+        for octets, fault in ((packed, ""), (packed[:-9], "cut short"),
+                              (b"\x1f\x8b" + whole, "damaged"), (gzip.compress(b"x"), "")):
+            with tempfile.NamedTemporaryFile() as file:
+                file.write(octets)
+                file.flush()
+                found = read_file(file.name)
+            self.assertIn(fault, found.fault)
+            self.assertEqual(found.listing, read(whole) if octets is packed else None)
+
+    def test_too_much(self) -> None:
+        self.assertIn("more than 1000000 elements",
+                      fault_of(b"<lldp>" + b"<vlan/>" * 1_000_001 + b"</lldp>") or "")
+        with tempfile.NamedTemporaryFile() as file:
+            file.write(b"<lldp>" + b" " * (MOST_OCTETS + 1024))
+            file.flush()
+            self.assertIn("no list has so many", read_file(file.name).fault)
 
     def test_surrogates_that_stand_for_no_octet(self) -> None:
         text = lldpd_heard.sample("clean", "json0").decode().replace('"d"', '"\\ud800d\\udcff"')

@@ -3,16 +3,22 @@ from __future__ import annotations
 
 import os
 from concurrent.futures import ProcessPoolExecutor
-from typing import Iterator, NamedTuple, Optional, Sequence
+from typing import Callable, Iterator, NamedTuple, Optional, Sequence
 
 from ..show import ShowFault
 from ..source import opened
+from ..unzip import MAGIC, Unzipped
+from ..window import BadCapture
 from .forms import FRONT, reader_of
 from .listing import Listing, SeenFault
 
 # one process reads fewer files sooner than several have begun
 MANY = 100
 FILES_AT_A_TIME = 20
+# more than the show of 64 ports with 128 neighbors each has; what is read takes up to 30 times it
+MOST_OCTETS = 32 * 1024 * 1024
+
+Take = Callable[[int], bytes]
 
 
 class SeenFile(NamedTuple):
@@ -25,16 +31,37 @@ class SeenFile(NamedTuple):
 
 def read_file(path: str) -> SeenFile:
     """What is in a file. Raises OSError."""
-    with opened(path) as file:
-        front = file.read(FRONT)
-        read = reader_of(front)
-        if read is None:
-            return SeenFile()
-        octets = front + file.read()
     try:
-        return SeenFile(read(octets))
-    except (ShowFault, SeenFault) as fault:
+        with opened(path) as file:
+            begin = file.read(len(MAGIC))
+            take: Take = file.read
+            if begin == MAGIC:
+                begin, take = b"", Unzipped(file, begin).read
+            front = begin + taken(take, FRONT)
+            read = reader_of(front)
+            return SeenFile() if read is None else SeenFile(read(front + rest_of(take)))
+    except (BadCapture, ShowFault, SeenFault) as fault:
         return SeenFile(None, f"{path}: {fault}")
+
+
+def rest_of(take: Take) -> bytes:
+    """What is left of a list of neighbors. Raises SeenFault where it is too much for one."""
+    octets = taken(take, MOST_OCTETS)
+    if len(octets) == MOST_OCTETS:
+        raise SeenFault(f"it has over {MOST_OCTETS} octets, and no list has so many")
+    return octets
+
+
+def taken(take: Take, size: int) -> bytes:
+    """So many octets, or all that there are."""
+    parts: list[bytes] = []
+    while size > 0:
+        part = take(size)
+        if not part:
+            break
+        parts.append(part)
+        size -= len(part)
+    return b"".join(parts)
 
 
 def read_files(paths: Sequence[str]) -> Iterator[SeenFile]:

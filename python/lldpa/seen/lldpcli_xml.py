@@ -12,6 +12,7 @@ from .listing import Listing, SeenFault
 from .lldpcli import read_tree
 
 DEEPEST = 20
+MOST_NODES = 1_000_000
 Node = dict[str, Any]
 
 
@@ -26,6 +27,8 @@ class Tree:
     def __init__(self, octets: bytes) -> None:
         self.root: Node = {}
         self.path = [self.root]
+        self.texts: list[list[str]] = [[]]
+        self.nodes = 0
         parser = expat.ParserCreate()
         parser.buffer_text = True
         parser.StartDoctypeDeclHandler = self.refuse
@@ -45,6 +48,9 @@ class Tree:
         """An element begins."""
         if len(self.path) > DEEPEST:
             raise SeenFault(f"its elements are more than {DEEPEST} deep")
+        self.nodes += 1
+        if self.nodes > MOST_NODES:
+            raise SeenFault(f"it has more than {MOST_NODES} elements")
         node: Node = dict(attributes)
         beside = self.path[-1].get(name)
         if isinstance(beside, list):
@@ -52,13 +58,12 @@ class Tree:
         else:
             self.path[-1][name] = [node]
         self.path.append(node)
+        self.texts.append([])
 
     def end(self, _: str) -> None:
         """An element ends."""
-        self.path.pop()
+        self.path.pop()["value"] = "".join(self.texts.pop())
 
     def take(self, text: str) -> None:
         """Some of an element's text."""
-        node = self.path[-1]
-        before = node.get("value", "")
-        node["value"] = before + text if isinstance(before, str) else text
+        self.texts[-1].append(text)

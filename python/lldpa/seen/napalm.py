@@ -1,5 +1,5 @@
-"""NAPALM's `get_lldp_neighbors_detail` and `get_lldp_neighbors` as JSON, by the fields that its base
-class documents.
+"""NAPALM's `get_lldp_neighbors_detail` and `get_lldp_neighbors` as JSON, by the fields that its
+base class documents.
 
 A port leads to a list of neighbors, each with `remote_system_name`, `remote_chassis_id`,
 `remote_port` and `remote_port_description`, or with `hostname` and `port`.

@@ -60,7 +60,8 @@ class Hosts(NamedTuple):
         found = self.pattern.fullmatch(labels.get(self.label, ""))
         if found is None:
             return ""
-        return next((group for group in found.groups() if group), "" if found.re.groups else found[0])
+        whole = "" if found.re.groups else found[0]
+        return next((group for group in found.groups() if group), whole)
 
 
 def answers_of(url: str) -> Answers:
