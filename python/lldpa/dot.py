@@ -35,7 +35,7 @@ Edges = Generator[DotEdge, None, Side]
 
 
 def edges_of(text: str) -> Iterator[DotEdge]:
-    """The edges of all graphs of a file in their order. Raises DotFault, behind the edges before."""
+    """The edges of all graphs of a file in order. Raises DotFault, behind the edges before it."""
     if "\0" in text:
         raise DotFault("an octet that is 0", text.index("\0"))
     yield from Parser(text).graphs()

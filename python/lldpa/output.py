@@ -38,6 +38,19 @@ class StandardOutput(io.FileIO):
         raise OutputFault(self._fault)
 
 
+class StandardErrors(io.FileIO):
+    """Standard error. What it does not take is lost, also where argparse writes it."""
+
+    def __init__(self) -> None:
+        super().__init__(ERRORS, "w", closefd=False)
+
+    def write(self, octets: Any) -> int:
+        """Writes octets."""
+        with suppress(OSError):
+            super().write(octets)
+        return len(octets)
+
+
 def run(name: str, body: Callable[[], int], failed: int, errors: str = "strict") -> int:
     """Runs a program's body and gives its status, or `failed` if its output does, which is told.
 
@@ -47,6 +60,8 @@ def run(name: str, body: Callable[[], int], failed: int, errors: str = "strict")
     encoding = getattr(sys.stdout, "encoding", None) or locale.getpreferredencoding(False)
     sys.stdout = io.TextIOWrapper(io.BufferedWriter(StandardOutput(fault)), encoding, errors,
                                   line_buffering=os.isatty(OUTPUT))
+    sys.stderr = io.TextIOWrapper(io.BufferedWriter(StandardErrors()), encoding,
+                                  "backslashreplace", line_buffering=True)
     try:
         status = status_of(body)
         sys.stdout.flush()
@@ -74,8 +89,6 @@ def missing_streams() -> set[int]:
         except OSError:
             os.open(os.devnull, os.O_RDWR)
             missing.add(number)
-    if ERRORS in missing:
-        sys.stderr = open(ERRORS, "w", closefd=False)
     return missing
 
 

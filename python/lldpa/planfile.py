@@ -10,6 +10,7 @@ from .names import End, Names
 from .panels import Panels
 from .plan import Link, Plan
 from .planfault import Faults, PlanFault
+from .progress import Progress
 from .rows import rows_of
 from .topology import NO_PORT, TopologyFault, read_topology
 
@@ -54,13 +55,16 @@ class PlanFile:
 
 
 def read_plan(file: str, names: Names, columns: Optional[Mapping[str, str]] = None,
-              panels: Optional[str] = None, keep_rows: bool = False) -> Plan:
-    """The plan of a file, whose columns may be given, and a file of the panels that it goes through.
+              panels: Optional[str] = None, keep_rows: bool = False,
+              progress: Optional[Progress] = None) -> Plan:
+    """The plan of a file, whose columns may be given, through the panels of another file.
 
     Raises PlanFault and OSError.
     """
     read = PlanFile(file, columns)
     links: Iterable[Link] = read.links()
+    if progress is not None:
+        links = progress.over(links, read.text.count("\n"), "lines of the plan")
     followed = None
     if panels is not None:
         followed = Panels(read_plan(panels, names), names, read.faults)

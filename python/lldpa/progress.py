@@ -26,8 +26,12 @@ class Progress:
 
     def over(self, items: Iterable[Item], total: int, what: str) -> Iterator[Item]:
         """The items, and how many of them were there."""
+        if not self._is_on:
+            yield from items
+            return
         for number, item in enumerate(items, 1):
-            self.show(f"{number} of {total} {what}")
+            if time.monotonic() >= self._next:
+                self.show(f"{number} of {total} {what}")
             yield item
 
     def show(self, text: str) -> None:

@@ -13,7 +13,8 @@ IP_ADDRESS = re.compile(r"[0-9]+(?:[.][0-9]+){3}|[0-9a-f:]*:[0-9a-f:.]*", re.I)
 PORT = re.compile(r"([A-Za-z-]*[A-Za-z]) ?([0-9]+(?:[/:.][0-9]+)*)")
 
 # the logical interface of a port, which Junos' agents name in place of the port
-UNIT = re.compile(r"((?:[a-z]{2,4}-[0-9]+/[0-9]+/[0-9]+(?::[0-9]+)?)|(?:ae|reth|em|me|fxp)[0-9]+)[.]0")
+UNIT = re.compile(r"((?:[a-z]{2,4}-[0-9]+/[0-9]+/[0-9]+(?::[0-9]+)?)"
+                  r"|(?:ae|reth|em|me|fxp)[0-9]+)[.]0")
 
 # the kinds of ports, each with its short forms
 KINDS = {

@@ -18,7 +18,7 @@ class Unzipped:
         self._inflate = zlib.decompressobj(GZIP)
 
     def read(self, size: int) -> bytes:
-        """Some octets, at most so many; none at the end. Raises BadCapture, behind what is whole."""
+        """Some octets, at most so many; none at the end. Raises BadCapture behind what is whole."""
         while True:
             self._packed = self._packed or self._file.read(AT_ONCE)
             if self._inflate.eof:

@@ -108,6 +108,15 @@ class Pictures(InAFolder):
         # 41 right and the planned one of the extra; swapped 2, silent 1, wrong 2, extra 1; no data
         self.assertEqual(Counter(colors), {"#c4c9ce": 42, "#d0021b": 6, "#d98200": 2})
 
+    def test_only_faults(self) -> None:
+        text, colors = self.draw("--only-faults", *rack.shows(self.folder))
+        self.assertEqual(Counter(colors), {"#c4c9ce": 1, "#d0021b": 6, "#d98200": 2})
+        for name in ("swp5", "swp6", "swp11", "rogue", "(right links are left out)"):
+            self.assertIn(name, text.replace("\xa0", " "))
+        self.assertNotIn("swp1 ", text.replace("\xa0", " "))
+        ran = run(self.plan, "--only-faults", "a=b")
+        self.assertEqual((ran.returncode, ran.stdout), (2, ""))
+
     def test_without_graphviz(self) -> None:
         word = rack.shows(self.folder)[0]
         ran = subprocess.run(

@@ -136,6 +136,26 @@ class Lines(Reports):
             "p1  no data: wants b 1 (seen at P1) (P1 is known: only the case differs)",
             "2 planned: 0 right, 1 not, 1 not looked at (b); 1 unplanned"])
 
+    def test_silent_port_whose_name_is_nearly_known(self) -> None:
+        known: Known = {"a p1": [], "a P1": [seen("b 1")]}
+        self.assertEqual(self.lines([link("a p1", "b 1")], known)[1],
+                         "p1  silent: wants b 1 (seen at P1) (P1 is known: only the case differs)")
+
+    def test_mismatches(self) -> None:
+        links, names = [link("a 2", "b 2"), link("a 1", "b 1")], Names()
+        plan, tables = Plan("plan", links, names), Tables(names)
+        for number in "12":
+            tables.add("a", number, [seen(f"b {number}")])
+        texts = {end("a 2"): "mismatch: a 2 says MTU 9216, b 2 says 1500"}
+        report = Report(plan, tables, audit(plan, tables), texts)
+        self.assertEqual(report.lines(), [
+            "2  mismatch: a 2 says MTU 9216, b 2 says 1500",
+            "4 planned: 2 right, 0 not, 2 not looked at (b); 1 with a mismatch"])
+        self.assertFalse(report.count.is_all_right)
+        told = json.loads(json.dumps(report.as_json()))
+        self.assertEqual((told["mismatches"], [one["text"] for one in told["ends"]]),
+                         (1, [None, texts[end("a 2")]]))
+
     def test_json_has_every_verdict(self) -> None:
         links = [link("a 1", "b 1"), link("a 2", "b 2")]
         self.lines(links, {"a 1": [seen("b 1")], "a 2": [], "a 3": []})

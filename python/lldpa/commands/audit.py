@@ -47,7 +47,8 @@ class Audit:
         for what in whats:
             hold(what.file)
         files = read_files([what.file for what in of_hosts(whats)])  # beside the plan
-        plan = read_plan(given.plan, names, given.columns, given.panels, bool(given.html))
+        plan = read_plan(given.plan, names, given.columns, given.panels, bool(given.html),
+                         self.progress)
         for note in plan.notes:
             self.say(note)
         whats = [placed(what, plan, names) for what in whats]
@@ -82,6 +83,7 @@ class Audit:
         if self.given.html:
             write(self.given.html, page_of(report))
         if self.given.svg:
+            self.progress.show("drawing")
             write(self.given.svg, drawn(report, self.given.only_faults))
 
     def say(self, text: str) -> None:
@@ -106,6 +108,8 @@ def status_of(words: Optional[Sequence[str]]) -> int:
         program.say(f"{where}{fault.strerror or fault}")
     except (ControlFault, FileFault, ShowFault, Refused, Ended, ValueError) as fault:
         program.say(str(fault))
+    finally:
+        program.progress.clear()
     return 2
 
 

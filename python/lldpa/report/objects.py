@@ -1,4 +1,4 @@
-"""An audit as objects for JSON. All texts are Unicode: octets of names that are none are escaped."""
+"""An audit as objects for JSON. All texts are Unicode: octets that are none are escaped."""
 from __future__ import annotations
 
 from typing import Callable, Dict, Optional, Sequence, Union
