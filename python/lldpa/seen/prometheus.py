@@ -7,6 +7,7 @@ from __future__ import annotations
 import base64
 import json
 import re
+from functools import lru_cache
 from http.client import HTTPException
 from typing import Any, Mapping, NamedTuple, Optional
 from urllib.error import HTTPError
@@ -21,6 +22,7 @@ INSTANCE = "instance"
 # a host's name in an instance such as leaf1:9100 or [2001:db8::1]:9100
 HOST_OF_INSTANCE = re.compile(r"\[(.+)\](?::[0-9]+)?|(.+?)(?::[0-9]+)?")
 STALE_AFTER = 300.0
+MOST_HOSTS = 65536
 
 # how old the files are that node_exporter takes the metrics of lldpa from
 AGES = 'time() - node_textfile_mtime_seconds{file=~".*lldpa.*"}'
@@ -57,11 +59,17 @@ class Hosts(NamedTuple):
 
     def host(self, labels: Labels) -> str:
         """The host of a series; empty for one of others, whose label does not match."""
-        found = self.pattern.fullmatch(labels.get(self.label, ""))
-        if found is None:
-            return ""
-        whole = "" if found.re.groups else found[0]
-        return next((group for group in found.groups() if group), whole)
+        return host_in(labels.get(self.label, ""), self.pattern)
+
+
+@lru_cache(MOST_HOSTS)  # a host has many series
+def host_in(text: str, pattern: re.Pattern[str]) -> str:
+    """The host in the text of a label; empty where the pattern does not match it."""
+    found = pattern.fullmatch(text)
+    if found is None:
+        return ""
+    whole = "" if found.re.groups else found[0]
+    return next((group for group in found.groups() if group), whole)
 
 
 def answers_of(url: str) -> Answers:
