@@ -1,9 +1,10 @@
 #!/usr/bin/env python3
-"""Makes a large network with known faults: a plan, and a `show neighbors` of each host.
+"""Makes a large network with known faults: a plan, and what each host sees, in a form.
 
-    python3 tools/cabling.py FOLDER [--hosts 2000] [--ports 100] [--check]
+    python3 tools/cabling.py FOLDER [--hosts 2000] [--ports 100] [--form show] [--check]
 
-FOLDER gets plan.csv and HOST.txt of each host; one link in a hundred has a fault. With --check
+FOLDER gets plan.csv and a file of each host below FOLDER/seen; one link in a hundred has a fault.
+A form is `show`, ours, or one of lldpcli's: keyvalue, json, json0, xml, plain. With --check
 bin/lldpa-audit is run on them: it must find each fault and no other.
 """
 import argparse
@@ -16,6 +17,8 @@ import resource
 import subprocess
 import sys
 import time
+
+import lldpcli_forms
 
 TOP = pathlib.Path(__file__).resolve().parent.parent
 AUDIT = [sys.executable, str(TOP / "bin" / "lldpa-audit")]
@@ -32,7 +35,7 @@ class Network:
         self.seen = {}
         for one, other in self.links:
             self.seen[one], self.seen[other] = [other], [one]
-        self.verdicts = {}
+        self.verdicts, self.hidden = {}, []
         self.break_some(len(self.links) // 100)
 
     def break_some(self, count):
@@ -87,18 +90,33 @@ class Network:
     def hide(self, link, _):
         """An end is in no show."""
         del self.seen[link[0]]
+        self.hidden.append(link)
         self.verdicts[link[0]] = "no data"
 
-    def write(self, folder):
-        """Writes the plan and the shows. Gives the words for the audit."""
+    def write(self, folder, form="show"):
+        """Writes the plan and what is seen. Gives the words for the audit."""
         plan = "".join(f"{a},{b},{c},{d}\n" for (a, b), (c, d) in self.links)
         (folder / "plan.csv").write_text("host,port,peer,peer_port\n" + plan)
-        shows = collections.defaultdict(list)
+        hosts = collections.defaultdict(dict)
         for (host, port), neighbors in self.seen.items():
-            shows[host] += show_of_port(port, neighbors)
-        for host, lines in shows.items():
-            (folder / f"{host}.txt").write_text("".join(line + "\n" for line in lines))
-        return [str(folder / "plan.csv"), *(f"{host}:{folder}/{host}.txt" for host in shows)]
+            hosts[host][port] = neighbors
+        (folder / "seen").mkdir(exist_ok=True)
+        for host, ports in hosts.items():
+            (folder / "seen" / f"{host}.txt").write_text(FORMS[form](ports))
+        return [str(folder / "plan.csv"), str(folder / "seen")]
+
+    def wanted(self, form):
+        """The verdicts. A form of lldpcli's has no port that hears nobody, so a hidden one hears nobody as well."""
+        deaf = [] if form == "show" else [end for link in self.hidden for end in link]
+        return {**self.verdicts, **dict.fromkeys(deaf, "one-sided")}
+
+
+def show_of(ports):
+    """A show."""
+    return "".join(line + "\n" for port, neighbors in ports.items() for line in show_of_port(port, neighbors))
+
+
+FORMS = {"show": show_of, **lldpcli_forms.FORMS}
 
 
 def show_of_port(port, neighbors):
@@ -143,17 +161,19 @@ def main():
     parser.add_argument("folder", type=pathlib.Path)
     parser.add_argument("--hosts", type=int, default=2000)
     parser.add_argument("--ports", type=int, default=100, help="of each host")
+    parser.add_argument("--form", choices=FORMS, default="show")
     parser.add_argument("--check", action="store_true", help="run the audit and compare")
     given = parser.parse_args()
     network = Network(given.hosts, given.ports)
-    words = network.write(given.folder)
+    words = network.write(given.folder, given.form)
     if given.check:
         used, passed, megabytes = measured(words)
         print(f"{len(network.links)} links: {used:.1f} s of processor time, {passed:.1f} s, {megabytes:.0f} MB")
         found = faults_found(words)
-        wrong = {end for end in {**found, **network.verdicts} if found.get(end) != network.verdicts.get(end)}
+        wanted = network.wanted(given.form)
+        wrong = {end for end in {**found, **wanted} if found.get(end) != wanted.get(end)}
         for end in sorted(wrong)[:10]:
-            print(f"{end}: {found.get(end)}, and not {network.verdicts.get(end)}")
+            print(f"{end}: {found.get(end)}, and not {wanted.get(end)}")
         print(collections.Counter(found.values()))
         sys.exit(bool(wrong))
 

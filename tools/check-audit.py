@@ -1,7 +1,7 @@
 #!/usr/bin/env python3
 """Runs the worked audit of docs/audit: its lines are those of expected.txt, from plan.csv and from plan.dot, and its
-picture is audit.svg, where pydot and graphviz are installed, graphviz in the version that drew it. A network of 2,000
-links has the faults that tools/cabling.py made, and no other. The last line is `N passed, M failed`."""
+picture is audit.svg, where graphviz is installed in the version that drew it. A network of 2,000 links has the faults
+that tools/cabling.py made, and no other. The last line is `N passed, M failed`."""
 import argparse
 import pathlib
 import re
@@ -33,10 +33,6 @@ def audit(program, plan, *words):
     ran = subprocess.run([*cabling.AUDIT, "--program", program, "--host", "leaf1", plan, *CAPTURES, *words],
                          cwd=FOLDER, capture_output=True, text=True)
     return ran.returncode, ran.stdout
-
-
-def has_pydot():
-    return subprocess.run([sys.executable, "-c", "import pydot"], capture_output=True).returncode == 0
 
 
 def version_of_graphviz():
@@ -71,10 +67,7 @@ def main():
     given = parser.parse_args()
     checks, expected = Checks(), (1, (FOLDER / "expected.txt").read_text())
     checks.that("the audit by plan.csv", audit(given.program, "plan.csv") == expected)
-    if has_pydot():
-        checks.that("the audit by plan.dot", audit(given.program, "plan.dot") == expected)
-    else:
-        print("skipped: the audit by plan.dot, since pydot is not installed")
+    checks.that("the audit by plan.dot", audit(given.program, "plan.dot") == expected)
     with tempfile.TemporaryDirectory() as room:
         check_picture(checks, given.program, pathlib.Path(room))
         check_network(checks, pathlib.Path(room))

@@ -128,13 +128,13 @@ def main():
     with tempfile.TemporaryDirectory() as room:
         given.room = pathlib.Path(room)
         digits = LLDP.hex()
-        small = f"tick 3\nrx eth0 {digits}\ntick\nrx eth0 {digits}00\ntick 70000\n"
+        small = f"tick 3\nrx eth0 {digits}\ntick\nrx eth0 {digits}00\ntick 60000\n"
         check_trace(checks, "a small trace", small, None, given)
         long = pcap([whole(LLDP), whole(LLDP, START + 131_072 * SECOND)])
         (given.room / "long").write_bytes(long)
         rx = f"rx eth0 {digits}\n"
-        checks.that("a long time",
-                    run_tool(given.room / "long")[0] == rx + "tick 65535\ntick 65535\ntick 2\n" + rx)
+        trace, said, _ = run_tool(given.room / "long")
+        checks.that("a long time", trace == rx + "tick 65535\n" + rx and "131072 s" in said)
         check_ports(checks, given)
         for trace in sorted(given.folder.glob("*.trace")) if given.folder else ():
             expected = trace.with_suffix(".expect").read_text()

@@ -182,9 +182,17 @@ offers FILES _lldpa_audit lldpa-audit plan.csv swp1 = a
 offers FILES _lldpa_audit lldpa-audit plan.csv leaf1 : a
 offers FILES _lldpa_audit lldpa-audit --svg f
 offers '' _lldpa_audit lldpa-audit --host ''
-offers '--live --control --wait --host --ignore-case --short-names --planned-only --json --svg --program --help' \
-    _lldpa_audit lldpa-audit -
-offers '--short-names --svg' _lldpa_audit lldpa-audit plan.csv --json --s
+offers '' _lldpa_audit lldpa-audit --columns ''
+offers FILES _lldpa_audit lldpa-audit --html f
+audit='--columns --panels --live --control --wait --prometheus --instance-label --instance-pattern --stale-after --host'
+audit+=' --settings --program --ignore-case --short-names --vendor-names --aliases --all --planned-only --json --html'
+audit+=' --svg --only-faults --help'
+offers "$audit" _lldpa_audit lldpa-audit -
+offers '--stale-after --settings --short-names --svg' _lldpa_audit lldpa-audit plan.csv --json --s
+# lldpa-audit's words are those of its help
+for word in $(../../../bin/lldpa-audit --help | grep -o '^  [-a-z, ]*--[a-z-]*' | grep -o -e '--[a-z-]*'); do
+    offers "$(tr ' ' '\n' <<< "$audit" | grep -e "^$word" | paste -s -d ' ')" _lldpa_audit lldpa-audit "$word"
+done
 
 # the words of the completion are those of the program's help, where a program is given
 if [ -n "$program" ]; then

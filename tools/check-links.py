@@ -31,7 +31,7 @@ NUMBERS_OF_SOURCES = NUMBERS_OF_CODE | set(re.findall(r"\d+", SCRIPTS.replace("_
 # what people run, and what its options stand in
 OF_OPTIONS = [TOP / "examples" / "help.txt"] + [path for folder in ("python", "bin", "tools", ".ci") for path in (TOP / folder).rglob("*")]
 OPTIONS = {option for path in OF_OPTIONS if path.is_file() and path.suffix != ".pyc"
-           for option in re.findall(r"--[a-z][a-z-]*[a-z]", path.read_text())}
+           for option in re.findall(r"--[a-z][a-z-]*[a-z]", path.read_text(errors="replace"))}
 # of the toolchain and of other programs
 OPTIONS |= {"--only", "--allow-holes", "--fix-imports", "--test", "--minutes", "--line-buffered", "--now", "--since"}
 

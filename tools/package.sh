@@ -61,7 +61,7 @@ Architecture: $architecture
 Maintainer: $maker
 Installed-Size: $(du -sk --apparent-size "$tree" | cut -f 1)
 Depends: libc6 (>= $(c_library)), python3:any (>= 3.9)
-Suggests: graphviz, python3-pydot
+Suggests: graphviz
 Section: net
 Priority: optional
 Description: agent for the Link Layer Discovery Protocol (LLDP)

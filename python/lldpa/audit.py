@@ -6,7 +6,7 @@ from typing import Iterator, NamedTuple, Optional, Sequence
 
 from .names import End, Seen
 from .plan import Plan, Wish
-from .tables import Tables
+from .seen.tables import Tables, Told
 
 
 class Verdict(Enum):
@@ -56,27 +56,34 @@ class Judge:
 
     def planned(self) -> Iterator[Finding]:
         """The findings on the planned ends of the audited hosts."""
+        hosts, ends = self.tables.hosts, self.tables.ends
         for end, wish in self.plan.ends.items():
-            if end.host in self.tables.hosts:
-                yield self.finding(end, wish)
+            if end.host in hosts:
+                yield self.finding(end, wish, ends.get(end), ends.get(wish.wanted))
 
     def unplanned(self) -> Iterator[Finding]:
         """The findings on ports beside the plan."""
-        for end, told in self.tables.ends.items():
-            if told.neighbors and end not in self.plan.ends:
+        for end in sorted(self.tables.ends.keys() - self.plan.ends.keys()):
+            told = self.tables.ends[end]
+            if told.neighbors:
                 yield Finding(told.end, Verdict.UNPLANNED, None, told.neighbors)
 
-    def finding(self, end: End, wish: Wish) -> Finding:
-        """The finding on a planned end."""
-        told = self.tables.ends.get(end)
+    def finding(self, end: End, wish: Wish, told: Optional[Told], other: Optional[Told]) -> Finding:
+        """The finding on a planned end, by what is told of it and of the end that it wants."""
         if told is None:
             return Finding(wish.end, Verdict.NO_DATA, wish.wants)
+        if self.has_only(told, wish.wanted) and (other is None or self.has_only(other, end)):
+            return Finding(wish.end, Verdict.RIGHT, wish.wants, told.neighbors)
         verdict = self.verdict(end, wish.wanted, told.neighbors)
         if verdict is Verdict.WRONG:
             partner = self.partner(end, wish.wanted, told.neighbors[0])
             if partner is not None:
                 return Finding(wish.end, Verdict.SWAPPED, wish.wants, told.neighbors, partner)
         return Finding(wish.end, verdict, wish.wants, told.neighbors)
+
+    def has_only(self, told: Told, end: End) -> bool:
+        """Whether a port has one neighbor, who answers to an end."""
+        return len(told.neighbors) == 1 and self.names.answers(told.neighbors[0], end)
 
     def verdict(self, end: End, wanted: End, neighbors: Sequence[Seen]) -> Verdict:
         """The verdict on an end that is told of. One that is swapped is still wrong here."""
@@ -104,7 +111,7 @@ class Judge:
         Each has what the other one wants, and not what it wants itself. Where there are several it
         is the first one of the plan.
         """
-        wishes = [self.plan.ends[key] for key in self.names.ends(neighbor) if key in self.plan.ends]
+        wishes = [self.plan.ends[key] for key in self.ends(neighbor) if key in self.plan.ends]
         others = {wish.wanted for wish in wishes} - {end, wanted}
         for other in sorted(others, key=lambda other: self.plan.ends[other].place):
             its_wish = self.plan.ends[other]
@@ -112,7 +119,14 @@ class Judge:
                 return its_wish.end
         return None
 
+    def ends(self, neighbor: Seen) -> Iterator[End]:
+        """Each end that a neighbor answers to: one that names its aggregate may be any member."""
+        yield from self.names.ends(neighbor)
+        if self.names.is_any_member(neighbor):
+            for host in map(self.names.host, neighbor.hosts):
+                yield from self.plan.ends_of_hosts.get(host, ())
+
     def has_alone(self, end: End, other: End) -> bool:
         """Whether an end has one neighbor, who answers to the other end."""
         told = self.tables.ends.get(end)
-        return told is not None and len(told.neighbors) == 1 and self.sees(end, other)
+        return told is not None and self.has_only(told, other)

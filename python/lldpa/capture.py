@@ -12,18 +12,24 @@ from .packet import ETHERNET, SECOND, Interface, Look, Packet, link_type_text
 from .pcap import PcapReader, form_of
 from .pcapng import SECTION_HEADER, PcapngReader
 from .reader import Reader
+from .unzip import MAGIC, Unzipped
 from .window import BadCapture, Window
 
 __all__ = ["ETHERNET", "SECOND", "BadCapture", "Interface", "Look", "Packet", "Reader",
            "interfaces_of", "link_type_text", "packets_of", "reader_of"]
 
-COMPRESSED = {b"\x1f\x8b": "gzip", b"\xfd7": "xz", b"\x28\xb5": "zstd", b"BZ": "bzip2"}
+COMPRESSED = {b"\xfd7": "xz", b"\x28\xb5": "zstd", b"BZ": "bzip2"}
 NO_PACKET = b"\0" * 1024
 
 
 def reader_of(file: BinaryIO) -> Reader:
-    """What reads a capture from its begin. Raises BadCapture where that is none of a capture."""
+    """What reads a capture from its begin, which gzip may have compressed.
+
+    Raises BadCapture where that is none of a capture.
+    """
     window = Window(file)
+    if window.move(0, 2) and window.octets.startswith(MAGIC):
+        window = Window(Unzipped(file, window.octets))
     if not window.move(0, 4):
         raise BadCapture("it is empty")
     magic = window.octets[:4]

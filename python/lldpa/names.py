@@ -2,7 +2,10 @@
 from __future__ import annotations
 
 import ipaddress
-from typing import Iterable, NamedTuple, Optional
+from typing import Iterable, NamedTuple, Optional, Sequence
+
+from .link_settings import Settings
+from .spelling import is_aggregate, plain, plain_port
 
 
 class End(NamedTuple):
@@ -16,12 +19,18 @@ class End(NamedTuple):
 
 
 class Seen(NamedTuple):
-    """A neighbor as an audit looks at it: the names of its host and of its port, the best first."""
+    """A neighbor as an audit looks at it: the names of its host and of its port, the best first.
+
+    `aggregated` tells whether its port is a member of an aggregate by its own words, and `settings`
+    what else it says of its link.
+    """
 
     hosts: tuple[str, ...]
     ports: tuple[str, ...]
     chassis: str = ""
     port_id: str = ""
+    aggregated: bool = False
+    settings: Optional[Settings] = None
 
     def __str__(self) -> str:
         if self == NAMELESS:
@@ -38,56 +47,99 @@ class Seen(NamedTuple):
 NAMELESS = Seen((), ())
 
 
-class Names:
-    """Which names are the same: those that are equal, unless case or domain are to be ignored."""
+class Aliases(NamedTuple):
+    """Further names: of hosts, and of the ports of a host, or of any where the host is empty.
 
-    def __init__(self, ignore_case: bool = False, short_names: bool = False) -> None:
+    All stand as they are compared. A port's further name may be that of several ports.
+    """
+
+    hosts: dict[str, str]
+    ports: dict[End, tuple[str, ...]]
+
+
+NO_ALIASES = Aliases({}, {})
+
+
+class Names:
+    """Which names are the same: those that are equal, and what else the rules let pass."""
+
+    def __init__(self, ignore_case: bool = False, short_names: bool = False,
+                 vendor_names: bool = False, aliases: Aliases = NO_ALIASES) -> None:
         self.ignore_case = ignore_case
         self.short_names = short_names
+        self.vendor_names = vendor_names
+        self.aliases = aliases
+        self._is_strict = not (ignore_case or short_names or vendor_names or any(aliases))
+        self._hosts: dict[str, str] = {}
+        self._ports: dict[str, str] = {}
 
     def host(self, name: str) -> str:
         """A host's name as it is compared."""
+        if self._is_strict:
+            return name
+        key = self._hosts.get(name)
+        if key is None:
+            key = self.plain_host(name)
+            key = self._hosts[name] = self.aliases.hosts.get(key, key)
+        return key
+
+    def plain_host(self, name: str) -> str:
+        """A host's name as it is compared, but for its aliases."""
+        if self.vendor_names:
+            name = plain(name)
         if self.short_names:
             name = without_domain(name)
         return name.casefold() if self.ignore_case else name
 
-    def port(self, name: str) -> str:
-        """A port's name as it is compared."""
-        return name.casefold() if self.ignore_case else name
+    def plain_port(self, name: str) -> str:
+        """A port's name as it is compared, but for its aliases."""
+        key = self._ports.get(name)
+        if key is None:
+            key = plain_port(name) if self.vendor_names else name
+            key = self._ports[name] = key.casefold() if self.ignore_case else key
+        return key
+
+    def ports(self, host: str, name: str) -> Sequence[str]:
+        """The ports that a name stands for, as they are compared, at a host that is, too."""
+        port = self.plain_port(name)
+        aliases = self.aliases.ports
+        return aliases.get(End(host, port)) or aliases.get(End("", port)) or (port,)
 
     def end(self, end: End) -> End:
-        """An end as it is compared."""
-        if not (self.ignore_case or self.short_names):
+        """An end as it is compared. A name of several ports stays that name."""
+        if self._is_strict:
             return end
-        return End(self.host(end.host), self.port(end.port))
+        host = self.host(end.host)
+        ports = self.ports(host, end.port)
+        return End(host, ports[0] if len(ports) == 1 else self.plain_port(end.port))
 
     def answers(self, neighbor: Seen, end: End) -> bool:
         """Whether a neighbor answers to an end, which is given as it is compared."""
-        if self.ignore_case or self.short_names:
-            return (end.host in map(self.host, neighbor.hosts)
-                    and end.port in map(self.port, neighbor.ports))
-        return end.host in neighbor.hosts and end.port in neighbor.ports
+        if self._is_strict:
+            return end.host in neighbor.hosts and end.port in neighbor.ports
+        if end.host not in map(self.host, neighbor.hosts):
+            return False
+        return (self.is_any_member(neighbor)
+                or any(end.port in self.ports(end.host, port) for port in neighbor.ports))
+
+    def is_any_member(self, neighbor: Seen) -> bool:
+        """Whether a neighbor names an aggregate in place of its port: it may be each member."""
+        return (self.vendor_names and neighbor.aggregated
+                and any(map(is_aggregate, neighbor.ports)))
 
     def ends(self, neighbor: Seen) -> Iterable[End]:
-        """Each end that a neighbor answers to, as it is compared."""
-        for host in neighbor.hosts:
+        """Each end that a neighbor answers to by the names of its port, as it is compared."""
+        for name in neighbor.hosts:
+            host = self.host(name)
             for port in neighbor.ports:
-                yield End(self.host(host), self.port(port))
+                for key in (port,) if self._is_strict else self.ports(host, port):
+                    yield End(host, key)
 
-
-def what_differs(neighbor: Seen, end: End, names: Names) -> Optional[str]:
-    """What alone keeps a neighbor from answering to an end, where it is the case or the domain."""
-    looser = (
-        ("only the case differs", Names(True, names.short_names)),
-        ("only the domain differs", Names(names.ignore_case, True)),
-        ("only case and domain differ", Names(True, True)),
-    )
-    if names.answers(neighbor, names.end(end)):
-        return None
-    for words, rule in looser:
-        if rule.answers(neighbor, rule.end(end)):
-            return words
-    return None
+    def looser(self, *differences: str) -> Names:
+        """Rules that let these differences pass, too: of case, domain and spelling."""
+        return Names(self.ignore_case or "case" in differences,
+                     self.short_names or "domain" in differences,
+                     self.vendor_names or "spelling" in differences, self.aliases)
 
 
 def without_domain(name: str) -> str:
@@ -113,4 +165,13 @@ def shown(name: str) -> str:
 
 def escaped(letter: str) -> str:
     """The octets of a letter in hexadecimal, as a show writes them."""
-    return "".join(f"\\x{octet:02x}" for octet in letter.encode(errors="surrogateescape"))
+    is_octet = "\udc80" <= letter <= "\udcff"
+    octets = letter.encode(errors="surrogateescape" if is_octet else "surrogatepass")
+    return "".join(f"\\x{octet:02x}" for octet in octets)
+
+
+def text_of(name: str) -> str:
+    """A name as Unicode text: with an escape for each octet of it that is none."""
+    if name.isascii():
+        return name
+    return "".join(escaped(letter) if "\ud800" <= letter <= "\udfff" else letter for letter in name)

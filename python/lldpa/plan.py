@@ -1,40 +1,24 @@
-"""A plan of the cabling: which end is to be joined to which, read from CSV or DOT."""
+"""A plan of the cabling: which end is to be joined to which."""
 from __future__ import annotations
 
-import csv
-import re
-from pathlib import Path
-from typing import Iterable, Iterator, NamedTuple, Optional, Sequence
+from functools import cached_property
+from typing import Iterable, Mapping, NamedTuple, Optional, Sequence
 
 from .names import End, Names
-from .topology import TopologyFault, read_topology
-
-COLUMNS = ("host", "port", "peer", "peer_port")
-SEPARATORS = ",;\t"
-
-# how a DOT file begins: comments, and then a graph
-COMMENTS = r"(?:\s|//[^\n]*\n|#[^\n]*\n|/\*.*?\*/)*"
-IS_DOT = re.compile(COMMENTS + r"(?:strict\s+)?(?:di)?graph\b[^,;\t\n]*" + COMMENTS + r"\{",
-                    re.I | re.S)
-
-
-class PlanFault(Exception):
-    """What is wrong with a plan, with the name of its file and the line."""
-
-    def __init__(self, file: str, line: Optional[int], text: str) -> None:
-        super().__init__(f"{file}: {text}" if line is None else f"{file}: line {line}: {text}")
+from .planfault import Faults
 
 
 class Link(NamedTuple):
-    """A planned link: its two ends, and its line in the plan where that is known."""
+    """A planned link: its two ends, and the line of each in the plan where that is known."""
 
     one: End
     other: End
     line: Optional[int]
+    other_line: Optional[int] = None
 
 
 class Wish(NamedTuple):
-    """A planned end and the one that it wants, as the plan writes them, and its place there.
+    """A planned end and the one that it wants, as the plan writes them, its place and its line.
 
     `wanted` is the one that it wants as it is compared.
     """
@@ -43,102 +27,61 @@ class Wish(NamedTuple):
     wants: End
     wanted: End
     place: int
+    line: Optional[int] = None
 
 
 class Plan:
     """The planned ends in the order of the plan, by their names as they are compared.
 
-    No end is planned twice. Raises PlanFault.
+    No end is joined to two. Raises PlanFault. `rows` has the lines of the file if they are kept,
+    and `notes` what of the file is left out.
     """
 
-    def __init__(self, file: str, links: Iterable[Link], names: Names) -> None:
+    def __init__(self, file: str, links: Iterable[Link], names: Names,
+                 faults: Optional[Faults] = None) -> None:
         self.file = file
         self.ends: dict[End, Wish] = {}
-        lines: dict[End, Optional[int]] = {}
-        for one, other, line in links:
-            one_key, other_key = names.end(one), names.end(other)
-            both = ((one_key, one, other, other_key), (other_key, other, one, one_key))
-            for key, end, wants, wanted in both:
-                if key in lines:
-                    raise PlanFault(file, line, planned_twice(end, lines[key], line))
-                self.ends[key] = Wish(end, wants, wanted, len(lines))
-                lines[key] = line
-        if not self.ends:
-            raise PlanFault(file, None, "it plans no link")
+        self.rows: Sequence[str] = ()
+        self.notes: Sequence[str] = ()
+        faults = faults or Faults(file)
+        for link in links:
+            self._add(link, names, faults)
+        if not self.ends and not faults.count:
+            faults.add(None, "it plans no link")
+        faults.end()
         self.hosts = {key.host: wish.end.host for key, wish in self.ends.items()}
 
+    def _add(self, link: Link, names: Names, faults: Faults) -> None:
+        """Plans a link, unless it stands there already."""
+        one, other, line, other_line = link
+        one_key, other_key = names.end(one), names.end(other)
+        before, other_before = self.ends.get(one_key), self.ends.get(other_key)
+        if before is None and other_before is None and one_key != other_key:
+            place = len(self.ends)
+            self.ends[one_key] = Wish(one, other, other_key, place, line)
+            self.ends[other_key] = Wish(other, one, one_key, place + 1, other_line or line)
+        elif before is None or before.wanted != other_key:
+            twice = one if before else other
+            faults.add(line, planned_twice(twice, before or other_before, line))
 
-def planned_twice(end: End, first: Optional[int], line: Optional[int]) -> str:
-    """The fault of an end that is planned in two lines, or joined to itself."""
-    if first is None:
-        return f"{end} is planned twice"
-    if first == line:
+    @cached_property
+    def ends_of_hosts(self) -> Mapping[str, Sequence[End]]:
+        """The planned ends of each host, all as they are compared."""
+        ends: dict[str, list[End]] = {}
+        for key in self.ends:
+            ends.setdefault(key.host, []).append(key)
+        return ends
+
+    def row(self, wish: Wish) -> str:
+        """The line of the file in which an end stands, if lines are kept."""
+        at = 0 if wish.line is None else wish.line
+        return self.rows[at - 1].strip() if 0 < at <= len(self.rows) else ""
+
+
+def planned_twice(end: End, before: Optional[Wish], line: Optional[int]) -> str:
+    """The fault of an end that is joined to two, or to itself."""
+    if before is None or before.line == line is not None:
         return f"{end} is planned twice in it"
-    return f"{end} is planned already in line {first}"
-
-
-def read_plan(file: str, names: Names) -> Plan:
-    """The plan of a file, in DOT or CSV as its content says. Raises PlanFault and OSError."""
-    try:
-        text = Path(file).read_bytes().decode("utf-8-sig")
-    except UnicodeDecodeError as fault:
-        raise PlanFault(file, None, f"it is no text in UTF-8 (octet {fault.start})") from None
-    links = links_of_dot if IS_DOT.match(text) else links_of_csv
-    return Plan(file, links(file, text), names)
-
-
-def links_of_dot(file: str, text: str) -> Iterator[Link]:
-    """The links of a DOT file."""
-    try:
-        for edge in read_topology(text):
-            yield Link(End(*edge.one), End(*edge.other), edge.line)
-    except TopologyFault as fault:
-        raise PlanFault(file, fault.line, str(fault)) from None
-
-
-def links_of_csv(file: str, text: str) -> Iterator[Link]:
-    """The links of a CSV file, whose first line names the columns."""
-    rows = rows_of_csv(file, text)
-    line, header = next(rows, (1, []))
-    names = [name.strip().lower() for name in header]
-    for name in COLUMNS:
-        if names.count(name) != 1:
-            found = "is missing" if name not in names else "stands twice"
-            rule = f"the first line names the columns {','.join(COLUMNS)}"
-            raise PlanFault(file, line, f"the column {name} {found}: {rule}")
-    places = [names.index(name) for name in COLUMNS]
-    for line, row in rows:
-        host, port, peer, peer_port = fields_of_row(file, line, row, places, len(names))
-        yield Link(End(host, port), End(peer, peer_port), line)
-
-
-def rows_of_csv(file: str, text: str) -> Iterator[tuple[int, list[str]]]:
-    """The fields of each line that is not blank and no comment, with its number."""
-    lines = [(number, line) for number, line in enumerate(text.split("\n"), 1) if has_fields(line)]
-    separator = max(SEPARATORS, key=lines[0][1].count) if lines else ","
-    reader = csv.reader((line for _, line in lines), delimiter=separator, strict=True)
-    for taken, (number, _) in enumerate(lines, 1):
-        try:
-            row = next(reader)
-        except csv.Error as fault:
-            raise PlanFault(file, number, str(fault)) from None
-        if reader.line_num > taken:
-            raise PlanFault(file, number, "a field in quotes has no end")
-        yield number, row
-
-
-def has_fields(line: str) -> bool:
-    """Whether a line of a CSV file is not blank and no comment."""
-    return bool(line.strip(" \t\r,;")) and not line.lstrip().startswith("#")
-
-
-def fields_of_row(file: str, line: int, row: Sequence[str], places: Sequence[int],
-                  width: int) -> list[str]:
-    """The four fields of a row that has each of them, and none behind the last column."""
-    if any(row[width:]):
-        raise PlanFault(file, line, f"it has {len(row)} fields under {width} columns")
-    fields = [row[at].strip() if at < len(row) else "" for at in places]
-    if not all(fields):
-        name = COLUMNS[fields.index("")]
-        raise PlanFault(file, line, f"its {name} is missing")
-    return fields
+    if before.line is None:
+        return f"{end} is planned twice"
+    return f"{end} is planned already in line {before.line}"

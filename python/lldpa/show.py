@@ -14,10 +14,11 @@ from .shown import (SAID_KEY, Configuration, Counters, Identifier, LocalChassis,
 __all__ = ["Configuration", "Counters", "Identifier", "LocalChassis", "Neighbor", "Port", "Show",
            "ShowFault", "lines_of", "read_show", "unescaped"]
 
-NUMBER = re.compile(r"0|[1-9][0-9]*")
+DIGITS = "(?:0|[1-9][0-9]{0,18})"
+NUMBER = re.compile(DIGITS)
 NAME = r"[A-Za-z0-9_/:-]{1,15}"
-PORT_BEGIN = re.compile(rf"lldp\.({NAME})\.neighbors=(0|[1-9][0-9]*)")
-COUNTERS_BEGIN = re.compile(rf"lldp\.({NAME})\.sent=(?:0|[1-9][0-9]*)")
+PORT_BEGIN = re.compile(rf"lldp\.({NAME})\.neighbors=({DIGITS})")
+COUNTERS_BEGIN = re.compile(rf"lldp\.({NAME})\.sent={DIGITS}")
 STATUS_LINE = re.compile(rf"configuration\.({NAME})\.status=(rx-and-tx|rx-only|tx-only|disabled)")
 CHASSIS_KINDS = {"component", "ifalias", "portcomp", "mac", "ip", "ifname", "local", "unhandled"}
 PORT_KINDS = {"ifalias", "component", "mac", "ip", "ifname", "circuit", "local", "unhandled"}

@@ -3,10 +3,13 @@ from __future__ import annotations
 
 import os
 import re
-from contextlib import suppress
-from typing import BinaryIO, Dict, List, Mapping, NamedTuple, Optional, Sequence
+import shutil
+import stat
+import tempfile
+from typing import IO, BinaryIO, Dict, Mapping, NamedTuple, Optional
 
-from .capture import ETHERNET, Interface, interfaces_of
+from .capture import Interface
+from .unzip import MAGIC, Unzipped
 
 MOST_PORTS = 64
 PORT_NAME = re.compile("[A-Za-z0-9_/:-]{1,15}")
@@ -25,10 +28,6 @@ class Source(NamedTuple):
     names: Mapping[str, str] = {}
 
 
-class TooManyPorts(Exception):
-    """Captures with frames for more ports than an agent has."""
-
-
 def port_of(source: Source, interface: Interface) -> str:
     """The name for the port of an interface: it may be no name that a port can have."""
     if source.port is not None or interface.name is None:
@@ -41,29 +40,38 @@ def is_port_name(text: str) -> bool:
     return PORT_NAME.fullmatch(text) is not None
 
 
+# copies of what can be read only once, by the names of the files
+HELD: Dict[str, IO[bytes]] = {}
+
+
 def opened(file: str) -> BinaryIO:
     """The file, whose octets come as soon as they are there."""
     if file == STANDARD_INPUT:
         return open(0, "rb", buffering=0, closefd=False)
+    if file in HELD:
+        return open(f"/proc/{os.getpid()}/fd/{HELD[file].fileno()}", "rb", buffering=0)
     return open(file, "rb", buffering=0)
 
 
-def ports_of(sources: Sequence[Source]) -> List[str]:
-    """The ports of captures, in the order of sources and interfaces, each once.
+def hold(file: str) -> None:
+    """Lets a pipe be opened as often as a file, by a copy of all its octets. Raises OSError."""
+    if file not in HELD and os.path.exists(file) and is_stream(os.stat(file).st_mode):
+        copy = tempfile.TemporaryFile(buffering=0)
+        with open(file, "rb", buffering=0) as octets:
+            shutil.copyfileobj(octets, copy)
+        HELD[file] = copy
 
-    Standard input and pipes, which can be read only once, count with the port they are given.
-    Raises TooManyPorts where they are more than 64.
-    """
-    ports: Dict[str, None] = {}
-    for source in sources:
-        interfaces: List[Interface] = []
-        if source.port is None and os.path.isfile(source.file):
-            with suppress(OSError), opened(source.file) as file:
-                interfaces = interfaces_of(file)
-        ethernet = [one for one in interfaces if one.link_type == ETHERNET]
-        names = [port_of(source, interface) for interface in ethernet]
-        names = names or [source.port or UNNAMED]
-        ports.update((name, None) for name in names if is_port_name(name))
-    if len(ports) > MOST_PORTS:
-        raise TooManyPorts(f"{len(ports)} ports, and {MOST_PORTS} are the most")
-    return list(ports)
+
+def is_stream(mode: int) -> bool:
+    """Whether what has this mode can be read once: a FIFO, the pipe of `<(..)`, a terminal."""
+    return stat.S_ISFIFO(mode) or stat.S_ISSOCK(mode) or stat.S_ISCHR(mode)
+
+
+def whole(file: str) -> bytes:
+    """All octets of a file, which gzip may have compressed. Raises OSError and BadCapture."""
+    with opened(file) as octets:
+        text = octets.read()
+        if not text.startswith(MAGIC):
+            return text
+        unzipped = Unzipped(octets, text)
+        return b"".join(iter(lambda: unzipped.read(1 << 20), b""))

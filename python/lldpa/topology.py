@@ -1,93 +1,65 @@
-"""A topology in DOT, as ptmd has it: `"leaf1":"swp1" -- "spine1":"swp3"`. It is read by pydot."""
+"""A topology in DOT, as ptmd has it: `"leaf1":"swp1" -- "spine1":"swp3"`."""
 from __future__ import annotations
 
-import contextlib
-import importlib
-import io
-import re
-from typing import Any, Iterator, NamedTuple, Optional
+from typing import Iterator, NamedTuple, Optional
 
-# an ID in quotes, or one without
-NAME = r'("(?:[^"\\]|\\.)*"|[^":]+)'
-NODE_AND_PORT = re.compile(f"{NAME}:{NAME}", re.S)
+from .dot import DotEdge, Node, edges_of
+from .dot_tokens import DotFault
 
-# what an edge's `--` may not be looked for in, and that itself
-QUOTED_COMMENT_OR_EDGE = re.compile(r'"(?:[^"\\]|\\.)*"|//[^\n]*|#[^\n]*|/\*.*?\*/|--|->', re.S)
-
-
-NO_PYDOT = "a DOT file is read by pydot, which is not installed (Debian: python3-pydot)"
+NO_PORT = 'an edge without a port; an end is "host":"port"'
 
 
 class TopologyFault(Exception):
-    """What is wrong with a topology, and its line where that is known."""
+    """What is wrong with a topology, and its line."""
 
-    def __init__(self, text: str, line: Optional[int] = None) -> None:
+    def __init__(self, text: str, line: int) -> None:
         super().__init__(text)
         self.line = line
 
 
 class Edge(NamedTuple):
-    """An edge: host and port of both its ends, and its line where that is known."""
+    """An edge: host and port of both its ends, each None where it has no port, and its line."""
 
-    one: tuple[str, str]
-    other: tuple[str, str]
-    line: Optional[int]
+    one: Optional[tuple[str, str]]
+    other: Optional[tuple[str, str]]
+    line: int
 
 
 def read_topology(text: str) -> Iterator[Edge]:
-    """The edges of a topology in their order, those of a chain one by one. Raises TopologyFault."""
-    edges = [edge for graph in parsed(text) for edge in edges_of(graph)]
-    lines: list[Optional[int]] = list(lines_of_edges(text))
-    if len(lines) != len(edges):
-        lines = [None] * len(edges)
-    for edge, line in zip(edges, lines):
-        one = host_and_port(edge.get_source(), line)
-        yield Edge(one, host_and_port(edge.get_destination(), line), line)
+    """The edges of a topology in their order, those of a chain one by one.
 
-
-def parsed(text: str) -> list[Any]:
-    """The graphs that pydot reads. What it says of a fault it prints, so that is caught."""
+    Raises TopologyFault where graphviz would refuse the file, behind the edges before that place.
+    """
+    lines = Lines(text)
     try:
-        pydot: Any = importlib.import_module("pydot")
-    except ImportError:
-        raise TopologyFault(NO_PYDOT) from None
-    said, graphs = io.StringIO(), None
-    with contextlib.redirect_stdout(said), contextlib.redirect_stderr(said):
-        with contextlib.suppress(Exception):  # of some faults it raises what its insides raise
-            graphs = pydot.graph_from_dot_data(text)
-    if not graphs:
-        found = re.search(r"line:(\d+)", said.getvalue())
-        raise TopologyFault("it is no DOT that pydot can read", int(found[1]) if found else None)
-    return list(graphs)
+        for edge in edges_of(text):
+            yield placed(edge, lines)
+    except DotFault as fault:
+        raise TopologyFault(f"it is no DOT: {fault}", lines.of(fault.place)) from None
 
 
-def edges_of(graph: Any) -> Iterator[Any]:
-    """The edges of a graph and of those in it, as they stand in the file."""
-    parts = [*graph.get_edges(), *graph.get_subgraphs()]
-    for part in sorted(parts, key=lambda part: int(part.get_sequence())):
-        if hasattr(part, "get_source"):
-            yield part
+def placed(edge: DotEdge, lines: Lines) -> Edge:
+    """An edge and its line."""
+    return Edge(host_and_port(edge.one), host_and_port(edge.other), lines.of(edge.place))
+
+
+def host_and_port(node: Node) -> Optional[tuple[str, str]]:
+    """The two names of one end of an edge, if it has both."""
+    return (node.name, node.port) if node.name and node.port else None
+
+
+class Lines:
+    """The lines of places in a text, which are asked for from its begin on."""
+
+    def __init__(self, text: str) -> None:
+        self._text = text
+        self._line, self._place = 1, 0
+
+    def of(self, place: int) -> int:
+        """The line of a place."""
+        if place >= self._place:
+            self._line += self._text.count("\n", self._place, place)
         else:
-            yield from edges_of(part)
-
-
-def lines_of_edges(text: str) -> Iterator[int]:
-    """The line of each `--` or `->` that is an edge, and not within quotes or a comment."""
-    line, end = 1, 0
-    for found in QUOTED_COMMENT_OR_EDGE.finditer(text):
-        line, end = line + text.count("\n", end, found.start()), found.start()
-        if found[0] in ("--", "->"):
-            yield line
-
-
-def host_and_port(node: object, line: Optional[int]) -> tuple[str, str]:
-    """The two names of one end of an edge."""
-    found = NODE_AND_PORT.fullmatch(node) if isinstance(node, str) else None
-    if found is None:
-        raise TopologyFault('an edge without a port; an end is "host":"port"', line)
-    return unquoted(found[1]), unquoted(found[2])
-
-
-def unquoted(name: str) -> str:
-    """A name without its quotes. DOT knows one escape, that of a quote."""
-    return name[1:-1].replace('\\"', '"') if name.startswith('"') else name.strip()
+            self._line = 1 + self._text.count("\n", 0, place)
+        self._place = place
+        return self._line

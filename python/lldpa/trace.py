@@ -2,22 +2,28 @@
 seconds between them."""
 from __future__ import annotations
 
+import os
+from contextlib import suppress
 from heapq import merge
-from typing import Callable, Dict, Iterator, NamedTuple, Optional, Sequence, Tuple
+from typing import Callable, Dict, Iterator, List, NamedTuple, Optional, Sequence
 
-from .capture import (ETHERNET, SECOND, BadCapture, Interface, Reader, link_type_text,
-                      reader_of)
-from .framing import rx, ticks
-from .source import PORT_NAME_RULE, Source, is_port_name, opened, port_of, ports_of
+from .capture import (ETHERNET, SECOND, BadCapture, Interface, Reader, interfaces_of,
+                      link_type_text, reader_of)
+from .framing import MOST_TICKS, rx, ticks
+from .notes import Notes, Tell
+from .source import PORT_NAME_RULE, UNNAMED, Source, is_port_name, opened, port_of
 
-__all__ = ["Source", "Told", "ports_of", "trace_of"]
+__all__ = ["Source", "Told", "TooManyPorts", "frames_of", "ports_of", "trace_of"]
 
+MOST_PORTS = 64
 NEAREST_BRIDGE = bytes.fromhex("0180c200000e")
 ETHERTYPE = bytes.fromhex("88cc")
 TAGS = (b"\x81\x00", b"\x88\xa8", b"\x91\x00")
 SHORTEST_FRAME, LONGEST_FRAME = 14, 1514
 
-Tell = Callable[[str], None]
+
+class TooManyPorts(Exception):
+    """Captures with frames for more ports than an agent has."""
 
 
 class Told(NamedTuple):
@@ -26,8 +32,42 @@ class Told(NamedTuple):
     fault: Tell
 
 
-# A time of a capture, and the line of the frame that came then, or nothing.
-Moment = Tuple[Optional[int], str]
+class Moment(NamedTuple):
+    """A time of a capture, the line of the frame that came then, or nothing, and the notes."""
+    time: Optional[int]
+    line: str
+    notes: Notes
+
+
+def ports_of(sources: Sequence[Source]) -> List[str]:
+    """The ports of captures, in the order of sources and interfaces, each once.
+
+    Of more than 64 it gives those that have LLDP frames; raises TooManyPorts if these are too many
+    as well. Standard input and pipes, which can be read once, count with the port they are given.
+    """
+    ports: Dict[str, None] = {}
+    for source in sources:
+        ports.update((name, None) for name in names_of(source) if is_port_name(name))
+    if len(ports) > MOST_PORTS:
+        heard = {line.split(" ")[1] for line in frames_of(sources, Told(ignored, ignored), False)}
+        ports = {name: None for name in ports if name in heard}
+    if len(ports) > MOST_PORTS:
+        raise TooManyPorts(f"{len(ports)} ports, and {MOST_PORTS} are the most")
+    return list(ports)
+
+
+def names_of(source: Source) -> Sequence[str]:
+    """The names for the ports of a capture's interfaces, or for the one that it has."""
+    interfaces: List[Interface] = []
+    if source.port is None and os.path.isfile(source.file):
+        with suppress(OSError), opened(source.file) as file:
+            interfaces = interfaces_of(file)
+    ethernet = [one for one in interfaces if one.link_type == ETHERNET]
+    return [port_of(source, one) for one in ethernet] or [source.port or UNNAMED]
+
+
+def ignored(_: str) -> None:
+    """Hears what is told, and does nothing."""
 
 
 def trace_of(sources: Sequence[Source], told: Told, seconds: bool = True) -> Iterator[str]:
@@ -37,11 +77,20 @@ def trace_of(sources: Sequence[Source], told: Told, seconds: bool = True) -> Ite
     are read on. Raises TooManyPorts before the first line.
     """
     ports_of(sources)
+    yield from frames_of(sources, told, seconds)
+
+
+def frames_of(sources: Sequence[Source], told: Told, seconds: bool) -> Iterator[str]:
+    """The lines of a trace of any number of ports."""
     moments = merge(*(Recording(source, told).moments() for source in sources), key=order)
     clock = Clock()
-    for time, line in moments:
+    for time, line, notes in moments:
         if seconds and time is not None:
             missing = clock.seconds_to(time)
+            if missing > MOST_TICKS:
+                notes.tell("jump", f"nothing comes for {missing} s (was the clock set?): "
+                           f"{MOST_TICKS} of them are counted, after which nobody is left")
+                missing = MOST_TICKS
             if missing:
                 yield from ticks(missing)
         if line:
@@ -50,7 +99,7 @@ def trace_of(sources: Sequence[Source], told: Told, seconds: bool = True) -> Ite
 
 def order(moment: Moment) -> int:
     """Moments of captures without time stamps come first."""
-    return moment[0] or 0
+    return moment.time or 0
 
 
 class Clock:
@@ -75,6 +124,7 @@ class Recording:
     def __init__(self, source: Source, told: Told) -> None:
         self._source = source
         self._told = told
+        self._notes = Notes(told.note, source.file)
         self._latest: Optional[int] = None
         self._ports: Dict[Interface, str] = {}
 
@@ -87,7 +137,8 @@ class Recording:
             self._fault(str(why))
         except OSError as error:
             self._fault(error.strerror or str(error))
-        yield self._latest, ""
+        self._notes.end()
+        yield Moment(self._latest, "", self._notes)
 
     def _frames(self, reader: Reader) -> Iterator[Moment]:
         """The begin and the frames. Of other packets the time alone is looked at."""
@@ -99,14 +150,14 @@ class Recording:
             if stamp is not None:
                 time = stamp + shift
                 if self._latest is None:
-                    yield time, ""
+                    yield Moment(time, "", self._notes)
                 elif time < self._latest:
                     shift += self._set_back(self._latest - time)
                     time = self._latest
                 self._latest = time
             line = self._line(reader.number, interface, reader.window.octets[begin:end], length)
             if line:
-                yield self._latest, line
+                yield Moment(self._latest, line, self._notes)
 
     def _line(self, number: int, interface: Interface, octets: bytes, length: int) -> str:
         """The line of a packet, or nothing where it is no LLDP frame or is passed over."""
@@ -114,7 +165,8 @@ class Recording:
             return ""
         fault = fault_of(octets, length)
         if fault:
-            self._told.note(f"{self._source.file}: frame {number} is passed over: it is {fault}")
+            self._notes.tell(fault, f"frame {number} is passed over: it is "
+                                    f"{fault.format(len(octets), length)}")
             return ""
         port = self._ports.get(interface)
         if port is None:
@@ -146,8 +198,8 @@ class Recording:
         all by less than a second, since packets of several queues may stand out of order."""
         if nanoseconds < SECOND:
             return 0
-        self._told.note(f"{self._source.file}: the time stamps go back by {nanoseconds // SECOND} "
-                        "s, for which there is no tick")
+        self._notes.tell("set back", f"the time stamps go back by {nanoseconds // SECOND} s, for "
+                                     "which there is no tick")
         return nanoseconds
 
 
@@ -166,9 +218,9 @@ def is_lldp(octets: bytes, length: int) -> bool:
 
 
 def fault_of(octets: bytes, length: int) -> str:
-    """Why an LLDP frame is not handed to the agent, or nothing."""
+    """Why an LLDP frame is not handed to the agent, or nothing. Numbers may be put into it."""
     if len(octets) < length:
-        return f"snapped to {len(octets)} of {length} octets"
+        return "snapped to {} of {} octets"
     if octets[12:14] in TAGS:
         return "tagged"
     if len(octets) > LONGEST_FRAME:

@@ -1,7 +1,7 @@
 """A stretch of a file in memory, which moves from the file's begin to its end."""
 from __future__ import annotations
 
-from typing import BinaryIO
+from typing import Protocol
 
 AT_ONCE = 1 << 17
 MOST_OCTETS = 1 << 24
@@ -11,10 +11,17 @@ class BadCapture(Exception):
     """Why a capture cannot be read on, and at which octet from its begin."""
 
 
+class Readable(Protocol):
+    """What octets are read of: a file, or what unpacks one."""
+
+    def read(self, size: int) -> bytes:
+        """Some octets, at most so many; none at the end."""
+
+
 class Window:
     """A stretch of a file: `octets`, the first of which is the file's octet `begin`."""
 
-    def __init__(self, file: BinaryIO) -> None:
+    def __init__(self, file: Readable) -> None:
         self._file = file
         self.begin = 0
         self.octets = b""

@@ -9,7 +9,6 @@ from pathlib import Path
 from typing import Any, Optional
 
 import rack
-from debian import environment
 from lldpa import AsyncAgent
 from lldpa.control import Server
 from served import PROGRAM, REPOSITORY, Served
@@ -20,7 +19,7 @@ AUDIT = str(REPOSITORY / "bin" / "lldpa-audit")
 def run(*words: str) -> "subprocess.CompletedProcess[str]":
     """Runs the program with these words."""
     return subprocess.run([sys.executable, AUDIT, "--program", PROGRAM, *words],
-                          capture_output=True, text=True, timeout=60, env=environment())
+                          capture_output=True, text=True, timeout=60)
 
 
 class LiveRack(Served):

@@ -52,7 +52,7 @@ LINES = [
     "swp30  extra: rogue p1 besides host15 eth1",
     "swp40  no data: wants host20 eth1",
     "swp44  no data: wants host22 eth1",
-    "48 planned: 41 right, 7 not",
+    "96 planned: 41 right, 7 not, 48 not looked at",
 ]
 
 

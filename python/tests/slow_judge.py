@@ -9,8 +9,9 @@ import re
 from typing import Dict, List, Optional, Tuple
 
 End = Tuple[str, str]
-# host names and port names that a neighbor answers to; a neighbor without a name has none
-Neighbor = Tuple[List[str], List[str]]
+# host names and port names that a neighbor answers to, of which one without a name has none, and
+# whether its link is one of an aggregate
+Neighbor = Tuple[List[str], List[str], bool]
 # the known ports, each with its neighbors
 Known = Dict[End, List[Neighbor]]
 
@@ -19,12 +20,13 @@ class SlowJudge:
     """A plan as pairs of ends, the audited hosts, and the known ports."""
 
     def __init__(self, pairs: List[Tuple[End, End]], audited: List[str], known: Known,
-                 ignore_case: bool, short_names: bool) -> None:
+                 ignore_case: bool, short_names: bool, vendor_names: bool) -> None:
         self.pairs = pairs
         self.audited = audited
         self.known = known
         self.ignore_case = ignore_case
         self.short_names = short_names
+        self.vendor_names = vendor_names
 
     def same_text(self, one: str, other: str) -> bool:
         return one.lower() == other.lower() if self.ignore_case else one == other
@@ -34,13 +36,19 @@ class SlowJudge:
             one, other = short(one), short(other)
         return self.same_text(one, other)
 
+    def same_port(self, one: str, other: str) -> bool:
+        if self.vendor_names and {one, other} <= {"Et1", "Ethernet1"}:
+            return True
+        return self.same_text(one, other)
+
     def same_end(self, one: End, other: End) -> bool:
-        return self.same_host(one[0], other[0]) and self.same_text(one[1], other[1])
+        return self.same_host(one[0], other[0]) and self.same_port(one[1], other[1])
 
     def answers(self, neighbor: Neighbor, end: End) -> bool:
-        hosts, ports = neighbor
+        hosts, ports, is_aggregated = neighbor
+        is_any_member = self.vendor_names and is_aggregated and "bond0" in ports
         return (any(self.same_host(host, end[0]) for host in hosts)
-                and any(self.same_text(port, end[1]) for port in ports))
+                and (is_any_member or any(self.same_port(port, end[1]) for port in ports)))
 
     def planned_ends(self) -> List[End]:
         return [end for pair in self.pairs for end in pair]

@@ -8,8 +8,9 @@ from typing import Dict, List, Sequence, Tuple
 
 from lldpa.audit import Finding, Verdict, audit
 from lldpa.names import NAMELESS, End, Names, Seen
-from lldpa.plan import Link, Plan, PlanFault
-from lldpa.tables import Tables
+from lldpa.plan import Link, Plan
+from lldpa.planfault import PlanFault
+from lldpa.seen.tables import Tables
 
 from slow_judge import SlowJudge
 
@@ -17,7 +18,7 @@ from slow_judge import SlowJudge
 RANDOM_PLANS = int(os.environ.get("LLDPA_RANDOM_PLANS", "3000"))
 
 HOSTS = ["a", "A", "b", "a.x", "a.y", "b.x", "B.X", "10.0.0.1", "10.0.0.2", "10"]
-PORTS = ["1", "2", "p", "P"]
+PORTS = ["1", "2", "p", "P", "Et1", "Ethernet1", "bond0"]
 
 
 class Case:
@@ -25,10 +26,11 @@ class Case:
 
     def __init__(self, seed: int) -> None:
         self.rng = random.Random(seed)
-        self.names = Names(self.rng.random() < 0.3, self.rng.random() < 0.3)
+        self.names = Names(*(self.rng.random() < 0.3 for _ in range(3)))
         hosts = self.rng.sample(HOSTS, self.rng.randint(2, len(HOSTS)))
         self.hosts = list({self.names.host(host): host for host in hosts}.values())
-        self.ports = list({self.names.port(port): port for port in PORTS}.values())
+        ports = self.rng.sample(PORTS, self.rng.randint(2, 4))
+        self.ports = list({self.names.plain_port(port): port for port in ports}.values())
         self.pairs = self.random_pairs()
         self.audited = self.rng.sample(self.hosts, self.rng.randint(1, len(self.hosts)))
         self.known: Dict[End, List[Seen]] = {}
@@ -59,17 +61,20 @@ class Case:
         if self.rng.random() < 0.2:
             other = self.rng.choice(self.rng.choice(self.pairs))
             return Seen((end.host, other.host), (end.port, other.port))
+        if self.rng.random() < 0.1:
+            return Seen((end.host,), ("bond0",), aggregated=self.rng.random() < 0.8)
         return Seen((end.host,), (end.port,))
 
     def like(self, name: str, names: Sequence[str]) -> str:
         """A name that begins with the same letter."""
-        return self.rng.choice([one for one in names if one[0].lower() == name[0].lower()])
+        return self.rng.choice([one for one in names if one[0].lower() == name[0].lower()] or [name])
 
     def random_neighbor(self) -> Seen:
         if self.rng.random() < 0.1:
             return NAMELESS
         return Seen(tuple(self.rng.choices(HOSTS, k=self.rng.randint(1, 3))),
-                    tuple(self.rng.choices(PORTS, k=self.rng.randint(1, 2))))
+                    tuple(self.rng.choices(PORTS, k=self.rng.randint(1, 2))),
+                    aggregated=self.rng.random() < 0.5)
 
     def swap_some(self) -> None:
         for _ in range(self.rng.randint(0, 3)):
@@ -87,10 +92,12 @@ class Case:
         return audit(plan, tables)
 
     def slow_judge(self) -> SlowJudge:
-        known = {(end.host, end.port): [(list(one.hosts), list(one.ports)) for one in neighbors]
+        known = {(end.host, end.port): [(list(one.hosts), list(one.ports), one.aggregated)
+                                        for one in neighbors]
                  for end, neighbors in self.known.items()}
         pairs = [((one.host, one.port), (other.host, other.port)) for one, other in self.pairs]
-        return SlowJudge(pairs, self.audited, known, self.names.ignore_case, self.names.short_names)
+        return SlowJudge(pairs, self.audited, known, self.names.ignore_case, self.names.short_names,
+                         self.names.vendor_names)
 
 
 class RandomPlans(unittest.TestCase):

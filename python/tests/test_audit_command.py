@@ -7,6 +7,9 @@ import rack
 from auditing import InAFolder, run
 
 
+RIGHT = "2 planned: 1 right, 0 not, 1 not looked at (host01)\n"
+
+
 class Words(InAFolder):
     """Statuses, options and what is said on standard error."""
 
@@ -26,18 +29,21 @@ class Words(InAFolder):
 
     def test_all_right(self) -> None:
         word = self.capture("a", rack.lldp_frame("host01", "eth0"))
-        self.assertEqual(self.audit(word), (0, "1 planned: 1 right, 0 not\n", ""))
+        self.assertEqual(self.audit(word), (0, RIGHT, ""))
         show = self.file("show", "".join(line + "\n" for line in rack.show(["swp1"])))
         for word in (show, f"leaf1:{show}"):
-            self.assertEqual(self.audit(word), (0, "1 planned: 1 right, 0 not\n", ""))
+            self.assertEqual(self.audit(word), (0, RIGHT, ""))
 
     def test_bad_words_and_files(self) -> None:
         none = f"{self.folder}/none"
         for words, said in (
-                ("", "nothing to audit: give captures, shows, or --live"),
+                ("", "nothing to audit: give captures, shows, --live or --prometheus"),
                 ("swp1=none", "none: No such file or directory"),
-                (str(self.folder), "Is a directory"),
+                (f"swp1={self.folder}", "Is a directory"),
                 ("--wait x swp1=a", "invalid seconds value: 'x'"),
+                ("--prometheus localhost:9090", "invalid address value: 'localhost:9090'"),
+                ("--prometheus http:///x", "invalid address value: 'http:///x'"),
+                ("--instance-pattern ( swp1=a", "'(' is no pattern: missing )"),
                 (f"--live --control {none}", "none: No such file or directory"),
                 ("--liv", "unrecognized arguments: --liv")):
             status, out, err = self.audit(*words.split())
@@ -80,7 +86,7 @@ class Words(InAFolder):
         (self.folder / "empty").write_bytes(b"")
         word = self.capture("a", rack.lldp_frame("host01", "eth0"))
         status, out, _ = self.audit(word, f"swp9={self.folder}/empty")
-        self.assertEqual((status, out), (1, "1 planned: 1 right, 0 not\n"))
+        self.assertEqual((status, out), (1, RIGHT))
 
     def test_own_frames_are_no_neighbors(self) -> None:
         own, peer = rack.lldp_frame("leaf1", "swp1"), rack.lldp_frame("host01", "eth0")
@@ -120,12 +126,13 @@ class Words(InAFolder):
         port = "TenGigabitEthernet1/0/1.100"
         self.plan = self.file("long", f"host,port,peer,peer_port\nleaf1,{port},host01,eth0\n")
         (self.folder / "c").write_bytes(rack.pcapng({port: [rack.lldp_frame("host01", "eth0")]}))
-        self.assertEqual(self.audit(f"{self.folder}/c"), (0, "1 planned: 1 right, 0 not\n", ""))
+        self.assertEqual(self.audit(f"{self.folder}/c"), (0, RIGHT, ""))
 
     def test_planned_only(self) -> None:
         show = self.file("show", "".join(line + "\n" for line in rack.show(["swp1", "swp2"])))
         self.assertEqual(self.audit(show)[:2], (
-            1, "swp2  unplanned: has host01 eth1\n1 planned: 1 right, 0 not; 1 unplanned\n"))
+            1, "swp2  unplanned: has host01 eth1\n2 planned: 1 right, 0 not, 1 not looked at (host01); "
+               "1 unplanned\n"))
         self.assertEqual(self.audit("--planned-only", show)[0], 0)
 
     def test_no_agent(self) -> None:

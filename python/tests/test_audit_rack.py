@@ -14,7 +14,6 @@ from xml.etree import ElementTree
 
 import rack
 from auditing import AUDIT, InAFolder, LiveRack, run
-from debian import HAS_PYDOT
 
 
 def without_reasons(lines: Sequence[str]) -> List[str]:
@@ -59,7 +58,6 @@ class FortyEightPorts(InAFolder):
             self.check("--live", "--control", served.path)
         self.assertEqual(self.said, "")
 
-    @unittest.skipUnless(HAS_PYDOT, "pydot is not installed")
     def test_plan_in_dot(self) -> None:
         words = ["--host", "leaf1", *rack.shows(self.folder)]
         dot = self.file("plan.dot", rack.dot_plan())
@@ -77,12 +75,13 @@ class Waiting(InAFolder):
             begin = time.monotonic()
             ran = run(plan, *words, served.path, "--wait", "1")
             self.assertEqual(ran.stdout, "swp1  silent: wants host01 eth0\n"
-                                         "1 planned: 0 right, 1 not\n")
+                                         "2 planned: 0 right, 1 not, 1 not looked at (host01)\n")
             self.assertGreater(time.monotonic() - begin, 1)
             heard = threading.Timer(1, served.frame, ["swp1", rack.lldp_frame("host01", "eth0")])
             heard.start()
             ran = run(plan, *words, served.path, "--wait", "50")
-            self.assertEqual((ran.returncode, ran.stdout), (0, "1 planned: 1 right, 0 not\n"))
+            self.assertEqual((ran.returncode, ran.stdout), (
+                0, "2 planned: 1 right, 0 not, 1 not looked at (host01)\n"))
             heard.join()
 
 
@@ -104,10 +103,19 @@ class Pictures(InAFolder):
         text, colors = self.draw(*rack.shows(self.folder))
         for line in rack.LINES[1:4]:
             self.assertIn(line.partition("  ")[2], text.replace("\xa0", " "))
-        for name in [*rack.PORTS, "host24", "host99", "rogue", rack.LINES[-1]]:
+        for name in [*rack.PORTS, "host24", "host99", "rogue", rack.LINES[-1], "host01, host02, host03, 21 more"]:
             self.assertIn(name, text.replace("\xa0", " "))
         # 41 right and the planned one of the extra; swapped 2, silent 1, wrong 2, extra 1; no data
         self.assertEqual(Counter(colors), {"#c4c9ce": 42, "#d0021b": 6, "#d98200": 2})
+
+    def test_only_faults(self) -> None:
+        text, colors = self.draw("--only-faults", *rack.shows(self.folder))
+        self.assertEqual(Counter(colors), {"#c4c9ce": 1, "#d0021b": 6, "#d98200": 2})
+        for name in ("swp5", "swp6", "swp11", "rogue", "(right links are left out)"):
+            self.assertIn(name, text.replace("\xa0", " "))
+        self.assertNotIn("swp1 ", text.replace("\xa0", " "))
+        ran = run(self.plan, "--only-faults", "a=b")
+        self.assertEqual((ran.returncode, ran.stdout), (2, ""))
 
     def test_without_graphviz(self) -> None:
         word = rack.shows(self.folder)[0]

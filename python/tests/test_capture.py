@@ -1,6 +1,7 @@
 """Captures that are made, and the packets that are read of them."""
 from __future__ import annotations
 
+import gzip
 import io
 import random
 import unittest
@@ -87,6 +88,42 @@ class Read(unittest.TestCase):
         self.assertEqual((got.time, got.octets), (START, LLDP))
 
 
+class Compressed(unittest.TestCase):
+    """Captures that gzip compressed are read as they are."""
+
+    def test_each_form(self) -> None:
+        for name, form in FORMS.items():
+            for most in (1, 100_000):
+                with self.subTest(name, most=most):
+                    packed = Dripping(gzip.compress(form(FRAMES)), most)
+                    self.assertEqual(list(packets_of(packed)), packets(form(FRAMES)))
+
+    def test_parts_and_zeros_behind(self) -> None:
+        file = pcap(FRAMES)
+        packed = gzip.compress(file[:100]) + gzip.compress(file[100:]) + bytes(512)
+        self.assertEqual(packets(packed), packets(file))
+        large = pcap([whole(OTHER * 40, START + number) for number in range(5000)])
+        self.assertEqual(packets(gzip.compress(large)), packets(large))
+        self.assertEqual(packets(gzip.compress(large, 0)), packets(large))
+
+    def test_damage(self) -> None:
+        file = pcap([whole(OTHER * 9, START + number) for number in range(999)])
+        packed = gzip.compress(file)
+        for cut in (2, 10, 500, len(packed) - 1):
+            self.assertEqual(fault_of(packed[:cut]), "what gzip compressed in it is cut short")
+        read: List[Packet] = []
+        with self.assertRaises(BadCapture):
+            for one in packets_of(io.BytesIO(gzip.compress(file, 0)[:9000])):
+                read.append(one)
+        self.assertEqual(read, packets(file)[:len(read)])
+        self.assertGreater(len(read), 14)
+        broken = bytearray(packed)
+        broken[60] ^= 255
+        self.assertRegex(fault_of(bytes(broken)), "what gzip compressed in it is damaged|it ")
+        self.assertEqual(fault_of(gzip.compress(b"")), "it is empty")
+        self.assertIn("it is no capture", fault_of(gzip.compress(b"#!/bin/sh")))
+
+
 class InPlace(unittest.TestCase):
     """What is passed over in place is what cannot matter."""
 
@@ -129,7 +166,7 @@ class Damaged(unittest.TestCase):
     def test_no_captures(self) -> None:
         self.assertEqual(fault_of(b""), "it is empty")
         self.assertIn("it is no capture: octet 0 begins with 23 21 2f 62", fault_of(b"#!/bin/sh"))
-        self.assertIn("compressed by gzip", fault_of(bytes.fromhex("1f8b0800")))
+        self.assertIn("compressed by xz: unpack it", fault_of(bytes.fromhex("fd377a585a00")))
         self.assertEqual(fault_of(b"\n\r"), "it ends at octet 2, inside the record of octet 0")
 
     def test_a_capture_that_is_cut_anywhere(self) -> None:

@@ -5,11 +5,10 @@ import tempfile
 import unittest
 from pathlib import Path
 from typing import List, Tuple
-from unittest import mock
 
-from lldpa.names import End, Names
-from lldpa.plan import PlanFault, read_plan
-from debian import HAS_PYDOT
+from lldpa.names import Names
+from lldpa.planfault import PlanFault
+from lldpa.planfile import read_plan
 
 # the forms that ptmd's documentation of topology files shows
 TOPOLOGY = """\
@@ -31,7 +30,7 @@ graph G {
         label="rack 1";
         "leaf4":"swp1" -- "server\\"4\\"":"eth0";
     }
-    "leaf5":"swp1" -> "spine1":"swp5";
+    "leaf5":"swp1" -- "spine1":"swp5";
 }
 """
 
@@ -106,7 +105,6 @@ class Csv(Plans):
         self.assertEqual(self.fault(head + "# x\na,1, ,2\n"), "line 3: its peer is missing")
         self.assertEqual(self.fault(head + "a,1,b,2,3\n"),
                          "line 2: it has 5 fields under 4 columns")
-        self.assertIn("line 2: ", self.fault(head + 'a,1,b,"2\n3"\n'))
 
     def test_planned_twice(self) -> None:
         head = "host,port,peer,peer_port\n"
@@ -125,8 +123,40 @@ class Csv(Plans):
         self.assertEqual(self.fault("host,port,peer,peer_port\n"), "it plans no link")
         self.assertEqual(self.fault("host,\xe4\n", "latin-1"), "it is no text in UTF-8 (octet 5)")
 
+    def test_line_feeds_in_quotes(self) -> None:
+        text = ('host,port,note,peer,peer_port\na,1,"two\n# lines\n\n",b,2\n'
+                'c,3,"",d,"4\n5"\n# "\ne,5,,f\n')
+        self.assertEqual(self.fault(text), "line 9: its peer_port is missing")
+        text = text.replace("e,5,,f", "e,5,,f,6")
+        self.assertEqual(self.links(text), [("a", "1", "b", "2"), ("c", "3", "d", "4\n5"),
+                                            ("e", "5", "f", "6")])
+        self.assertEqual(self.fault('host,port,peer,peer_port\na,1,b,"2\nc,3,d,4\n'),
+                         "line 2: a field in quotes has no end")
+        self.assertEqual(self.fault('host,port,peer,peer_port\na,1,b,"2"3\nc,3,d\n').split("\n"), [
+            "line 2: ',' expected after '\"'", f"{self.path}: line 3: its peer_port is missing"])
 
-@unittest.skipUnless(HAS_PYDOT, "pydot is not installed")
+    def test_repeats_that_agree_are_one(self) -> None:
+        head = "host,port,peer,peer_port\n"
+        self.assertEqual(self.links(head + "a,1,b,2\nb,2,a,1\na,1,b,2\n"), [("a", "1", "b", "2")])
+        self.assertEqual(self.fault(head + "a,1,b,2\nb,2,a,1\na,1,b,3\n"),
+                         "line 4: a 1 is planned already in line 2")
+        self.names = Names(True, True)
+        self.assertEqual(self.links(head + "a.x,p,b,1\nB,1,A,P\n"), [("a.x", "p", "b", "1")])
+
+    def test_all_faults_are_told_at_once(self) -> None:
+        rows = [f"a,{row},b,{row}" for row in range(30)]
+        text = "\n".join(["host,port,peer,peer_port", *rows, *["a,0,c,1", "a,1,b"] * 11, ""])
+        told = self.fault(text).split("\n")
+        self.assertEqual(len(told), 21)
+        self.assertEqual(told[0], "line 32: a 0 is planned already in line 2")
+        self.assertEqual(told[19], f"{self.path}: line 51: its peer_port is missing")
+        self.assertEqual(told[20], f"{self.path}: 2 more faults")
+        self.assertEqual(self.fault("host,port\n").split("\n"), [
+            f"{front}line 1: the column {name} is missing: the first line names the columns "
+            "host,port,peer,peer_port"
+            for front, name in (("", "peer"), (f"{self.path}: ", "peer_port"))])
+
+
 class Dot(Plans):
     """Plans in DOT."""
 
@@ -138,7 +168,7 @@ class Dot(Plans):
                       self.fault('graph G {\na:1 -- b:2 -- c:3\n}\n'))
 
     def test_edge_without_port(self) -> None:
-        for edge in ('"leaf1" -- "spine1":"swp1"', 'a:1 -- "b:2"', "a:1 -- {b c}", "a -- b"):
+        for edge in ('"leaf1" -- "spine1":"swp1"', 'a:1 -- "b:2"', "a:1 -- {b c:2}", "a -- b"):
             said = self.fault(f'// --\ngraph G {{\n "x--y":1 -- z:1\n\n {edge}\n}}\n')
             self.assertEqual(said, 'line 5: an edge without a port; an end is "host":"port"')
 
@@ -148,21 +178,29 @@ class Dot(Plans):
         self.assertEqual(self.fault("# --\ngraph G {\n# a:1 -- b:2\na:1 -- b:2;a:1 -- c:3\n}\n"),
                          "line 4: a 1 is planned twice in it")
 
-    def test_no_dot(self) -> None:
-        self.assertEqual(self.fault('graph G {\n "a":"1" -- "b":"2";\n "x" -- - y;\n}\n'),
-                         "line 3: it is no DOT that pydot can read")
-        self.assertIn("it is no DOT that pydot can read", self.fault("graph G {\na:1 -- - b:2\n}"))
+    def test_all_faults_are_told_at_once(self) -> None:
+        text = "graph G {\na:1 -- b\na:1 -- b:2\na:1 -- c:3\n - \nd:4 -- e\n}"
+        self.assertEqual(self.fault(text).replace(f"{self.path}: ", "").split("\n"), [
+            'line 2: an edge without a port; an end is "host":"port"',
+            "line 4: a 1 is planned already in line 3",
+            "line 5: it is no DOT: '-' means nothing here"])
+
+    def test_what_graphviz_refuses(self) -> None:
+        one = 'graph G {\n "a":"1" -- "b":"2";\n'
+        for text, said in (
+                (one + "}}", "line 3: it is no DOT: '}' where a graph was expected"),
+                (one + '}\ngraph {\n"a":"1" -- }', "line 5: it is no DOT: '}' where a name was"),
+                (one, "line 3: it is no DOT: the end where a name was expected"),
+                (one + '"x" -- - y;\n}', "line 3: it is no DOT: '-' means nothing here"),
+                (one + 'a:1 -> b:2}', "line 3: it is no DOT: '->' where a name was expected"),
+                (one + 'label="\n\n}', "line 3: it is no DOT: a text in quotes has no end"),
+                (one + "label=<\n<>\n}", "line 3: it is no DOT: a text in < > has no end"),
+                (one + "/* }", "line 3: it is no DOT: a comment has no end"),
+                (one + "a:1:b -- c:2 }", "a name with a colon in it must stand in quotes"),
+                (one + "10.0.0.1:3 -- c:4 }", "line 3: it is no DOT: '10.0.0.1' must stand in"),
+                (one + "leaf-1:3 -- c:4 }", "line 3: it is no DOT: 'leaf-1' must stand in quotes")):
+            self.assertIn(said, self.fault(text))
         self.assertEqual(self.fault("strict graph {}\n"), "it plans no link")
-
-
-class WithoutPydot(Plans):
-    """Where pydot is not installed."""
-
-    def test_message_names_the_package(self) -> None:
-        with mock.patch.dict("sys.modules", pydot=None):
-            said = self.fault(TOPOLOGY)
-        self.assertEqual(said, "a DOT file is read by pydot, which is not installed (Debian: "
-                               "python3-pydot)")
 
 
 class Recognition(Plans):

@@ -7,8 +7,8 @@ from dataclasses import fields
 from typing import Callable, Union
 
 import rack
-from lldpa.quickshow import USUAL_PORT
-from lldpa.seen import Ports, quick_ports, read_ports, slow_ports
+from lldpa.seen.quickshow import USUAL_PORT
+from lldpa.seen.shows import Ports, quick_ports, read_ports, slow_ports
 from lldpa.show import Counters, ShowFault, read_show
 
 SHOW = """\

@@ -10,7 +10,7 @@ import unittest
 from typing import Dict, List, Optional, Sequence, Tuple
 
 from lldpa import Source, Told, ports_of, trace_of
-from lldpa.source import TooManyPorts
+from lldpa.trace import TooManyPorts
 from made_captures import (FORMS, LLDP, OTHER, SECOND, START, TAGGED, Frame, block, interface,
                            lldp_frame, packet, pcap, pcapng, section, whole)
 from support import CAPTURE, PROGRAM, FilesCase, run_capture
@@ -85,8 +85,11 @@ class Traces(FilesCase):
                          ["q", "eth0", "p"])
         self.assertEqual(ports_of([Source(b)]), [])
         many = section() + b"".join(interface(name=f"swp{i}") for i in range(65))
-        with self.assertRaises(TooManyPorts):
-            ports_of([Source(self.file(many))])
+        heard = [packet(whole(LLDP), place=place) for place in range(65)]
+        three = self.file(many + heard[7] + heard[64] + heard[3], "three")
+        self.assertEqual(ports_of([Source(three)]), ["swp3", "swp7", "swp64"])
+        with self.assertRaisesRegex(TooManyPorts, "65 ports, and 64 are the most"):
+            ports_of([Source(self.file(many + b"".join(heard)))])
 
     def test_interfaces_that_are_none_of_ours(self) -> None:
         file = section() + interface(name="eth0.10") + interface(name="any", link_type=113)
@@ -200,12 +203,17 @@ class Program(FilesCase):
                 self.assertIn(text, said)
         self.assertEqual(self.ran(*[f"p{i}=a" for i in range(64)])[2], 0)
 
-    def test_too_many_interfaces_of_a_file(self) -> None:
+    def test_many_interfaces_of_a_file(self) -> None:
         early = b"".join(interface(name=f"swp{i}") for i in range(60))
         late = b"".join(interface(name=f"p{i}") for i in range(5))
-        path = self.file(section() + early + packet(whole(LLDP)) + late)
+        file = section() + early + packet(whole(LLDP)) + late
+        path = self.file(file)
+        self.assertEqual(self.ran(path), (RX.replace("eth0", "swp0"), "", 0))
+        self.assertEqual(self.ran("--ports", path), ("swp0\n", "", 0))
+        every = b"".join(packet(whole(LLDP), place=place) for place in range(65))
+        path = self.file(file + every)
         self.assertEqual(self.ran(path)[::2], ("", 2))
-        self.assertEqual(self.ran("--port", "all", path)[::2], (RX.replace("eth0", "all"), 0))
+        self.assertEqual(self.ran("--port", "all", path)[::2], (RX.replace("eth0", "all") * 66, 0))
 
     def test_files_that_are_no_captures(self) -> None:
         self.file(b"", "empty")

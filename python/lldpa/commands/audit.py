@@ -3,141 +3,116 @@ from __future__ import annotations
 
 import argparse
 import gc
-import io
 import json
-import os
-import socket
-import sys
-from typing import Iterator, Optional, Sequence
+from typing import Optional, Sequence
 
+from .. import output
+from ..aliases import read_aliases
 from ..audit import audit
 from ..child import Ended
-from ..control import DEFAULT_PATH
-from ..faultlines import FaultLines
-from ..findings import as_json, count, in_order
 from ..framing import Refused
-from ..gather import Gathering, What, of_hosts, read_what
-from ..names import Names, shown
-from ..picture import PictureFault, draw
-from ..plan import Plan, PlanFault, read_plan
+from ..mismatches import mismatches
+from ..names import NO_ALIASES, Names
+from ..planfault import PlanFault
+from ..planfile import read_plan
+from ..progress import Progress
+from ..report.files import FileFault, write
+from ..report.page import page_of
+from ..report.picture import drawn
+from ..report.report import Report
+from ..seen.files import read_files
+from ..seen.folders import read_whats
 from ..show import ShowFault
-from ..showfiles import ShowFile, read_show_files
-from ..tables import Tables
+from ..source import hold
+from ..what import of_hosts, placed
+from .auditwords import read_words
+from .seenwords import ControlFault, gathered
 
-WORDS = """\
-WHAT is any number of:
-  PORT=FILE    a capture that was taken at a port of this host; several of one port are one
-  FILE         a pcapng capture that names its interfaces, or a `show neighbors`, of this host
-  HOST:FILE    the same of another host
-
-The status is 0 if all is right, 1 if something is not, 2 if an argument is wrong or a file cannot
-be read. The manual page lldpa-audit(1) has the verdicts.
-"""
+NAME = "lldpa-audit"
 
 
-def say(text: str) -> None:
-    """A line on standard error, which holds nothing that could act on a terminal."""
-    printable = "".join(letter if letter.isprintable() else "?" for letter in text)
-    print(f"lldpa-audit: {printable}", file=sys.stderr)
+class Audit:
+    """One run of the program."""
+
+    def __init__(self, given: argparse.Namespace) -> None:
+        self.given = given
+        self.progress = Progress(NAME)
+
+    def run(self) -> int:
+        """Audits, prints, draws. Gives the status."""
+        gc.disable()  # what is made stays to the end; to look for garbage costs a third of the time
+        given = self.given
+        names = self.names()
+        whats = list(read_whats(given.what, given.host))
+        for what in whats:
+            hold(what.file)
+        files = read_files([what.file for what in of_hosts(whats)])  # beside the plan
+        plan = read_plan(given.plan, names, given.columns, given.panels, bool(given.html),
+                         self.progress)
+        for note in plan.notes:
+            self.say(note)
+        whats = [placed(what, plan, names) for what in whats]
+        files = self.progress.over(files, len(whats), "files")
+        tables, is_damaged = gathered(given, whats, files, plan, names, self.say)
+        self.progress.show("comparing")
+        findings = audit(plan, tables, given.planned_only)
+        differing = mismatches(findings, tables) if given.settings else {}
+        report = Report(plan, tables, findings, differing)
+        self.print(report)
+        self.write(report)
+        is_right = report.count.is_all_right and not (given.all and report.count.unseen)
+        return 0 if is_right and not is_damaged else 1
+
+    def names(self) -> Names:
+        """How names are compared."""
+        given = self.given
+        rules = given.ignore_case, given.short_names, given.vendor_names
+        aliases = read_aliases(given.aliases, Names(*rules)) if given.aliases else NO_ALIASES
+        return Names(*rules, aliases)
+
+    def print(self, report: Report) -> None:
+        """Prints what was found."""
+        self.progress.clear()
+        if self.given.json:
+            print(json.dumps(report.as_json()))
+        else:
+            print("\n".join(report.lines()))
+
+    def write(self, report: Report) -> None:
+        """Writes a page and a picture, where they are asked for."""
+        if self.given.html:
+            write(self.given.html, page_of(report))
+        if self.given.svg:
+            self.progress.show("drawing")
+            write(self.given.svg, drawn(report, self.given.only_faults))
+
+    def say(self, text: str) -> None:
+        """A line on standard error."""
+        self.progress.clear()
+        output.complain(NAME, text)
 
 
-def read_words(words: Optional[Sequence[str]]) -> argparse.Namespace:
-    """The words of the program. Ends it with status 2 where they are bad."""
-    parser = argparse.ArgumentParser(
-        prog="lldpa-audit", allow_abbrev=False, epilog=WORDS,
-        description="Compares a plan of the cabling with who is seen, and prints what is wrong.",
-        formatter_class=argparse.RawDescriptionHelpFormatter)
-    add = parser.add_argument
-    add("plan", metavar="PLAN", help="CSV with the columns host,port,peer,peer_port, or DOT")
-    add("what", metavar="WHAT", nargs="*", help="what is seen, see below")
-    add("--live", action="store_true", help="ask the lldpa-live that runs on this host")
-    add("--control", metavar="PATH", default=DEFAULT_PATH,
-        help=f"its control socket ({DEFAULT_PATH} unless given)")
-    add("--wait", metavar="SECONDS", type=seconds, default=0.0,
-        help="wait until each planned port has a neighbor, so many seconds at most")
-    add("--host", metavar="NAME", default=socket.gethostname(),
-        help="this host's name in the plan (the system's unless given)")
-    add("--ignore-case", action="store_true", help="take names for the same that differ in case")
-    add("--short-names", action="store_true", help="take hosts' names up to the first dot")
-    add("--planned-only", action="store_true", help="say nothing of ports that are not planned")
-    add("--json", action="store_true", help="print every verdict as JSON")
-    add("--svg", metavar="FILE", help="draw hosts and links (wants graphviz)")
-    add("--program", metavar="FILE", default="lldpa", help="the agent that reads captures")
-    given = parser.parse_intermixed_args(words)
-    if not given.what and not given.live:
-        parser.error("nothing to audit: give captures, shows, or --live")
-    return given
-
-
-def seconds(text: str) -> float:
-    """A number of seconds of an option."""
-    number = float(text)
-    if not 0 <= number <= 86400:
-        raise ValueError
-    return number
-
-
-def gathered(given: argparse.Namespace, whats: Sequence[What], files: Iterator[ShowFile],
-             plan: Plan, names: Names) -> tuple[Tables, bool]:
-    """What is known of the audited hosts, and whether a file of it is damaged."""
-    tables = Tables(names)
-    gathering = Gathering(tables, given.program, say)
-    gathering.add_files(whats, files)
-    if given.live:
-        gathering.add_live(given.host, given.control, plan, given.wait)
-    unplanned = [host for key, host in tables.hosts.items() if key not in plan.hosts]
-    told = [f"{plan.file} plans nothing of the host {shown(host)}{nearly(host, plan)}"
-            for host in unplanned]
-    if len(unplanned) == len(tables.hosts):
-        raise ValueError(told[0])
-    for text in told:
-        say(text)
-    return tables, gathering.is_damaged
-
-
-def nearly(host: str, plan: Plan) -> str:
-    """The planned host that has nearly this name, in words."""
-    loose = Names(ignore_case=True, short_names=True)
-    like = [one for one in plan.hosts.values() if loose.host(one) == loose.host(host)]
-    return f", but {shown(like[0])}: see --host, --ignore-case, --short-names" if like else ""
-
-
-def run(given: argparse.Namespace) -> int:
-    """Audits, prints and draws. Gives the status."""
-    gc.disable()  # what is made stays to the end; to look for garbage costs a third of the time
-    names = Names(given.ignore_case, given.short_names)
-    whats = [read_what(word, given.host) for word in given.what]
-    files = read_show_files([what.file for what in of_hosts(whats)])  # beside the plan
-    plan = read_plan(given.plan, names)
-    tables, is_damaged = gathered(given, whats, files, plan, names)
-    findings = audit(plan, tables, given.planned_only)
-    lines = FaultLines(plan, tables, findings)
-    counted = count(findings)
-    if given.json:
-        print(json.dumps(as_json(in_order(findings), lines.text)))
-    else:
-        print("\n".join([*lines.lines(), str(counted)]))
-    if given.svg:
-        draw(given.svg, findings, lines)
-    return 0 if counted.is_all_right and not is_damaged else 1
+def status_of(words: Optional[Sequence[str]]) -> int:
+    """The status, if the output does not fail."""
+    given = read_words(words)
+    program = Audit(given)
+    try:
+        return program.run()
+    except KeyboardInterrupt:
+        return 130
+    except PlanFault as fault:
+        for text in fault.texts:
+            program.say(text)
+    except OSError as fault:
+        where = f"{fault.filename}: " if fault.filename else ""
+        program.say(f"{where}{fault.strerror or fault}")
+    except (ControlFault, FileFault, ShowFault, Refused, Ended, ValueError) as fault:
+        program.say(str(fault))
+    finally:
+        program.progress.clear()
+    return 2
 
 
 def main(words: Optional[Sequence[str]] = None) -> int:
     """The program: 0 where all is right, 1 where something is not, 2 where it cannot be told."""
-    given = read_words(words)
-    if isinstance(sys.stdout, io.TextIOWrapper):
-        sys.stdout.reconfigure(errors="backslashreplace")
-    try:
-        status = run(given)
-        sys.stdout.flush()
-        return status
-    except KeyboardInterrupt:
-        return 130
-    except BrokenPipeError:  # who reads the output has gone; nothing is left to be flushed into it
-        os.dup2(os.open(os.devnull, os.O_WRONLY), sys.stdout.fileno())
-        return 2
-    except OSError as fault:
-        say(f"{fault.filename or given.control}: {fault.strerror or fault}")
-    except (PlanFault, PictureFault, ShowFault, Refused, Ended, ValueError) as fault:
-        say(str(fault))
-    return 2
+    return output.run(NAME, lambda: status_of(words), 2, errors="backslashreplace")

@@ -6,8 +6,10 @@ import os
 import sys
 from typing import Dict, List, Mapping, Optional, Sequence, Tuple
 
-from ..source import PORT_NAME_RULE, STANDARD_INPUT, Source, TooManyPorts, is_port_name, ports_of
-from ..trace import Told, trace_of
+from .. import output
+from ..output import complain
+from ..source import PORT_NAME_RULE, STANDARD_INPUT, Source, is_port_name
+from ..trace import Told, TooManyPorts, ports_of, trace_of
 
 NAME = "lldpa-capture"
 SUMMARY = "Writes the LLDP frames of captures as a trace for lldpa, with the seconds between them."
@@ -21,7 +23,7 @@ ANY_INTERFACE = ""
 
 def note(text: str) -> None:
     """Writes a line on standard error."""
-    print(f"{NAME}: {text}", file=sys.stderr)
+    complain(NAME, text)
 
 
 def parser_of_words() -> argparse.ArgumentParser:
@@ -89,12 +91,16 @@ def run(given: argparse.Namespace) -> int:
 
 def main(words: Optional[Sequence[str]] = None) -> int:
     """Runs the program on these words; answers its status."""
+    return output.run(NAME, lambda: status_of(words), 1)
+
+
+def status_of(words: Optional[Sequence[str]]) -> int:
+    """The status, if the output does not fail."""
     parser = parser_of_words()
     given = parser.parse_args(words)
     try:
         return run(given)
     except (TooManyPorts, ValueError) as fault:
         parser.error(str(fault))
-    except BrokenPipeError:  # nobody reads the trace any more
-        os.dup2(os.open(os.devnull, os.O_WRONLY), sys.stdout.fileno())
-        return 1
+    except KeyboardInterrupt:
+        return 130

@@ -3,14 +3,12 @@
 from __future__ import annotations
 
 import argparse
-import io
 import json
-import os
 import socket
-import sys
 import time
 from typing import Optional, Sequence
 
+from .. import output
 from ..arrivals import Since, since_of
 from ..as_json import neighbor_object
 from ..control import DEFAULT_PATH, Client, Gone
@@ -141,25 +139,25 @@ def said_of(fault: Exception, path: str) -> str:
 
 def main(words: Optional[Sequence[str]] = None) -> int:
     """The program: 0 where all was answered, 1 where not, 2 where the words are bad."""
+    # what the terminal has no character for is written as a question mark
+    return output.run("lldpa-ctl", lambda: status_of(words), 1, errors="replace")
+
+
+def status_of(words: Optional[Sequence[str]]) -> int:
+    """The status, if the output does not fail."""
     given = read_words(words)
-    if isinstance(sys.stdout, io.TextIOWrapper):
-        sys.stdout.reconfigure(errors="replace")  # where the terminal has no such character
     try:
         if given.words == ["metrics"]:
             publish(given.control, given.output)
         else:
             with Client(given.control) as client:
                 run(given, client)
-        sys.stdout.flush()
     except KeyboardInterrupt:
         return 130
-    except BrokenPipeError:  # who reads the output has gone; nothing is left to be flushed into it
-        os.dup2(os.open(os.devnull, os.O_WRONLY), sys.stdout.fileno())
-        return 1
     except (Refused, Gone, ShowFault, NotWritten, OSError) as fault:
-        print(f"lldpa-ctl: {said_of(fault, given.control)}", file=sys.stderr)
+        output.complain("lldpa-ctl", said_of(fault, given.control))
         return 1
     except ValueError as fault:
-        print(f"lldpa-ctl: {printable(str(fault))}", file=sys.stderr)
+        output.complain("lldpa-ctl", printable(str(fault)))
         return 2
     return 0

@@ -1,0 +1,55 @@
+"""Further names of hosts and ports, from a file of rows `host,port,alias`."""
+from __future__ import annotations
+
+from pathlib import Path
+
+from .names import Aliases, End, Names
+from .planfault import Faults, PlanFault
+from .rows import rows_of
+
+COLUMNS = ["host", "port", "alias"]
+
+
+def read_aliases(file: str, names: Names) -> Aliases:
+    """The further names of a file, as they are compared. Raises PlanFault and OSError.
+
+    A row without a port names a host, one without a host a port of any host. Several rows may give
+    one further name to several ports of a host: a neighbor of that name answers to each.
+    """
+    try:
+        text = Path(file).read_bytes().decode("utf-8-sig")
+    except UnicodeDecodeError as fault:
+        raise PlanFault([f"{file}: it is no text in UTF-8 (octet {fault.start})"]) from None
+    faults = Faults(file)
+    aliases = Aliases({}, {})
+    rows = rows_of(text, faults)
+    line, header = next(rows, (1, []))
+    if [name.strip().lower() for name in header] != COLUMNS:
+        faults.add(line, f"the first line is not {','.join(COLUMNS)}")
+        rows = iter(())
+    for line, row in rows:
+        fields = [field.strip() for field in row]
+        if len(fields) != len(COLUMNS) or not fields[2] or not any(fields[:2]):
+            faults.add(line, "it has no alias, or neither a host nor a port")
+            continue
+        why = added(aliases, names, *fields)
+        if why:
+            faults.add(line, why)
+    for alias, host in aliases.hosts.items():
+        if host in aliases.hosts:
+            faults.add(None, f"{host} has the alias {alias}, and is an alias itself")
+    faults.end()
+    return aliases
+
+
+def added(aliases: Aliases, names: Names, host: str, port: str, alias: str) -> str:
+    """Adds a further name. Gives why it cannot be one, or nothing."""
+    host = names.plain_host(host)
+    if not port:
+        key = names.plain_host(alias)
+        is_new = aliases.hosts.setdefault(key, host) == host != key
+        return "" if is_new else f"{alias} is an alias of two hosts, or of itself"
+    end = End(host, names.plain_port(alias))
+    before = aliases.ports.get(end, ())
+    aliases.ports[end] = (*before, names.plain_port(port))
+    return ""

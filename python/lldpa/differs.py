@@ -1,0 +1,46 @@
+"""What alone keeps a neighbor from answering: the case, the domain, or the vendor's spelling."""
+from __future__ import annotations
+
+from typing import Optional
+
+from .names import End, Names, Seen
+
+DIFFERENCES = (("case",), ("domain",), ("case", "domain"), ("spelling",), ("case", "spelling"),
+               ("domain", "spelling"), ("case", "domain", "spelling"))
+
+
+class Differences:
+    """Looks for the least difference in names that, if it were let pass, would end a fault."""
+
+    def __init__(self, names: Names) -> None:
+        self._names = names
+        self._looser = [(differences, names.looser(*differences)) for differences in DIFFERENCES]
+
+    def of_neighbor(self, neighbor: Seen, end: End) -> Optional[str]:
+        """What alone keeps a neighbor from answering to an end."""
+        if self._names.answers(neighbor, self._names.end(end)):
+            return None
+        for differences, rule in self._looser:
+            key = rule.end(end)
+            if rule.answers(neighbor, key):
+                by_name = key in rule.ends(neighbor)
+                return words_of(differences) if by_name else "it names its aggregate"
+        return None
+
+    def of_ends(self, one: End, other: End) -> Optional[str]:
+        """What alone differs between two ends."""
+        for differences, rule in self._looser:
+            if rule.end(one) == rule.end(other):
+                return words_of(differences)
+        return None
+
+    def loosest(self, end: End) -> End:
+        """An end as it is compared where all differences pass."""
+        return self._looser[-1][1].end(end)
+
+
+def words_of(differences: tuple[str, ...]) -> str:
+    """Differences in words."""
+    if len(differences) == 1:
+        return f"only the {differences[0]} differs"
+    return f"only {', '.join(differences[:-1])} and {differences[-1]} differ"

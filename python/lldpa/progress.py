@@ -1,0 +1,52 @@
+"""Tells on a terminal how far a program is, where it takes longer than people wait gladly."""
+from __future__ import annotations
+
+import os
+import sys
+import time
+from contextlib import suppress
+from typing import Iterable, Iterator, Optional, TypeVar
+
+ERRORS = 2
+PATIENCE = 2.0
+BETWEEN = 0.2
+CLEARED = "\r\x1b[K"
+
+Item = TypeVar("Item")
+
+
+class Progress:
+    """One line on standard error, which is written anew and is gone at the end."""
+
+    def __init__(self, name: str, is_on: Optional[bool] = None) -> None:
+        self._name = name
+        self._is_on = sys.stderr.isatty() if is_on is None else is_on
+        self._next = time.monotonic() + PATIENCE
+        self._is_shown = False
+
+    def over(self, items: Iterable[Item], total: int, what: str) -> Iterator[Item]:
+        """The items, and how many of them were there."""
+        if not self._is_on:
+            yield from items
+            return
+        for number, item in enumerate(items, 1):
+            if time.monotonic() >= self._next:
+                self.show(f"{number} of {total} {what}")
+            yield item
+
+    def show(self, text: str) -> None:
+        """Shows what is done now, if it took long so far."""
+        if self._is_on and time.monotonic() >= self._next:
+            self._next = time.monotonic() + BETWEEN
+            self._is_shown = True
+            self._write(f"{CLEARED}{self._name}: {text}")
+
+    def clear(self) -> None:
+        """Takes the line away, so that another can be written."""
+        if self._is_shown:
+            self._is_shown = False
+            self._write(CLEARED)
+
+    def _write(self, text: str) -> None:
+        with suppress(OSError):
+            os.write(ERRORS, text.encode(errors="replace"))

@@ -1,0 +1,44 @@
+"""Neighbors of ports as lldpd has heard them, by LLDP and by the protocols of vendors."""
+from __future__ import annotations
+
+from typing import Iterable, NamedTuple, Sequence
+
+from ..names import Seen
+from .listing import Ports
+from .neighbor import Said, neighbor
+
+LLDP = "LLDP"
+
+
+class Heard(NamedTuple):
+    """A neighbor of a port, and the protocol by which it was heard."""
+
+    port: str
+    via: str
+    said: Said
+
+
+def by_ports(heard: Iterable[Heard]) -> Ports:
+    """The neighbors of each port."""
+    of_ports: dict[str, list[Heard]] = {}
+    for one in heard:
+        of_ports.setdefault(one.port, []).append(one)
+    return {port: each_once(some) for port, some in of_ports.items()}
+
+
+def each_once(heard: Sequence[Heard]) -> Sequence[Seen]:
+    """Neighbors of a port, without those that were heard by LLDP as well: a switch may speak both.
+
+    They are the same if a name of the host and a name of the port are the same.
+    """
+    seen = [neighbor(one.said) for one in heard]
+    by_lldp = [one for one, of in zip(seen, heard) if of.via == LLDP]
+    if len(by_lldp) in (0, len(seen)):
+        return seen
+    return [one for one, of in zip(seen, heard)
+            if of.via == LLDP or not any(is_same(one, other) for other in by_lldp)]
+
+
+def is_same(one: Seen, other: Seen) -> bool:
+    """Whether two neighbors share a name of their host and one of their port."""
+    return not (set(one.hosts).isdisjoint(other.hosts) or set(one.ports).isdisjoint(other.ports))

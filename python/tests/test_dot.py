@@ -1,0 +1,155 @@
+"""DOT as graphviz reads it: edges, and files that it refuses; damaged ones beside `dot` itself."""
+from __future__ import annotations
+
+import os
+import random
+import shutil
+import subprocess
+import sys
+import time
+import unittest
+from pathlib import Path
+from typing import List, Optional, Tuple
+
+from lldpa.dot import DEEPEST, edges_of, is_dot
+from lldpa.dot_tokens import DotFault
+from lldpa.topology import TopologyFault, read_topology
+from patience import by_the_clock
+from test_plan import TOPOLOGY
+
+Node = Tuple[str, Optional[str]]
+
+# how many damaged files are compared, and with what seed they are made
+DAMAGED_FILES = int(os.environ.get("LLDPA_DAMAGED_FILES", "200"))
+SEED = random.SystemRandom().randrange(10**6)
+
+# what damages a file: marks that are gone or twice, words and comments that begin and do not end
+PIECES = [*"{}[];,:=+-\"<>/*#\\@ \n19.a\x00$", "--", "->", "//", "/*", "*/", "graph ", "subgraph x",
+          "node", "edge", "strict ", "digraph", '"a"', "a--b", "{a b}", "[x=y]", "<b>", "1a", "\ufeff",
+          "\xe9", "graph{}", "}}", '"x" -- "y":"z"']
+EXAMPLE = TOPOLOGY + """\
+digraph "two" {
+    {a b} -> c -> d:1:ne, f; subgraph x {y}
+    "le" + "af5":"swp1" -> <spine<b>1</b>>:"swp5"; -.5 [x=y;z=w]
+}
+"""
+
+# Where our reader is stricter than graphviz, and says so.
+OURS_ALONE = ("must stand in quotes", "a comment has no end", "an octet that is 0",
+              "a name with a colon in it must stand in quotes")
+
+
+def edges(text: str) -> List[Tuple[Node, Node]]:
+    """The edges of a text."""
+    return [(tuple(edge.one), tuple(edge.other)) for edge in edges_of(text)]
+
+
+class Edges(unittest.TestCase):
+    """Edges as graphviz takes them."""
+
+    def test_chains_and_lists(self) -> None:
+        self.assertEqual(edges("graph { a:1 -- b:2 -- c:3 }"),
+                         [(("a", "1"), ("b", "2")), (("b", "2"), ("c", "3"))])
+        self.assertEqual(edges("digraph { a:1, b:2 -> c:3 }"),
+                         [(("a", "1"), ("c", "3")), (("b", "2"), ("c", "3"))])
+
+    def test_nodes_of_a_subgraph_have_no_ports(self) -> None:
+        sub = ("a subgraph", None)
+        for text in ("{a:1 b:2} -- c:3", "subgraph {a:1--b:2;} -- c:3", "subgraph s {{a}} -- c:3",
+                     "subgraph s {a} subgraph s {} -- c:3"):
+            self.assertEqual(edges(f"graph {{ {text} }}")[-1], (sub, ("c", "3")))
+        for text in ("{} -- c:3", "subgraph s {x=y node [a=b]} -- c:3"):
+            self.assertEqual(edges(f"graph {{ {text} }}"), [])
+
+    def test_names(self) -> None:
+        for written, name in (('"a"', "a"), ('"a\\"b"', 'a"b'), ('"a\\\\"', "a\\\\"), ('"a\\\nb"', "ab"),
+                              ('"a\\nb"', "a\\nb"), ('"a" + "b"', "ab"), ("<a<b>c>", "a<b>c"),
+                              ("-.5", "-.5"), ("caf\xe9_1", "caf\xe9_1"), ('"graph"', "graph")):
+            self.assertEqual(edges(f"graph {{ {written}:1 -- x:{written} }}"),
+                             [((name, "1"), ("x", name))])
+        self.assertEqual(edges("Graph x {a:p:ne--b:q:_}"), [(("a", "p"), ("b", "q"))])
+
+    def test_comments(self) -> None:
+        text = "/* graph { */ // {\n# {\nstrict graph { a:1 /* -- x:2 */ -- // y:3\n b:2 # }\n}"
+        self.assertTrue(is_dot(text))
+        self.assertEqual(edges(text), [(("a", "1"), ("b", "2"))])
+
+    def test_deep_subgraphs(self) -> None:
+        for depth in (DEEPEST - 1, DEEPEST, 100_000):
+            text = "graph {" + "{" * depth + "a:1 -- b:2" + "}" * depth + "}"
+            if depth < DEEPEST:
+                self.assertEqual(len(edges(text)), 1)
+            else:
+                self.assertRaisesRegex(DotFault, "nested more than 100 deep", edges, text)
+
+    def test_many_blanks_in_front_of_a_fault(self) -> None:
+        with self.assertRaisesRegex(TopologyFault, "'@' means nothing here"):
+            list(read_topology("graph {" + " // x\n" * 1000 + " " * 10_000 + "@}"))
+
+
+@unittest.skipUnless(shutil.which("dot"), "graphviz is not installed")
+class Damaged(unittest.TestCase):
+    """What `dot` refuses is refused, and what it takes is taken."""
+
+    def test_damaged_files(self) -> None:
+        print(f"test_dot: seed {SEED}", flush=True)
+        dice, refused = random.Random(SEED), 0
+        for number in range(DAMAGED_FILES):
+            text = damaged(EXAMPLE, dice)
+            with self.subTest(seed=SEED, number=number, text=text):
+                is_taken, said = taken(text)
+                by_dot = subprocess.run(["dot", "-Tcanon"], input=text.encode(), check=False,
+                                        capture_output=True).returncode == 0
+                if not said.endswith(OURS_ALONE):
+                    self.assertEqual(is_taken, by_dot, said)
+                refused += not by_dot
+        self.assertGreater(refused, DAMAGED_FILES // 8)
+        self.assertLess(refused, DAMAGED_FILES * 7 // 8)
+
+
+class Large(unittest.TestCase):
+    """A plan of 100,000 edges."""
+
+    @by_the_clock
+    def test_100_000_edges(self) -> None:
+        lines = [f'"leaf{at // 99}":"swp{at}" -- "spine{at % 97}":"swp{at // 3}" [label="x"];'
+                 for at in range(100_000)]
+        text = "\n".join(["graph G {", *lines, "}", ""])
+        begin = time.process_time()
+        self.assertEqual(sum(1 for _ in read_topology(text)), 100_000)
+        self.assertLess(time.process_time() - begin, 6)
+
+    def test_memory(self) -> None:
+        program = ("import resource; from lldpa.topology import read_topology;"
+                   "n = sum(1 for _ in read_topology('graph {' + 'a:1 -- b:2;\\n' * 100000 + '}'));"
+                   "print(n, resource.getrusage(resource.RUSAGE_SELF).ru_maxrss)")
+        ran = subprocess.run([sys.executable, "-c", program], capture_output=True, text=True,
+                             cwd=Path(__file__).resolve().parents[1], check=True)
+        count, kilobytes = map(int, ran.stdout.split())
+        self.assertEqual(count, 100_000)
+        self.assertLess(kilobytes, 400_000)
+
+
+def taken(text: str) -> Tuple[bool, str]:
+    """Whether a file is taken for a whole topology, and what is wrong with it."""
+    if not is_dot(text):
+        return False, "no DOT"
+    try:
+        list(read_topology(text))
+    except TopologyFault as fault:
+        return False, str(fault)
+    return True, ""
+
+
+def damaged(text: str, dice: random.Random) -> str:
+    """A text with pieces that are gone, others, or twice."""
+    for _ in range(dice.choice([1, 1, 1, 2])):
+        at = dice.randrange(len(text) + 1)
+        end = min(len(text), at + dice.choice([0, 0, 1, 1, 2, 5, 30]))
+        piece = dice.choice(["", dice.choice(PIECES), text[at:end] * 2])
+        text = text[:at] + piece + text[end:]
+    return text
+
+
+if __name__ == "__main__":
+    unittest.main()
