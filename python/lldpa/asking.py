@@ -25,18 +25,26 @@ def first_word(line: bytes) -> bytes:
 
 
 def refusal(line: bytes, may_change: Callable[[], bool]) -> Optional[list[bytes]]:
-    """The answer to a line that nobody is asked: one that is too long, says nothing, is for the
-    bridge alone to tell, changes the agent and may not, or is none. None for all others."""
-    if len(line) > LONGEST_LINE:
-        return [b"error: line too long"]
+    """The answer to a client's line that nobody is asked: one that is too long, says nothing, is for
+    the bridge alone to tell, changes the agent and may not, or is none. None for all others."""
     words = line.lstrip(b" \t")
+    answer = refusal_to_all(line)
+    if answer is not None:
+        return answer
     if not words or words.startswith(b"#"):
         return []
     word = first_word(words)
-    if word in OF_THE_BRIDGE:
-        return [b"error: for the bridge alone"]
     if word in CHANGING and not may_change():
         return [b"error: no permission"]
     if word not in ASKING + CHANGING:
         return [b"error: unknown command"]
+    return None
+
+
+def refusal_to_all(line: bytes) -> Optional[list[bytes]]:
+    """The answer to a line that goes to no agent, whoever says it; None for all others."""
+    if len(line) > LONGEST_LINE:
+        return [b"error: line too long"]
+    if first_word(line) in OF_THE_BRIDGE:
+        return [b"error: for the bridge alone"]
     return None

@@ -5,7 +5,7 @@ from __future__ import annotations
 import time
 from typing import Optional
 
-from .asking import OF_ITSELF, first_word, refusal
+from .asking import OF_ITSELF, first_word, refusal_to_all
 from .bridge import Bridge
 from .ports import Ports
 from .session import Session
@@ -27,7 +27,7 @@ class Desk:
 
         Raises Ended where the agent or the bridge has ended.
         """
-        refused = refusal(line, lambda: True)
+        refused = refusal_to_all(line)
         if refused is not None:
             return refused
         if first_word(line) == OF_ITSELF:

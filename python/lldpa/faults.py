@@ -22,8 +22,9 @@ class SettingsRefused(Exception):
 
 def text_of(error: BaseException) -> str:
     """An error as a text for people; where it is none that was expected, with its place."""
-    if isinstance(error, (Ended, LookupError)) and error.args:
-        return str(error.args[0])
+    is_told = isinstance(error, LookupError) and not isinstance(error, (KeyError, IndexError))
+    if isinstance(error, Ended) or is_told:
+        return str(error)
     if not isinstance(error, OSError) or not error.strerror:
         return f"{type(error).__name__}: {error}{place_of(error)}".replace("\n", " ")
     if error.filename:

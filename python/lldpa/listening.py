@@ -10,7 +10,7 @@ import socket
 import stat
 from typing import Optional
 
-WAITING_CLIENTS = 64
+WAITING_CLIENTS = 256
 
 
 class InUse(OSError):

@@ -125,9 +125,12 @@ class TestManyPorts(OnLinks):
         total = lambda: sum(int(line.split("=")[1]) for line in live.ask("show statistics")
                             if ".received=" in line)
         self.assertTrue(eventually(lambda: total() == 600))
-        lines = next(folder.iterdir()).read_text().splitlines()
-        told = [line.split()[2] for line in lines if line.startswith("rx")]
-        self.assertEqual(told, [frame.hex() for frame in frames])
+        def told() -> list[str]:
+            lines = next(folder.iterdir()).read_text().splitlines()
+            return [line.split()[2] for line in lines if line.startswith("rx")]
+
+        self.assertTrue(eventually(lambda: len(told()) == 600))
+        self.assertEqual(told(), [frame.hex() for frame in frames])
 
 
 def is_connected(client: socket.socket) -> bool:
