@@ -101,6 +101,9 @@ check "the service answers" shows Station:on
 old=$(process)
 stop_agent
 check "an agent that hangs is noticed, and the service starts anew" starts_anew
+old=$(process)
+kill -STOP "$old"
+check "a bridge that stands still is noticed, and the service starts anew" starts_anew
 mkdir -p /etc/lldpa.d && echo 'configure system description "of the folder"' > /etc/lldpa.d/a.conf
 check "it reloads" systemctl reload lldpa
 check "its settings are those of the folder" shows 'descr=of the folder'
@@ -143,7 +146,7 @@ fi
 cat "$root/root/tried"
 passed=$(grep -c '^held: ' "$root/root/tried")
 failed=$(grep -c '^FAILED: ' "$root/root/tried")
-wanted=$((22 + $(wc -l < "$root/root/commands")))
+wanted=$((23 + $(wc -l < "$root/root/commands")))
 [ $((passed + failed)) -eq "$wanted" ] || failed=$((wanted - passed))
 echo "$passed passed, $failed failed"
 [ "$failed" -eq 0 ]

@@ -12,20 +12,27 @@
 from importlib import import_module
 from typing import TYPE_CHECKING
 
-from .capture import BadCapture, Packet, packets_of
 from .show import Counters, Neighbor, Port, Show, ShowFault, lines_of, read_show, unescaped
-from .trace import Source, Told, ports_of, trace_of
 
 if TYPE_CHECKING:
     from .agent import Agent, AsyncAgent, Ended, Refused
+    from .capture import BadCapture, Packet, packets_of
+    from .trace import Source, Told, ports_of, trace_of
 
 __all__ = ["Agent", "AsyncAgent", "BadCapture", "Counters", "Ended", "Neighbor", "Packet", "Port",
            "Refused", "Show", "ShowFault", "Source", "Told", "lines_of", "packets_of", "ports_of",
            "read_show", "trace_of", "unescaped"]
 
 
+# what is loaded when it is first used: asyncio takes 8 MB, and a bridge reads no captures
+LATER = {".agent": ("Agent", "AsyncAgent", "Ended", "Refused"),
+         ".capture": ("BadCapture", "Packet", "packets_of"),
+         ".trace": ("Source", "Told", "ports_of", "trace_of")}
+
+
 def __getattr__(name: str) -> object:
-    """Loads the agent's module when it is first used, since asyncio in it takes 8 MB."""
-    if name in ("Agent", "AsyncAgent", "Ended", "Refused"):
-        return getattr(import_module(".agent", __name__), name)
+    """Loads the module of a name that is used for the first time."""
+    for module, names in LATER.items():
+        if name in names:
+            return getattr(import_module(module, __name__), name)
     raise AttributeError(f"module {__name__!r} has no attribute {name!r}")

@@ -8,6 +8,7 @@ from __future__ import annotations
 import errno
 import os
 import re
+import stat
 import time
 from contextlib import suppress
 from typing import Optional, Sequence
@@ -16,6 +17,7 @@ OURS = re.compile(r"(\d{8}T\d{6}Z)(?:-(\d+))?\.trace")
 NEW_FILE = os.O_WRONLY | os.O_APPEND | os.O_CREAT | os.O_EXCL | os.O_NOFOLLOW | os.O_CLOEXEC
 FOLDER = os.O_RDONLY | os.O_DIRECTORY | os.O_CLOEXEC
 MOST_OF_A_SECOND = 1000  # files
+LOST_FOUND = "lost+found"  # of a file system that begins in the folder
 NO_ROOM = "there is no room within --log-keep"
 
 
@@ -85,14 +87,18 @@ class LogFiles:
 
 
 def open_folder(path: str, user: Optional[int]) -> int:
-    """Opens a folder, and makes it where there is none, then for that user, while there is the
-    right to. Raises OSError where there can be none."""
+    """Opens a folder, and makes it where there is none, while there is the right to. Where it has
+    nothing but logs, if anything, it is given to that user, unless it is writable for all. Raises
+    OSError where there can be none."""
     os.makedirs(os.path.dirname(os.path.abspath(path)), exist_ok=True)
     with suppress(FileExistsError):
         os.mkdir(path, 0o750)
-        if user is not None:
-            os.chown(path, user, -1)
-    return os.open(path, FOLDER)
+    folder = os.open(path, FOLDER)
+    is_for_all = os.fstat(folder).st_mode & stat.S_IWOTH
+    has_others = any(not OURS.fullmatch(name) for name in os.listdir(folder) if name != LOST_FOUND)
+    if user is not None and not is_for_all and not has_others:
+        os.fchown(folder, user, -1)
+    return folder
 
 
 def check_folder(path: str, folder: int) -> None:

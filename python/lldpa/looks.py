@@ -3,6 +3,9 @@
 A table changes by frames, by commands, by links, and as its neighbors age out. A frame that its
 sender repeats changes nothing but the seconds left. So a quiet network costs a look each time that
 the neighbor seen with the fewest seconds left would have aged out.
+
+Senders and frames are known by their hashes, so that a flood takes little room. Python's have a key
+that no sender knows, so none can make two of them alike.
 """
 
 from __future__ import annotations
@@ -22,7 +25,7 @@ class Looks:
     """Notes what the agent is told, and says when to look at its tables again."""
 
     def __init__(self) -> None:
-        self.frames: dict[bytes, dict[bytes, bytes]] = {}  # of each port, the last of each sender
+        self.frames: dict[bytes, dict[int, int]] = {}  # of each port, the last of each sender
         self.may_differ = True
         self.held: dict[str, set[tuple[Identifier, Identifier]]] = {}  # whom each port had
         self.first_end: Optional[int] = None  # the second in which the first of them would go
@@ -40,11 +43,12 @@ class Looks:
 
     def take_frame(self, port: bytes, digits: bytes) -> None:
         """Notes a frame: it changes something unless its sender said the same last."""
-        frames, sender = self.frames.setdefault(port, {}), sender_of(digits)
-        if frames.get(sender) != digits:
+        frames = self.frames.setdefault(port, {})
+        sender, frame = hash(sender_of(digits)), hash(digits)
+        if frames.get(sender) != frame:
             if len(frames) >= MOST_SENDERS:
                 frames.clear()
-            frames[sender] = digits
+            frames[sender] = frame
             self.may_differ = True
 
     def is_due(self, second: int, now: float) -> bool:

@@ -97,9 +97,18 @@ class TestFiles(OnLinks):
 
     def test_folder_without_permission_is_told_at_the_start(self) -> None:
         self.folder.mkdir(mode=0o755)
+        (self.folder / "of-somebody-else").touch()
         live = self.live("--log", str(self.folder), "eth0")
         self.assertEqual(live.ends(), 1)
         self.assertIn(f"{self.folder}: the log's user may make no files there", live.errors())
+
+    def test_folder_that_has_logs_alone_is_taken(self) -> None:
+        self.folder.mkdir(mode=0o755)
+        for _ in range(2):
+            live = self.live("--log", str(self.folder), "eth0")
+            live.signal(signal.SIGTERM)
+            self.assertEqual(live.ends(), 0)
+        self.assertEqual(len(list(self.folder.iterdir())), 2)
 
     @by_the_clock
     def test_log_that_stands_still_holds_nothing_up(self) -> None:
@@ -147,7 +156,6 @@ class TestFrozenDisk(OnLinks):
             self.skipTest("no loop-mounted file system is allowed here")
         self.addCleanup(subprocess.run, ["umount", "-l", self.folder], check=False)
         self.addCleanup(subprocess.run, ["fsfreeze", "-u", self.folder], capture_output=True)
-        shutil.chown(self.folder, "nobody")
 
     def freeze(self) -> None:
         """Freezes it."""

@@ -5,6 +5,7 @@ from __future__ import annotations
 import array
 import ctypes
 import os
+import signal
 import socket
 import struct
 import subprocess
@@ -106,6 +107,7 @@ class TestFilter(OnLinks):
         live = self.live("eth0", "--", "--receive-only")
         one = sockets_of(live)[0]
         self.addCleanup(one.close)
+        live.signal(signal.SIGSTOP)  # it would read the frame from the same socket
         with inside(self.wires.here):
             number = socket.if_nametoindex("eth1")
         one.bind(("eth1", 3)) if not number else None

@@ -1,4 +1,4 @@
-"""lldpa-live as a service: what systemd hears of it, what metrics say, and the lines of --events."""
+"""lldpa-live as a service: what systemd hears, what metrics say, and the lines of --events."""
 
 from __future__ import annotations
 
