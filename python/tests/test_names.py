@@ -14,6 +14,7 @@ from lldpa.planfault import PlanFault
 from lldpa.report.report import Report
 from lldpa.seen.tables import Tables
 from lldpa.spelling import is_aggregate, plain, plain_port
+from served import frame, tlv
 
 # ports of which each line is spelled in all ways that vendors have for it
 PORTS = [
@@ -175,6 +176,27 @@ class FurtherNames(InAFolder):
         self.assertNotIn("differs", run(*words, "--vendor-names").stdout)
         bad = run(*words, "--aliases", plan)
         self.assertEqual((bad.returncode, bad.stdout), (2, ""))
+
+
+class Aggregates(InAFolder):
+    """A capture of two members of a bond, whose frames name the bond."""
+
+    def test_members(self) -> None:
+        plan = self.file("p", "host,port,peer,peer_port\nleaf1,swp1,host01,eth0\n"
+                              "leaf1,swp2,host01,eth1\n")
+        words = [plan, "--host", "leaf1"]
+        for status, right in ((3, 2), (1, 0)):
+            link = tlv(127, bytes.fromhex("00120f03") + bytes([status]) + bytes.fromhex("00000007"))
+            octets = frame(b"\x04\x02st001", b"\x05bond0", 120, tlv(5, b"host01") + link)
+            for port in ("swp1", "swp2"):
+                (self.folder / port).write_bytes(rack.pcap([octets]))
+            captures = [f"{port}={self.folder}/{port}" for port in ("swp1", "swp2")]
+            told = run(*words, "--vendor-names", *captures).stdout.splitlines()[-1]
+            self.assertEqual(told, f"4 planned: {right} right, {2 - right} not, 2 not looked at "
+                                   "(host01)")
+            lines = run(*words, *captures).stdout.splitlines()
+            reason = " (it names its aggregate)" if right else ""
+            self.assertEqual(lines[0], f"swp1  wrong: wants host01 eth0, has host01 bond0{reason}")
 
 
 def same(one: str, other: str) -> bool:
