@@ -11,7 +11,7 @@ from typing import Any, Optional
 import rack
 from lldpa import AsyncAgent
 from lldpa.control import Server
-from served import PROGRAM, REPOSITORY, Served
+from served import BRIDGE_LINES, PROGRAM, REPOSITORY, Served
 
 AUDIT = str(REPOSITORY / "bin" / "lldpa-audit")
 
@@ -28,6 +28,7 @@ class LiveRack(Served):
     async def open(self, group: Optional[str], options: Any) -> None:
         self.agent = await AsyncAgent.start(rack.whole_ports(), PROGRAM, receive_only=True)
         self.asked = []
+        self.bridge_lines = BRIDGE_LINES
         self.server = Server(self.path, self.ask)
         await self.server.start()
 
