@@ -1,12 +1,12 @@
 #!/usr/bin/env python3
 """Puts lldpa-live and a receiving lldpd on the same eight links for some minutes, and compares each minute.
 
-    tools/compare-live.py [--minutes 10] [--program PATH] [--python PATH]
+    tools/compare-live.py [--minutes 10] [--program PATH] [--python PATH] [--log]
 
 At the other ends an lldpd sends, and neighbors of other names come, are refreshed, change, take leave and age out; links go
 down and up. Each minute lldpcli and lldpa-live must show the same neighbors with the same texts, and the seconds that
-lldpa was told must be those of the clock. At the end the bridge may have taken 2 seconds of processor time for ten
-minutes, and 20 MB. It needs Linux, root and Debian's packages lldpd and iproute2. The last line is `N passed, M failed`.
+lldpa was told must be those of the clock. At the end the bridge, with the process of its log if it keeps one, may have
+taken 2 seconds of processor time for ten minutes, and the bridge 20 MB. It needs Linux, root and Debian's packages lldpd and iproute2. The last line is `N passed, M failed`.
 """
 import argparse
 import os
@@ -163,8 +163,9 @@ def run(given, room, processes):
     processes.append(sender)
     receiver, here = start_lldpd(HERE, room, "-r", "-I", "eth*")
     processes.append(receiver)
+    log = ["--log", os.path.join(room, "log")] if given.log else []
     bridge = start(HERE, given.python, LIVE, "--program", given.program, "--stay", "--forget-on-down", "--control", control,
-                   *ports, "--", "--receive-only", stdout=subprocess.DEVNULL)
+                   *log, *ports, "--", "--receive-only", stdout=subprocess.DEVNULL)
     processes.append(bridge)
     while not os.path.exists(control):
         time.sleep(0.05)
@@ -184,13 +185,21 @@ def run(given, room, processes):
 
 
 def judge_resources(given, pid):
-    """What the bridge took, and its agent."""
+    """What the bridge took, the process of its log, and its agent."""
     seconds, greatest = resources(pid)
     print(f"the bridge: {seconds:.2f} s of processor time, at most {greatest} KiB")
-    judge(seconds <= MOST_SECONDS * given.minutes / 10 + 0.3, "it took too much processor time")
     judge(greatest <= MOST_KIB, "it took too much memory")
     for child in open(f"/proc/{pid}/task/{pid}/children").read().split():
-        print("its agent: {:.2f} s, at most {} KiB".format(*resources(child)))
+        took, most = resources(child)
+        is_log = words_of(child) == words_of(pid)
+        print(f"{'the process of its log' if is_log else 'its agent'}: {took:.2f} s, at most {most} KiB")
+        seconds += took if is_log else 0.0
+    judge(seconds <= MOST_SECONDS * given.minutes / 10 + 0.3, "it took too much processor time")
+
+
+def words_of(pid):
+    """The words that a process was started with, which one that was forked shares."""
+    return open(f"/proc/{pid}/cmdline", "rb").read()
 
 
 def main():
@@ -198,6 +207,7 @@ def main():
     parser = argparse.ArgumentParser(description=__doc__, formatter_class=argparse.RawDescriptionHelpFormatter)
     parser.add_argument("--minutes", type=int, default=10)
     parser.add_argument("--program", default=os.path.join(TOOLS, "..", "crates", "lldpa", "out", "lldpa"))
+    parser.add_argument("--log", action="store_true", help="let the bridge keep a log")
     parser.add_argument("--python", default="/usr/bin/python3", help="the interpreter of lldpa-live")
     given = parser.parse_args()
     processes = []
