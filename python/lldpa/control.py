@@ -14,6 +14,7 @@ import asyncio
 import contextlib
 import grp
 import socket
+import struct
 import time
 from typing import Awaitable, Callable, Optional
 
@@ -29,6 +30,7 @@ DEFAULT_PATH = "/run/lldpa/control"
 SECONDS_TO_READ = 10.0
 MOST_UNREAD = 64 * 1024 * 1024  # octets of all answers together that wait for their readers
 SECONDS_TO_ANSWER = 30.0
+TIMEVAL = struct.Struct("ll")  # seconds and microseconds
 
 Ask = Callable[[bytes], Awaitable["list[bytes]"]]
 
@@ -170,6 +172,20 @@ def number_of_group(name: str) -> int:
         raise LookupError(f"there is no group {name}") from None
 
 
+def connect(connection: socket.socket, path: str, seconds: float) -> None:
+    """Connects within so many seconds, which is also how long each answer may take. While others
+    wait for their connections too, and there is no room for one more, the kernel has it wait, which
+    it does only for a socket that blocks."""
+    whole, rest = divmod(seconds, 1)
+    patience = TIMEVAL.pack(int(whole), int(rest * 1_000_000))
+    connection.setsockopt(socket.SOL_SOCKET, socket.SO_SNDTIMEO, patience)
+    try:
+        connection.connect(path)
+    except BlockingIOError:
+        raise socket.timeout("timed out") from None
+    connection.settimeout(seconds)
+
+
 class Gone(ConnectionError):
     """The bridge ended the connection before its answer was whole."""
 
@@ -177,14 +193,13 @@ class Gone(ConnectionError):
 class Client:
     """A conversation with a bridge, one question after the other; it blocks.
 
-    Raises OSError where no bridge answers at this path.
+    Raises OSError where no bridge answers at this path, TimeoutError where it takes nobody in time.
     """
 
     def __init__(self, path: str = DEFAULT_PATH, seconds: float = SECONDS_TO_ANSWER) -> None:
         self.connection = socket.socket(socket.AF_UNIX, socket.SOCK_STREAM)
         try:
-            self.connection.settimeout(seconds)
-            self.connection.connect(path)
+            connect(self.connection, path, seconds)
         except OSError:
             self.connection.close()
             raise
