@@ -21,7 +21,7 @@ from .seconds import Seconds
 
 MEGABYTE = 1_000_000
 TICK = b"tick"
-MOST_TICKS = 5  # seconds in a row that are kept until they are handed over
+MOST_TICKS = 2  # seconds in a row that are kept until they are handed over
 CLOCK = "# %Y-%m-%dT%H:%M:%SZ"
 
 

@@ -8,7 +8,7 @@ from typing import TYPE_CHECKING, Callable, Iterable, Optional, Sequence
 from .looks import Looks
 from .notify import Manager
 from .patient import Patient
-from .show import Port, read_show
+from .show import Port, counted, read_show
 
 if TYPE_CHECKING:
     from .events import Events
@@ -55,6 +55,5 @@ class Watched:
 
 def status_of(ports: Sequence[Port]) -> str:
     """How many neighbors there are, for people."""
-    from .people import counted
     held = sum(port.neighbors_held for port in ports)
     return f"{counted(held, 'neighbor')} on {counted(len(ports), 'port')}"
