@@ -15,8 +15,9 @@ from pathlib import Path
 from lldpa.batch import Entry
 from lldpa.logbook import MOST_WAITING, Logbook
 from lldpa.logfiles import LogFiles, open_folder, sizes_of
+from lldpa.logprocess import answer, answers_in
 from lldpa.seconds import Seconds
-from lldpa.session import Session
+from lldpa.session import MOST_TICKS, Session
 
 from patience import eventually
 
@@ -67,6 +68,36 @@ class TestSession(InFolder):
         clocks = [time.strptime(lines[place], "# %Y-%m-%dT%H:%M:%SZ") for place in (2, 5)]
         self.assertAlmostEqual(time.mktime(clocks[1]) - time.mktime(clocks[0]), 3600, delta=1)
         self.assertEqual(stat.S_IMODE(self.logs()[0].stat().st_mode) & 0o007, 0)
+
+    async def test_seconds_alone_wait_for_company_and_nothing_else_does(self) -> None:
+        session = await self.session()
+        session.begin(["eth0"])
+        tick, frame = Entry(Seconds.now(), b"tick"), Entry(Seconds.now(), b"rx eth0 00")
+        session.write([tick])
+        self.assertEqual(session.book.size, len("# lldpa eth0\n"))
+        for entries in ([frame], [tick] * MOST_TICKS, [Entry(Seconds.now(), b"tick 6")]):
+            session.write(entries)
+            self.assertEqual(session.kept, [])
+        session.write([tick])
+        session.begin(["eth1"], ["up eth1"])
+        session.write([tick])
+        await session.close(5)
+        first, second = ([line for line in log.read_text().splitlines() if line[0] != "#"]
+                         for log in self.logs())
+        self.assertEqual(first, ["tick", "rx eth0 00", *["tick"] * MOST_TICKS, "tick 6", "tick"])
+        self.assertEqual(second, ["up eth1", "tick"])
+
+
+class TestAnswers(unittest.TestCase):
+    """Answers of the process, as they are read from a pipe."""
+
+    def test_answers_come_in_parts(self) -> None:
+        sent = answer(0, "a.trace") + answer(errno.EIO, "caf\udcff")
+        for cut in range(len(sent)):
+            first, rest = answers_in(sent[:cut])
+            second, rest = answers_in(rest + sent[cut:])
+            self.assertEqual([*first, *second], [(0, "a.trace"), (errno.EIO, "caf\udcff")])
+            self.assertEqual(rest, b"")
 
 
 class TestFiles(InFolder):
