@@ -3,11 +3,12 @@
 from __future__ import annotations
 
 import asyncio
+import os
 from contextlib import suppress
 from typing import Sequence
 
 from .agent import Ended
-from .console import Console
+from .console import INPUT, Console
 from .desk import Desk
 from .seconds import Seconds
 from .show import Port
@@ -15,9 +16,17 @@ from .show import Port
 SECONDS_BETWEEN_LOOKS = 0.1
 
 
+def load_answers(is_once: bool) -> None:
+    """Loads what answers people, where somebody may ask: it takes 2 MB. The user that the bridge
+    becomes perhaps cannot read its files."""
+    is_null = os.path.samestat(os.fstat(INPUT), os.stat(os.devnull))
+    if is_once or not is_null:
+        from . import answering  # noqa: F401
+
+
 async def once(desk: Desk, seconds: int) -> int:
     """Waits until each port has a neighbor, prints the table, and tells by its status if so."""
-    from .answering import ports_of, table_of  # what people read is loaded where they ask
+    from .answering import ports_of, table_of
     last = Seconds.now() + seconds
     ports: Sequence[Port] = []
     with suppress(Ended):
@@ -43,7 +52,7 @@ async def serve(desk: Desk, stopping: asyncio.Event, stays: bool) -> int:
                              "Ctrl-D or Ctrl-C ends it.".encode()])
     with suppress(Ended):
         while (line := await console.read_line()) is not None:
-            from .answering import answered  # loaded where somebody asks: it takes 2 MB
+            from .answering import answered
             await console.write(await answered(desk.ask, line))
     if stays:
         await stopping.wait()

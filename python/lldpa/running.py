@@ -9,7 +9,7 @@ from typing import Any, Optional
 from .bridge import Bridge
 from .console import report
 from .control import Server
-from .conversation import once, serve
+from .conversation import load_answers, once, serve
 from .desk import Desk
 from .faults import report_fault, report_of_loop
 from .opening import Ground, Options, bridging
@@ -29,6 +29,7 @@ async def live(words: argparse.Namespace, options: Options) -> int:
     server = None if words.once else Server(words.control, desk.ask, words.control_group)
     if server is not None:
         server.bind()
+    load_answers(words.once)
     give_up(words.user)
     ground.session.check()
     try:

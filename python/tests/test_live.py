@@ -9,12 +9,13 @@ import select
 import shutil
 import subprocess
 import unittest
+from unittest import mock
 
 from lldpa.commands.live import options_of, the_parser, words_given
 
-from bridged import LIVE, OnLinks, on_links
+from bridged import LIVE, PYTHON, OnLinks, on_links
 from patience import SECONDS, eventually
-from served import PROGRAM, numbered, tlv
+from served import PROGRAM, REPOSITORY, numbered, tlv
 from wires import inside
 
 
@@ -113,6 +114,17 @@ class TestStart(OnLinks):
                                    text=True).stdout
         self.assertIn(f"local-chassis.mac={links.split()[2]}", shown)
         self.assertIn(f"local-chassis.name={os.uname().nodename}", shown)
+
+    def test_sources_that_its_user_cannot_read(self) -> None:
+        folder = os.path.join(self.wires.folder, "mine")
+        shutil.copytree(REPOSITORY / "bin", os.path.join(folder, "bin"))
+        shutil.copytree(REPOSITORY / "python" / "lldpa", os.path.join(folder, "python", "lldpa"))
+        os.chmod(folder, 0o700)
+        command = [PYTHON, os.path.join(folder, "bin", "lldpa-live")]
+        with mock.patch("bridged.LIVE", command):
+            live = self.live("eth0")
+        self.assertIn("no neighbors on 1 port.", live.told("neighbors"))
+        self.assertEqual(live.errors(), "")
 
     def test_what_the_bridge_tells_is_refused_from_its_user(self) -> None:
         live = self.live("eth0")
