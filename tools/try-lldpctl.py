@@ -24,6 +24,7 @@ sys.path[:0] = [str(TOP / "python"), str(TOP / "python" / "tests")]
 from bridged import Live  # noqa: E402
 from judges import flat, sender_of_frame  # noqa: E402
 from lldpa.lldpcli_forms.writing import LINE, one_line, shortened  # noqa: E402
+from lldpa.texts import printable  # noqa: E402
 from patience import eventually  # noqa: E402
 from served import frame, tlv  # noqa: E402
 from wires import Wires, inside, ip  # noqa: E402
@@ -38,6 +39,7 @@ COMMANDS = ("show neighbors", "show neighbors details", "show neighbors summary"
             "show statistics ports eth1")
 OF_NEIGHBORS = ("show neighbors details",)
 BATCH = 24  # an lldpd keeps 32 neighbors of a port
+IDENTIFIER = re.compile(r"(chassis|port)\.(mac|ip|ifname|ifalias|local|unhandled|id|id\.type)|ChassisID|PortID")
 AGE = re.compile(r"Time: \d+ days?, [0-9:]+")
 # what the lldpd at the far end is told, by what it then is
 SENDERS = {
@@ -49,7 +51,6 @@ SENDERS = {
         "configure lldp custom-tlv add oui 00,80,c2 subtype 3 oui-info 00,79,05,67,75,65,73,74",
         "configure lldp custom-tlv add oui 00,80,c2 subtype 4 oui-info 05,88,cc,00,01,02",
         "configure lldp custom-tlv add oui 00,12,0f subtype 4 oui-info 05,f2",
-        "configure lldp custom-tlv add oui 00,12,0f subtype 3 oui-info 03,00,00,00,07",
         "configure lldp custom-tlv add oui 33,44,55 subtype 44 oui-info 45,45,45,45,45",
         "configure lldp custom-tlv add oui 33,44,55 subtype 254"),
     "a phone": (
@@ -120,7 +121,7 @@ class Comparison:
         if theirs == ours:
             self.equal += len(ours)
             return
-        row = self.row_of(key, theirs, ours)
+        row = self.row_of(where, key, theirs, ours)
         if row is None:
             self.failed.append(f"{where}: {name}: {key}: lldpcli {theirs}, lldpctl {ours}")
             return
@@ -128,18 +129,25 @@ class Comparison:
         if self.is_verbose:
             print(f"listed: {where}: {name}: {key}: lldpcli {theirs}, lldpctl {ours}")
 
-    def row_of(self, key, theirs, ours):
+    def row_of(self, where, key, theirs, ours):
         """What of the page lists a difference, None where nothing does."""
-        if [one_line(str(value)) for value in theirs] == ours and "a text" in self.rows:
+        if escaped_alike(theirs) == escaped_alike(ours) and ("neighbors", "a text") in self.rows:
             return "a text"
-        return next((row for row in self.rows if key == row or key.startswith(row + ".")), None)
+        return next((row for show, row in self.rows if f": show {show}" in where
+                     and (key == row or key.startswith(row + "."))), None)
 
 
 def listed_keys(page):
-    """The keys in the first column of the page's table of differences."""
+    """The shows in the first column of the page's table of differences, each with a key in the second."""
     table = page.partition(HEADING)[2].partition("\n## ")[0]
-    cells = [line.split("|")[1] for line in table.splitlines() if line.startswith("|")]
-    return [key for cell in cells for key in (re.findall("`([^`]*)`", cell) or [cell.strip()])]
+    rows = [line.split("|")[1:3] for line in table.splitlines() if line.startswith("|")]
+    return [(show, key) for shows, keys in rows for show in re.findall("`([^`]*)`", shows)
+            for key in (re.findall("`([^`]*)`", keys) or [keys.strip()])]
+
+
+def escaped_alike(values):
+    """Texts with all escaped that is escaped here in one form or another."""
+    return ["".join(printable(part) for part in one_line(str(value)).split()) for value in values]
 
 
 def by_key(pairs):
@@ -163,8 +171,7 @@ def named(blocks):
     """Blocks by what they are of: a port, and of a neighbor its identifiers."""
     found = {}
     for port, pairs in blocks:
-        of = [str(value) for key, value in pairs if re.fullmatch(
-            r"(chassis|port)\.(mac|ip|ifname|ifalias|local|unhandled)|.*\bid\.(type|value)|ChassisID|PortID", key)]
+        of = [one_line(str(value)) for key, value in pairs if IDENTIFIER.fullmatch(key)]
         found.setdefault(" ".join([port, *of]), []).extend(pairs)
     return found
 
@@ -184,7 +191,7 @@ def plain_blocks(text):
 def keyvalue_blocks(text):
     """Of the form keyvalue."""
     blocks = []
-    for line in text.splitlines():
+    for line in text.split("\n")[:-1]:
         key, _, value = line.partition("=")
         root, _, rest = key.partition(".")
         port, _, inner = rest.partition(".") if root == "lldp" else ("", "", rest)
@@ -249,9 +256,10 @@ class Lab:
                 theirs, ours = self.lldpd.ask("-f", form, *command.split()), self.lldpctl(form, command)
                 try:
                     of_theirs = blocks_of(form, theirs)
-                except ValueError:  # lldpcli writes names as keys without escapes
-                    whole = json.loads(self.lldpd.ask("-f", "json0", *command.split()))
-                    of_theirs = named(json_blocks({root: shortened(inner) for root, inner in whole.items()}))
+                except ValueError:  # lldpcli leaves names that are keys, and one control character, without escapes
+                    whole = json.loads(self.lldpd.ask("-f", "json0", *command.split()), strict=False)
+                    short = {root: shortened(inner) for root, inner in whole.items()}
+                    of_theirs = named(json_blocks(short if form == "json" else whole))
                     comparison.listed["JSON of lldpcli that is none"] += 1
                 comparison.compare(f"{where}: {command} -f {form}", of_theirs, blocks_of(form, ours))
 
@@ -297,7 +305,7 @@ def sent(lab, comparison, name, frames):
         some = frames[at:at + BATCH]
         for number, octets in enumerate(some):
             lab.sending[number % 2].send(octets)
-        if not eventually(lambda: lab.keys()[1] == len(some)):
+        if not eventually(lambda: lab.keys() == [len(some)] * 2):
             raise SystemExit(f"{name} {at}: {lab.keys()} of {len(some)} are shown")
         lab.compare(comparison, f"{name} {at}", OF_NEIGHBORS)
         for number, octets in enumerate(some):
@@ -324,8 +332,8 @@ def odd_frames():
              b"\xe2\x82", "a\u2028b\u2029\u0085c".encode(), "\u202eabc\u200b".encode(), b'"}\\u0041', b"on", b"yes", b"id")
     for number, text in enumerate(texts, 300):
         yield frame(chassis(number), b"\x05p1", 120, *(tlv(kind, text) for kind in (4, 5, 6)))
-    for kind in (*range(1, 9),):
-        for number, body in enumerate((b"abc", b"\x01\x0a\0\0\x01", b"\x02" + bytes(15) + b"\x01", b"\x02\0\0\0\x08\1")):
+    for kind in range(1, 8):
+        for number, body in enumerate((b"abc", b"\x01\x0a\0\0\x01", b"\x02" + bytes(15) + b"\x01")):
             yield frame(bytes([kind]) + body + bytes([kind]) * (kind in (1, 2, 6, 7)), bytes([kind]) + body, 1000 + number)
 
 

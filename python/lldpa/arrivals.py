@@ -67,8 +67,8 @@ class Arrivals:
             heard.pop(sender, None)
             self.make_room(heard)
             if len(heard) < MOST_OF_A_PORT:
-                heard[sender] = Heard(time.time(), last)
                 self.number(sender.partition(" ")[0])
+                heard[sender] = Heard(time.time(), last)
         if ttl == 0:
             heard.pop(sender, None)
 
@@ -79,11 +79,11 @@ class Arrivals:
                 del heard[sender]
 
     def number(self, chassis: str) -> None:
-        """Gives a chassis its number, unless it has one."""
+        """Gives a chassis its number, unless it is there already."""
+        if chassis in self.numbers or len(self.numbers) >= 2 * MOST_OF_A_PORT * len(self.ports):
+            self.numbers = dict(self.numbered())
         if chassis in self.numbers:
             return
-        if len(self.numbers) >= 2 * MOST_OF_A_PORT * len(self.ports):
-            self.numbers = dict(self.numbered())
         self.last_number += 1
         self.numbers[chassis] = self.last_number
 

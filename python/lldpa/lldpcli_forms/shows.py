@@ -61,7 +61,8 @@ def neighbor_node(told: Told, neighbor: Neighbor, depth: Depth) -> Node:
     node.nodes += [chassis_of(neighbor, depth is Depth.SUMMARY),
                    port_of(neighbor, said if is_detailed else None)]
     if is_detailed:
-        node.nodes += [*vlan_nodes(said), *med_nodes(said), *unknown_nodes(unknown)]
+        node.nodes += [*vlan_nodes(said), *med_nodes(said)]
+    node.nodes += unknown_nodes(unknown)
     return node
 
 
