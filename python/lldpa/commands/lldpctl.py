@@ -100,3 +100,7 @@ def main(words: Optional[Sequence[str]] = None) -> int:
     name = LLDPCLI if os.path.basename(sys.argv[0]) == LLDPCLI else LLDPCTL
     given = sys.argv[1:] if words is None else words
     return output.run(name, lambda: status_of(name, given), 1, errors="backslashreplace")
+
+
+if __name__ == "__main__":
+    sys.exit(main())
