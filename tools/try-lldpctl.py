@@ -38,7 +38,7 @@ COMMANDS = ("show neighbors", "show neighbors details", "show neighbors summary"
             "show chassis", "show chassis summary", "show statistics", "show statistics summary",
             "show statistics ports eth1")
 OF_NEIGHBORS = ("show neighbors details",)
-BATCH = 24  # an lldpd keeps 32 neighbors of a port
+BATCH = 60  # at two ports, and an lldpd keeps 32 neighbors of one
 IDENTIFIER = re.compile(r"(chassis|port)\.(mac|ip|ifname|ifalias|local|unhandled|id|id\.type)|ChassisID|PortID")
 AGE = re.compile(r"Time: \d+ days?, [0-9:]+")
 # what the lldpd at the far end is told, by what it then is
@@ -226,6 +226,7 @@ class Lab:
     """Both ends."""
 
     def __init__(self, program):
+        self.last = None
         self.wires = Wires(2)
         for side, interface, address in (("here", "eth0", 1), ("there", "peer0", 2)):
             ip("-n", getattr(self.wires, side), "address", "add", f"192.0.2.{address}/24", "dev", interface)
@@ -268,6 +269,12 @@ class Lab:
         return [blocks.count(b".port.ttl=") for blocks in (self.lldpd.ask("-f", "keyvalue", "show", "neighbors"),
                                                            self.lldpctl("keyvalue", "show neighbors"))]
 
+    def is_still(self):
+        """Whether both show two neighbors, and the same as a moment ago."""
+        before, self.last = self.last, (AGE.sub("", self.lldpd.ask("show", "neighbors", "details").decode()),
+                                        self.lldpctl("json0", "show statistics"))
+        return before == self.last and self.keys() == [2, 2]
+
     def close(self):
         """Ends both."""
         for one in self.sending:
@@ -281,20 +288,15 @@ def configured(lab, comparison):
     """Senders that are lldpds."""
     for name, commands in SENDERS.items():
         sender = Lldpd(lab.wires.there, lab.wires.folder, "-M", "4", "-S", "a real peer", "-I", "peer0,peer1")
-        for command in commands:
-            sender.tell(command)
-        sender.tell("update")
-        last = [None]
-
-        def is_still():
-            """Whether both show two neighbors, and the same as before."""
-            before, last[0] = last[0], [AGE.sub("", lab.lldpd.ask("show", "neighbors", "details").decode()),
-                                        lab.keys(), lab.lldpctl("json0", "show statistics")]
-            return before == last[0] and lab.keys() == [2, 2]
-        if not eventually(is_still):
-            raise SystemExit(f"{name} is not heard: {lab.keys()}")
-        lab.compare(comparison, name, COMMANDS)
-        sender.close()
+        try:
+            for command in commands:
+                sender.tell(command)
+            sender.tell("update")
+            if not eventually(lab.is_still):
+                raise SystemExit(f"{name} is not heard: {lab.keys()}")
+            lab.compare(comparison, name, COMMANDS)
+        finally:
+            sender.close()
         eventually(lambda: lab.keys() == [0, 0])
     lab.compare(comparison, "nobody", COMMANDS)
 
@@ -308,6 +310,7 @@ def sent(lab, comparison, name, frames):
         if not eventually(lambda: lab.keys() == [len(some)] * 2):
             raise SystemExit(f"{name} {at}: {lab.keys()} of {len(some)} are shown")
         lab.compare(comparison, f"{name} {at}", OF_NEIGHBORS)
+        print(f"compared: {name} frames up to {at + len(some)}", flush=True)
         for number, octets in enumerate(some):
             lab.sending[number % 2].send(sender_of_frame(octets))
         eventually(lambda: lab.keys() == [0, 0])

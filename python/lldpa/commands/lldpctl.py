@@ -25,7 +25,7 @@ Asks a running lldpa-live, and prints its answer as lldpcli of lldpd does.
 
   -u PATH  the control socket of lldpa-live ({DEFAULT_PATH} unless given)
   -f FORM  {', '.join(FORMS)} (plain unless given)
-  -h       this
+  -h, --help  this
 
 commands; lldpctl takes ports too, and without a command it shows all neighbors in detail:
   show neighbors [details | summary] [ports PORT,..]
