@@ -11,6 +11,7 @@ Debian's packages lldpd and iproute2. The last line is `N passed, M failed`.
 """
 import argparse
 import collections
+import contextlib
 import json
 import os
 import pathlib
@@ -269,6 +270,21 @@ class Lab:
         return [blocks.count(b".port.ttl=") for blocks in (self.lldpd.ask("-f", "keyvalue", "show", "neighbors"),
                                                            self.lldpctl("keyvalue", "show neighbors"))]
 
+    @contextlib.contextmanager
+    def hearing(self, name, commands):
+        """An lldpd at the far end that was told commands and is heard, and then is no more."""
+        sender = Lldpd(self.wires.there, self.wires.folder, "-M", "4", "-S", "a real peer", "-I", "peer0,peer1")
+        try:
+            for command in commands:
+                sender.tell(command)
+            sender.tell("update")
+            if not eventually(self.is_still):
+                raise SystemExit(f"{name} is not heard: {self.keys()}")
+            yield
+        finally:
+            sender.close()
+        eventually(lambda: self.keys() == [0, 0])
+
     def is_still(self):
         """Whether both show two neighbors, and the same as a moment ago."""
         before, self.last = self.last, (AGE.sub("", self.lldpd.ask("show", "neighbors", "details").decode()),
@@ -287,17 +303,8 @@ class Lab:
 def configured(lab, comparison):
     """Senders that are lldpds."""
     for name, commands in SENDERS.items():
-        sender = Lldpd(lab.wires.there, lab.wires.folder, "-M", "4", "-S", "a real peer", "-I", "peer0,peer1")
-        try:
-            for command in commands:
-                sender.tell(command)
-            sender.tell("update")
-            if not eventually(lab.is_still):
-                raise SystemExit(f"{name} is not heard: {lab.keys()}")
+        with lab.hearing(name, commands):
             lab.compare(comparison, name, COMMANDS)
-        finally:
-            sender.close()
-        eventually(lambda: lab.keys() == [0, 0])
     lab.compare(comparison, "nobody", COMMANDS)
 
 
