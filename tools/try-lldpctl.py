@@ -40,8 +40,11 @@ COMMANDS = ("show neighbors", "show neighbors details", "show neighbors summary"
             "show statistics ports eth1")
 OF_NEIGHBORS = ("show neighbors details",)
 BATCH = 60  # at two ports, and an lldpd keeps 32 neighbors of one
+SIGN = re.compile(r"-(?=\d)|(?<=\d)[NSEW]")
 IDENTIFIER = re.compile(r"(chassis|port)\.(mac|ip|ifname|ifalias|local|unhandled|id|id\.type)|ChassisID|PortID")
 AGE = re.compile(r"Time: \d+ days?, [0-9:]+")
+COORDINATES = [(degrees, resolution) for degrees in (0, 48.8566613, -33.8567844, 0.5, -0.5, -1, 89.9999999, -0.001)
+               for resolution in (0, 5, 9, 10, 15, 22, 25, 34)]
 # what the lldpd at the far end is told, by what it then is
 SENDERS = {
     "a switch": (
@@ -134,6 +137,8 @@ class Comparison:
         """What of the page lists a difference, None where nothing does."""
         if escaped_alike(theirs) == escaped_alike(ours) and ("neighbors", "a text") in self.rows:
             return "a text"
+        if [SIGN.sub("", str(value)) for value in theirs] == [SIGN.sub("", str(value)) for value in ours]:
+            return "a sign" if ("neighbors", "a sign") in self.rows else None
         return next((row for show, row in self.rows if f": show {show}" in where
                      and (key == row or key.startswith(row + "."))), None)
 
@@ -207,9 +212,9 @@ def json_blocks(told):
     """Of both forms of JSON."""
     (root, inner), = told.items()
     inner = inner[0] if isinstance(inner, list) else inner
-    some = inner.get("interface", inner) if isinstance(inner, dict) else inner
+    some = inner.get("interface", inner)
     for one in some if isinstance(some, list) else [some]:
-        name = one["name"] if "name" in one else next(iter(one)) if len(one) == 1 else ""
+        name = one["name"] if "name" in one else next(iter(one)) if len(one) == 1 and root == "lldp" else ""
         pairs = [(key.partition(f"{name}.")[2] if key.startswith(f"{name}.") else key, value) for key, value in flat(one)]
         chassis = one.get(name, one).get("chassis") if isinstance(one.get(name, one), dict) else None
         names = list(chassis) if isinstance(chassis, dict) and len(chassis) == 1 else []
@@ -312,10 +317,12 @@ def sent(lab, comparison, name, frames):
     """Frames that are sent as they are, some at a time."""
     for at in range(0, len(frames), BATCH):
         some = frames[at:at + BATCH]
-        for number, octets in enumerate(some):
-            lab.sending[number % 2].send(octets)
-        if not eventually(lambda: lab.keys() == [len(some)] * 2):
-            raise SystemExit(f"{name} {at}: {lab.keys()} of {len(some)} are shown")
+        for number in range(2):  # one port behind the other, so that all come in one order
+            for octets in some[number::2]:
+                lab.sending[number].send(octets)
+            count = len(some[::2]) if number == 0 else len(some)
+            if not eventually(lambda: lab.keys() == [count, count]):
+                raise SystemExit(f"{name} {at}: {lab.keys()} of {count} are shown")
         lab.compare(comparison, f"{name} {at}", OF_NEIGHBORS)
         print(f"compared: {name} frames up to {at + len(some)}", flush=True)
         for number, octets in enumerate(some):
@@ -331,6 +338,14 @@ def judged_frames():
         yield octets[:14] + tlv(1, b"\x04\x02\0\0\x05" + number.to_bytes(2, "big")) + rest
 
 
+def place_of(degrees, resolution):
+    """Coordinates with that latitude, longitude and altitude."""
+    value, altitude = round(degrees * (1 << 25)), round(degrees * 256)
+    bits = (resolution << 122 | (value & (1 << 34) - 1) << 88 | resolution << 82 | (value & (1 << 34) - 1) << 48
+            | (resolution % 4) << 44 | min(resolution, 30) << 38 | (altitude & (1 << 30) - 1) << 8 | resolution % 5)
+    return bits.to_bytes(16, "big")
+
+
 def odd_frames():
     """Names with each octet, texts with several, and identifiers of each kind."""
     def chassis(number):
@@ -342,6 +357,9 @@ def odd_frames():
              b"\xe2\x82", "a\u2028b\u2029\u0085c".encode(), "\u202eabc\u200b".encode(), b'"}\\u0041', b"on", b"yes", b"id")
     for number, text in enumerate(texts, 300):
         yield frame(chassis(number), b"\x05p1", 120, *(tlv(kind, text) for kind in (4, 5, 6)))
+    med = tlv(127, bytes.fromhex("0012bb01003f03"))
+    for number, (degrees, resolution) in enumerate(COORDINATES, 400):
+        yield frame(chassis(number), b"\x05p1", 120, med, tlv(127, bytes.fromhex("0012bb0301") + place_of(degrees, resolution)))
     for kind in range(1, 8):
         for number, body in enumerate((b"abc", b"\x01\x0a\0\0\x01", b"\x02" + bytes(15) + b"\x01")):
             yield frame(bytes([kind]) + body + bytes([kind]) * (kind in (1, 2, 6, 7)), bytes([kind]) + body, 1000 + number)

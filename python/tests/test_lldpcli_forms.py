@@ -92,6 +92,18 @@ class BesideLldpcli(unittest.TestCase):
                 equal += len(ours)
         self.assertGreater(equal, 5000)
 
+    def test_what_lldpcli_names_otherwise(self) -> None:
+        for octets, source, kind in (("070104" "12" "00ff00c8", "Primary power source", None),
+                                     ("070104" "22" "00ff00c8", "Backup source", None),
+                                     ("060104" "52" "00ff00c8", "PSE", None),
+                                     ("060104" "72" "00ff00c8", "PSE + Local", None),
+                                     ("060104" "5200ff00c8" "0064006500660067" "0000" "02" "03e7"
+                                      "00" "000000", "PSE", "Type 4 PSE")):
+            power = tlv(127, bytes.fromhex("00120f02" + octets))
+            octets_of = frame(b"\x04\x02\0\0\0\0\1", b"\x05p1", 120, power)
+            told = dict(flat(whole(tree_of([("swp1", octets_of)]).nodes[0])))
+            self.assertEqual([told[SLIPS[0]], told.get(SLIPS[1])], [source, kind])
+
     def compared(self, pairs: Iterable[Tuple[str, object]]) -> List[Tuple[str, object]]:
         """The keys and values of organizationally specific TLVs, in their order."""
         return [pair for pair in pairs if pair[0].startswith(PARTS) and pair[0] not in SLIPS]
