@@ -153,7 +153,7 @@ def listed_keys(page):
 
 def escaped_alike(values):
     """Texts with all escaped that is escaped here in one form or another."""
-    return ["".join(printable(part) for part in one_line(str(value)).split()) for value in values]
+    return [printable(one_line(str(value))) for value in values]
 
 
 def by_key(pairs):
@@ -260,7 +260,7 @@ class Lab:
         """Compares the answers to commands."""
         for command in commands:
             for form in FORMS:
-                theirs, ours = self.lldpd.ask("-f", form, *command.split()), self.lldpctl(form, command)
+                theirs, ours = self.both(form, command)
                 try:
                     of_theirs = blocks_of(form, theirs)
                 except ValueError:  # lldpcli leaves names that are keys, and one control character, without escapes
@@ -269,6 +269,14 @@ class Lab:
                     of_theirs = named(json_blocks(short if form == "json" else whole))
                     comparison.listed["JSON of lldpcli that is none"] += 1
                 comparison.compare(f"{where}: {command} -f {form}", of_theirs, blocks_of(form, ours))
+
+    def both(self, form, command):
+        """What both print, of counters that did not change meanwhile."""
+        words = ("-f", form, *command.split())
+        while True:
+            theirs, ours = self.lldpd.ask(*words), self.lldpctl(form, command)
+            if "statistics" not in command or theirs == self.lldpd.ask(*words):
+                return theirs, ours
 
     def keys(self):
         """How many neighbors both show."""
