@@ -314,6 +314,7 @@ part "links of the pages" python3 tools/check-links.py
 part "memory and accesses, by the sources" python3 tools/check-memory.py
 part "what is tried by name" python3 tools/check-named.py
 part "wrong bodies that the gate does not try" python3 tools/wrong-bodies.py --check
+part "wrong bodies that only tests see" python3 tools/seen-by-tests.py --check
 manual_pages
 service
 picture
