@@ -14,6 +14,8 @@ from typing import TYPE_CHECKING
 
 from .show import Counters, Neighbor, Port, Show, ShowFault, lines_of, read_show, unescaped
 
+__version__ = "1.0.0"
+
 if TYPE_CHECKING:
     from .agent import Agent, AsyncAgent, Ended, Refused
     from .capture import BadCapture, Packet, packets_of
