@@ -3,7 +3,9 @@
 lines of sources in blocks that say `rust` or `antt`, which stand in one file one behind another, on pages about proofs
 each clause, definition, lemma and large number, in rows and lists of docs/CLAIMS.md that a clause is one of their calls,
 that each module of a crate says in its first line what it is, and that no file of definitions lacks its row in
-docs/DEFINITIONS.md, and no transcript its row in examples/README.md. No line of text is over 120 columns long.
+docs/DEFINITIONS.md, and no transcript its row in examples/README.md. Each row of SECURITY.md that says what it is shown by
+names a law or call of the crates, a test of python/tests or a script, and all of these are there. No line of text is over
+120 columns long.
 
     tools/check-links.py
 
@@ -33,7 +35,7 @@ OF_OPTIONS = [TOP / "examples" / "help.txt"] + [path for folder in ("python", "b
 OPTIONS = {option for path in OF_OPTIONS if path.is_file() and path.suffix != ".pyc"
            for option in re.findall(r"--[a-z][a-z-]*[a-z]", path.read_text(errors="replace"))}
 # of the toolchain and of other programs
-OPTIONS |= {"--only", "--allow-holes", "--fix-imports", "--test", "--minutes", "--line-buffered", "--now", "--since"}
+OPTIONS |= {"--only", "--anew", "--allow-holes", "--fix-imports", "--test", "--minutes", "--line-buffered", "--now", "--since"}
 
 FOLDERS_OF_A_CRATE = ("specs", "proofs", "src", "must-fail")
 
@@ -248,6 +250,32 @@ def check_definitions(checks):
                 checks.see(page, f"{crate}, {path.stem}", None if re.search(rf"`{path.stem}\b", section) else "is not told")
 
 
+def is_shown_by(name):
+    """Whether there is such a script, test of the Python package (test_file.test_name), or law or call of the crates."""
+    module, _, test = name.partition(".")
+    if name.startswith("tools/"):
+        return (TOP / name).is_file()
+    if module.startswith("test_"):
+        file = TOP / "python" / "tests" / f"{module}.py"
+        return file.is_file() and re.search(rf"def {test}\b", file.read_text()) is not None
+    return re.search(rf"\bpub fn {name}\b", SOURCE) is not None
+
+
+def check_security(checks):
+    """Each row of SECURITY.md below a head that ends with `Shown by` names what shows it."""
+    page, is_claimed = "SECURITY.md", False
+    for line in (TOP / page).read_text().splitlines():
+        if not line.startswith("|"):
+            is_claimed = False
+        elif line.endswith("| Shown by |"):
+            is_claimed = True
+        elif is_claimed and not line.startswith("|---"):
+            named = re.findall(r"`([^`]+)`", line.split("|")[-2])
+            checks.see(page, line[:50], None if named else "names nothing that shows it")
+            for name in named:
+                checks.see(page, name, None if is_shown_by(name) else "no such law, call, test or script")
+
+
 def check_transcripts(checks):
     """Each transcript is a row of examples/README.md."""
     page = "examples/README.md"
@@ -264,6 +292,7 @@ def main():
     check_modules(checks)
     check_definitions(checks)
     check_claims(checks)
+    check_security(checks)
     check_transcripts(checks)
     print(f"{checks.passed} passed, {checks.failed} failed")
     return 1 if checks.failed else 0
