@@ -35,7 +35,7 @@ OF_OPTIONS = [TOP / "examples" / "help.txt"] + [path for folder in ("python", "b
 OPTIONS = {option for path in OF_OPTIONS if path.is_file() and path.suffix != ".pyc"
            for option in re.findall(r"--[a-z][a-z-]*[a-z]", path.read_text(errors="replace"))}
 # of the toolchain and of other programs
-OPTIONS |= {"--only", "--anew", "--allow-holes", "--fix-imports", "--test", "--minutes", "--line-buffered", "--now", "--since"}
+OPTIONS |= {"--only", "--anew", "--list-axioms", "--allow-holes", "--fix-imports", "--test", "--minutes", "--line-buffered", "--now", "--since"}
 
 FOLDERS_OF_A_CRATE = ("specs", "proofs", "src", "must-fail")
 
