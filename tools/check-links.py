@@ -7,9 +7,10 @@ docs/DEFINITIONS.md, and no transcript its row in examples/README.md. Each row o
 names a law or call of the crates, a test of python/tests or a script, and all of these are there. No line of text is over
 120 columns long.
 
-    tools/check-links.py
+    tools/check-links.py [--installed FOLDER]
 
-The last line counts what was looked up.
+With --installed only the links of the pages in that folder, where tools/install.sh has put them. The last line counts
+what was looked up.
 """
 import pathlib
 import re
@@ -284,9 +285,22 @@ def check_transcripts(checks):
         checks.see(page, path.stem, None if rows.count(path.stem) == 1 else "does not have one row")
 
 
+def check_installed(checks, folder):
+    """No link of an installed page leads to what is not there, or out of the folder."""
+    for page in sorted(folder.rglob("*.md")):
+        for target in links(without_code(page.read_text())):
+            is_inside = (page.parent / target.partition("#")[0]).resolve().is_relative_to(folder)
+            fault = fault_of_link(page, target) if is_inside else "it leads out of the folder"
+            checks.see(page.relative_to(folder), target, fault)
+
+
 def main():
     """Looks up all."""
     checks = Checks()
+    if sys.argv[1:2] == ["--installed"]:
+        check_installed(checks, pathlib.Path(sys.argv[2]).resolve())
+        print(f"{checks.passed} passed, {checks.failed} failed")
+        return 1 if checks.failed else 0
     for page in PAGES:
         check_page(checks, page)
     check_modules(checks)

@@ -262,7 +262,7 @@ picture() {
 manual_pages() {
     echo "== manual pages"
     if command -v mandoc > /dev/null; then
-        for page in man/*.1; do # which pages are installed beside them does not matter
+        for page in man/*.[1-8]; do # which pages are installed beside them does not matter
             mandoc -T lint "$page" 2>&1 | grep -v "referenced manual not found\|mandoc.db" > "$room/out"
             [ ! -s "$room/out" ]
             judge $? "mandoc -T lint: $(cat "$room/out")"
@@ -271,7 +271,7 @@ manual_pages() {
         echo "skipped: mandoc, which is not installed"
     fi
     if command -v groff > /dev/null; then
-        for page in man/*.1; do
+        for page in man/*.[1-8]; do
             groff -mandoc -ww -z "$page" > "$room/out" 2>&1 && [ ! -s "$room/out" ]
             judge $? "groff: $(cat "$room/out")"
         done
