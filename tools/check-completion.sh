@@ -170,10 +170,10 @@ offers '' _lldpa_ctl lldpa-ctl configure ports eth0 lldp status rx-only ''
 offers FILES _lldpa_ctl lldpa-ctl metrics '>' f
 
 # lldpa-ctl's words are those of its help, which has no others
-offers "$(../../../bin/lldpa-ctl --help --version | sed -n 's/^  \([a-z][a-z]*\)  *.*/\1/p' | sort -u | paste -s -d ' ')" _sorted_ctl lldpa-ctl ''
+offers "$(../../../bin/lldpa-ctl --help | sed -n 's/^  \([a-z][a-z]*\)  *.*/\1/p' | sort -u | paste -s -d ' ')" _sorted_ctl lldpa-ctl ''
 
 # lldpa-live's words are those of its help
-for word in $(../../../bin/lldpa-live --help --version | grep -o '^  [-a-z, ]*--[a-z-]*' | grep -o -e '--[a-z-]*'); do
+for word in $(../../../bin/lldpa-live --help | grep -o '^  [-a-z, ]*--[a-z-]*' | grep -o -e '--[a-z-]*'); do
     offers "$(tr ' ' '\n' <<< "$live" | grep -e "^$word" | paste -s -d ' ')" _lldpa_live lldpa-live "$word"
 done
 
@@ -190,7 +190,7 @@ audit+=' --svg --only-faults --help --version'
 offers "$audit" _lldpa_audit lldpa-audit -
 offers '--stale-after --settings --short-names --svg' _lldpa_audit lldpa-audit plan.csv --json --s
 # lldpa-audit's words are those of its help
-for word in $(../../../bin/lldpa-audit --help --version | grep -o '^  [-a-z, ]*--[a-z-]*' | grep -o -e '--[a-z-]*'); do
+for word in $(../../../bin/lldpa-audit --help | grep -o '^  [-a-z, ]*--[a-z-]*' | grep -o -e '--[a-z-]*'); do
     offers "$(tr ' ' '\n' <<< "$audit" | grep -e "^$word" | paste -s -d ' ')" _lldpa_audit lldpa-audit "$word"
 done
 
