@@ -8,7 +8,7 @@ program=${1:+$(realpath -- "$1")}
 cd "$(dirname "$0")/../share/bash-completion/completions" || exit 2
 passed=0
 failed=0
-for file in lldpa lldpa-live lldpa-capture lldpa-ctl lldpa-audit; do
+for file in lldpa lldpa-live lldpa-capture lldpa-ctl lldpa-audit lldpctl; do
     # shellcheck source=/dev/null
     . "./$file"
 done
@@ -25,6 +25,11 @@ compopt() {
 _sorted_ctl() {
     _lldpa_ctl
     mapfile -t COMPREPLY < <(printf '%s\n' "${COMPREPLY[@]}" | sort)
+}
+
+# The shows of lldpctl.
+_shows() {
+    mapfile -t COMPREPLY < <(echo show; _lldpctl_next show | tr ' ' '\n')
 }
 
 # The agent, where its help is asked for.
@@ -193,6 +198,26 @@ offers '--stale-after --settings --short-names --svg' _lldpa_audit lldpa-audit p
 for word in $(../../../bin/lldpa-audit --help | grep -o '^  [-a-z, ]*--[a-z-]*' | grep -o -e '--[a-z-]*'); do
     offers "$(tr ' ' '\n' <<< "$audit" | grep -e "^$word" | paste -s -d ' ')" _lldpa_audit lldpa-audit "$word"
 done
+
+offers 'show eth0 eth1 lo' _lldpctl lldpctl ''
+offers 'show' _lldpctl lldpctl sh
+offers '-u -f -h --help -v --version' _lldpctl lldpctl -
+offers '-u -h --help -v --version' _lldpctl lldpctl -f json -
+offers 'json json0' _lldpctl lldpctl -f j
+offers FILES _lldpctl lldpctl -u /run
+offers 'eth0 eth1' _lldpctl lldpctl -f json -u p e
+offers 'eth0 eth1' _lldpctl lldpctl lo e
+offers 'neighbors interfaces chassis statistics' _lldpctl lldpctl -f plain show ''
+offers 'details summary ports' _lldpctl lldpctl show neighbors ''
+offers 'ports' _lldpctl lldpctl show interfaces details ''
+offers 'eth0 eth1 lo' _lldpctl lldpctl show neighbors details ports ''
+offers '' _lldpctl lldpctl show neighbors ports eth0 ''
+offers 'details summary' _lldpctl lldpctl show chassis ''
+offers 'summary ports' _lldpctl lldpctl show statistics ''
+offers 'ports' _lldpctl lldpctl show statistics summary ''
+# its words are those of its help
+offers "show $(../../../bin/lldpctl --help | sed -n 's/^  show \([a-z]*\).*/\1/p' | paste -s -d ' ')" _shows
+offers "$(../../../bin/lldpctl --help | sed -n 's/^  -f FORM  \(.*\) (.*/\1/p' | tr -d ,)" _lldpctl lldpctl -f ''
 
 # the words of the completion are those of the program's help, where a program is given
 if [ -n "$program" ]; then

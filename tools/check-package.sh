@@ -78,8 +78,8 @@ DESTDIR=$room/kept tools/install.sh --uninstall /usr > "$room/said" 2>&1
 grep -qx 'PORTS="swp1"' "$room/kept/etc/default/lldpa"
 judge $? "tools/install.sh does not keep a configuration that was changed"
 
-# Each program has its page and its completions, and runs from the package.
-for path in "$room"/package/usr/bin/*; do
+# Each program has its page and its completions, and runs from the package. lldpctl is not among those on the path.
+for path in "$room"/package/usr/bin/* "$room/package/usr/lib/lldpa/bin/lldpctl"; do
     name=${path##*/}
     case $name in lldpa-live | lldpa-ctl) section=8 ;; *) section=1 ;; esac
     for file in man/man$section/$name.$section.gz bash-completion/completions/$name zsh/vendor-completions/_$name; do
@@ -91,6 +91,13 @@ for path in "$room"/package/usr/bin/*; do
     [ "$("$path" --version)" = "$name $(dpkg-deb -f "$package" Version | sed 's/-[^-]*$//')" ]
     judge $? "$name --version of the package: $("$path" --version)"
 done
+[ ! -e "$room/package/usr/bin/lldpctl" ] && [ ! -e "$room/package/usr/bin/lldpcli" ]
+judge $? "the package has a program of lldpd's name in usr/bin"
+"$room/package/usr/lib/lldpa/bin/lldpcli" -u "$room/none" show chassis > "$room/out" 2>&1
+grep -q "^lldpcli: nobody answers at $room/none" "$room/out"
+judge $? "lldpcli of the package: $(cat "$room/out")"
+[ -f "$room/package/usr/lib/lldpa/python/lldpa/py.typed" ]
+judge $? "the package has no py.typed"
 version=$(dpkg-deb -f "$package" Version)
 [ "lldpa ${version%-*}" = "$("$room/package/usr/bin/lldpa" --version)" ]
 judge $? "the package is $version, and the program says $("$LLDPA" --version)"
@@ -120,8 +127,10 @@ install_into "$room/opt" --python /opt/python /opt/lldpa
 judge $? "the service below /opt/lldpa does not read /opt/lldpa/etc/lldpa.d"
 
 # The words of zsh's completions are those of each program's help.
-for name in lldpa lldpa-live lldpa-ctl lldpa-capture lldpa-audit; do
-    "$room/package/usr/bin/$name" --help | sed -n '/^ *-/p' | grep -o -e '--[a-z-]*[a-z]' | sort -u > "$room/helped"
+for name in lldpa lldpa-live lldpa-ctl lldpa-capture lldpa-audit lldpctl; do
+    program=$room/package/usr/bin/$name
+    [ -x "$program" ] || program=$room/package/usr/lib/lldpa/bin/$name
+    "$program" --help | sed -n '/^ *-/p' | grep -o -e '--[a-z-]*[a-z]' | sort -u > "$room/helped"
     grep -o -e '--[a-z-]*[a-z]' "share/zsh/_$name" | sort -u | diff "$room/helped" -
     judge $? "share/zsh/_$name has other words than $name --help"
     if command -v zsh > /dev/null; then

@@ -46,9 +46,9 @@ esac
 files() {
     echo "program $program $prefix/bin/lldpa"
     for file in bin/*; do
-        echo "script $file $prefix/lib/lldpa/$file"
+        [ -L "$file" ] || echo "script $file $prefix/lib/lldpa/$file"
     done
-    find python/lldpa -name '*.py' | while read -r file; do
+    find python/lldpa -name '*.py' -o -name py.typed | while read -r file; do
         echo "plain $file $prefix/lib/lldpa/$file"
     done
     for file in man/*.[1-8]; do
@@ -79,11 +79,13 @@ files() {
     done
 }
 
-# Each link: where it leads, and where it stands.
+# Each link: where it leads, and where it stands. lldpctl is beside its package alone, since lldpd has one of that name;
+# lldpcli is another name of it.
 links() {
-    for file in bin/*; do
+    for file in bin/lldpa-*; do
         echo "../lib/lldpa/$file $prefix/$file"
     done
+    echo "lldpctl $prefix/lib/lldpa/bin/lldpcli"
     [ -z "$looks" ] || echo "$(realpath -m --relative-to="$looks" "$package") $looks/lldpa"
 }
 

@@ -13,7 +13,8 @@ from importlib import import_module
 from typing import TYPE_CHECKING
 
 from .show import Counters, Neighbor, Port, Show, ShowFault, lines_of, read_show, unescaped
-from .version import VERSION as __version__
+
+__version__ = "1.0.0"
 
 if TYPE_CHECKING:
     from .agent import Agent, AsyncAgent, Ended, Refused

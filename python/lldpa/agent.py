@@ -34,6 +34,7 @@ class Agent:
         self._on_frame = on_frame
         self._answers = Answers()
         self._is_whole = True
+        self._over: Optional[Ended] = None
         connection.setblocking(False)
         try:
             self._exchange(with_mark([]), PATIENCE)
@@ -127,6 +128,8 @@ class Agent:
 
     def _exchange(self, octets: bytes, patience: Optional[float] = None) -> List[bytes]:
         """Writes, and gives the answer; reads meanwhile, so that neither side blocks the other."""
+        if self._over is not None:
+            raise Ended(self._over.status, self._over.text)
         if not self._is_whole:
             raise Ended(None, "an answer was not read to its end, so no further line can be asked")
         self._is_whole = False
@@ -156,7 +159,7 @@ class Agent:
         return ready[0][1]
 
     def _ended(self) -> Ended:
-        """Why there is no agent any more."""
-        if self._child is None:
-            return Ended(None, NO_CONNECTION)
-        return self._child.end()
+        """Why there is no agent any more, which each later call says too."""
+        end = Ended(None, NO_CONNECTION) if self._child is None else self._child.end()
+        self._over = Ended(end.status, end.text)
+        return end

@@ -15,6 +15,7 @@ from .escapes import shown_text
 Since = Mapping[Tuple[str, str], str]
 
 LINE = re.compile(r"bridge\.([^.]+)\.since\.[0-9]+=(\S+) (.+)")
+NUMBER_LINE = re.compile(r"bridge\.chassis\.([0-9]+)=(.+)")
 MOST_OF_A_PORT = 128  # as many as an agent's table can have
 HEADER = 14  # octets before the LLDPDU
 STATUS = ["configure", "ports", "lldp", "status"]  # the words but for the port's and the last
@@ -27,6 +28,12 @@ def since_of(lines: Iterable[str]) -> Dict[Tuple[str, str], str]:
     """When each neighbor came, of the lines that a bridge tells of itself."""
     found = (LINE.fullmatch(line) for line in lines)
     return {(one[1], one[3]): one[2] for one in found if one}
+
+
+def chassis_numbers_of(lines: Iterable[str]) -> Dict[str, int]:
+    """The number of each chassis, of the same lines."""
+    found = (NUMBER_LINE.fullmatch(line) for line in lines)
+    return {one[2]: int(one[1]) for one in found if one}
 
 
 class Heard(NamedTuple):
@@ -42,6 +49,8 @@ class Arrivals:
         self.ports: Dict[str, Dict[str, Heard]] = {port: {} for port in ports}
         self.deaf: set[str] = set()  # ports whose status lets them hear nobody
         self.second = 0  # of those that the agent was told, which its table counts
+        self.numbers: Dict[str, int] = {}  # of each chassis, from 1
+        self.last_number = 0
 
     def hear(self, port: str, frame: bytes) -> None:
         """Takes a frame that comes in."""
@@ -58,6 +67,7 @@ class Arrivals:
             heard.pop(sender, None)
             self.make_room(heard)
             if len(heard) < MOST_OF_A_PORT:
+                self.number(sender.partition(" ")[0])
                 heard[sender] = Heard(time.time(), last)
         if ttl == 0:
             heard.pop(sender, None)
@@ -67,6 +77,21 @@ class Arrivals:
         if len(heard) >= MOST_OF_A_PORT:
             for sender in [sender for sender, one in heard.items() if one.last <= self.second]:
                 del heard[sender]
+
+    def number(self, chassis: str) -> None:
+        """Gives a chassis its number, unless it is there already."""
+        if chassis in self.numbers or len(self.numbers) >= 2 * MOST_OF_A_PORT * len(self.ports):
+            self.numbers = dict(self.numbered())
+        if chassis in self.numbers:
+            return
+        self.last_number += 1
+        self.numbers[chassis] = self.last_number
+
+    def numbered(self) -> List[Tuple[str, int]]:
+        """Each chassis that is there, with its number, in the order of the numbers."""
+        there = {sender.partition(" ")[0] for heard in self.ports.values()
+                 for sender, one in heard.items() if one.last > self.second}
+        return [(chassis, number) for chassis, number in self.numbers.items() if chassis in there]
 
     def obey(self, line: bytes) -> None:
         """Takes a command: a port that may no longer receive forgets its neighbors."""
@@ -87,7 +112,7 @@ class Arrivals:
             for number, (sender, came) in enumerate(there, 1):
                 clock = time.strftime("%Y-%m-%dT%H:%M:%SZ", time.gmtime(came))
                 lines.append(f"bridge.{port}.since.{number}={clock} {sender}")
-        return lines
+        return lines + [f"bridge.chassis.{number}={chassis}" for chassis, number in self.numbered()]
 
 
 def sender_of(lldpdu: bytes) -> Optional[Tuple[str, int]]:

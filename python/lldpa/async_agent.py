@@ -31,6 +31,7 @@ class AsyncAgent:
         self._whole: Deque[List[bytes]] = deque()
         self._written = self._read = 0
         self._turn = asyncio.Lock()
+        self._over: Optional[Ended] = None
 
     @classmethod
     async def start(cls, ports: Sequence[str], program: str = "lldpa", *,
@@ -60,6 +61,8 @@ class AsyncAgent:
         """As Agent.tell. A caller that is cancelled meanwhile has told the lines all the same."""
         octets = with_mark(lines)
         async with self._turn:
+            if self._over is not None:
+                raise Ended(self._over.status, self._over.text)
             self._writer.write(octets)
             self._written += 1
             while True:
@@ -143,7 +146,9 @@ class AsyncAgent:
                 self._whole += self._answers.feed(octets)
         if self._whole:
             return self._whole.popleft()
-        raise await self._ended()
+        end = await self._ended()
+        self._over = Ended(end.status, end.text)
+        raise end
 
     async def _pass_over_rest(self) -> None:
         """Reads what the agent still writes, to its end."""

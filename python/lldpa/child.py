@@ -21,7 +21,12 @@ class Ended(Exception):
 
 
 def words_of(ports: Sequence[str], program: str, options: Mapping[str, Option]) -> List[str]:
-    """The words that start an agent: `max_neighbors=4` is `--max-neighbors=4`."""
+    """The words that start an agent: `max_neighbors=4` is `--max-neighbors=4`.
+
+    Raises TypeError for a name in place of a list of names.
+    """
+    if isinstance(ports, (str, bytes)):
+        raise TypeError(f"ports are a list of names, such as ['eth0'], and not {ports!r}")
     words = [program]
     for name, value in options.items():
         option = "--" + name.replace("_", "-")

@@ -4,13 +4,13 @@ from __future__ import annotations
 
 from typing import TYPE_CHECKING
 
+from . import __version__
+
 if TYPE_CHECKING:
     import argparse
-
-VERSION = "1.0.0"
 
 
 def add_version(parser: argparse.ArgumentParser) -> None:
     """Lets a program tell its version."""
-    parser.add_argument("-V", "--version", action="version", version=f"{parser.prog} {VERSION}",
+    parser.add_argument("-V", "--version", action="version", version=f"{parser.prog} {__version__}",
                         help="print the version")

@@ -162,6 +162,17 @@ class EndedAgents(unittest.TestCase):
                 agent.ask("tick")
             self.assertEqual(ended.exception.status, -signal.SIGKILL)
             self.assertIn("SIGKILL", ended.exception.text)
+            for call in (lambda: agent.ask("tick"), agent.neighbors, agent.update,
+                         lambda: agent.frame("eth0", bytes(60)), lambda: agent.tell([])):
+                with self.assertRaises(Ended) as later:
+                    call()
+                self.assertEqual((later.exception.status, later.exception.text),
+                                 (ended.exception.status, ended.exception.text))
+
+    def test_a_name_is_no_list_of_ports(self) -> None:
+        for ports in ("eth0", b"eth0"):
+            with self.assertRaisesRegex(TypeError, "list of names"):
+                Agent.start(ports, PROGRAM)  # type: ignore[arg-type]
 
     def test_a_program_that_does_not_answer(self) -> None:
         with mock.patch("lldpa.agent.PATIENCE", 0.2), self.assertRaises(Ended) as ended:

@@ -9,7 +9,8 @@ from typing import Dict, Optional
 
 from bridged import OnLinks, on_links
 from lldpa import Agent
-from lldpa.arrivals import MOST_OF_A_PORT, Arrivals, sender_of, since_of
+from lldpa.arrivals import (MOST_OF_A_PORT, Arrivals, chassis_numbers_of, sender_of,
+                            since_of)
 from patience import eventually
 from served import PROGRAM, frame, numbered, tlv
 
@@ -114,13 +115,40 @@ class Noting(unittest.TestCase):
         for number in range(1000):
             name = b"\x07%d" % number
             self.arrivals.hear("eth0", frame(name, name, 30))
-        self.assertEqual(len(self.arrivals.about()), MOST_OF_A_PORT)
+        about = self.arrivals.about()
+        self.assertEqual([len(since_of(about)), len(chassis_numbers_of(about)), len(about)],
+                         [MOST_OF_A_PORT, MOST_OF_A_PORT, 2 * MOST_OF_A_PORT])
         self.assertIsNotNone(self.came())
         self.assertIsNone(self.came(2))
         self.arrivals.second = 30
         self.arrivals.hear("eth0", numbered(2, 30))
-        self.assertEqual((self.came(1), len(self.arrivals.about())), (None, 1))
+        self.assertEqual((self.came(1), len(self.arrivals.about())), (None, 2))
         self.assertIsNotNone(self.came(2))
+
+    def test_each_chassis_has_a_number(self) -> None:
+        def numbers() -> Dict[str, int]:
+            return chassis_numbers_of(self.arrivals.about())
+        one, two = "mac=02:00:00:00:00:01", "mac=02:00:00:00:00:02"
+        self.arrivals.hear("eth0", numbered(1))
+        self.arrivals.hear("eth0", numbered(2))
+        self.arrivals.hear("eth1", numbered(1))
+        self.assertEqual(numbers(), {one: 1, two: 2})
+        self.arrivals.hear("eth0", numbered(1, 0))  # it goes at one of its ports
+        self.arrivals.hear("eth0", numbered(1))
+        self.assertEqual(numbers(), {one: 1, two: 2})
+        for port in ("eth0", "eth1"):
+            self.arrivals.hear(port, numbered(1, 0))
+        self.assertEqual(numbers(), {two: 2})
+        self.arrivals.hear("eth1", numbered(1))  # and comes again
+        self.assertEqual(numbers(), {two: 2, one: 3})
+
+    def test_the_numbers_of_a_flood_are_forgotten(self) -> None:
+        for number in range(2000):
+            name = b"\x07%d" % number
+            self.arrivals.hear("eth0", frame(name, name, 1))
+            self.arrivals.second += 1
+        self.assertEqual(self.arrivals.last_number, 2000)
+        self.assertLessEqual(len(self.arrivals.numbers), 4 * MOST_OF_A_PORT)
 
     def test_lines_of_a_bridge(self) -> None:
         lines = ["bridge.began=2026-11-23T19:40:00Z", "bridge.eth0.kernel-drops=0",

@@ -55,6 +55,13 @@ class AskedByTasks(unittest.IsolatedAsyncioTestCase):
             with self.assertRaises(Ended) as ended:
                 await agent.ask("tick")
             self.assertEqual(ended.exception.status, -signal.SIGKILL)
+            for call in (agent.neighbors, agent.update, agent.tick, agent.statistics):
+                with self.assertRaises(Ended) as later:
+                    await call()
+                self.assertEqual((later.exception.status, later.exception.text),
+                                 (-signal.SIGKILL, ended.exception.text))
+        with self.assertRaisesRegex(TypeError, "list of names"):
+            await AsyncAgent.start("eth0", PROGRAM)
 
 
 if __name__ == "__main__":

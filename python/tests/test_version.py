@@ -11,7 +11,7 @@ import lldpa
 
 from served import REPOSITORY
 
-PROGRAMS = {"lldpa-audit": 1, "lldpa-capture": 1, "lldpa-ctl": 8, "lldpa-live": 8}
+PROGRAMS = {"lldpa-audit": 1, "lldpa-capture": 1, "lldpa-ctl": 8, "lldpa-live": 8, "lldpctl": 1}
 
 
 def said(name: str, word: str) -> str:
@@ -29,7 +29,7 @@ class Programs(unittest.TestCase):
         assert found is not None
         self.assertEqual(lldpa.__version__, found[1])
         for name in PROGRAMS:
-            for word in ("--version", "-V"):
+            for word in ("--version", "-v" if name == "lldpctl" else "-V"):
                 self.assertEqual(said(name, word), f"{name} {found[1]}\n")
 
     def test_help_has_an_example_and_the_page(self) -> None:

@@ -4,6 +4,7 @@ from __future__ import annotations
 import argparse
 import gc
 import json
+import sys
 from typing import Optional, Sequence
 
 from .. import output
@@ -116,3 +117,7 @@ def status_of(words: Optional[Sequence[str]]) -> int:
 def main(words: Optional[Sequence[str]] = None) -> int:
     """The program: 0 where all is right, 1 where something is not, 2 where it cannot be told."""
     return output.run(NAME, lambda: status_of(words), 2, errors="backslashreplace")
+
+
+if __name__ == "__main__":
+    sys.exit(main())

@@ -112,3 +112,7 @@ def status_of(words: Optional[Sequence[str]]) -> int:
         parser.error(str(fault))
     except KeyboardInterrupt:
         return 130
+
+
+if __name__ == "__main__":
+    sys.exit(main())

@@ -5,6 +5,7 @@ from __future__ import annotations
 import argparse
 import json
 import socket
+import sys
 import time
 from typing import Optional, Sequence
 
@@ -166,3 +167,7 @@ def status_of(words: Optional[Sequence[str]]) -> int:
         output.complain("lldpa-ctl", printable(str(fault)))
         return 2
     return 0
+
+
+if __name__ == "__main__":
+    sys.exit(main())

@@ -133,3 +133,7 @@ def options_of(words: Sequence[str], parser: argparse.ArgumentParser) -> Dict[st
         else:
             parser.error(f"{word}: behind -- stand options of lldpa alone")
     return options
+
+
+if __name__ == "__main__":
+    sys.exit(main())

@@ -1,0 +1,8 @@
+"""What lldpcli prints, of what a running bridge tells: a tree of nodes, and the forms of it.
+
+    neighbors, interfaces, statistics    the trees of the shows
+    plain, keyvalue, as_json             the forms
+    words                                the commands
+
+Keys, values and layout are those of lldpcli 1.0.16; docs/LLDPCLI.md lists what differs.
+"""

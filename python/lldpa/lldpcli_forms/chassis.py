@@ -1,0 +1,90 @@
+"""The nodes of a chassis and of the identifiers, of neighbors and of this host."""
+from __future__ import annotations
+
+import ipaddress
+import socket
+from typing import Iterable, Iterator, Mapping, Optional, Tuple
+
+from ..show import Identifier, LocalChassis, Neighbor, unescaped
+from .tree import Node, said_text, text_of
+
+CAPABILITIES = ("Other", "Repeater", "Bridge", "Router", "Wlan", "Tel", "Docsis", "Station")
+BY_INTERFACE = 2  # the numbering of an interface by ifIndex
+# the subtypes of Chassis ID and Port ID that hold an address
+MAC_OF_CHASSIS, IP_OF_CHASSIS = 4, 5
+MAC_OF_PORT, IP_OF_PORT = 3, 4
+
+
+def chassis_of(neighbor: Neighbor, is_brief: bool) -> Node:
+    """The chassis of a neighbor."""
+    known = {MAC_OF_CHASSIS: "mac", IP_OF_CHASSIS: "ip"}
+    return chassis_node(identifier_node("ChassisID", neighbor.chassis, known), neighbor.said,
+                        neighbor.capabilities or {}, is_brief)
+
+
+def local_chassis(chassis: LocalChassis, is_brief: bool) -> Node:
+    """What this host says of itself."""
+    parts = [part.rpartition(":") for part in chassis.caps.split(",") if part]
+    said = [("chassis.name", chassis.name), ("chassis.descr", chassis.descr)]
+    said += [("chassis.mgmt", chassis.mgmt)] if chassis.mgmt else []
+    identifier = identifier_node("ChassisID", Identifier("mac", chassis.mac), {})
+    return chassis_node(identifier, said, {name: state == "on" for name, _, state in parts},
+                        is_brief)
+
+
+def chassis_node(identifier: Node, said: Iterable[Tuple[str, str]],
+                 capabilities: Mapping[str, bool], is_brief: bool) -> Node:
+    """A chassis, in brief its identifier and its name."""
+    said = list(said)
+    node = Node("chassis", "Chassis", nodes=[identifier])
+    node.add("name", "SysName", first(said, "chassis.name"))
+    if is_brief:
+        return node
+    node.add("descr", "SysDescr", first(said, "chassis.descr"))
+    for address, number in managements(said):
+        node.add("mgmt-ip", "MgmtIP", address)
+        node.add("mgmt-iface", "MgmtIface", number)
+    for name in CAPABILITIES:
+        if name in capabilities:
+            state = "on" if capabilities[name] else "off"
+            node.nodes.append(Node("capability", "Capability",
+                                   [("type", "", name), ("enabled", "", state)]))
+    return node
+
+
+def identifier_node(label: str, identifier: Identifier, known: Mapping[int, str]) -> Node:
+    """A Chassis ID or Port ID; `known` has the kinds that lldpd has of subtypes whose octets the
+    agent does not show as such."""
+    kind, text = identifier
+    if kind == "ip":
+        text = shortest(text)
+    elif kind in ("component", "portcomp", "circuit"):
+        kind, text = "unhandled", unescaped(text).hex(" ")
+    elif kind == "unhandled":
+        octets = bytes.fromhex(text)
+        kind = known.get(octets[0], "unhandled")
+        text = octets[1:].hex(":" if kind == "mac" else " ")
+    elif kind != "mac":
+        text = text_of(unescaped(text))
+    return Node("id", label, [("type", "", kind)], text)
+
+
+def first(said: Iterable[Tuple[str, str]], key: str) -> Optional[str]:
+    """The text of a key, None where nothing is said of it."""
+    return next((said_text(unescaped(text)) for name, text in said if name == key), None)
+
+
+def managements(said: Iterable[Tuple[str, str]]) -> Iterator[Tuple[str, Optional[str]]]:
+    """The management addresses that are of IP, and the numbers of interfaces behind them."""
+    for key, text in said:
+        if key == "chassis.mgmt" and not text.startswith("af"):
+            address, numbering, number, *_ = text.split(",")
+            is_numbered = numbering == str(BY_INTERFACE) and number != "0"
+            yield shortest(address), number if is_numbered else None
+
+
+def shortest(address: str) -> str:
+    """An IP address as lldpd writes it."""
+    found = ipaddress.ip_address(address)
+    family = socket.AF_INET if found.version == 4 else socket.AF_INET6
+    return socket.inet_ntop(family, found.packed)

@@ -1,0 +1,120 @@
+"""The forms of a tree: for people, as keys and values, and as JSON."""
+from __future__ import annotations
+
+import json
+import unicodedata
+from typing import Any, Dict, Iterator, List, Tuple
+
+from ..texts import escaped, printable
+from .tree import Node
+
+LINE = "-" * 79
+WIDTH = 13  # columns of what stands before a value
+NAMING = ("name", "type")  # the attributes whose values stand in the place of their node's key
+FLAGS = {"yes": True, "on": True, "no": False, "off": False}
+ENDS = ("Zl", "Zp")  # what ends a line, or a paragraph
+
+
+def plain(root: Node) -> str:
+    """For people. A text of several lines is indented, and no other octet controls a terminal."""
+    lines = [LINE, f"{root.label}:", LINE]
+    for node in root.nodes:
+        lines += [*plain_lines(node, 0), LINE]
+    return "\n".join(lines)
+
+
+def plain_lines(node: Node, depth: int) -> Iterator[str]:
+    """A node and those in it."""
+    front = "  " * depth
+    told = [f"{label}: {printable(value)}" if label else printable(value)
+            for _, label, value in node.attributes]
+    line = f"{front}{node.label + ':':{WIDTH}}"
+    if told:
+        line += " " + ", ".join(told)
+    if node.text is not None:
+        margin = "\n" + front + " " * (WIDTH + 1)
+        line += " " + margin.join(printable(part) for part in node.text.split("\n"))
+    yield line
+    for one in node.nodes:
+        yield from plain_lines(one, depth + 1)
+
+
+def keyvalue(root: Node) -> str:
+    """Keys and values, a line each."""
+    return "\n".join(f"{key}={one_line(value)}" for key, value in pairs(root, ""))
+
+
+def pairs(node: Node, front: str) -> Iterator[Tuple[str, str]]:
+    """The keys of a node and of those in it, and their values."""
+    names = [value for key, _, value in node.attributes if key in NAMING]
+    path = front + (one_line(names[0]) if names else node.key)
+    for key, _, value in node.attributes:
+        if key not in NAMING:
+            yield f"{path}.{key}", value
+    if node.text is not None:
+        yield path, node.text
+    for one in node.nodes:
+        yield from pairs(one, path + ".")
+
+
+def one_line(text: str) -> str:
+    """A text in a line: a line feed is a space, and what else a reader may take for the end of a
+    line, controls a terminal or is no UTF-8 is escaped."""
+    if text.isascii() and text.isprintable():
+        return text
+    return "".join(" " if letter == "\n" else escaped(letter) if is_control(letter) else letter
+                   for letter in text)
+
+
+def is_control(letter: str) -> bool:
+    """Whether it is a control character but a tab, ends a line, or stands for an octet."""
+    kind = unicodedata.category(letter)
+    return kind in ENDS or kind[0] == "C" and kind not in ("Cf", "Co", "Cn") and letter != "\t"
+
+
+def json0(root: Node) -> str:
+    """JSON in which all that may come several times is a list."""
+    return json.dumps({root.key: [whole(root)]}, indent=2)
+
+
+def json_short(root: Node) -> str:
+    """JSON in which a list of one is what is in it, and what has a name stands under it."""
+    return json.dumps({root.key: shortened([whole(root)])}, indent=2)
+
+
+def whole(node: Node) -> Dict[str, Any]:
+    """A node as an object: its attributes, lists of the nodes in it by their keys, its text."""
+    told: Dict[str, Any] = {}
+    for key, _, value in node.attributes:
+        is_flag = value in FLAGS and key not in NAMING
+        told[key] = FLAGS[value] if is_flag else unicode_of(value)
+    for one in node.nodes:
+        told.setdefault(one.key, []).append(whole(one))
+    if node.text is not None:
+        told["value"] = unicode_of(node.text)
+    return told
+
+
+def unicode_of(text: str) -> str:
+    """A text with the replacement character for each octet that is no UTF-8."""
+    return "".join("\ufffd" if "\ud800" <= letter <= "\udfff" else letter for letter in text)
+
+
+def shortened(told: Any) -> Any:
+    """An object or a list of the whole form in the short one."""
+    if isinstance(told, list):
+        parts: List[Any] = [shortened(one) for one in told]
+        return parts[0] if len(parts) == 1 else parts
+    if not isinstance(told, dict):
+        return told
+    if list(told) == ["value"]:
+        return told["value"]
+    parted = {key: shortened(value) for key, value in told.items()}
+    name = parted.get("name")
+    if not isinstance(name, str):
+        return parted
+    del parted["name"]
+    return {name: parted}
+
+
+FORMS = {"plain": plain, "keyvalue": keyvalue, "json": json_short, "json0": json0}

@@ -1,0 +1,207 @@
+"""lldpcli's forms, beside what lldpcli printed of the same frames, and of texts with each octet."""
+
+from __future__ import annotations
+
+import json
+import re
+import unittest
+from typing import Dict, Iterable, List, Tuple
+
+import lldpd_heard
+from by_lldpcli import PARTS
+from judges import flat
+from lldpa import Agent
+from lldpa.arrivals import Arrivals, chassis_numbers_of, since_of
+from lldpa.framing import Refused
+from lldpa.lldpcli_forms.fixed import fixed
+from lldpa.lldpcli_forms.shows import Depth, Told, age, neighbors
+from lldpa.lldpcli_forms.tree import Node
+from lldpa.lldpcli_forms.words import Question, of_lldpcli, of_lldpctl
+from lldpa.lldpcli_forms.writing import FORMS, whole
+from served import PROGRAM, REPOSITORY, frame, tlv
+
+# what lldpcli names otherwise than the standard
+SLIPS = ("port.power.source.value", "port.power.power-type-ext.value")
+AGE = re.compile(r"0 day, [0-9:]{8}")
+PORTS = ["swp1", "swp2"]
+
+
+def told_of(agent: Agent, frames: Iterable[Tuple[str, bytes]]) -> Told:
+    """What a bridge tells that hears frames at ports."""
+    arrivals = Arrivals(PORTS)
+    for port, octets in frames:
+        agent.frame(port, octets)
+        arrivals.hear(port, octets)
+    about = arrivals.about()
+    return Told(agent.show("neighbors"), since_of(about), chassis_numbers_of(about), 1e10)
+
+
+def tree_of(frames: Iterable[Tuple[str, bytes]]) -> Node:
+    """The neighbors in detail of an agent that hears frames."""
+    with Agent.start(PORTS, PROGRAM, receive_only=True, max_neighbors=128) as agent:
+        return neighbors(told_of(agent, frames), None, Depth.DETAILS)
+
+
+class BesideLldpcli(unittest.TestCase):
+    """The forms of frames that a real lldpd heard."""
+
+    def compare(self, tree: Node, name: str, forms: Iterable[str]) -> None:
+        """Compares what is printed with what lldpcli did."""
+        for form in forms:
+            ours, theirs = FORMS[form](tree), lldpd_heard.sample(name, form).decode()
+            ours = re.sub(r"[0-9]+ days, [0-9:]{8}", "0 day, 00:00:00", ours)
+            theirs = AGE.sub("0 day, 00:00:00", theirs)
+            if form.startswith("json"):
+                theirs = theirs.replace('"ho\\01', '"ho\\\\01')  # a key, which it does not escape
+                self.assertEqual(json.loads(ours), json.loads(theirs, strict=False))
+            else:
+                self.assertEqual(ours.splitlines(), theirs.splitlines())
+
+    def test_clean_ones(self) -> None:
+        heard = [("swp1", one) for one in lldpd_heard.CLEAN] + [("swp2", lldpd_heard.CLEAN[0])]
+        tree = tree_of(heard)
+        self.compare(tree, "clean", ("json", "json0"))
+        self.assertEqual(len(tree.nodes), 13)
+
+    def test_clean_ones_without_a_carriage_return(self) -> None:
+        tree = tree_of([("swp1", one) for one in lldpd_heard.CLEAN]
+                       + [("swp2", lldpd_heard.CLEAN[0])])
+        for form in ("plain", "keyvalue"):
+            theirs = AGE.sub("", lldpd_heard.sample("clean", form).decode()).replace("\r", "\\x0d")
+            if form == "plain":
+                theirs = theirs.replace("\ty", "y").replace("\ttab", "\\x09tab")
+            ours = re.sub(r"[0-9]+ days, [0-9:]{8}", "", FORMS[form](tree))
+            self.assertEqual(ours.split("\n"), theirs.split("\n")[:-1])
+
+    def test_nobody(self) -> None:
+        self.compare(tree_of([]), "none", ("plain", "keyvalue", "json", "json0"))
+
+    def test_odd_names(self) -> None:
+        self.compare(tree_of([("swp1", one) for one in lldpd_heard.ODD]), "odd", ("json0",))
+
+    def test_each_judged_frame(self) -> None:
+        text = (REPOSITORY / "python" / "tests" / "judged.json").read_text()
+        equal = 0
+        with Agent.start(PORTS, PROGRAM, receive_only=True) as agent:
+            for one in json.loads(text):
+                agent.tick(65535)
+                tree = neighbors(told_of(agent, [("swp1", bytes.fromhex(one["frame"]))]), None,
+                                 Depth.DETAILS)
+                ours = self.compared(flat(whole(tree.nodes[0])))
+                self.assertEqual(ours, self.compared(map(tuple, one["lldpcli"])), one["name"])
+                equal += len(ours)
+        self.assertGreater(equal, 5000)
+
+    def test_what_lldpcli_names_otherwise(self) -> None:
+        for octets, source, kind in (("070104" "12" "00ff00c8", "Primary power source", None),
+                                     ("070104" "22" "00ff00c8", "Backup source", None),
+                                     ("060104" "52" "00ff00c8", "PSE", None),
+                                     ("060104" "72" "00ff00c8", "PSE + Local", None),
+                                     ("060104" "5200ff00c8" "0064006500660067" "0000" "02" "03e7"
+                                      "00" "000000", "PSE", "Type 4 PSE")):
+            power = tlv(127, bytes.fromhex("00120f02" + octets))
+            octets_of = frame(b"\x04\x02\0\0\0\0\1", b"\x05p1", 120, power)
+            told = dict(flat(whole(tree_of([("swp1", octets_of)]).nodes[0])))
+            self.assertEqual([told[SLIPS[0]], told.get(SLIPS[1])], [source, kind])
+
+    def compared(self, pairs: Iterable[Tuple[str, object]]) -> List[Tuple[str, object]]:
+        """The keys and values of organizationally specific TLVs, in their order."""
+        return [pair for pair in pairs if pair[0].startswith(PARTS) and pair[0] not in SLIPS]
+
+
+class Texts(unittest.TestCase):
+    """Names with each octet, and with some that act on a reader."""
+
+    def forms_of(self, name: bytes) -> Dict[str, str]:
+        """The forms of a neighbor with a name."""
+        octets = frame(b"\x04\x02\0\0\0\0\1", b"\x05p1", 120, tlv(5, name), tlv(6, name))
+        tree = tree_of([("swp1", octets)])
+        return {form: made(tree) for form, made in FORMS.items()}
+
+    def test_each_octet(self) -> None:
+        frames = [("swp1" if number < 128 else "swp2",
+                   frame(b"\x04\x02\0\0\0\1" + bytes([number]), b"\x05p1", 120,
+                         tlv(5, b"<" + bytes([number]) + b">")))
+                  for number in range(1, 256)]
+        tree = tree_of(frames)
+        self.assertEqual(len(tree.nodes), 255)
+        names = [next(iter(next(iter(one.values()))["chassis"]))
+                 for one in json.loads(FORMS["json"](tree))["lldp"]["interface"]]
+        wanted = [f"<{chr(number)}>" if number < 128 else "<\ufffd>" for number in range(1, 256)]
+        self.assertEqual(names, wanted)
+        json.loads(FORMS["json0"](tree))
+        for form in ("plain", "keyvalue"):
+            FORMS[form](tree).encode("utf-8")  # no surrogate is left
+        lines = FORMS["keyvalue"](tree).splitlines()
+        self.assertEqual(len(lines), 255 * 7)
+        self.assertTrue(all(line.startswith("lldp.swp") for line in lines))
+
+    def test_nobody_forges_a_line(self) -> None:
+        forged = b"x\nlldp.swp1.port.ttl=1\rlldp.swp1.rid=9\xe2\x80\xa8lldp.swp1.via=\x85\x1b[2J"
+        told = self.forms_of(forged)
+        shown = r"x lldp.swp1.port.ttl=1\x0dlldp.swp1.rid=9\xe2\x80\xa8lldp.swp1.via=\x85\x1b[2J"
+        self.assertIn(f"lldp.swp1.chassis.name={shown}\n", told["keyvalue"])
+        self.assertEqual(len(told["keyvalue"].splitlines()), 8)
+        self.assertTrue(told["plain"].isascii() and "\x1b" not in told["plain"])
+        self.assertIn("\n" + " " * 18 + "lldp.swp1.port.ttl=1", told["plain"])
+
+    def test_a_name_that_json_has_for_something_else(self) -> None:
+        for name in ("id", "name", "value", "on", 'a"b\\', "\u00e9\U0001f600"):
+            told = json.loads(self.forms_of(name.encode())["json"])
+            self.assertEqual([*told["lldp"]["interface"]["swp1"]["chassis"]], [name])
+
+    def test_a_text_ends_at_a_nul(self) -> None:
+        told = self.forms_of(b"a\0b")["keyvalue"]
+        self.assertIn("lldp.swp1.chassis.name=a\n", told)
+
+
+class Numbers(unittest.TestCase):
+    """Times and coordinates."""
+
+    def test_ages(self) -> None:
+        self.assertEqual([age(seconds) for seconds in (0, 59, 86399, 86400, 180000)],
+                         ["0 day, 00:00:00", "0 day, 00:00:59", "0 day, 23:59:59",
+                          "1 day, 00:00:00", "2 days, 02:00:00"])
+
+    def test_coordinates_as_lldpcli_had_them(self) -> None:
+        for value, resolution, text in (
+                (2297118717, 34, "68.4594725"), (2388985412, 30, "71.197313"),
+                (-659250985, 20, "19.647"), (2271165830, 15, "67.6"), (-2744885935, 9, "81.80"),
+                (936189790, 0, "27.90"), (0, 34, "0"), (1, 34, "0.0000000"), (1 << 25, 34, "1")):
+            self.assertEqual(fixed(value, 25, resolution, 9), text)
+        for value, resolution, text in ((1006256, 30, "3930.68"), (1847704, 25, "7217.0"),
+                                        (-833690, 20, "3256.601562"), (-128, 30, "0.50")):
+            self.assertEqual(fixed(value, 8, resolution, 22), text)
+
+
+class Commands(unittest.TestCase):
+    """The words that are taken."""
+
+    def test_of_lldpcli(self) -> None:
+        for words, wanted in (
+                ("show neighbors", Question("neighbors", Depth.NORMAL, None)),
+                ("sh neigh det", Question("neighbors", Depth.DETAILS, None)),
+                ("show neighbors ports a,b summary", Question("neighbors", Depth.SUMMARY,
+                                                              ["a", "b"])),
+                ("show neighbors hidden details", Question("neighbors", Depth.DETAILS, None)),
+                ("show interfaces ports a", Question("interfaces", Depth.NORMAL, ["a"])),
+                ("show chassis summary", Question("chassis", Depth.SUMMARY, None)),
+                ("show statistics summary ports a", Question("statistics", Depth.SUMMARY, ["a"]))):
+            self.assertEqual(of_lldpcli(words.split()), wanted)
+
+    def test_of_lldpctl(self) -> None:
+        self.assertEqual(of_lldpctl([]), Question("neighbors", Depth.DETAILS, None))
+        self.assertEqual(of_lldpctl(["a", "b,c"]),
+                         Question("neighbors", Depth.DETAILS, ["a", "b", "c"]))
+        self.assertEqual(of_lldpctl(["show", "chassis"]), Question("chassis", Depth.NORMAL, None))
+
+    def test_what_there_is_not(self) -> None:
+        for words in ("", "configure", "watch", "show", "show configuration", "show bogus",
+                      "show neighbors details summary", "show neighbors ports", "show chassis ports a",
+                      "show statistics details", "show neighbors ports a ports b", "s x"):
+            with self.assertRaises(Refused, msg=words):
+                of_lldpcli(words.split())
+
+
+if __name__ == "__main__":
+    unittest.main()

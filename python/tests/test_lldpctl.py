@@ -1,0 +1,126 @@
+"""lldpctl as a program, against a control socket with the real agent behind it."""
+
+from __future__ import annotations
+
+import json
+import subprocess
+import unittest
+
+from served import BRIDGE_LINES, REPOSITORY, Served, numbered, tlv
+
+LLDPCTL, LLDPCLI = str(REPOSITORY / "bin" / "lldpctl"), str(REPOSITORY / "bin" / "lldpcli")
+CHASSIS = "mac=02:00:00:00:00:07"
+
+
+class Program(unittest.TestCase):
+    """With a bridge's socket, and a neighbor at the second of two ports."""
+
+    def setUp(self) -> None:
+        self.served = Served(mac="02:00:00:00:00:99", hostname="here", management="192.0.2.1")
+        self.addCleanup(self.served.close)
+        self.served.bridge_lines = BRIDGE_LINES + [
+            f"bridge.eth1.since.1=2020-01-01T00:00:00Z {CHASSIS} ifname=p7".encode(),
+            f"bridge.chassis.12={CHASSIS}".encode()]
+        vlan = tlv(127, bytes.fromhex("0080c2010078"))
+        self.served.frame("eth1", numbered(7, 120, tlv(5, b"there"), vlan))
+
+    def run_it(self, program: str, *words: str, status: int = 0, said: str = "") -> str:
+        """What it prints; its status and what it says are looked at."""
+        told = subprocess.run([program, "-u", self.served.path, *words], check=False,
+                              capture_output=True, text=True)
+        name = program.rpartition("/")[2]
+        self.assertEqual((told.stderr, told.returncode), (said and f"{name}: {said}\n", status))
+        return told.stdout
+
+
+class Answers(Program):
+    """Questions, and what is printed."""
+
+    def test_alone_it_prints_neighbors_in_detail(self) -> None:
+        lines = self.run_it(LLDPCTL).splitlines()
+        self.assertRegex(lines[3], r"^Interface:    eth1, via: LLDP, RID: 12, Time: \d{4} days, ")
+        self.assertIn("  VLAN:         120, pvid: yes", lines)
+        self.assertEqual(self.run_it(LLDPCTL, "eth1").splitlines()[4:], lines[4:])
+        self.assertEqual(len(self.run_it(LLDPCTL, "eth0").splitlines()), 3)
+
+    def test_keys_and_values(self) -> None:
+        lines = self.run_it(LLDPCTL, "-f", "keyvalue").splitlines()
+        self.assertRegex(lines.pop(2), r"^lldp\.eth1\.age=\d{4} days, \d\d:\d\d:\d\d$")
+        self.assertEqual(lines, [
+            "lldp.eth1.via=LLDP", "lldp.eth1.rid=12", "lldp.eth1.chassis.mac=02:00:00:00:00:07",
+            "lldp.eth1.chassis.name=there", "lldp.eth1.port.ifname=p7", "lldp.eth1.port.ttl=120",
+            "lldp.eth1.vlan.vlan-id=120", "lldp.eth1.vlan.pvid=yes"])
+
+    def test_under_the_name_of_lldpcli(self) -> None:
+        words = ("show", "neigh", "sum", "-f", "json")  # options may stand behind
+        self.assertEqual(json.loads(self.run_it(LLDPCLI, *words)), {"lldp": {"interface": {"eth1": {
+            "via": "LLDP", "chassis": {"there": {"id": {"type": "mac",
+                                                        "value": "02:00:00:00:00:07"}}},
+            "port": {"id": {"type": "ifname", "value": "p7"}, "ttl": "120"}}}}})
+        self.assertEqual(self.run_it(LLDPCTL, "show", "neighbors", "summary", "-f", "json"),
+                         self.run_it(LLDPCLI, *words))
+
+    def test_this_host(self) -> None:
+        told = self.run_it(LLDPCLI, "-f", "keyvalue", "show", "interfaces", "ports", "eth0")
+        self.assertEqual(told.splitlines(), [
+            "lldp.eth0.status=RX only", "lldp.eth0.chassis.mac=02:00:00:00:00:99",
+            "lldp.eth0.chassis.name=here", "lldp.eth0.chassis.descr=lldpa",
+            "lldp.eth0.chassis.mgmt-ip=192.0.2.1",
+            "lldp.eth0.chassis.Station.enabled=on", "lldp.eth0.port.ifname=eth0",
+            "lldp.eth0.port.descr=eth0", "lldp.eth0.ttl.ttl=121"])
+        told = self.run_it(LLDPCLI, "show", "chassis", "summary")
+        self.assertEqual(told.splitlines()[3:6], [
+            "Chassis:     ", "  ChassisID:    mac 02:00:00:00:00:99", "  SysName:      here"])
+
+    def test_counters(self) -> None:
+        told = self.run_it(LLDPCLI, "show", "statistics").splitlines()
+        self.assertEqual([line for line in told if "Received" in line],
+                         ["  Received:     0", "  Received:     1"])
+        told = self.run_it(LLDPCLI, "show", "statistics", "summary", "-f", "keyvalue").splitlines()
+        self.assertEqual(told, ["lldp.summary.tx.tx=0", "lldp.summary.rx.rx=1",
+                                "lldp.summary.rx_discarded_cnt.rx_discarded_cnt=0",
+                                "lldp.summary.rx_unrecognized_cnt.rx_unrecognized_cnt=1",
+                                "lldp.summary.ageout_cnt.ageout_cnt=0"])
+
+    def test_since_when_may_be_unknown(self) -> None:
+        self.served.bridge_lines = BRIDGE_LINES
+        lines = self.run_it(LLDPCTL, "-f", "keyvalue").splitlines()
+        self.assertEqual(lines[:2], ["lldp.eth1.via=LLDP",
+                                     "lldp.eth1.chassis.mac=02:00:00:00:00:07"])
+
+
+class Refusals(Program):
+    """What it does not have: status 1 and a line."""
+
+    def test_words(self) -> None:
+        shows = "neighbors, interfaces, chassis, statistics"
+        for words, said in (
+                (["show", "bogus"], f"unknown word: bogus ({shows})"),
+                (["show"], f"show what: {shows}"),
+                (["watch"], "unknown word: watch (show)"),
+                ([], "no command: show neighbors, interfaces, chassis or statistics"),
+                (["-f", "xml"], "unknown form: xml (plain, keyvalue, json, json0)"),
+                (["-x"], "option -x not recognized")):
+            self.assertEqual(self.run_it(LLDPCLI, *words, status=1, said=said), "")
+
+    def test_ports_that_are_not_there(self) -> None:
+        told = self.run_it(LLDPCTL, "eth1", "eth9", "-f", "keyvalue", status=1,
+                           said="no such port: eth9")
+        self.assertIn("lldp.eth1.chassis.name=there\n", told)
+
+    def test_nobody_answers(self) -> None:
+        self.served.path += ".none"
+        told = subprocess.run([LLDPCTL, "-u", self.served.path], check=False, capture_output=True,
+                              text=True)
+        self.assertEqual((told.returncode, told.stdout, told.stderr), (
+            1, "", f"lldpctl: nobody answers at {self.served.path}: is lldpa-live running?\n"))
+        self.served.path = self.served.path[:-len(".none")]
+
+    def test_help(self) -> None:
+        for program in (LLDPCTL, LLDPCLI):
+            told = self.run_it(program, "-h")
+            self.assertTrue(told.startswith(f"usage: {program.rpartition('/')[2]} "))
+
+
+if __name__ == "__main__":
+    unittest.main()

@@ -1,0 +1,140 @@
+"""The package as pip installs it, and its programs as modules."""
+
+from __future__ import annotations
+
+import os
+import re
+import shutil
+import subprocess
+import sys
+import tempfile
+import unittest
+from pathlib import Path
+from typing import List
+
+import lldpa
+from served import PROGRAM, REPOSITORY
+
+PROGRAMS = ("lldpa-audit", "lldpa-capture", "lldpa-ctl", "lldpa-live")
+TYPED = """\
+from typing import List, Optional
+
+from lldpa import Agent, Neighbor
+from lldpa.control import Client
+from lldpa.organizational import said_by
+
+
+def names(ports: List[str]) -> List[Optional[str]]:
+    with Agent.start(ports, receive_only=True) as agent:
+        neighbors: List[Neighbor] = agent.neighbors()
+        return [one.name for one in neighbors if said_by(one.org).pvid == 120]
+
+
+def lines() -> List[str]:
+    with Client() as client:
+        return client.ask("show neighbors")
+"""
+FALSE = "from lldpa import Agent\nnumber: int = Agent.start(['eth0']).neighbors()\n"
+
+
+def without_network() -> List[str]:
+    """What lets a command run without a network, where that is able."""
+    able = os.geteuid() == 0 and shutil.which("unshare")
+    return ["unshare", "-n"] if able else []
+
+
+class Installed(unittest.TestCase):
+    """In a fresh environment, into which pip installs it without a network."""
+
+    folder: Path
+    said: str
+
+    @classmethod
+    def setUpClass(cls) -> None:
+        cls.folder = Path(tempfile.mkdtemp())
+        cls.addClassCleanup(shutil.rmtree, cls.folder)
+        made = subprocess.run([sys.executable, "-m", "venv", str(cls.folder / "venv")],
+                              capture_output=True, text=True, check=False)
+        if made.returncode:
+            raise unittest.SkipTest(f"no environment with pip: {made.stdout.splitlines()[:1]}")
+        shutil.copytree(REPOSITORY / "python", cls.folder / "python",
+                        ignore=shutil.ignore_patterns("tests", "__pycache__"))
+        plain = {key: value for key, value in os.environ.items() if not key.startswith("PIP_")}
+        plain["PIP_NO_INDEX"] = "1"  # also where the network cannot be taken away
+        done = subprocess.run(
+            [*without_network(), str(cls.bin("pip")), "install", "--no-cache-dir", "./python"],
+            cwd=cls.folder, env=plain, capture_output=True, text=True, check=False)
+        cls.said = done.stdout + done.stderr
+        if done.returncode:
+            raise AssertionError(cls.said)
+
+    @classmethod
+    def bin(cls, name: str) -> Path:
+        """A program of the environment."""
+        return cls.folder / "venv" / "bin" / name
+
+    def run_it(self, *words: str) -> str:
+        """What a program of the environment prints."""
+        return subprocess.run([str(self.bin(words[0])), *words[1:]], cwd=self.folder,
+                              capture_output=True, text=True, check=True).stdout
+
+    def test_its_programs(self) -> None:
+        for name in PROGRAMS:
+            self.assertIn(f"usage: {name} ", self.run_it(name, "--help"))
+        self.assertFalse(self.bin("lldpctl").exists())  # which is lldpd's
+
+    def test_it_is_imported(self) -> None:
+        told = self.run_it("python", "-c", "import lldpa; print(lldpa.__file__, lldpa.__version__)")
+        path, version = told.split()
+        self.assertTrue(path.startswith(str(self.folder / "venv")))
+        self.assertEqual(version, lldpa.__version__)
+        self.assertIn(f"lldpa-{version}", self.said)
+        self.assertEqual(re.findall(r"^Version: (.*)$", self.run_it("pip", "show", "lldpa"), re.M),
+                         [version])
+
+    def test_all_modules_are_there(self) -> None:
+        library = next((self.folder / "venv" / "lib").glob("python3*")) / "site-packages" / "lldpa"
+        ours = REPOSITORY / "python" / "lldpa"
+        self.assertEqual({path.relative_to(library) for path in library.rglob("*.py")},
+                         {path.relative_to(ours) for path in ours.rglob("*.py")})
+        self.assertTrue((library / "py.typed").exists())
+
+    @unittest.skipUnless(shutil.which("mypy"), "there is no mypy")
+    def test_its_types_are_seen(self) -> None:
+        for text, status in ((TYPED, 0), (FALSE, 1)):
+            (self.folder / "typed.py").write_text(text)
+            done = subprocess.run(
+                ["mypy", "--strict", "--python-executable", str(self.bin("python")),
+                 "--cache-dir", str(self.folder / "types"), "typed.py"],
+                cwd=self.folder, capture_output=True, text=True, check=False)
+            self.assertEqual(done.returncode, status, done.stdout + done.stderr)
+
+
+class Modules(unittest.TestCase):
+    """The package where it stands."""
+
+    def run_module(self, *words: str) -> str:
+        """What a module prints."""
+        return subprocess.run([sys.executable, "-m", *words], cwd=REPOSITORY / "python",
+                              capture_output=True, text=True, check=True).stdout
+
+    def test_each_program_prints_help(self) -> None:
+        for name in (*PROGRAMS, "lldpctl"):
+            module = name.rpartition("-")[2]
+            told = self.run_module(f"lldpa.commands.{module}", "--help")
+            self.assertTrue(told.startswith(f"usage: {name} "), told)
+
+    def test_the_package_tells_of_itself(self) -> None:
+        told = self.run_module("lldpa")
+        self.assertTrue(told.startswith(f"lldpa {lldpa.__version__}, "))
+        for name in (REPOSITORY / "python" / "lldpa" / "commands").glob("[a-z]*.py"):
+            if not name.stem.endswith("words"):
+                self.assertIn(f"lldpa.commands.{name.stem} ", told)
+
+    def test_its_version_is_the_program_s(self) -> None:
+        told = subprocess.run([PROGRAM, "--version"], capture_output=True, text=True, check=True)
+        self.assertEqual(told.stdout, f"lldpa {lldpa.__version__}\n")
+
+
+if __name__ == "__main__":
+    unittest.main()
