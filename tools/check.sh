@@ -315,6 +315,7 @@ part "numbers of the README" python3 tools/numbers.py --check
 part "memory and accesses, by the sources" python3 tools/check-memory.py
 part "what is tried by name" python3 tools/check-named.py
 part "wrong bodies that the gate does not try" python3 tools/wrong-bodies.py --check
+part "wrong bodies that only tests see" python3 tools/seen-by-tests.py --check
 manual_pages
 service
 picture

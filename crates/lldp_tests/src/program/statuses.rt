@@ -97,6 +97,26 @@ fn no_words_and_no_listen(rt: HostRuntime) -> Result<(), Fail> {
     Ok(())
 }
 
+/// What is wrong with the words is told in all its lines, and nothing is read or written.
+#[test]
+fn words_with_a_fault(rt: HostRuntime) -> Result<(), Fail> {
+    let told = "error: unexpected argument '--no-such' found
+
+  tip: to pass '--no-such' as a value, use '-- --no-such'
+
+Usage: lldpa [OPTIONS] PORT...
+
+For more information, try '--help'.
+";
+    let mut reader = Drip::whole(b"show neighbors\n");
+    let mut writer = Fuse::endless();
+    let words = "lldpa --no-such eth0";
+    expect_status(&rt, &OFFLINE, words, &mut reader, &mut writer, (2, told))?;
+    assert_eq!(rt; reader.calls(), 0);
+    assert_eq!(rt; writer.taken(), b"".as_slice());
+    Ok(())
+}
+
 /// The messages of faults are the lines that the program tells.
 #[test]
 fn texts_of_faults(rt: HostRuntime) -> Result<(), Fail> {
