@@ -1,12 +1,14 @@
 #!/usr/bin/env python3
-"""Puts lldpa-live and a receiving lldpd on the same eight links for some minutes, and compares each minute.
+"""Puts lldpa-live and a receiving lldpd on the same eight links, and compares each minute.
 
-    tools/compare-live.py [--minutes 10] [--program PATH] [--python PATH]
+    tools/compare-live.py [--minutes 10] [--program PATH] [--python PATH] [--log]
 
-At the other ends an lldpd sends, and neighbors of other names come, are refreshed, change, take leave and age out; links go
-down and up. Each minute lldpcli and lldpa-live must show the same neighbors with the same texts, and the seconds that
-lldpa was told must be those of the clock. At the end the bridge may have taken 2 seconds of processor time for ten
-minutes, and 20 MB. It needs Linux, root and Debian's packages lldpd and iproute2. The last line is `N passed, M failed`.
+At the other ends an lldpd sends, and neighbors of other names come, are refreshed, change, take
+leave and age out; links go down and up. Each minute lldpcli and lldpa-live must show the same
+neighbors with the same texts, and the seconds that lldpa was told must be those of the clock. At
+the end the bridge, with the process of its log if it keeps one, may have taken 2 seconds of
+processor time for ten minutes, and the bridge 20 MB. It needs Linux, root and Debian's packages
+lldpd and iproute2. The last line is `N passed, M failed`.
 """
 import argparse
 import os
@@ -52,27 +54,30 @@ def make_links():
     for name in (HERE, THERE):
         ip("netns", "add", name)
     for i in range(LINKS):
-        ip("link", "add", f"eth{i}", "netns", HERE, "type", "veth", "peer", "name", f"peer{i}", "netns", THERE)
+        ip("link", "add", f"eth{i}", "netns", HERE, "type", "veth",
+           "peer", "name", f"peer{i}", "netns", THERE)
         ip("-n", HERE, "link", "set", f"eth{i}", "up")
         ip("-n", THERE, "link", "set", f"peer{i}", "up")
 
 
 def start(namespace, *words, **streams):
     """Starts a program in a namespace."""
-    return subprocess.Popen(["ip", "netns", "exec", namespace, *words], stdin=subprocess.DEVNULL, **streams)
+    return subprocess.Popen(["ip", "netns", "exec", namespace, *words], stdin=subprocess.DEVNULL,
+                            **streams)
 
 
 def lldpcli(socket, *words):
     """What lldpcli writes."""
-    run = subprocess.run(["lldpcli", "-u", socket, "-f", "keyvalue", *words], capture_output=True, text=True)
+    run = subprocess.run(["lldpcli", "-u", socket, "-f", "keyvalue", *words], capture_output=True,
+                         text=True)
     return run.stdout
 
 
 def start_lldpd(namespace, room, *words):
     """Starts an lldpd, and gives it and its socket once it answers."""
     socket = os.path.join(room, namespace)
-    process = start(namespace, "lldpd", "-d", "-u", socket, "-O", "/dev/null", *words, stdout=subprocess.DEVNULL,
-                    stderr=subprocess.DEVNULL)
+    process = start(namespace, "lldpd", "-d", "-u", socket, "-O", "/dev/null", *words,
+                    stdout=subprocess.DEVNULL, stderr=subprocess.DEVNULL)
     while not lldpcli(socket, "show", "configuration"):
         time.sleep(0.2)
     return process, socket
@@ -86,15 +91,19 @@ def tlv(kind, octets):
 def send(link, name, ttl, descr=b"a neighbor"):
     """Has a neighbor of that name send a frame at the other end of a link."""
     octets = bytes.fromhex("0180c200000e02005e00530a88cc")
-    octets += tlv(1, b"\7" + name) + tlv(2, b"\5" + b"port-of-" + name) + tlv(3, ttl.to_bytes(2, "big"))
+    octets += tlv(1, b"\7" + name) + tlv(2, b"\5" + b"port-of-" + name)
+    octets += tlv(3, ttl.to_bytes(2, "big"))
     octets += tlv(5, name) + tlv(4, descr) + tlv(0, b"")
-    subprocess.run(["ip", "netns", "exec", THERE, "python3", "-c", SENDER, f"peer{link}", octets.hex()], check=True)
+    words = ["python3", "-c", SENDER, f"peer{link}", octets.hex()]
+    subprocess.run(["ip", "netns", "exec", THERE, *words], check=True)
 
 
 def of_lldpd(text):
-    """The neighbors that lldpcli shows: port, chassis, port ID, time to live, name, description of the port."""
+    """The neighbors that lldpcli shows: port, chassis, port ID, time to live, name, description of
+    the port."""
     found, begun = set(), {}
-    keys = re.compile(r"lldp\.([^.]+)\.(rid|(?:chassis|port)\.(?:mac|local|ifname|name|descr|ttl))=(.*)")
+    keys = re.compile(r"lldp\.([^.]+)\."
+                      r"(rid|(?:chassis|port)\.(?:mac|local|ifname|name|descr|ttl))=(.*)")
     for line in text.splitlines() + ["lldp.end.rid=0"]:
         part = keys.fullmatch(line)
         if not part:
@@ -110,13 +119,15 @@ def neighbor(keys):
     """One of lldpcli's neighbors."""
     chassis = keys.get("chassis.mac") or keys.get("chassis.local")
     port = keys.get("port.mac") or keys.get("port.ifname") or keys.get("port.local")
-    return keys["on"], chassis, port, keys.get("port.ttl"), keys.get("chassis.name"), keys.get("port.descr")
+    return (keys["on"], chassis, port, keys.get("port.ttl"), keys.get("chassis.name"),
+            keys.get("port.descr"))
 
 
 def of_lldpa(client):
     """The same of lldpa's."""
     shown = read_show(client.ask("show neighbors")).neighbors
-    return {(one.port, one.chassis.text, one.port_id.text, str(one.ttl), one.name, one.port_descr) for one in shown}
+    return {(one.port, one.chassis.text, one.port_id.text, str(one.ttl), one.name, one.port_descr)
+            for one in shown}
 
 
 def compare(minute, socket, client):
@@ -127,7 +138,8 @@ def compare(minute, socket, client):
             break
         time.sleep(0.1)
     print(f"minute {minute}: lldpcli shows {len(theirs)} neighbors, lldpa {len(ours)}", flush=True)
-    judge(theirs == ours, f"minute {minute}: lldpd alone {theirs - ours}, lldpa alone {ours - theirs}")
+    judge(theirs == ours,
+          f"minute {minute}: lldpd alone {theirs - ours}, lldpa alone {ours - theirs}")
 
 
 def happen(second):
@@ -163,8 +175,10 @@ def run(given, room, processes):
     processes.append(sender)
     receiver, here = start_lldpd(HERE, room, "-r", "-I", "eth*")
     processes.append(receiver)
-    bridge = start(HERE, given.python, LIVE, "--program", given.program, "--stay", "--forget-on-down", "--control", control,
-                   *ports, "--", "--receive-only", stdout=subprocess.DEVNULL)
+    log = ["--log", os.path.join(room, "log")] if given.log else []
+    bridge = start(HERE, given.python, LIVE, "--program", given.program, "--stay",
+                   "--forget-on-down", "--control", control, *log, *ports, "--", "--receive-only",
+                   stdout=subprocess.DEVNULL)
     processes.append(bridge)
     while not os.path.exists(control):
         time.sleep(0.05)
@@ -184,21 +198,34 @@ def run(given, room, processes):
 
 
 def judge_resources(given, pid):
-    """What the bridge took, and its agent."""
+    """What the bridge took, the process of its log, and its agent."""
     seconds, greatest = resources(pid)
     print(f"the bridge: {seconds:.2f} s of processor time, at most {greatest} KiB")
-    judge(seconds <= MOST_SECONDS * given.minutes / 10 + 0.3, "it took too much processor time")
     judge(greatest <= MOST_KIB, "it took too much memory")
     for child in open(f"/proc/{pid}/task/{pid}/children").read().split():
-        print("its agent: {:.2f} s, at most {} KiB".format(*resources(child)))
+        took, most = resources(child)
+        is_log = words_of(child) == words_of(pid)
+        name = "the process of its log" if is_log else "its agent"
+        print(f"{name}: {took:.2f} s, at most {most} KiB")
+        seconds += took if is_log else 0.0
+    judge(seconds <= MOST_SECONDS * given.minutes / 10 + 0.3, "it took too much processor time")
+
+
+def words_of(pid):
+    """The words that a process was started with, which one that was forked shares."""
+    return open(f"/proc/{pid}/cmdline", "rb").read()
 
 
 def main():
     """Runs the comparison, and cleans up."""
-    parser = argparse.ArgumentParser(description=__doc__, formatter_class=argparse.RawDescriptionHelpFormatter)
+    parser = argparse.ArgumentParser(description=__doc__,
+                                     formatter_class=argparse.RawDescriptionHelpFormatter)
     parser.add_argument("--minutes", type=int, default=10)
-    parser.add_argument("--program", default=os.path.join(TOOLS, "..", "crates", "lldpa", "out", "lldpa"))
-    parser.add_argument("--python", default="/usr/bin/python3", help="the interpreter of lldpa-live")
+    parser.add_argument("--program",
+                        default=os.path.join(TOOLS, "..", "crates", "lldpa", "out", "lldpa"))
+    parser.add_argument("--log", action="store_true", help="let the bridge keep a log")
+    parser.add_argument("--python", default="/usr/bin/python3",
+                        help="the interpreter of lldpa-live")
     given = parser.parse_args()
     processes = []
     os.makedirs("/run/lldpd", exist_ok=True)

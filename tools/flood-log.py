@@ -3,11 +3,12 @@
 
     tools/flood-log.py [--frames 3000000] [--most 2] [--keep 20]
 
-So many frames of 200 neighbors, as long as they may be, come in at one port as fast as it goes; at another one five
-neighbors come, change and age out. The log's files have `most` megabytes each and `keep` together. At ten moments the
-bridge is asked for its tables, and answers in time; each moment's tables must be those that a replay of its one file
-alone gives. The folder must never have more than it may, and no frame of the quiet port may be dropped. It needs Linux
-and root. LLDPA names the program. The last line is `N passed, M failed`.
+So many frames of 200 neighbors, as long as they may be, come in at one port as fast as it goes; at
+another one five neighbors come, change and age out. The log's files have `most` megabytes each and
+`keep` together. At ten moments the bridge is asked for its tables, and answers in time; each
+moment's tables must be those that a replay of its one file alone gives. The folder must never have
+more than it may, and no frame of the quiet port may be dropped. It needs Linux and root. LLDPA
+names the program. The last line is `N passed, M failed`.
 """
 import argparse
 import pathlib
@@ -23,7 +24,8 @@ from wires import Peer, Wires, flood  # noqa: E402
 
 LATE = 1.0
 MOMENTS = 10
-FRAMES = [numbered(number, 600, tlv(5, b"n%d" % number)).ljust(1514, b"\0") for number in range(200)]
+FRAMES = [numbered(number, 600, tlv(5, b"n%d" % number)).ljust(1514, b"\0")
+          for number in range(200)]
 counts = {True: 0, False: 0}
 
 
@@ -50,15 +52,16 @@ def take(live, peer, moments, folder, keep, number, sent):
     took = time.monotonic() - began
     size = sum(path.stat().st_size for path in folder.iterdir())
     judge(took < LATE, f"moment {number + 1}: answered in {took:.3f} s")
-    judge(size <= keep * 1_000_000, f"moment {number + 1}: {size} octets in {len(list(folder.iterdir()))} files")
+    files = len(list(folder.iterdir()))
+    judge(size <= keep * 1_000_000, f"moment {number + 1}: {size} octets in {files} files")
     return sent
 
 
 def compare(given, wires):
     """Floods and compares."""
     folder = pathlib.Path(wires.folder, "log")
-    live = Live(wires, "--log", str(folder), "--log-most", str(given.most), "--log-keep", str(given.keep),
-                "eth0", "eth1", "--", "--receive-only")
+    live = Live(wires, "--log", str(folder), "--log-most", str(given.most),
+                "--log-keep", str(given.keep), "eth0", "eth1", "--", "--receive-only")
     peer = Peer(wires, "peer1")
     moments, sent = Moments(live), 0
     sender = flood(wires, "peer0", FRAMES, given.frames)
@@ -69,7 +72,8 @@ def compare(given, wires):
     while len(moments.answers) < MOMENTS:
         sent = take(live, peer, moments, folder, given.keep, len(moments.answers), sent)
     told = numbers(live)
-    for name in ("bridge.eth0.kernel-drops", "bridge.eth0.limit-drops", "lldp.eth0.received", "lldp.eth1.received"):
+    for name in ("bridge.eth0.kernel-drops", "bridge.eth0.limit-drops", "lldp.eth0.received",
+                 "lldp.eth1.received"):
         print(f"{name}={told[name]}")
     judge(told["lldp.eth1.received"] == sent, f"all {sent} frames of the quiet port came in")
     judge(told["bridge.log-lines-lost"] == 0, "no line of the log was lost")
@@ -81,7 +85,8 @@ def compare(given, wires):
 
 def main():
     """Runs the flood."""
-    parser = argparse.ArgumentParser(description=__doc__, formatter_class=argparse.RawDescriptionHelpFormatter)
+    parser = argparse.ArgumentParser(description=__doc__,
+                                     formatter_class=argparse.RawDescriptionHelpFormatter)
     parser.add_argument("--frames", type=int, default=3_000_000)
     parser.add_argument("--most", type=int, default=2)
     parser.add_argument("--keep", type=int, default=20)

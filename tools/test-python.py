@@ -1,11 +1,12 @@
 #!/usr/bin/env python3
-"""Runs the tests of python/tests, as `python3 -m unittest discover python/tests` does, and counts them. Modules run
-beside one another, since most of their time is waiting, but never more than there are processors.
+"""Runs the tests of python/tests, as `python3 -m unittest discover python/tests` does, and counts
+them. Modules run beside one another, since most of their time is waiting, but never more than there
+are processors.
 
     python3 tools/test-python.py [PROGRAM]
 
-PROGRAM is the lldpa that they run. What is skipped is told with its reason, and not counted. The last line is
-`N passed, M failed`.
+PROGRAM is the lldpa that they run. What is skipped is told with its reason, and not counted. The
+last line is `N passed, M failed`.
 """
 import concurrent.futures
 import io
@@ -32,8 +33,8 @@ class Ran(NamedTuple):
 
 
 def prepare():
-    """Lets a process import the tests. A shell lets what it runs in the background ignore SIGINT, and so would the
-    programs that are tested."""
+    """Lets a process import the tests. A shell lets what it runs in the background ignore SIGINT,
+    and so would the programs that are tested."""
     sys.dont_write_bytecode = True
     signal.signal(signal.SIGINT, signal.default_int_handler)
     sys.path.insert(0, str(TESTS))

@@ -1,14 +1,15 @@
 #!/usr/bin/env python3
-"""Lets a real Prometheus, with node_exporter's textfile collector, watch a bridge that is killed and comes back.
+"""Lets a real Prometheus watch a bridge that is killed and comes back.
 
     tools/try-prometheus.py [PROGRAM]
 
-In a network namespace of its own, a bridge runs on a link, `lldpa-ctl metrics --output` writes a file each second,
-node_exporter reads it, and Prometheus has the rules of share/prometheus, as they are. Seen must be: the bridge up and
-no alert; LldpaDown when it was killed; none when it is back; LldpaMetricsOld when the file is no longer written. It
-takes two minutes, and is ended after five. It needs Linux, root and Debian's packages prometheus,
-prometheus-node-exporter and iproute2; PROGRAM is crates/lldpa/out/lldpa unless given. The last line is
-`N passed, M failed`; where something is missing it says so, and its status is 77.
+In a network namespace of its own, a bridge runs on a link, `lldpa-ctl metrics --output` writes a
+file each second, node_exporter's textfile collector reads it, and Prometheus has the rules of
+share/prometheus, as they are. Seen must be: the bridge up and no alert; LldpaDown when it was
+killed; none when it is back; LldpaMetricsOld when the file is no longer written. It takes two
+minutes, and is ended after five. It needs Linux, root and Debian's packages prometheus,
+prometheus-node-exporter and iproute2; PROGRAM is crates/lldpa/out/lldpa unless given. The last line
+is `N passed, M failed`; where something is missing it says so, and its status is 77.
 """
 import json
 import os
@@ -51,8 +52,9 @@ def check(what, seconds, holds):
 
 def asked(path, **words):
     """What Prometheus answers, None where it does not."""
+    address = f"http://{PROMETHEUS}/api/v1/{path}?{urllib.parse.urlencode(words)}"
     try:
-        with urllib.request.urlopen(f"http://{PROMETHEUS}/api/v1/{path}?{urllib.parse.urlencode(words)}", timeout=5) as file:
+        with urllib.request.urlopen(address, timeout=5) as file:
             return json.load(file)["data"]
     except OSError:
         return None
@@ -67,7 +69,9 @@ def values(expression):
 def firing():
     """The alerts that fire, None where Prometheus does not answer."""
     found = asked("alerts")
-    return None if found is None else {one["labels"]["alertname"] for one in found["alerts"] if one["state"] == "firing"}
+    if found is None:
+        return None
+    return {one["labels"]["alertname"] for one in found["alerts"] if one["state"] == "firing"}
 
 
 class Watched:
@@ -86,28 +90,33 @@ class Watched:
     def start(self, name, *words):
         """Starts a program, with what it says in a file."""
         with open(self.folder / f"{name}.said", "ab") as said:
-            self.running.append(subprocess.Popen(words, stdin=subprocess.DEVNULL, stdout=said, stderr=said))
+            self.running.append(subprocess.Popen(words, stdin=subprocess.DEVNULL, stdout=said,
+                                                 stderr=said))
         return self.running[-1]
 
     def start_bridge(self):
         """Starts the bridge, for the first time or anew."""
-        self.bridge = self.start("bridge", str(TOP / "bin" / "lldpa-live"), "--program", self.program, "--stay", "--control",
-                                 str(self.folder / "control"), "eth0")
+        self.bridge = self.start("bridge", str(TOP / "bin" / "lldpa-live"), "--program",
+                                 self.program, "--stay", "--control", str(self.folder / "control"),
+                                 "eth0")
 
     def start_all(self):
         """Starts all of it."""
         self.start_bridge()
         self.writing.start()
-        self.start("exporter", "prometheus-node-exporter", f"--web.listen-address={EXPORTER}", "--collector.disable-defaults",
-                   "--collector.textfile", f"--collector.textfile.directory={self.collected}")
+        self.start("exporter", "prometheus-node-exporter", f"--web.listen-address={EXPORTER}",
+                   "--collector.disable-defaults", "--collector.textfile",
+                   f"--collector.textfile.directory={self.collected}")
         configuration = self.folder / "prometheus.yml"
         configuration.write_text(CONFIGURATION)
-        self.start("prometheus", "prometheus", f"--config.file={configuration}", f"--web.listen-address={PROMETHEUS}",
+        self.start("prometheus", "prometheus", f"--config.file={configuration}",
+                   f"--web.listen-address={PROMETHEUS}",
                    f"--storage.tsdb.path={self.folder / 'series'}")
 
     def write(self):
         """Writes the metrics each second, as the timer does each half minute."""
-        words = [str(TOP / "bin" / "lldpa-ctl"), "--control", str(self.folder / "control"), "metrics", "--output", str(self.file)]
+        words = [str(TOP / "bin" / "lldpa-ctl"), "--control", str(self.folder / "control"),
+                 "metrics", "--output", str(self.file)]
         while not self.is_over.wait(1):
             subprocess.run(words, check=False, stderr=subprocess.DEVNULL)
 
@@ -134,7 +143,8 @@ def watch(watched):
     watched.bridge.send_signal(signal.SIGKILL)
     watched.bridge.wait()
     check("killed, it is seen down", 15, lambda: values("lldpa_up") == [0])
-    check("and nothing else of it is told", 1, lambda: values('count({__name__=~"lldpa_.*"})') == [1])
+    check("and nothing else of it is told", 1,
+          lambda: values('count({__name__=~"lldpa_.*"})') == [1])
     check("LldpaDown fires", 90, lambda: firing() == {"LldpaDown"})
     watched.start_bridge()
     check("started anew, it is seen up", 15, lambda: values("lldpa_up") == [1])
@@ -142,12 +152,14 @@ def watch(watched):
     watched.is_over.set()
     watched.writing.join()
     os.utime(watched.file, (time.time() - 301,) * 2)
-    check("LldpaMetricsOld fires when the file is no longer written", 15, lambda: firing() == {"LldpaMetricsOld"})
+    check("LldpaMetricsOld fires when the file is no longer written", 15,
+          lambda: firing() == {"LldpaMetricsOld"})
 
 
 def run(program):
     """All of it, in the namespace."""
-    for words in (["link", "set", "lo", "up"], ["link", "add", "eth0", "type", "veth", "peer", "name", "peer0"],
+    for words in (["link", "set", "lo", "up"],
+                  ["link", "add", "eth0", "type", "veth", "peer", "name", "peer0"],
                   ["link", "set", "eth0", "up"], ["link", "set", "peer0", "up"]):
         subprocess.run(["ip", *words], check=True)
     with tempfile.TemporaryDirectory() as folder:
@@ -171,11 +183,15 @@ def main():
         return run(sys.argv[2])
     missing = [name for name in NEEDED if shutil.which(name) is None]
     if os.geteuid() != 0 or missing:
-        print(f"skipped: {'there is no ' + ', '.join(missing) if missing else 'this is not root'}\n0 passed, 0 failed")
+        why = f"there is no {', '.join(missing)}" if missing else "this is not root"
+        print(f"skipped: {why}\n0 passed, 0 failed")
         return 77
-    program = os.path.realpath(sys.argv[1] if len(sys.argv) > 1 else TOP / "crates" / "lldpa" / "out" / "lldpa")
-    words = ["unshare", "--net", "--pid", "--fork", "--kill-child", "--mount-proc", sys.executable, os.path.realpath(__file__), INSIDE, program]
-    return subprocess.run(["timeout", "--kill-after=30", str(MOST_SECONDS), *words], check=False).returncode
+    built = TOP / "crates" / "lldpa" / "out" / "lldpa"
+    program = os.path.realpath(sys.argv[1] if len(sys.argv) > 1 else built)
+    limit = ["timeout", "--kill-after=30", str(MOST_SECONDS)]
+    inside = ["unshare", "--net", "--pid", "--fork", "--kill-child", "--mount-proc",
+              sys.executable, os.path.realpath(__file__), INSIDE, program]
+    return subprocess.run([*limit, *inside], check=False).returncode
 
 
 if __name__ == "__main__":

@@ -25,8 +25,8 @@ def first_word(line: bytes) -> bytes:
 
 
 def refusal(line: bytes, may_change: Callable[[], bool]) -> Optional[list[bytes]]:
-    """The answer to a client's line that nobody is asked: one that is too long, says nothing, is for
-    the bridge alone to tell, changes the agent and may not, or is none. None for all others."""
+    """The answer to a client's line that nobody is asked: one that is too long, says nothing, is
+    for the bridge alone to tell, changes the agent and may not, or is none. None for all others."""
     words = line.lstrip(b" \t")
     answer = refusal_to_all(line)
     if answer is not None:

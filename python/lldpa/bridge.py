@@ -56,6 +56,7 @@ class Bridge:
         self.sources = select.epoll()
         self.sources.register(links.socket, select.EPOLLIN)
         self.sources.register(ports.readable, select.EPOLLIN)
+        self.is_awaiting = False  # what comes in
         name.wake(self.sources)
 
     def begin(self, found: Iterable[News]) -> None:
@@ -85,14 +86,21 @@ class Bridge:
         """Waits until something comes in, a second ends, or the bridge is to stop."""
         loop = asyncio.get_running_loop()
         delay = 0.0 if self.ports.waiting else self.seconds.to_next()
-        loop.add_reader(self.sources.fileno(), self.woken.set)
+        if not self.is_awaiting:
+            self.is_awaiting = True
+            loop.add_reader(self.sources.fileno(), self.wake)
         timer = loop.call_later(delay, self.woken.set)
         try:
             await self.woken.wait()
         finally:
             self.woken.clear()
             timer.cancel()
-            loop.remove_reader(self.sources.fileno())
+
+    def wake(self) -> None:
+        """Something has come in, which is read at the next turn, and wakes nobody until then."""
+        asyncio.get_running_loop().remove_reader(self.sources.fileno())
+        self.is_awaiting = False
+        self.woken.set()
 
     async def turn(self, most: int = MOST_AT_ONCE) -> float:
         """Tells what has come in: frames by their stamps, and each second at its place among them.

@@ -14,6 +14,7 @@ import asyncio
 import contextlib
 import grp
 import socket
+import struct
 import time
 from typing import Awaitable, Callable, Optional
 
@@ -29,6 +30,7 @@ DEFAULT_PATH = "/run/lldpa/control"
 SECONDS_TO_READ = 10.0
 MOST_UNREAD = 64 * 1024 * 1024  # octets of all answers together that wait for their readers
 SECONDS_TO_ANSWER = 30.0
+TIMEVAL = struct.Struct("ll")  # seconds and microseconds
 
 Ask = Callable[[bytes], Awaitable["list[bytes]"]]
 
@@ -59,7 +61,7 @@ class Server:
         self.ask = ask
         self.group = None if group is None else number_of_group(group)
         self.listening: Optional[Listening] = None
-        self.accepting: Optional[asyncio.Future[None]] = None
+        self.pause: Optional[asyncio.TimerHandle] = None  # in which no client is taken
         self.places = Places()
         self.serving: set[asyncio.Future[None]] = set()
         self.unread: dict[asyncio.StreamWriter, int] = {}
@@ -77,28 +79,40 @@ class Server:
             self.bind()
         assert self.listening is not None
         self.asking = asyncio.Lock()
-        self.accepting = asyncio.ensure_future(self.accept(self.listening.socket))
+        self.await_clients()
 
     async def close(self) -> None:
         """Ends every connection at once, and lets go of the path."""
-        tasks = [*self.serving] if self.accepting is None else [self.accepting, *self.serving]
+        if self.pause is not None:
+            self.pause.cancel()
+        if self.listening is not None:
+            asyncio.get_running_loop().remove_reader(self.listening.socket)
+            self.listening.close()
+            self.listening = None
+        tasks = [*self.serving]
         for task in tasks:
             task.cancel()
         await asyncio.gather(*tasks, return_exceptions=True)
-        if self.listening is not None:
-            self.listening.close()
-        self.listening = self.accepting = None
 
-    async def accept(self, listener: socket.socket) -> None:
-        """Serves each client that comes in a task of its own, without end."""
-        loop = asyncio.get_running_loop()
-        while True:
-            try:
-                connection, _ = await loop.sock_accept(listener)
-            except OSError:  # too many files are open
-                await asyncio.sleep(1)
-                continue
-            self.take(connection)
+    def await_clients(self) -> None:
+        """Takes each client that comes from now on."""
+        if self.listening is not None:
+            asyncio.get_running_loop().add_reader(self.listening.socket, self.accept)
+
+    def accept(self) -> None:
+        """Takes a client that has come; while too many files are open, none for a second."""
+        assert self.listening is not None
+        try:
+            connection, _ = self.listening.socket.accept()
+        except BlockingIOError:  # it has gone again
+            return
+        except OSError:
+            loop = asyncio.get_running_loop()
+            loop.remove_reader(self.listening.socket)
+            self.pause = loop.call_later(1, self.await_clients)
+            return
+        connection.setblocking(False)
+        self.take(connection)
 
     def take(self, connection: socket.socket) -> None:
         """Gives a client its place, or tells it that there is none."""
@@ -108,6 +122,7 @@ class Server:
         self.serving.add(client.task)
         client.task.add_done_callback(self.serving.discard)
         client.task.add_done_callback(lambda _: self.places.leave(client))
+        client.task.add_done_callback(lambda _: connection.close())  # also if it never began
 
     async def serve(self, connection: socket.socket, peer: Peer, client: Place,
                     is_served: bool) -> None:
@@ -170,6 +185,20 @@ def number_of_group(name: str) -> int:
         raise LookupError(f"there is no group {name}") from None
 
 
+def connect(connection: socket.socket, path: str, seconds: float) -> None:
+    """Connects within so many seconds, which is also how long each answer may take. While others
+    wait for their connections too, and there is no room for one more, the kernel has it wait, which
+    it does only for a socket that blocks."""
+    whole, rest = divmod(seconds, 1)
+    patience = TIMEVAL.pack(int(whole), int(rest * 1_000_000))
+    connection.setsockopt(socket.SOL_SOCKET, socket.SO_SNDTIMEO, patience)
+    try:
+        connection.connect(path)
+    except BlockingIOError:
+        raise socket.timeout("timed out") from None
+    connection.settimeout(seconds)
+
+
 class Gone(ConnectionError):
     """The bridge ended the connection before its answer was whole."""
 
@@ -177,14 +206,13 @@ class Gone(ConnectionError):
 class Client:
     """A conversation with a bridge, one question after the other; it blocks.
 
-    Raises OSError where no bridge answers at this path.
+    Raises OSError where no bridge answers at this path, TimeoutError where it takes nobody in time.
     """
 
     def __init__(self, path: str = DEFAULT_PATH, seconds: float = SECONDS_TO_ANSWER) -> None:
         self.connection = socket.socket(socket.AF_UNIX, socket.SOCK_STREAM)
         try:
-            self.connection.settimeout(seconds)
-            self.connection.connect(path)
+            connect(self.connection, path, seconds)
         except OSError:
             self.connection.close()
             raise

@@ -8,10 +8,9 @@ from __future__ import annotations
 
 import os
 import signal
-import socket
 import struct
 from contextlib import suppress
-from typing import NoReturn, Optional
+from typing import BinaryIO, NamedTuple, NoReturn, Optional
 
 from .logfiles import LogFiles
 
@@ -21,32 +20,41 @@ BEGIN, WRITE = 1, 2
 MOST_OF_TEXT = 1000
 
 
-def start(files: LogFiles) -> tuple[socket.socket, int]:
-    """Starts the process, and gives the socket to it and its number. It ends with the socket."""
-    ours, theirs = socket.socketpair()
+class Answer(NamedTuple):
+    """The number of an error, 0 for none, and the name of the file, or what is wrong."""
+
+    number: int
+    text: str
+
+
+def start(files: LogFiles, messages: int, answers: int) -> int:
+    """Starts the process at the ends of two pipes, which are its own from now on, and gives its
+    number. It ends when no more messages can come."""
     process = os.fork()
     if process == 0:
-        run(files, theirs)
-    theirs.close()
-    return ours, process
+        run(files, messages, answers)
+    os.close(messages)
+    os.close(answers)
+    return process
 
 
-def run(files: LogFiles, bridge: socket.socket) -> NoReturn:
-    """What the process does until the bridge has gone, or closes its socket."""
+def run(files: LogFiles, messages: int, answers: int) -> NoReturn:
+    """What the process does until the bridge has gone, or closes its pipe."""
     try:
         os.setsid()  # Ctrl-C is not for it
         for number in (signal.SIGINT, signal.SIGTERM, signal.SIGHUP):
             signal.signal(number, signal.SIG_IGN)
-        keep_only(bridge.fileno(), files.folder)
-        while (message := received(bridge)) is not None:
-            kind, octets = message
-            bridge.sendall(done(files, kind, octets))
+        keep_only(messages, answers, files.folder)
+        reader = open(messages, "rb")  # pylint: disable=consider-using-with
+        while (message := next_message(reader)) is not None:
+            os.write(answers, done(files, *message))
     finally:
         os._exit(0)
 
 
 def keep_only(*kept: int) -> None:
-    """Closes all descriptors but these, the sockets of the bridge among them."""
+    """Closes all descriptors but these: the bridge's sockets among them, and its own ends of the
+    pipes."""
     for name in os.listdir("/proc/self/fd"):
         if int(name) not in kept:
             with suppress(OSError):  # the list's own is closed already
@@ -71,23 +79,25 @@ def answer(number: int, text: str) -> bytes:
     return ANSWER.pack(number, len(octets)) + octets
 
 
-def received(bridge: socket.socket) -> Optional[tuple[int, bytes]]:
-    """The next message, None at the end."""
-    head = exactly(bridge, HEAD.size)
-    if head is None:
+def answers_in(octets: bytes) -> tuple[list[Answer], bytes]:
+    """The whole answers in what was sent, and what is left of it."""
+    answers = []
+    while len(octets) >= ANSWER.size:
+        number, length = ANSWER.unpack_from(octets)
+        end = ANSWER.size + length
+        if len(octets) < end:
+            break
+        text = octets[ANSWER.size:end].decode("utf-8", "surrogateescape")
+        answers.append(Answer(number, text))
+        octets = octets[end:]
+    return answers, octets
+
+
+def next_message(messages: BinaryIO) -> Optional[tuple[int, bytes]]:
+    """The next message, None where it does not come whole any more."""
+    head = messages.read(HEAD.size)
+    if len(head) < HEAD.size:
         return None
     kind, length = HEAD.unpack(head)
-    octets = exactly(bridge, length)
-    return None if octets is None else (kind, octets)
-
-
-def exactly(bridge: socket.socket, length: int) -> Optional[bytes]:
-    """So many octets, None where the end comes before."""
-    parts = []
-    while length:
-        part = bridge.recv(min(length, 1 << 20))
-        if not part:
-            return None
-        parts.append(part)
-        length -= len(part)
-    return b"".join(parts)
+    octets = messages.read(length)
+    return (kind, octets) if len(octets) == length else None

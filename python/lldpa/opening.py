@@ -13,7 +13,6 @@ from .bridge import Bridge
 from .child import Option, words_of
 from .console import ready, report
 from .desk import Desk
-from .events import Events
 from .faults import SettingsRefused
 from .framing import NO_ANSWER, command
 from .hostname import HostName
@@ -46,16 +45,16 @@ class Ground:
         self.ports = Ports([Interface(name) for name in self.names], report)
         self.session = Session(words.log, words.log_most, words.log_keep, user_of(words.user),
                                report)
-        self.watched = Watched(Manager(os.environ), Events(report) if words.events else None)
+        self.watched = Watched(Manager(os.environ), report if words.events else None)
 
     async def opened(self, options: Options) -> Bridge:
         """A bridge with its agent, once there is an interface that names this host."""
         is_given = "hostname" in options or self.words.connect is not None
         options = await self.own_options(options)
         outbox = Outbox(self.ports, self.words.own_source)
-        self.session.begin(words_of(self.names, self.words.program, options)[1:])
         agent = Patient(await self.agent_of(options, outbox), report)
         try:
+            self.session.begin(words_of(self.names, self.words.program, options)[1:])
             bridge = Bridge(agent, HostName(str(options["hostname"]), is_given), outbox, self.ports,
                             self.links, self.session, self.watched,
                             self.words.forget_on_down)

@@ -9,7 +9,7 @@ import textwrap
 from typing import Dict, Sequence
 
 from .organizational import said_by
-from .show import Identifier, Neighbor, Port
+from .show import Identifier, Neighbor, Port, counted
 from .texts import cut, padded, printable, readable, width_of
 
 VLAN, MANAGEMENT = "VLAN", "MANAGEMENT"
@@ -133,8 +133,3 @@ def remedy(port: Port) -> str:
     if port.neighbors_held >= MOST_NEIGHBORS:
         return f"{MOST_NEIGHBORS} is the most that a port can hold"
     return "raise --max-neighbors"
-
-
-def counted(number: int, what: str) -> str:
-    """A number with its noun: `no neighbors`, `1 neighbor`, `2 neighbors`."""
-    return f"{number or 'no'} {what}{'' if number == 1 else 's'}"

@@ -83,11 +83,12 @@ class Ports:
         A port whose frames still wait is not read, so that few wait, however many come.
         """
         now = seconds.now()
-        seconds.note_wall_clock()
         readable = {number for number, _ in self.readable.poll(0)}
         unfinished = {frame.port for _, frame in self.waiting}
         ports = [port for port in self.by_name.values() if port.name not in unfinished
                  and (port.has_more or port.socket.fileno() in readable)]
+        if ports:
+            seconds.note_wall_clock()  # which the stamps of their frames are read by
         for port in ports:
             for frame in port.read(max(1, most // len(ports))):
                 self.take_frame(port, seconds.moment(frame.stamp), frame)

@@ -7,6 +7,7 @@ there: it begins with what brings a new agent to where this one is.
 
 from __future__ import annotations
 
+import math
 import os
 import shlex
 import time
@@ -19,7 +20,9 @@ from .logfiles import LogFiles, check_folder, open_folder
 from .seconds import Seconds
 
 MEGABYTE = 1_000_000
-CLOCK = "%Y-%m-%dT%H:%M:%SZ"
+TICK = b"tick"
+MOST_TICKS = 2  # seconds in a row that are kept until they are handed over
+CLOCK = "# %Y-%m-%dT%H:%M:%SZ"
 
 
 class Session:
@@ -31,8 +34,10 @@ class Session:
         the next at `most` megabytes, and all together have `keep` at most. Raises OSError where
         there can be no such folder."""
         self.words: Sequence[str] = ()
-        self.clock = ""
+        self.clock: Optional[int] = None  # the second of the last comment
         self.heard = Heard()
+        self.kept: list[bytes] = []  # lines that were not handed over yet
+        self.kept_entries = 0  # of which they are
         self.book: Optional[Logbook] = None
         if folder is not None:
             files = LogFiles(folder, open_folder(folder, user), keep * MEGABYTE)
@@ -47,23 +52,33 @@ class Session:
         """Begins a file: notes the agent's words, and the lines that it is told in advance."""
         self.words = words
         if self.book is not None:
+            self.hand_over()
             text = "".join(f"{line}\n" for line in [f"# lldpa {shlex.join(words)}", *lines])
             self.book.begin(text.encode("utf-8", "surrogateescape"))
-        self.clock = ""
+        self.clock = None
 
     def write(self, entries: Sequence[Entry]) -> None:
-        """Notes lines, and before those of each second the wall clock."""
+        """Notes lines, and before those of each second the wall clock. Seconds in which nothing else
+        happens are kept for a while, since each time that lines are handed over has a price."""
         if self.book is None:
             return
+        self.book.look()
         offset = time.time() - Seconds.now()
-        octets = bytearray()
         for moment, line in entries:
-            clock = time.strftime(CLOCK, time.gmtime(moment + offset))
+            clock = math.floor(moment + offset)
             if clock != self.clock:
-                octets += b"# %s\n" % clock.encode()
+                self.kept.append(time.strftime(CLOCK, time.gmtime(clock)).encode())
                 self.clock = clock
-            octets += line + b"\n"
-        self.book.write(bytes(octets), len(entries))
+            self.kept.append(line)
+        self.kept_entries += len(entries)
+        if self.kept_entries >= MOST_TICKS or any(line != TICK for _, line in entries):
+            self.hand_over()
+
+    def hand_over(self) -> None:
+        """Hands over the lines that are kept."""
+        if self.book is not None and self.kept:
+            self.book.write(b"\n".join([*self.kept, b""]), self.kept_entries)
+        self.kept, self.kept_entries = [], 0
 
     def wants_beginning(self) -> bool:
         """Whether a new file should begin now."""
@@ -71,7 +86,10 @@ class Session:
 
     def state(self) -> str:
         """What has become of it: `off`, `on`, `stalled` or `full`."""
-        return "off" if self.book is None else self.book.trouble or "on"
+        if self.book is None:
+            return "off"
+        self.book.look()
+        return self.book.trouble or "on"
 
     def lost(self) -> int:
         """How many lines could not be written."""
@@ -79,6 +97,7 @@ class Session:
 
     async def close(self, patience: float) -> None:
         """Ends the log, within so many seconds."""
+        self.hand_over()
         book, self.book = self.book, None
         if book is not None:
             await book.close(patience)

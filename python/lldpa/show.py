@@ -217,3 +217,8 @@ def configuration_lines(configuration: Configuration) -> Iterator[str]:
     yield f"configuration.ports={len(configuration.statuses)}"
     for name, status in configuration.statuses.items():
         yield f"configuration.{name}.status={status}"
+
+
+def counted(number: int, what: str) -> str:
+    """A number with its noun: `no neighbors`, `1 neighbor`, `2 neighbors`."""
+    return f"{number or 'no'} {what}{'' if number == 1 else 's'}"

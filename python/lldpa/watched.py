@@ -3,23 +3,28 @@
 from __future__ import annotations
 
 import time
-from typing import Iterable, Optional
+from typing import TYPE_CHECKING, Callable, Iterable, Optional, Sequence
 
-from .events import Events
 from .looks import Looks
 from .notify import Manager
 from .patient import Patient
-from .people import counted
-from .show import read_show
+from .show import Port, counted, read_show
+
+if TYPE_CHECKING:
+    from .events import Events
 
 
 class Watched:
     """Tells them of the tables. Where nobody looks on, it costs nothing."""
 
-    def __init__(self, manager: Manager, events: Optional[Events]) -> None:
+    def __init__(self, manager: Manager, report: Optional[Callable[[str], None]] = None) -> None:
+        """Takes who started the service, and what is told who comes and goes, if anybody is."""
         self.manager = manager
-        self.events = events
-        self.looks = Looks() if manager.is_there or events is not None else None
+        self.events: Optional[Events] = None
+        if report is not None:
+            from .events import Events  # loaded where somebody looks on: it takes 2 MB
+            self.events = Events(report)
+        self.looks = Looks() if manager.is_there or self.events is not None else None
 
     def take_lines(self, lines: Iterable[bytes]) -> None:
         """Lines that the agent is told."""
@@ -43,6 +48,12 @@ class Watched:
         ports = read_show(await agent.tell(["show neighbors"])).ports
         if self.events is not None:
             self.events.take(ports, began)
-        held = sum(port.neighbors_held for port in ports)
-        self.manager.show(f"{counted(held, 'neighbor')} on {counted(len(ports), 'port')}")
+        if self.manager.is_there:
+            self.manager.show(status_of(ports))
         self.looks.looked(ports, second, began, time.monotonic())
+
+
+def status_of(ports: Sequence[Port]) -> str:
+    """How many neighbors there are, for people."""
+    held = sum(port.neighbors_held for port in ports)
+    return f"{counted(held, 'neighbor')} on {counted(len(ports), 'port')}"

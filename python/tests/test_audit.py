@@ -67,7 +67,8 @@ class Case:
 
     def like(self, name: str, names: Sequence[str]) -> str:
         """A name that begins with the same letter."""
-        return self.rng.choice([one for one in names if one[0].lower() == name[0].lower()] or [name])
+        alike = [one for one in names if one[0].lower() == name[0].lower()]
+        return self.rng.choice(alike or [name])
 
     def random_neighbor(self) -> Seen:
         if self.rng.random() < 0.1:

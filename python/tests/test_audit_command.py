@@ -131,8 +131,8 @@ class Words(InAFolder):
     def test_planned_only(self) -> None:
         show = self.file("show", "".join(line + "\n" for line in rack.show(["swp1", "swp2"])))
         self.assertEqual(self.audit(show)[:2], (
-            1, "swp2  unplanned: has host01 eth1\n2 planned: 1 right, 0 not, 1 not looked at (host01); "
-               "1 unplanned\n"))
+            1, "swp2  unplanned: has host01 eth1\n"
+               "2 planned: 1 right, 0 not, 1 not looked at (host01); 1 unplanned\n"))
         self.assertEqual(self.audit("--planned-only", show)[0], 0)
 
     def test_no_agent(self) -> None:

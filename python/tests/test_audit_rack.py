@@ -103,7 +103,8 @@ class Pictures(InAFolder):
         text, colors = self.draw(*rack.shows(self.folder))
         for line in rack.LINES[1:4]:
             self.assertIn(line.partition("  ")[2], text.replace("\xa0", " "))
-        for name in [*rack.PORTS, "host24", "host99", "rogue", rack.LINES[-1], "host01, host02, host03, 21 more"]:
+        for name in [*rack.PORTS, "host24", "host99", "rogue", rack.LINES[-1],
+                     "host01, host02, host03, 21 more"]:
             self.assertIn(name, text.replace("\xa0", " "))
         # 41 right and the planned one of the extra; swapped 2, silent 1, wrong 2, extra 1; no data
         self.assertEqual(Counter(colors), {"#c4c9ce": 42, "#d0021b": 6, "#d98200": 2})

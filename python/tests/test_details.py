@@ -60,106 +60,49 @@ class ForPeople(unittest.TestCase):
         self.assertRegex(line, "^  Heard         since 2026-11-2[234] [0-9]{2}:[0-9]{2}:02, "
                          "98 s of 120 s left$")
 
-    def test_each_kind_of_tlv_is_told(self) -> None:
-        lines = details([port(replace(SWITCH, said=EACH))], {}, 1_000_000)
-        text = re.sub(" +", " ", "\n".join(lines))
-        for told in (
-                "VLAN 120\n", "120 office", "Protocol VLANs 120 enabled",
-                "Protocols 88cc000102", "Management VLAN 1", "VID digest 01020304",
-                "Aggregation yes, port 7\n", "Frame size 1522\n", "1000BASE-T full duplex",
-                "autonegotiation enabled", "10BASE-T/half, 10BASE-T/full", "PD enabled",
-                "class 3", "requested 25.5 W, allocated 20 W", "at most 99.9 W", "wakes in 17 us",
-                "ETS willing, 8 classes", "ETS wanted classes 0 1 2", "priorities 0, 3",
-                "EtherType 0x8906 priority 3", "TCP or SCTP port 3260 priority 4",
-                "endpoint class III", "voice: VLAN 500, priority 5, DSCP 46",
-                "48.50000 N, 2.25000 E", "35.5 meters, WGS84", "NL, additional Rack 12",
-                "ELIN 9115551212",
-                "PD, source PSE, priority high, 5 W", "hardware rev B", "asset rev B", "https://x"):
-            self.assertIn(told, text)
+    def setUp(self) -> None:
+        self.told = neighbor_object(replace(SWITCH, said=EACH), SINCE)
 
-    def test_never_over_29_lines_and_never_too_wide(self) -> None:
-        names = tuple(("org.0080c2.3", f"{number:04x}056e616d6520") for number in range(1, 150))
-        description = ("chassis.descr", "\\xe4\\xba\\xac " * 60)
-        most = replace(SWITCH, said=(description, *SWITCH.said, *EACH, *names))
-        for width in (1, 20, 40, 80, 200, 1_000_000):
-            lines = details([port(most)], SINCE, width)
-            self.assertLessEqual(len(lines), 29)
-            self.assertLessEqual(max(map(width_of, lines)), width)
-            self.assertEqual(details([port(most, most)], SINCE, width), [*lines, "", *lines])
-        self.assertEqual(MOST_LINES, 29)
-        self.assertNotIn("…", "".join(details([port(most)], SINCE, 1_000_000)))
+    def test_it_is_plain_and_whole(self) -> None:
+        self.assertEqual(json.loads(json.dumps(self.told)), self.told)
+        self.assertEqual(self.told["since"], "2026-11-23T19:45:02Z")
+        self.assertEqual(self.told["mud_url"], {"text": "https://x"})
+        self.assertEqual(self.told["organizational"], [])
+        self.assertEqual(self.told["org"],
+                         [{"kind": key[4:], "octets": octets} for key, octets in EACH])
 
-    def test_nothing_of_a_peer_controls_the_terminal(self) -> None:
-        hostile = "\\x1b[31m\\x0d\\x0a\\x9b2J\\xe2\\x80\\xae"
-        org = tuple((key, octets + "1b5b334a") for key, octets in ORG)
-        texts = (("org.0080c2.3", "0078041b5b334a"), ("org.0012bb.5", "1b5b334a"),
-                 ("org.00005e.1", "1b5b334a"), ("org.0012bb.3", "0207021b0a16021b0a"))
-        said = (("chassis.name", hostile), ("chassis.descr", hostile), ("port.descr", hostile),
-                ("further", hostile), *org, *texts)
-        one = replace(SWITCH, chassis=Identifier("local", hostile), said=said,
-                      port_id=Identifier("ifname", hostile))
-        lines: List[str] = details([port(one)], SINCE, 200)
-        lines += [news for other in (SWITCH, replace(SWITCH, said=())) for news in
-                  [*changes(one, other), *changes(other, one)]]
-        self.assertRegex("".join(lines).replace("…", "").replace("é", ""), "^[ -~]*$")
-
-
-class Watching(unittest.TestCase):
-    """What `watch` says of changes."""
-
-    def changed(self, old: str, new: str) -> List[str]:
-        """The changes from one to another, of TLVs by their keys."""
-        said = [tuple((f"org.{part.split('=')[0]}", part.split("=")[1]) for part in some.split())
-                for some in (old, new)]
-        return list(changes(*(replace(SWITCH, said=(("chassis.name", "a"), *one)) for one in said)))
-
-    def test_changes_are_said_in_words(self) -> None:
-        for old, new, told in (
-                ("0080c2.1=0078", "0080c2.1=0079", ["pvid: 120 -> 121"]),
-                ("", "0080c2.1=0079", ["pvid: nothing -> 121"]),
-                ("0080c2.1=0079", "0080c2.1=0000", ["pvid: 121 -> none"]),
-                ("00120f.4=05f2", "00120f.4=2400", ["max-frame-size: 1522 -> 9216"]),
-                ("0080c2.3=00780161", "0080c2.3=00780161 0080c2.3=00790162",
-                 ["vlan-names: 120 a -> 120 a, 121 b"]),
-                ("001122.5=68", "001122.5=69", ["org.001122.5: 68 -> 69"]),
-                ("0080c2.1=0078", "0080c2.1=007800",
-                 ["pvid: 120 -> nothing", "org.0080c2.1: nothing -> 007800"]),
-                ("0080c2.1=0078 00120f.4=05f2", "00120f.4=05f2 0080c2.1=0078", [])):
-            self.assertEqual(self.changed(old, new), told)
-
-
-class AsJson(unittest.TestCase):
-    """A neighbor as an object."""
-
-    def test_each_kind_of_tlv(self) -> None:
-        told = neighbor_object(replace(SWITCH, said=EACH), SINCE)
-        self.assertEqual(json.loads(json.dumps(told)), told)
-        tables = {"classes": list(range(8)), "bandwidths": [10, 20, 30, 40, 0, 0, 0, 0],
-                  "algorithms": [*["enhanced transmission selection"] * 4,
-                                 *["strict priority"] * 2, "credit-based shaper",
-                                 "vendor specific"]}
-        self.assertEqual(told["since"], "2026-11-23T19:45:02Z")
-        self.assertEqual(told["vlan"], {
+    def test_vlan(self) -> None:
+        self.assertEqual(self.told["vlan"], {
             "pvid": 120, "names": [{"vid": 120, "name": "office"}],
             "protocol_vlans": [{"ppvid": 120, "supported": True, "enabled": True}],
             "protocols": ["88cc000102"], "usage_digest": 0x01020304, "management": 1})
-        self.assertEqual(told["max_frame_size"], 1522)
-        self.assertEqual(told["link_aggregation"],
+
+    def test_link(self) -> None:
+        self.assertEqual(self.told["max_frame_size"], 1522)
+        self.assertEqual(self.told["link_aggregation"],
                          {"capable": True, "aggregated": True, "port": 7})
-        self.assertEqual(told["mac_phy"], {
+        self.assertEqual(self.told["mac_phy"], {
             "autonegotiation": {"supported": True, "enabled": True, "advertised": [
                 "10BASE-T/half", "10BASE-T/full", "100BASE-TX/half", "100BASE-TX/full",
                 "1000BASE-T/full"]},
             "mau_type": 30, "type": "1000BASE-T", "speed": 1000, "duplex": "full"})
-        power = told["power"]
+
+    def test_power(self) -> None:
+        power = self.told["power"]
         self.assertEqual({key: power[key] for key in power if key != "bt"}, {
             "device": "PD", "supported": True, "enabled": True, "pair_control": False,
             "pairs": "spare", "class": 3, "type": "type 2 PD", "source": "PSE",
             "priority": "high", "requested": 25.5, "allocated": 20.0})
         self.assertEqual((power["bt"]["most_available"], power["bt"]["down_seconds"]), (99.9, 60))
-        self.assertEqual(told["eee"], {"transmit": 17, "receive": 18, "fallback_receive": 19,
-                                       "echo_transmit": 20, "echo_receive": 21})
-        self.assertEqual(told["dcb"], {
+        self.assertEqual(self.told["eee"], {"transmit": 17, "receive": 18, "fallback_receive": 19,
+                                            "echo_transmit": 20, "echo_receive": 21})
+
+    def test_dcb(self) -> None:
+        tables = {"classes": list(range(8)), "bandwidths": [10, 20, 30, 40, 0, 0, 0, 0],
+                  "algorithms": [*["enhanced transmission selection"] * 4,
+                                 *["strict priority"] * 2, "credit-based shaper",
+                                 "vendor specific"]}
+        self.assertEqual(self.told["dcb"], {
             "ets": {"willing": True, "credit_based_shaper": True, "most_classes": 8, **tables},
             "ets_recommendation": tables,
             "pfc": {"willing": True, "macsec_bypass": False, "most_classes": 4, "enabled": [0, 3]},
@@ -167,8 +110,6 @@ class AsJson(unittest.TestCase):
                 {"priority": 3, "selector": 1, "selector_name": "EtherType", "protocol": 0x8906},
                 {"priority": 4, "selector": 2, "selector_name": "TCP or SCTP port",
                  "protocol": 3260}]})
-        self.assertEqual((told["mud_url"], told["organizational"]), ({"text": "https://x"}, []))
-        self.assertEqual(told["org"], [{"kind": key[4:], "octets": octets} for key, octets in EACH])
 
     def test_med(self) -> None:
         med = neighbor_object(replace(SWITCH, said=ORG))["med"]

@@ -25,8 +25,8 @@ SEED = random.SystemRandom().randrange(10**6)
 
 # what damages a file: marks that are gone or twice, words and comments that begin and do not end
 PIECES = [*"{}[];,:=+-\"<>/*#\\@ \n19.a\x00$", "--", "->", "//", "/*", "*/", "graph ", "subgraph x",
-          "node", "edge", "strict ", "digraph", '"a"', "a--b", "{a b}", "[x=y]", "<b>", "1a", "\ufeff",
-          "\xe9", "graph{}", "}}", '"x" -- "y":"z"']
+          "node", "edge", "strict ", "digraph", '"a"', "a--b", "{a b}", "[x=y]", "<b>", "1a",
+          "\ufeff", "\xe9", "graph{}", "}}", '"x" -- "y":"z"']
 EXAMPLE = TOPOLOGY + """\
 digraph "two" {
     {a b} -> c -> d:1:ne, f; subgraph x {y}
@@ -62,8 +62,8 @@ class Edges(unittest.TestCase):
             self.assertEqual(edges(f"graph {{ {text} }}"), [])
 
     def test_names(self) -> None:
-        for written, name in (('"a"', "a"), ('"a\\"b"', 'a"b'), ('"a\\\\"', "a\\\\"), ('"a\\\nb"', "ab"),
-                              ('"a\\nb"', "a\\nb"), ('"a" + "b"', "ab"), ("<a<b>c>", "a<b>c"),
+        for written, name in (('"a"', "a"), ('"a\\"b"', 'a"b'), ('"a\\\\"', "a\\\\"),
+                              ('"a\\\nb"', "ab"), ('"a\\nb"', "a\\nb"), ('"a" + "b"', "ab"), ("<a<b>c>", "a<b>c"),
                               ("-.5", "-.5"), ("caf\xe9_1", "caf\xe9_1"), ('"graph"', "graph")):
             self.assertEqual(edges(f"graph {{ {written}:1 -- x:{written} }}"),
                              [((name, "1"), ("x", name))])

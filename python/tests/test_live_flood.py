@@ -167,15 +167,20 @@ class TestClients(OnLinks):
             self.assertTrue(is_connected(silent), "the silent one was not waited for")
         self.assertTrue(eventually(live.answers))
 
-    def test_line_of_a_megabyte(self) -> None:
+    def test_line_of_64_megabytes_takes_no_more_memory_than_one_of_a_megabyte(self) -> None:
         live = self.live("eth0")
+        self.ask_behind(live, 1_000_000)
         before = resident(live)
+        self.ask_behind(live, 64_000_000)
+        self.assertLess(resident(live) - before, 1000)
+
+    def ask_behind(self, live: Live, length: int) -> None:
+        """Asks behind a line of that length, which is refused."""
         with socket.socket(socket.AF_UNIX) as client:
             client.connect(live.control)
             client.settimeout(SECONDS)
-            client.sendall(b"x" * 1_000_000 + b"\nshow chassis\n")
+            client.sendall(b"x" * length + b"\nshow chassis\n")
             answer = b""
             while b"caps" not in answer:
                 answer += client.recv(4096)
         self.assertTrue(answer.startswith(b"=1\nerror: line too long\n="), answer)
-        self.assertLess(resident(live) - before, 1000)

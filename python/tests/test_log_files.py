@@ -1,4 +1,4 @@
-"""The files of a log: each replays alone, together they stay in bounds, no disk holds the bridge."""
+"""The files of a log: each replays alone, together they stay in bounds, no disk holds a bridge."""
 
 from __future__ import annotations
 

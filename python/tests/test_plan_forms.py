@@ -137,7 +137,8 @@ class Panels(Forms):
             for link in range(20):
                 at = f"a,{link}"
                 for panel in range(panels):
-                    rows.append(f"{at},pp{panel},F{link}" if link % 2 else f"pp{panel},F{link},{at}")
+                    front = f"pp{panel},F{link}"
+                    rows.append(f"{at},{front}" if link % 2 else f"{front},{at}")
                     pairs.append(f"pp{panel},R{link},pp{panel},F{link}")
                     at = f"pp{panel},R{link}"
                 rows.append(f"{at},b,{link}")
@@ -152,7 +153,8 @@ class Program(InAFolder):
     """The options of lldpa-audit."""
 
     def test_netbox_and_panels(self) -> None:
-        plan = self.file("netbox.csv", NETBOX.replace("leaf1,dcim.interface,swp9", "x,dcim.interface,y"))
+        text = NETBOX.replace("leaf1,dcim.interface,swp9", "x,dcim.interface,y")
+        plan = self.file("netbox.csv", text)
         panels = self.file("panels.csv", "panel,front,rear\npp1,F1,R1\npp1,F2,R2\n")
         more = "pp1,dcim.rearport,R2,host01,dcim.interface,eth1,cat6,connected,,\n"
         plan = self.file("netbox.csv", Path(plan).read_text() + more)

@@ -6,10 +6,8 @@ import unittest
 from typing import List, Mapping, Sequence
 
 from lldpa.audit import audit
-from lldpa.differs import Differences
-from lldpa.names import NAMELESS, End, Names, Seen, shown, text_of, without_domain
+from lldpa.names import NAMELESS, End, Names, Seen
 from lldpa.plan import Link, Plan
-from lldpa.report.order import natural
 from lldpa.report.report import Report
 from lldpa.seen.tables import Tables
 
@@ -176,7 +174,8 @@ class OneLineARepair(Reports):
 
     def test_exchange_that_is_seen_from_both_sides(self) -> None:
         self.assertEqual(self.known("l1 p1", "l1 p2", "s1 q1", "s2 q1"), [
-            "l1 p1  swapped with l1 p2: wants s1 q1, has s2 q1 (or else s1 q1 with s2 q1, not both)",
+            "l1 p1  swapped with l1 p2: wants s1 q1, has s2 q1 "
+            "(or else s1 q1 with s2 q1, not both)",
             "4 planned: 0 right, 4 not"])
         self.assertEqual([verdict for _, verdict, _ in self.verdicts], ["swapped"] * 4)
 
@@ -184,8 +183,8 @@ class OneLineARepair(Reports):
         links = [link("a 1", "z 1"), link("b 1", "z 2")]
         known = {"a 1": [seen("z 2")], "b 1": [seen("z 1")],
                  "z 1": [seen("b 1")], "z 2": [seen("a 1")]}
-        self.assertEqual(self.lines(links, known)[0],
-                         "z 1  swapped with z 2: wants a 1, has b 1 (or else a 1 with b 1, not both)")
+        self.assertEqual(self.lines(links, known)[0], "z 1  swapped with z 2: wants a 1, has b 1 "
+                         "(or else a 1 with b 1, not both)")
         self.assertEqual(len(self.lines(links, known)), 2)
 
     def test_exchange_of_which_three_ends_are_known(self) -> None:
@@ -229,41 +228,6 @@ class NotLookedAt(Reports):
         one = self.told["ends"][0]
         self.assertEqual(one["has"][0]["host_names"][0], "\\xff\\x80")
         json.dumps(self.told, ensure_ascii=False).encode()
-
-
-class NamesOfNeighbors(unittest.TestCase):
-    """What names are compared as, and how they are shown."""
-
-    def test_domain(self) -> None:
-        for name, short in (("a.b.c", "a"), ("a", "a"), (".a", ".a"), ("10.0.0.1", "10.0.0.1"),
-                            ("fe80::1", "fe80::1"), ("10.0.0.1.x", "10")):
-            self.assertEqual(without_domain(name), short)
-
-    def test_shown(self) -> None:
-        for name, text in (("a", "a"), ("a b", '"a b"'), ("", '""'), ("\x1b[2J", "\\x1b[2J"),
-                           ("caf\xe9", "caf\xe9"), ("\udcff", "\\xff"),
-                           ("\u202e", "\\xe2\\x80\\xae"), ("\ud800", "\\xed\\xa0\\x80")):
-            self.assertEqual(shown(name), text)
-
-    def test_texts_of_json(self) -> None:
-        for name, text in (("a", "a"), ("caf\xe9", "caf\xe9"), ("a\udcff", "a\\xff"),
-                           ("\x1b", "\x1b"), ("\ud800x", "\\xed\\xa0\\x80x")):
-            self.assertEqual(text_of(name), text)
-            text_of(name).encode()
-
-    def test_nothing_differs(self) -> None:
-        differences = Differences(Names())
-        self.assertIsNone(differences.of_neighbor(seen("a 1"), End("a", "1")))
-        self.assertIsNone(differences.of_neighbor(seen("a 1"), End("a", "2")))
-        differences = Differences(Names(ignore_case=True))
-        self.assertEqual(differences.of_neighbor(seen("A.x 1"), End("a", "1")),
-                         "only the domain differs")
-
-    def test_order_of_numbers_of_any_length(self) -> None:
-        names = ["swp2", "swp10", "swp9" + "0" * 5000, "swp1" + "0" * 5001, "swq"]
-        for order in (names, names[::-1]):
-            self.assertEqual(sorted(order, key=lambda name: natural(name, {})), names)
-        self.assertEqual(natural("007", {}), natural("7", {}))
 
 
 if __name__ == "__main__":

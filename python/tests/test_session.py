@@ -1,32 +1,25 @@
-"""The log of a session, without links: its lines, its files, and what later ones begin with."""
+"""The log of a session, without links: its lines, its files, and what finds no room."""
 
 from __future__ import annotations
 
 import asyncio
 import errno
 import os
+import signal
 import stat
 import tempfile
 import time
 import unittest
 from pathlib import Path
 
-from lldpa import Agent, read_show
-from lldpa.beginning import Beginning
-from lldpa.heard import MOST_OF_A_PORT, Heard, msap_of, named
-from lldpa.interface import Frame
+from lldpa.batch import Entry
 from lldpa.logbook import MOST_WAITING, Logbook
 from lldpa.logfiles import LogFiles, open_folder, sizes_of
-from lldpa.batch import Entry
+from lldpa.logprocess import answer, answers_in
 from lldpa.seconds import Seconds
-from lldpa.session import Session
+from lldpa.session import MOST_TICKS, Session
 
-from served import PROGRAM, frame, numbered, tlv
-
-CHASSIS = [b"\1cc", b"\2al", b"\3pc", b"\4\2\0\0\0\0\1", b"\4short", b"\5\1\xc0\0\2\1",
-           b"\5\2" + bytes(15) + b"\1", b"\5\7xx", b"\6if\\\xff", b"\7lo cal", b"\0A", b"\x09B"]
-PORTS = [b"\1al", b"\2pc", b"\3\2\0\0\0\0\1", b"\4\1\xc0\0\2\1", b"\5if", b"\6ci\x01", b"\7lo",
-         b"\x08C", b"\3short"]
+from patience import eventually
 
 
 class InFolder(unittest.IsolatedAsyncioTestCase):
@@ -75,6 +68,36 @@ class TestSession(InFolder):
         clocks = [time.strptime(lines[place], "# %Y-%m-%dT%H:%M:%SZ") for place in (2, 5)]
         self.assertAlmostEqual(time.mktime(clocks[1]) - time.mktime(clocks[0]), 3600, delta=1)
         self.assertEqual(stat.S_IMODE(self.logs()[0].stat().st_mode) & 0o007, 0)
+
+    async def test_seconds_alone_wait_for_company_and_nothing_else_does(self) -> None:
+        session = await self.session()
+        session.begin(["eth0"])
+        tick, frame = Entry(Seconds.now(), b"tick"), Entry(Seconds.now(), b"rx eth0 00")
+        session.write([tick])
+        self.assertEqual(session.book.size, len("# lldpa eth0\n"))
+        for entries in ([frame], [tick] * MOST_TICKS, [Entry(Seconds.now(), b"tick 6")]):
+            session.write(entries)
+            self.assertEqual(session.kept, [])
+        session.write([tick])
+        session.begin(["eth1"], ["up eth1"])
+        session.write([tick])
+        await session.close(5)
+        first, second = ([line for line in log.read_text().splitlines() if line[0] != "#"]
+                         for log in self.logs())
+        self.assertEqual(first, ["tick", "rx eth0 00", *["tick"] * MOST_TICKS, "tick 6", "tick"])
+        self.assertEqual(second, ["up eth1", "tick"])
+
+
+class TestAnswers(unittest.TestCase):
+    """Answers of the process, as they are read from a pipe."""
+
+    def test_answers_come_in_parts(self) -> None:
+        sent = answer(0, "a.trace") + answer(errno.EIO, "caf\udcff")
+        for cut in range(len(sent)):
+            first, rest = answers_in(sent[:cut])
+            second, rest = answers_in(rest + sent[cut:])
+            self.assertEqual([*first, *second], [(0, "a.trace"), (errno.EIO, "caf\udcff")])
+            self.assertEqual(rest, b"")
 
 
 class TestFiles(InFolder):
@@ -127,111 +150,48 @@ class TestLogbook(InFolder):
         self.addCleanup(os.close, files.folder)
         book = Logbook(files, 10**8, self.reports.append)
         book.begin(b"# one\n")
+        await self.answered(book)
+        self.stop(book.pipes.process)
         for _ in range(5):
-            book.write(b"x" * (MOST_WAITING // 4), 3)  # nothing runs meanwhile
+            book.write(b"x" * (MOST_WAITING // 3), 3)
         self.assertEqual(book.lost, 6)
         self.assertFalse(book.wants_beginning())
-        while book.queue or book.under_way:
-            await asyncio.sleep(0.01)
+        os.kill(book.pipes.process, signal.SIGCONT)
+        await self.answered(book)
         self.assertTrue(book.wants_beginning())
         book.begin(b"# two\n")
         book.write(b"y\n", 1)
         await book.close(5)
         first, second = self.logs()
         self.assertEqual(second.read_bytes(), b"# two\ny\n")
-        self.assertEqual(first.stat().st_size, 6 + 3 * (MOST_WAITING // 4))
+        self.assertEqual(first.stat().st_size, 6 + 3 * (MOST_WAITING // 3))
 
+    async def test_what_was_sent_behind_a_fault_is_lost_with_it(self) -> None:
+        files = LogFiles(str(self.folder), open_folder(str(self.folder), None), 1000)
+        self.addCleanup(os.close, files.folder)
+        book = Logbook(files, 10**8, self.reports.append)
+        book.begin(b"# one\n")
+        for lines in (1, 2, 4):
+            book.write(b"x" * 600 * lines, lines)
+        await self.answered(book)
+        self.assertEqual((book.lost, book.trouble), (6, "full"))
+        self.assertEqual(len(self.reports), 1, self.reports)
+        book.write(b"y", 8)
+        self.assertEqual(book.lost, 14)
+        await book.close(5)
+        self.assertEqual(self.logs()[0].stat().st_size, 606)
 
-class TestHeard(unittest.TestCase):
-    """The last frames, and what a file begins with."""
+    async def answered(self, book: Logbook) -> None:
+        """Waits until the process has answered all."""
+        while book.unanswered:
+            await asyncio.sleep(0.01)
+            book.look()
 
-    def begun(self, agent: Agent, heard: Heard, second: int, *words: str) -> list[str]:
-        """The tables of an agent that is new and is told the beginning."""
-        show = self.shown(agent)
-        heard.forget_others(show.ports, second)
-        lines = list(Beginning(show, heard, second, ["b"]).lines("localhost"))
-        with Agent.start(["a", "b"], PROGRAM, **dict(word.split("=") for word in words)) as other:
-            for line in lines:
-                other.ask(line)
-            self.assertEqual(self.shown(other).configuration, show.configuration)
-            self.assertEqual(self.shown(other).chassis, show.chassis)
-            return other.ask("show neighbors")
-
-    def shown(self, agent: Agent):
-        """What it shows."""
-        return read_show([line for what in ("neighbors", "chassis", "configuration")
-                          for line in agent.ask(f"show {what}")])
-
-    def test_every_kind_of_identifier_is_found(self) -> None:
-        heard = Heard()
-        with Agent.start(["a"], PROGRAM, max_neighbors=128) as agent:
-            for chassis in CHASSIS:
-                for port in PORTS:
-                    octets = frame(chassis, port, 9, tlv(5, b"n"))
-                    agent.frame("a", octets)
-                    heard.note(Frame(None, "a", octets), 0)
-            neighbors = agent.neighbors()
-            self.assertEqual(len(neighbors), len(CHASSIS) * len(PORTS))
-            for neighbor in neighbors:
-                octets = heard.frame_of(neighbor)
-                self.assertIsNotNone(octets, neighbor)
-                self.assertEqual(named(octets)[0], msap_of(neighbor))
-
-    def test_order_ages_settings_and_want_of_room(self) -> None:
-        heard, second = Heard(), 0
-        with Agent.start(["a", "b"], PROGRAM, max_neighbors=4) as agent:
-            def hears(port: str, octets: bytes) -> None:
-                agent.frame(port, octets)
-                heard.note(Frame(None, port, octets), second)
-            for number in range(4):
-                hears("a", numbered(number, 100 + number, tlv(5, b"first")))
-            hears("a", numbered(9, 50))  # it finds no room
-            hears("b", numbered(7, 65535))
-            agent.tick(30)
-            second += 30
-            hears("a", numbered(1, 40, tlv(6, b"changed")))
-            hears("a", numbered(2, 0))
-            hears("b", numbered(1, 1) + tlv(1, b"\7x"))
-            hears("b", frame(b"\7x", b"\7y", 30, tlv(3, b"\0\1")))  # which is refused
-            agent.configure("system", "description", "a \\ b")
-            agent.configure("system", "hostname", "")
-            agent.configure("lldp", "max-neighbors", "3")
-            agent.configure("ports", "b", "lldp", "status", "rx-only")
-            agent.tick(5)
-            second += 5
-            shown = agent.ask("show neighbors")
-            self.assertIn("lldp.a.too-many=yes", shown)
-            self.assertEqual(self.begun(agent, heard, second, "max_neighbors=4"), shown)
-            self.assertEqual(heard.too_many_until["a"], 50)
-            agent.tick(15)
-            second += 15
-            shown = agent.ask("show neighbors")
-            self.assertIn("lldp.a.too-many=no", shown)
-            self.assertEqual(self.begun(agent, heard, second, "max_neighbors=4"), shown)
-
-    def test_port_that_no_longer_receives_has_no_frames(self) -> None:
-        heard = Heard()
-        for port in ("a", "b"):
-            heard.note(Frame(None, port, numbered(1)), 0)
-        heard.note_command(b'configure  ports a lldp status "disabled"')
-        heard.note_command(b"configure ports b lldp status rx-only")
-        heard.note_command(b"configure system hostname tx-only")
-        heard.note_command(b"")
-        self.assertEqual((len(heard.by_port.get("a", {})), len(heard.by_port["b"])), (0, 1))
-
-    def test_bounds(self) -> None:
-        heard = Heard()
-        with Agent.start(["a"], PROGRAM, max_neighbors=2) as agent:
-            for number in range(2 * MOST_OF_A_PORT):
-                octets = frame(b"\7%d" % number, b"\7p", 600)
-                agent.frame("a", octets)
-                heard.note(Frame(None, "a", octets), 0)
-                if heard.is_full:
-                    heard.forget_others(agent.show("neighbors").ports, 0)
-                    self.assertEqual(len(heard.by_port["a"]), 2)
-                self.assertLessEqual(len(heard.by_port["a"]), MOST_OF_A_PORT + 1)
-            self.assertEqual(heard.too_many_until["a"], 600)
-
+    def stop(self, process: int) -> None:
+        """Stops a process, and waits until it stands still."""
+        os.kill(process, signal.SIGSTOP)
+        status = Path(f"/proc/{process}/stat")
+        self.assertTrue(eventually(lambda: status.read_text().rpartition(")")[2].split()[0] == "T"))
 
 if __name__ == "__main__":
     unittest.main()

@@ -103,8 +103,9 @@ class TestSettings(OnLinks):
             for number in range(10):
                 peer.send(numbered(number, 500))
             live.signal(signal.SIGHUP)
-            self.assertTrue(eventually(lambda: f"local-chassis.descr=d{round_}"  # pylint: disable=W0640
-                                       in live.ask("show chassis")))
+            told = f"local-chassis.descr=d{round_}"
+            # pylint: disable-next=cell-var-from-loop
+            self.assertTrue(eventually(lambda: told in live.ask("show chassis")))
         self.assertIn("lldp.eth0.received=200", live.ask("show statistics"))
         self.assertIn("configuration.tx-interval=29", live.ask("show configuration"))
         self.assertIn(f"{self.file}:2: configure lldp tx-hold 101: out of range: 101 "

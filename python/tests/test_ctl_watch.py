@@ -1,0 +1,88 @@
+"""lldpa-ctl watch, against a control socket with the real agent behind it."""
+
+from __future__ import annotations
+
+import json
+import os
+import select
+import signal
+import subprocess
+import time
+import unittest
+
+from asked import HOSTILE, Program
+from patience import SECONDS, by_the_clock, mostly
+from served import CTL, numbered, tlv
+
+TIME = r"[0-9]{4}-[0-9]{2}-[0-9]{2}T[0-9]{2}:[0-9]{2}:[0-9]{2}[+-][0-9]{4}"
+
+
+class Watching(Program):
+    """lldpa-ctl watch."""
+
+    def setUp(self) -> None:
+        super().setUp()
+        self.times: list[float] = []
+
+    def watch(self, *words: str) -> subprocess.Popen[str]:
+        """A watch that has begun."""
+        words = (CTL, "--control", self.served.path, *words, "watch")
+        environment = {key: value for key, value in os.environ.items() if key != "PYTHONUNBUFFERED"}
+        child = subprocess.Popen(words, stdout=subprocess.PIPE, stderr=subprocess.PIPE, text=True,
+                                 env=environment)
+        self.addCleanup(child.communicate)
+        self.addCleanup(child.kill)
+        while b"show neighbors" not in self.served.asked:
+            time.sleep(0.01)
+        return child
+
+    def line(self, child: subprocess.Popen[str]) -> str:
+        """Its next line; how long it took to come is noted."""
+        assert child.stdout is not None
+        began = time.monotonic()
+        self.assertTrue(select.select([child.stdout], [], [], SECONDS)[0], "no line")
+        self.times.append(time.monotonic() - began)
+        return child.stdout.readline()
+
+    @by_the_clock
+    def test_a_line_for_each_that_comes_changes_or_goes(self) -> None:
+        self.served.frame("eth1", numbered(1))
+        child = self.watch()
+        self.served.frame("eth0", numbered(2, 120, tlv(5, b"sw" + HOSTILE)))
+        self.assertRegex(self.line(child), rf"^{TIME} eth0 came: sw\\x1b\[31m[ -~]* p2\n$")
+        self.served.frame("eth0", numbered(2, 90, tlv(5, b"b"), tlv(4, b"up")))
+        self.assertRegex(self.line(child), rf"^{TIME} eth0 changed: b p2; ttl: 120 -> 90; "
+                         r"chassis\.name: sw[ -~]* -> b; port\.descr: nothing -> up\n$")
+        self.served.frame("eth1", numbered(1, 0))
+        self.assertRegex(self.line(child), rf"^{TIME} eth1 gone: 02:00:00:00:00:01 p1\n$")
+        self.served.call(self.served.agent.tick(30))
+        self.served.frame("eth0", numbered(2, 90, tlv(5, b"b"), tlv(4, b"up")))
+        assert child.stdout is not None
+        self.assertFalse(select.select([child.stdout], [], [], 1.2)[0], "nothing was new")
+        self.served.call(self.served.agent.tick(90))
+        self.assertRegex(self.line(child), rf"^{TIME} eth0 gone: b p2\n$")
+        self.assertLess(mostly(self.times), 1)
+
+    def test_as_json(self) -> None:
+        child = self.watch("--json")
+        self.served.frame("eth0", numbered(2))
+        told = json.loads(self.line(child))
+        self.assertRegex(told["time"], f"^{TIME}$")
+        self.assertEqual((told["what"], told["changes"]), ("came", []))
+        self.assertEqual(told["neighbor"]["id"], "mac=02:00:00:00:00:02 ifname=p2")
+
+    def test_its_end(self) -> None:
+        child = self.watch()
+        child.send_signal(signal.SIGINT)
+        self.assertEqual((child.communicate(), child.returncode), (("", ""), 130))
+        self.served.asked.clear()
+        child = self.watch()
+        self.served.call(self.served.server.close())
+        said = child.communicate(timeout=SECONDS)
+        self.assertEqual((said, child.returncode),
+                         (("", "lldpa-ctl: the bridge has ended the connection\n"), 1))
+        self.served.call(self.served.server.start())
+
+
+if __name__ == "__main__":
+    unittest.main()

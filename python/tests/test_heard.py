@@ -1,0 +1,113 @@
+"""What a later file of a log begins with, without links: the last frames of the neighbors."""
+
+from __future__ import annotations
+
+import unittest
+
+from lldpa import Agent, read_show
+from lldpa.beginning import Beginning
+from lldpa.heard import MOST_OF_A_PORT, Heard, msap_of, named
+from lldpa.interface import Frame
+from lldpa.show import Show
+
+from served import PROGRAM, frame, numbered, tlv
+
+CHASSIS = [b"\1cc", b"\2al", b"\3pc", b"\4\2\0\0\0\0\1", b"\4short", b"\5\1\xc0\0\2\1",
+           b"\5\2" + bytes(15) + b"\1", b"\5\7xx", b"\6if\\\xff", b"\7lo cal", b"\0A", b"\x09B"]
+PORTS = [b"\1al", b"\2pc", b"\3\2\0\0\0\0\1", b"\4\1\xc0\0\2\1", b"\5if", b"\6ci\x01", b"\7lo",
+         b"\x08C", b"\3short"]
+
+
+class TestHeard(unittest.TestCase):
+    """The last frames, and what a file begins with."""
+
+    def begun(self, agent: Agent, heard: Heard, second: int, *words: str) -> list[str]:
+        """The tables of an agent that is new and is told the beginning."""
+        show = self.shown(agent)
+        heard.forget_others(show.ports, second)
+        lines = list(Beginning(show, heard, second, ["b"]).lines("localhost"))
+        with Agent.start(["a", "b"], PROGRAM, **dict(word.split("=") for word in words)) as other:
+            for line in lines:
+                other.ask(line)
+            self.assertEqual(self.shown(other).configuration, show.configuration)
+            self.assertEqual(self.shown(other).chassis, show.chassis)
+            return other.ask("show neighbors")
+
+    def shown(self, agent: Agent) -> Show:
+        """What it shows."""
+        return read_show([line for what in ("neighbors", "chassis", "configuration")
+                          for line in agent.ask(f"show {what}")])
+
+    def test_every_kind_of_identifier_is_found(self) -> None:
+        heard = Heard()
+        with Agent.start(["a"], PROGRAM, max_neighbors=128) as agent:
+            for chassis in CHASSIS:
+                for port in PORTS:
+                    octets = frame(chassis, port, 9, tlv(5, b"n"))
+                    agent.frame("a", octets)
+                    heard.note(Frame(None, "a", octets), 0)
+            neighbors = agent.neighbors()
+            self.assertEqual(len(neighbors), len(CHASSIS) * len(PORTS))
+            for neighbor in neighbors:
+                octets = heard.frame_of(neighbor)
+                self.assertIsNotNone(octets, neighbor)
+                self.assertEqual(named(octets)[0], msap_of(neighbor))
+
+    def test_order_ages_settings_and_want_of_room(self) -> None:
+        heard, second = Heard(), 0
+        with Agent.start(["a", "b"], PROGRAM, max_neighbors=4) as agent:
+            def hears(port: str, octets: bytes) -> None:
+                agent.frame(port, octets)
+                heard.note(Frame(None, port, octets), second)
+            for number in range(4):
+                hears("a", numbered(number, 100 + number, tlv(5, b"first")))
+            hears("a", numbered(9, 50))  # it finds no room
+            hears("b", numbered(7, 65535))
+            agent.tick(30)
+            second += 30
+            hears("a", numbered(1, 40, tlv(6, b"changed")))
+            hears("a", numbered(2, 0))
+            hears("b", numbered(1, 1) + tlv(1, b"\7x"))
+            hears("b", frame(b"\7x", b"\7y", 30, tlv(3, b"\0\1")))  # which is refused
+            agent.configure("system", "description", "a \\ b")
+            agent.configure("system", "hostname", "")
+            agent.configure("lldp", "max-neighbors", "3")
+            agent.configure("ports", "b", "lldp", "status", "rx-only")
+            agent.tick(5)
+            second += 5
+            shown = agent.ask("show neighbors")
+            self.assertIn("lldp.a.too-many=yes", shown)
+            self.assertEqual(self.begun(agent, heard, second, "max_neighbors=4"), shown)
+            self.assertEqual(heard.too_many_until["a"], 50)
+            agent.tick(15)
+            second += 15
+            shown = agent.ask("show neighbors")
+            self.assertIn("lldp.a.too-many=no", shown)
+            self.assertEqual(self.begun(agent, heard, second, "max_neighbors=4"), shown)
+
+    def test_port_that_no_longer_receives_has_no_frames(self) -> None:
+        heard = Heard()
+        for port in ("a", "b"):
+            heard.note(Frame(None, port, numbered(1)), 0)
+        heard.note_command(b'configure  ports a lldp status "disabled"')
+        heard.note_command(b"configure ports b lldp status rx-only")
+        heard.note_command(b"configure system hostname tx-only")
+        heard.note_command(b"")
+        self.assertEqual((len(heard.by_port.get("a", {})), len(heard.by_port["b"])), (0, 1))
+
+    def test_bounds(self) -> None:
+        heard = Heard()
+        with Agent.start(["a"], PROGRAM, max_neighbors=2) as agent:
+            for number in range(2 * MOST_OF_A_PORT):
+                octets = frame(b"\7%d" % number, b"\7p", 600)
+                agent.frame("a", octets)
+                heard.note(Frame(None, "a", octets), 0)
+                if heard.is_full:
+                    heard.forget_others(agent.show("neighbors").ports, 0)
+                    self.assertEqual(len(heard.by_port["a"]), 2)
+                self.assertLessEqual(len(heard.by_port["a"]), MOST_OF_A_PORT + 1)
+            self.assertEqual(heard.too_many_until["a"], 600)
+
+
+if __name__ == "__main__":
+    unittest.main()
