@@ -114,7 +114,7 @@ offers "--listen" _lldpa lldpa eth0 '<' trace --l
 
 offers 'eth0 eth1 lo' _lldpa_live lldpa-live ''
 live='--program --connect --user --control --control-group --log --log-most --log-keep --once --config --stay --only-existing'
-live="$live --forget-on-down --events --no-description --no-management --own-source --help"
+live="$live --forget-on-down --events --no-description --no-management --own-source --help --version"
 offers "$live" _lldpa_live lldpa-live -
 offers "${live/ --log / }" _lldpa_live lldpa-live --log f -
 offers FILES _lldpa_live lldpa-live --log f
@@ -132,8 +132,8 @@ offers 'router' _lldpa_live lldpa-live eth0 -- --role ro
 offers '' _lldpa_live lldpa-live eth0 -- --mac ''
 
 offers FILES _lldpa_capture lldpa-capture ''
-offers '--port --show --no-seconds --ports --help' _lldpa_capture lldpa-capture -
-offers '--port --no-seconds --ports --help' _lldpa_capture lldpa-capture f --show -
+offers '--port --show --no-seconds --ports --help --version' _lldpa_capture lldpa-capture -
+offers '--port --no-seconds --ports --help --version' _lldpa_capture lldpa-capture f --show -
 offers FILES _lldpa_capture lldpa-capture swp1 = f
 offers FILES _lldpa_capture lldpa-capture swp1 = a.pcap swp2 =
 offers FILES _lldpa_capture lldpa-capture --show swp1 = a.pcap b
@@ -143,8 +143,8 @@ offers FILES _lldpa_capture lldpa-capture --port eth0 f
 ctl='show configure update neighbors details interfaces statistics bridge watch metrics'
 offers "$ctl" _lldpa_ctl lldpa-ctl ''
 offers 'show' _lldpa_ctl lldpa-ctl sh
-offers '--control --json --output --help' _lldpa_ctl lldpa-ctl -
-offers '--control --output --help' _lldpa_ctl lldpa-ctl --json -
+offers '--control --json --output --help --version' _lldpa_ctl lldpa-ctl -
+offers '--control --output --help --version' _lldpa_ctl lldpa-ctl --json -
 offers FILES _lldpa_ctl lldpa-ctl metrics --output /var
 offers 'metrics' _lldpa_ctl lldpa-ctl --output = f m
 offers FILES _lldpa_ctl lldpa-ctl --control /run
@@ -191,7 +191,7 @@ offers '' _lldpa_audit lldpa-audit --columns ''
 offers FILES _lldpa_audit lldpa-audit --html f
 audit='--columns --panels --live --control --wait --prometheus --instance-label --instance-pattern --stale-after --host'
 audit+=' --settings --program --ignore-case --short-names --vendor-names --aliases --all --planned-only --json --html'
-audit+=' --svg --only-faults --help'
+audit+=' --svg --only-faults --help --version'
 offers "$audit" _lldpa_audit lldpa-audit -
 offers '--stale-after --settings --short-names --svg' _lldpa_audit lldpa-audit plan.csv --json --s
 # lldpa-audit's words are those of its help
@@ -201,8 +201,8 @@ done
 
 offers 'show eth0 eth1 lo' _lldpctl lldpctl ''
 offers 'show' _lldpctl lldpctl sh
-offers '-u -f -h --help' _lldpctl lldpctl -
-offers '-u -h --help' _lldpctl lldpctl -f json -
+offers '-u -f -h --help -v --version' _lldpctl lldpctl -
+offers '-u -h --help -v --version' _lldpctl lldpctl -f json -
 offers 'json json0' _lldpctl lldpctl -f j
 offers FILES _lldpctl lldpctl -u /run
 offers 'eth0 eth1' _lldpctl lldpctl -f json -u p e

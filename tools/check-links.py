@@ -3,11 +3,14 @@
 lines of sources in blocks that say `rust` or `antt`, which stand in one file one behind another, on pages about proofs
 each clause, definition, lemma and large number, in rows and lists of docs/CLAIMS.md that a clause is one of their calls,
 that each module of a crate says in its first line what it is, and that no file of definitions lacks its row in
-docs/DEFINITIONS.md, and no transcript its row in examples/README.md. No line of text is over 120 columns long.
+docs/DEFINITIONS.md, and no transcript its row in examples/README.md. Each row of SECURITY.md that says what it is shown by
+names a law or call of the crates, a test of python/tests or a script, and all of these are there. No line of text is over
+120 columns long.
 
-    tools/check-links.py
+    tools/check-links.py [--installed FOLDER]
 
-The last line counts what was looked up.
+With --installed only the links of the pages in that folder, where tools/install.sh has put them. The last line counts
+what was looked up.
 """
 import pathlib
 import re
@@ -33,7 +36,7 @@ OF_OPTIONS = [TOP / "examples" / "help.txt"] + [path for folder in ("python", "b
 OPTIONS = {option for path in OF_OPTIONS if path.is_file() and path.suffix != ".pyc"
            for option in re.findall(r"--[a-z][a-z-]*[a-z]", path.read_text(errors="replace"))}
 # of the toolchain and of other programs
-OPTIONS |= {"--only", "--allow-holes", "--fix-imports", "--test", "--minutes", "--line-buffered", "--now", "--since"}
+OPTIONS |= {"--only", "--anew", "--list-axioms", "--allow-holes", "--fix-imports", "--test", "--minutes", "--line-buffered", "--now", "--since"}
 
 FOLDERS_OF_A_CRATE = ("specs", "proofs", "src", "must-fail")
 
@@ -248,6 +251,32 @@ def check_definitions(checks):
                 checks.see(page, f"{crate}, {path.stem}", None if re.search(rf"`{path.stem}\b", section) else "is not told")
 
 
+def is_shown_by(name):
+    """Whether there is such a script, test of the Python package (test_file.test_name), or law or call of the crates."""
+    module, _, test = name.partition(".")
+    if name.startswith("tools/"):
+        return (TOP / name).is_file()
+    if module.startswith("test_"):
+        file = TOP / "python" / "tests" / f"{module}.py"
+        return file.is_file() and re.search(rf"def {test}\b", file.read_text()) is not None
+    return re.search(rf"\bpub fn {name}\b", SOURCE) is not None
+
+
+def check_security(checks):
+    """Each row of SECURITY.md below a head that ends with `Shown by` names what shows it."""
+    page, is_claimed = "SECURITY.md", False
+    for line in (TOP / page).read_text().splitlines():
+        if not line.startswith("|"):
+            is_claimed = False
+        elif line.endswith("| Shown by |"):
+            is_claimed = True
+        elif is_claimed and not line.startswith("|---"):
+            named = re.findall(r"`([^`]+)`", line.split("|")[-2])
+            checks.see(page, line[:50], None if named else "names nothing that shows it")
+            for name in named:
+                checks.see(page, name, None if is_shown_by(name) else "no such law, call, test or script")
+
+
 def check_transcripts(checks):
     """Each transcript is a row of examples/README.md."""
     page = "examples/README.md"
@@ -256,14 +285,28 @@ def check_transcripts(checks):
         checks.see(page, path.stem, None if rows.count(path.stem) == 1 else "does not have one row")
 
 
+def check_installed(checks, folder):
+    """No link of an installed page leads to what is not there, or out of the folder."""
+    for page in sorted(folder.rglob("*.md")):
+        for target in links(without_code(page.read_text())):
+            is_inside = (page.parent / target.partition("#")[0]).resolve().is_relative_to(folder)
+            fault = fault_of_link(page, target) if is_inside else "it leads out of the folder"
+            checks.see(page.relative_to(folder), target, fault)
+
+
 def main():
     """Looks up all."""
     checks = Checks()
+    if sys.argv[1:2] == ["--installed"]:
+        check_installed(checks, pathlib.Path(sys.argv[2]).resolve())
+        print(f"{checks.passed} passed, {checks.failed} failed")
+        return 1 if checks.failed else 0
     for page in PAGES:
         check_page(checks, page)
     check_modules(checks)
     check_definitions(checks)
     check_claims(checks)
+    check_security(checks)
     check_transcripts(checks)
     print(f"{checks.passed} passed, {checks.failed} failed")
     return 1 if checks.failed else 0

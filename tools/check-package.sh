@@ -81,12 +81,15 @@ judge $? "tools/install.sh does not keep a configuration that was changed"
 # Each program has its page and its completions, and runs from the package. lldpctl is not among those on the path.
 for path in "$room"/package/usr/bin/* "$room/package/usr/lib/lldpa/bin/lldpctl"; do
     name=${path##*/}
-    for file in man/man1/$name.1.gz bash-completion/completions/$name zsh/vendor-completions/_$name; do
+    case $name in lldpa-live | lldpa-ctl) section=8 ;; *) section=1 ;; esac
+    for file in man/man$section/$name.$section.gz bash-completion/completions/$name zsh/vendor-completions/_$name; do
         [ -f "$room/package/usr/share/$file" ]
         judge $? "$name has no usr/share/$file"
     done
     "$path" --help > "$room/out" 2>&1 && grep -q "$name" "$room/out"
     judge $? "$name --help of the package: $(head -c 200 "$room/out")"
+    [ "$("$path" --version)" = "$name $(dpkg-deb -f "$package" Version | sed 's/-[^-]*$//')" ]
+    judge $? "$name --version of the package: $("$path" --version)"
 done
 [ ! -e "$room/package/usr/bin/lldpctl" ] && [ ! -e "$room/package/usr/bin/lldpcli" ]
 judge $? "the package has a program of lldpd's name in usr/bin"
@@ -102,6 +105,9 @@ judge $? "the package is $version, and the program says $("$LLDPA" --version)"
     /usr/bin/python3 -c 'import lldpa; print(lldpa.__file__)') > "$room/out" 2>&1
 [ "$(cat "$room/out")" = "$room/package/usr/lib/python3/dist-packages/lldpa/__init__.py" ]
 judge $? "import lldpa: $(cat "$room/out")"
+# No link of an installed page leads to what is not installed.
+python3 tools/check-links.py --installed "$room/package/usr/share/doc/lldpa" > "$room/out" 2>&1
+judge $? "links of installed pages: $(cat "$room/out")"
 dpkg-deb --info "$package" conffiles | grep -qx /etc/default/lldpa
 judge $? "/etc/default/lldpa is no configuration file of the package"
 units=$room/package/usr/lib/systemd/system

@@ -262,7 +262,7 @@ picture() {
 manual_pages() {
     echo "== manual pages"
     if command -v mandoc > /dev/null; then
-        for page in man/*.1; do # which pages are installed beside them does not matter
+        for page in man/*.[1-8]; do # which pages are installed beside them does not matter
             mandoc -T lint "$page" 2>&1 | grep -v "referenced manual not found\|mandoc.db" > "$room/out"
             [ ! -s "$room/out" ]
             judge $? "mandoc -T lint: $(cat "$room/out")"
@@ -271,7 +271,7 @@ manual_pages() {
         echo "skipped: mandoc, which is not installed"
     fi
     if command -v groff > /dev/null; then
-        for page in man/*.1; do
+        for page in man/*.[1-8]; do
             groff -mandoc -ww -z "$page" > "$room/out" 2>&1 && [ ! -s "$room/out" ]
             judge $? "groff: $(cat "$room/out")"
         done
@@ -311,6 +311,7 @@ echo "== transcripts as theorems"
 python3 tools/transcripts.py --check
 judge $? "crates/lldpa/proofs/Transcripts.antt is not what tools/transcripts.py writes of examples/"
 part "links of the pages" python3 tools/check-links.py
+part "numbers of the README" python3 tools/numbers.py --check
 part "memory and accesses, by the sources" python3 tools/check-memory.py
 part "what is tried by name" python3 tools/check-named.py
 part "wrong bodies that the gate does not try" python3 tools/wrong-bodies.py --check

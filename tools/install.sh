@@ -51,8 +51,8 @@ files() {
     find python/lldpa -name '*.py' -o -name py.typed | while read -r file; do
         echo "plain $file $prefix/lib/lldpa/$file"
     done
-    for file in man/*.1; do
-        echo "packed $file $prefix/share/man/man1/${file#man/}.gz"
+    for file in man/*.[1-8]; do
+        echo "packed $file $prefix/share/man/man${file##*.}/${file#man/}.gz"
     done
     for file in share/bash-completion/completions/*; do
         echo "plain $file $prefix/$file"
@@ -70,9 +70,11 @@ files() {
     echo "configuration share/default/lldpa $etc/default/lldpa"
     echo "configuration share/settings/lldpa.conf $etc/lldpa.conf"
     echo "configuration share/settings/README $etc/lldpa.d/README"
-    echo "plain README.md $documents/README.md"
+    for file in README.md SECURITY.md docs/*.md; do
+        echo "page $file $documents/$file"
+    done
     echo "packed CHANGELOG.md $documents/changelog.gz"
-    find docs -type f | while read -r file; do
+    find docs -type f ! -name '*.md' | while read -r file; do
         echo "plain $file $documents/$file"
     done
 }
@@ -97,6 +99,11 @@ put() {
             chmod 755 "$3"
             ;;
         plain) install -m 644 "$2" "$3" ;;
+        page) # of a link to what is not installed only the text stays
+            sed -zE 's,\[([^]]*)\]\((\.\./)?(crates|examples|man|tools|share|python|CONTRIBUTING|CHANGELOG)[^)]*\),\1,g' \
+                "$2" > "$3"
+            chmod 644 "$3"
+            ;;
         packed)
             gzip -9nc "$2" > "$3"
             chmod 644 "$3"

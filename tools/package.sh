@@ -66,11 +66,11 @@ Section: net
 Priority: optional
 Description: agent for the Link Layer Discovery Protocol (LLDP)
  lldpa keeps the neighbors that LLDP tells of on up to 64 ports, and sends
- this host's own frames. It understands the commands of lldpcli, and every
- call of it is proved to do what its definition says. With it come lldpa-live,
- which puts it on network interfaces, lldpa-ctl, which asks it, lldpa-capture,
- which reads captures, lldpa-audit, which compares a plan of the cabling with
- who is seen, and a package for Python.
+ this host's own frames. It takes the main commands of lldpcli, and what it
+ does with the lines that it reads is proved. The programs beside it are in
+ Python and not proved: lldpa-live puts it on network interfaces, lldpa-ctl
+ asks it, lldpa-capture reads captures, and lldpa-audit compares a plan of
+ the cabling with who is seen. There is a package for Python, too.
 END
 }
 

@@ -1,4 +1,4 @@
-"""An LLDP agent as a library: run lldpa or connect to it, and read its shows and captures.
+"""An LLDP agent as a library: run lldpa or connect to it, and read what it shows, and captures.
 
     >>> from lldpa import Agent
     >>> frame = "0180c200000e00112233445588cc02070400112233445504050565746830060200780000"
@@ -23,7 +23,7 @@ if TYPE_CHECKING:
 
 __all__ = ["Agent", "AsyncAgent", "BadCapture", "Counters", "Ended", "Neighbor", "Packet", "Port",
            "Refused", "Show", "ShowFault", "Source", "Told", "lines_of", "packets_of", "ports_of",
-           "read_show", "trace_of", "unescaped"]
+           "__version__", "read_show", "trace_of", "unescaped"]
 
 
 # what is loaded when it is first used: asyncio takes 8 MB, and a bridge reads no captures

@@ -1,4 +1,4 @@
-"""Judges what is seen at the ports of hosts by a plan. docs/OPERATORS.md defines each verdict."""
+"""Judges what is seen at the ports of hosts by a plan. docs/AUDIT.md defines each verdict."""
 from __future__ import annotations
 
 from enum import Enum

@@ -13,7 +13,7 @@ PORT_NAME = re.compile("[A-Za-z0-9_/:-]{1,15}")
 PATTERN = re.compile(r"[A-Za-z0-9_/:*?\[\]^-]{1,64}")  # of a name with wildcards
 WILDCARDS = set("*?[")
 TOO_MANY = ("{} ports, and {} are the most of an agent: run a second service for the others "
-            "(lldpa-live(1), Ports)")
+            "(lldpa-live(8), Ports)")
 
 
 class NoPorts(LookupError):

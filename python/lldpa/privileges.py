@@ -18,8 +18,8 @@ USER = "nobody"
 
 
 def give_up(user: Optional[str]) -> None:
-    """Keeps no capability, for good, and no group; as root it becomes that user, `nobody` unless
-    given.
+    """Keeps no capability, for good, and no group if it may drop them; as root it becomes that
+    user, `nobody` unless given.
 
     Children have none either, and no program that they run gives them any. Raises LookupError
     where there is no such user, and OSError where the kernel refuses.

@@ -1,4 +1,4 @@
-"""A slow judge of cabling, written from the definitions of docs/OPERATORS.md one after the other.
+"""A slow judge of cabling, written from the definitions of docs/AUDIT.md one after the other.
 
 It shares no code with the package: ends and neighbors are plain tuples and dictionaries, and each
 question goes over whole lists.
@@ -126,7 +126,7 @@ class SlowJudge:
         return self.has_only_a_wrong_one(end) and self.partners(end) == []
 
     def verdicts(self, end: End) -> List[str]:
-        """Each verdict whose definition fits; docs/OPERATORS.md promises one."""
+        """Each verdict whose definition fits; docs/AUDIT.md promises one."""
         if self.is_no_data(end):
             return ["no data"]
         definitions = {

@@ -1,4 +1,4 @@
-"""The verdicts of an audit, as docs/OPERATORS.md defines them; random ones beside a slow judge."""
+"""The verdicts of an audit, as docs/AUDIT.md defines them; random ones beside a slow judge."""
 from __future__ import annotations
 
 import os

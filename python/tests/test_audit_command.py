@@ -37,7 +37,7 @@ class Words(InAFolder):
     def test_bad_words_and_files(self) -> None:
         none = f"{self.folder}/none"
         for words, said in (
-                ("", "nothing to audit: give captures, shows, --live or --prometheus"),
+                ("", "nothing to audit: give captures, lists of neighbors, --live or --prometheus"),
                 ("swp1=none", "none: No such file or directory"),
                 (f"swp1={self.folder}", "Is a directory"),
                 ("--wait x swp1=a", "invalid seconds value: 'x'"),

@@ -126,6 +126,20 @@ class TestFilter(OnLinks):
             self.assertEqual(what_is_refused(one), ["detach", "attach", "unlock"])
             one.close()
 
+    def test_what_is_left_is_to_send_any_frame(self) -> None:
+        one = sockets_of(self.live("eth0", "--", "--receive-only"))[0]
+        self.addCleanup(one.close)
+        with inside(self.wires.there):
+            listener = socket.socket(socket.AF_PACKET, socket.SOCK_RAW, socket.htons(0x0800))
+        self.addCleanup(listener.close)
+        listener.bind(("peer1", 0x0800))
+        listener.settimeout(5)
+        with inside(self.wires.here):
+            one.bind(("eth1", 3))
+        no_lldp = bytes.fromhex("ffffffffffff02005e0053770800") + b"anything" * 9
+        one.send(no_lldp)
+        self.assertEqual(listener.recv(2000), no_lldp)
+
 
 @on_links
 class TestSets(OnLinks):

@@ -19,7 +19,7 @@ RX = f"rx eth0 {LLDP.hex()}\n"
 
 
 def slow_trace(frames: Sequence[Frame]) -> List[str]:
-    """The trace of a capture, by the rules of docs/OPERATORS.md packet by packet: the
+    """The trace of a capture, by the rules of docs/CAPTURES.md packet by packet: the
     seconds before each LLDP frame, and at the end."""
     lines, passed, set_back, start, latest = [], 0, 0, frames[0][0], frames[0][0]
     for time, octets, length in [*frames, (frames[-1][0], b"", 0)]:

@@ -5,19 +5,23 @@ import argparse
 from typing import Optional, Sequence
 
 from ..columns import given_columns
+from ..version import add_version
 from .seenwords import add_reader_options, is_nothing_given
 
 WORDS = """\
 WHAT is any number of:
   PORT=FILE       a capture that was taken at a port of this host; several of one port are one
   HOST:PORT=FILE  the same of another host
-  FILE            a pcapng capture that names its interfaces, or neighbors, of this host: a `show
-                  neighbors` of lldpa or lldpcli (any form), or NAPALM's JSON
+  FILE            a pcapng capture that names its interfaces, or a list of neighbors, of this
+                  host: of `show neighbors` by lldpa or lldpcli (any form), or NAPALM's JSON
   HOST:FILE       the same of another host
   FOLDER          such files of many hosts, each named by its host: HOST.json, or files below HOST/
 
 The status is 0 if all is right, 1 if something is not, 2 if an argument is wrong or a file cannot
-be read or written. The manual page lldpa-audit(1) has the verdicts.
+be read or written.
+
+example: lldpa-audit --live --wait 60 wiring.csv
+lldpa-audit(1) has the verdicts.
 """
 
 
@@ -35,9 +39,10 @@ def read_words(words: Optional[Sequence[str]]) -> argparse.Namespace:
                         help="the agent that reads captures")
     add_words_of_names(parser)
     add_words_of_report(parser)
+    add_version(parser)
     given = parser.parse_intermixed_args(words)
     if is_nothing_given(given):
-        parser.error("nothing to audit: give captures, shows, --live or --prometheus")
+        parser.error("nothing to audit: give captures, lists of neighbors, --live or --prometheus")
     if given.only_faults and not given.svg:
         parser.error("--only-faults is for the picture of --svg")
     return given

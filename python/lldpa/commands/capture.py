@@ -10,6 +10,7 @@ from .. import output
 from ..output import complain
 from ..source import PORT_NAME_RULE, STANDARD_INPUT, Source, is_port_name
 from ..trace import Told, TooManyPorts, ports_of, trace_of
+from ..version import add_version
 
 NAME = "lldpa-capture"
 SUMMARY = "Writes the LLDP frames of captures as a trace for lldpa, with the seconds between them."
@@ -17,6 +18,10 @@ FILE_HELP = """a capture, pcap or pcapng of Ethernet, or - for standard input; a
 whose frames all came in at that port"""
 PORT_HELP = """the port of all frames, or as INTERFACE=NAME of those of one interface; without it
 a frame's port is its interface in a pcapng file, and eth0 else"""
+EPILOG = """\
+example: lldpa-capture --show lab.pcap | lldpa --receive-only eth0
+lldpa-capture(1) has what is skipped, and the exit statuses.
+"""
 SHOWS = ("show neighbors", "show statistics")
 ANY_INTERFACE = ""
 
@@ -28,7 +33,9 @@ def note(text: str) -> None:
 
 def parser_of_words() -> argparse.ArgumentParser:
     """What reads the program's words."""
-    parser = argparse.ArgumentParser(prog=NAME, description=SUMMARY, allow_abbrev=False)
+    parser = argparse.ArgumentParser(
+        prog=NAME, description=SUMMARY, epilog=EPILOG, allow_abbrev=False,
+        formatter_class=argparse.RawDescriptionHelpFormatter)
     parser.add_argument("files", metavar="FILE", nargs="+", help=FILE_HELP)
     parser.add_argument("--port", metavar="NAME", action="append", default=[], help=PORT_HELP)
     parser.add_argument("--show", action="store_true",
@@ -37,6 +44,7 @@ def parser_of_words() -> argparse.ArgumentParser:
                         help="leave the seconds out, so that nobody ages out")
     parser.add_argument("--ports", action="store_true",
                         help="write the names of the ports, and no trace")
+    add_version(parser)
     return parser
 
 

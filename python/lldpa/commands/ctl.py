@@ -20,6 +20,7 @@ from ..questions import COMMANDS, check, explanation, question
 from ..refused import words_of
 from ..show import ShowFault, read_show
 from ..texts import printable
+from ..version import add_version
 from ..watching import News, Watch, news_line
 
 SECONDS_BETWEEN_LOOKS = 0.5
@@ -43,6 +44,9 @@ commands, none for a table of the neighbors:
   watch                    a line when a neighbor comes, changes or goes
   metrics                  all of it for Prometheus
 ports are parted by blanks or commas, also in configure ports
+
+example: lldpa-ctl --json show neighbors eth0,eth1
+lldpa-ctl(8) has the metrics, the keys of JSON and the control socket.
 """
 
 
@@ -104,6 +108,7 @@ def read_words(words: Optional[Sequence[str]]) -> argparse.Namespace:
     parser.add_argument("--json", action="store_true", help="print answers as JSON")
     parser.add_argument("--output", metavar="FILE",
                         help="write metrics there, whole or not at all")
+    add_version(parser)
     parser.add_argument("words", nargs="*", metavar="COMMAND", help="what to ask, see below")
     given = parser.parse_intermixed_args(words)
     if len(given.words) == 1:

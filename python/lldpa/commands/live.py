@@ -14,11 +14,16 @@ from ..control import DEFAULT_PATH
 from ..faults import report_all, report_fault
 from ..patterns import MOST_PORTS, is_able, is_pattern, parts_of
 from ..running import live
+from ..version import add_version
 
 USAGE = "lldpa-live [OPTION...] PORT... [-- OPTIONS OF LLDPA]"
+EPILOG = """\
+example: lldpa-live --log /var/lib/lldpa eth0 eth1 -- --role router
+lldpa-live(8) has all of it, lldpa(1) the options behind --.
+"""
 FLAGS = {
     "stay": "go on when standard input has ended, until a signal",
-    "only-existing": "refuse to start where an interface is not there",
+    "only-existing": "refuse to start if an interface is not there",
     "forget-on-down": "empty the table of a port whose link goes down",
     "no-description": "do not announce what this host runs",
     "no-management": "do not announce an address of this host by itself",
@@ -85,7 +90,9 @@ def check_ports(parts: Sequence[str], parser: argparse.ArgumentParser) -> None:
 def the_parser() -> argparse.ArgumentParser:
     """What reads the words before `--`."""
     parser = argparse.ArgumentParser(prog="lldpa-live", usage=USAGE, description=__doc__,
-                                     allow_abbrev=False)
+                                     epilog=EPILOG, allow_abbrev=False,
+                                     formatter_class=argparse.RawDescriptionHelpFormatter)
+    add_version(parser)
     parser.add_argument("ports", nargs="+", metavar="PORT",
                         help="an Ethernet interface, or a pattern: 'swp*', '!swp3'")
     parser.add_argument("--config", metavar="PATH", action="append", default=[],

@@ -7,7 +7,7 @@ import sys
 import time
 from typing import List, NamedTuple, Optional, Sequence
 
-from .. import output
+from .. import __version__, output
 from ..control import DEFAULT_PATH, Client, Gone
 from ..framing import Refused
 from ..lldpcli_forms.shows import LINES, Told, told_by
@@ -26,12 +26,16 @@ Asks a running lldpa-live, and prints its answer as lldpcli of lldpd does.
   -u PATH  the control socket of lldpa-live ({DEFAULT_PATH} unless given)
   -f FORM  {', '.join(FORMS)} (plain unless given)
   -h, --help  this
+  -v, --version  print the version
 
 commands; lldpctl takes ports too, and without a command it shows all neighbors in detail:
   show neighbors [details | summary] [ports PORT,..]
   show interfaces [details | summary] [ports PORT,..]
   show chassis [details | summary]
   show statistics [summary] [ports PORT,..]
+
+example: lldpctl -f keyvalue eth0
+lldpctl(1) says where this program stands, since lldpd has one of its name.
 """
 
 
@@ -40,20 +44,22 @@ class Given(NamedTuple):
     path: str
     form: str
     is_help: bool
+    is_version: bool
     words: List[str]
 
 
 def read_words(words: Sequence[str]) -> Given:
     """The words of the program. Raises Refused where an option is not known."""
     try:
-        options, rest = getopt.gnu_getopt(list(words), "hu:f:", ["help"])
+        options, rest = getopt.gnu_getopt(list(words), "hvu:f:", ["help", "version"])
     except getopt.GetoptError as fault:
         raise Refused(str(fault)) from None
     told = dict(options)
     form = told.get("-f", "plain")
     if form not in FORMS:
         raise Refused(f"unknown form: {form} ({', '.join(FORMS)})")
-    return Given(told.get("-u", DEFAULT_PATH), form, "-h" in told or "--help" in told, rest)
+    return Given(told.get("-u", DEFAULT_PATH), form, "-h" in told or "--help" in told,
+                 "-v" in told or "--version" in told, rest)
 
 
 def ask(path: str) -> Told:
@@ -68,6 +74,9 @@ def answer(name: str, words: Sequence[str]) -> int:
     given = read_words(words)
     if given.is_help:
         print(HELP.replace("NAME", name), end="")
+        return 0
+    if given.is_version:
+        print(f"{name} {__version__}")
         return 0
     question = (of_lldpcli if name == LLDPCLI else of_lldpctl)(given.words)
     try:

@@ -1,0 +1,16 @@
+"""The version of the package, which is that of the program lldpa."""
+
+from __future__ import annotations
+
+from typing import TYPE_CHECKING
+
+from . import __version__
+
+if TYPE_CHECKING:
+    import argparse
+
+
+def add_version(parser: argparse.ArgumentParser) -> None:
+    """Lets a program tell its version."""
+    parser.add_argument("-V", "--version", action="version", version=f"{parser.prog} {__version__}",
+                        help="print the version")

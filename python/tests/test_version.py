@@ -1,0 +1,44 @@
+"""What each program says of itself."""
+
+from __future__ import annotations
+
+import re
+import subprocess
+import sys
+import unittest
+
+import lldpa
+
+from served import REPOSITORY
+
+PROGRAMS = {"lldpa-audit": 1, "lldpa-capture": 1, "lldpa-ctl": 8, "lldpa-live": 8, "lldpctl": 1}
+
+
+def said(name: str, word: str) -> str:
+    """What a program writes for a word."""
+    words = [sys.executable, str(REPOSITORY / "bin" / name), word]
+    return subprocess.run(words, capture_output=True, text=True, check=True).stdout
+
+
+class Programs(unittest.TestCase):
+    """The version and the help of each."""
+
+    def test_version_is_that_of_the_changes(self) -> None:
+        changes = (REPOSITORY / "CHANGELOG.md").read_text()
+        found = re.search(r"^## ([0-9.]+)$", changes, re.M)
+        assert found is not None
+        self.assertEqual(lldpa.__version__, found[1])
+        for name in PROGRAMS:
+            for word in ("--version", "-v" if name == "lldpctl" else "-V"):
+                self.assertEqual(said(name, word), f"{name} {found[1]}\n")
+
+    def test_help_has_an_example_and_the_page(self) -> None:
+        for name, section in PROGRAMS.items():
+            text = said(name, "--help")
+            self.assertIn(f"example: {name} ", text)
+            self.assertIn(f"{name}({section})", text)
+            self.assertTrue((REPOSITORY / "man" / f"{name}.{section}").is_file())
+
+
+if __name__ == "__main__":
+    unittest.main()
