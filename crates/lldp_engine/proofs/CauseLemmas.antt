@@ -13,9 +13,9 @@ use Rattle.lldp_engine.specs.declared.port.status.Status.{Status}
 use Rattle.lldp_engine.specs.Status.{transmits}
 use Rattle.lldp_engine.specs.Event.{Event, frame, link, set, status}
 use Rattle.lldp_engine.specs.Past.{Past, with_event, happened, past_of}
-use Rattle.lldp_engine.specs.PortAt.{neighbors_at}
+use Rattle.lldp_engine.specs.Laws.PortAt.{neighbors_at}
 use Rattle.lldp_engine.specs.Heard.{Heard, refused, leaves, tells, heard_by}
-use Rattle.lldp_engine.specs.CauseOf.{causes_at, IsFor}
+use Rattle.lldp_engine.specs.Laws.CauseOf.{causes_at, IsFor}
 use Rattle.lldp_engine.specs.Port.Event as own
 use Rattle.lldp_engine.specs.Port.Event.{PortEvent}
 use Rattle.lldp_engine.specs.Port.Effects.{cause_of_answer, cause_of_heard, cause_of_right, cause_of_link, cause_at}

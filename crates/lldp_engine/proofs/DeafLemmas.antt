@@ -11,10 +11,10 @@ use Rattle.lldp_engine.specs.Options.{InRange}
 use Rattle.lldp_engine.specs.Status.{receives}
 use Rattle.lldp_engine.specs.Heard.{Heard, heard_of, heard_by}
 use Rattle.lldp_engine.specs.Event as agent
-use Rattle.lldp_engine.specs.LastSet.{IsLastLink}
+use Rattle.lldp_engine.specs.Laws.LastSet.{IsLastLink}
 use Rattle.lldp_engine.specs.Past.{Past, happened, past_of}
-use Rattle.lldp_engine.specs.PortAt.{LeavesPort}
-use Rattle.lldp_engine.specs.Deaf.{HasStatus, Hears}
+use Rattle.lldp_engine.specs.Laws.PortAt.{LeavesPort}
+use Rattle.lldp_engine.specs.Laws.Deaf.{HasStatus, Hears}
 use Rattle.lldp_engine.specs.Port.Event.{PortEvent, frame, one_port, for_port}
 use Rattle.lldp_engine.specs.Port.Effects.{call_of, cause_of_heard}
 use Rattle.lldp_engine.specs.Port.Past.{Happened, status_after, up_after}

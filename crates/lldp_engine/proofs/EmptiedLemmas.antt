@@ -18,10 +18,10 @@ use Rattle.lldp_engine.specs.Event as agent
 use Rattle.lldp_engine.specs.Heard.{leaves, heard_of}
 use Rattle.lldp_engine.specs.Past.{Past, with_event, happened, past_of}
 use Rattle.lldp_engine.specs.AgentState.{PortState}
-use Rattle.lldp_engine.specs.PortAt.{port_at, table_at, neighbors_at, LeavesTables}
-use Rattle.lldp_engine.specs.Deaf.{HasStatus, Hears}
-use Rattle.lldp_engine.specs.Neighbors.{others_than}
-use Rattle.lldp_engine.specs.Neighbors.{one_tick_older}
+use Rattle.lldp_engine.specs.Laws.PortAt.{port_at, table_at, neighbors_at, LeavesTables}
+use Rattle.lldp_engine.specs.Laws.Deaf.{HasStatus, Hears}
+use Rattle.lldp_engine.specs.Laws.Neighbors.{others_than}
+use Rattle.lldp_engine.specs.Laws.Neighbors.{one_tick_older}
 use Rattle.lldp_engine.specs.Port.Event.{PortEvent, tick, frame, status, limit}
 use Rattle.lldp_engine.specs.Port.Effects.{call_of, status_then, call_at}
 use Rattle.lldp_engine.specs.Port.Past.{Happened, status_after, up_after, calls_after}

@@ -25,7 +25,7 @@ use Rattle.lldp_transmit.specs.declared.event.Cause.TheVariants.{Neighbor as Nei
 use Rattle.lldp_engine.specs.declared.port.status.Status.{Status}
 use Rattle.lldp_engine.specs.Status.{receives}
 use Rattle.lldp_engine.specs.Heard.{Heard, refused, leaves, tells, heard_of, heard_by}
-use Rattle.lldp_engine.specs.Neighbors.{others_than}
+use Rattle.lldp_engine.specs.Laws.Neighbors.{others_than}
 use Rattle.lldp_engine.specs.Port.Effects.{call_of, cause_of_answer, cause_of_heard}
 
 -- ## What is heard, case by case

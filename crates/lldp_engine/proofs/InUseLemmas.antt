@@ -19,7 +19,7 @@ use Rattle.lldp_engine.specs.Command.{Command, set}
 use Rattle.lldp_engine.specs.Forms.{Form, complete, word, port, number, text, status, status_of, after_word, fault_or, if_any, forms_left, first_fault, going_on, completed, read_forms, forms}
 use Rattle.lldp_engine.specs.Given.{said_by, unless_in_use, command_said, command_given}
 use Rattle.lldp_text.specs.Words.{words_of}
-use Rattle.lldp_engine.specs.InUse.{HoldsMore, HoldAtMost, WouldLimitBelow}
+use Rattle.lldp_engine.specs.Laws.InUse.{HoldsMore, HoldAtMost, WouldLimitBelow}
 
 -- ## The forms never tell it
 

@@ -10,7 +10,7 @@ use Rattle.lldp_engine.specs.Past.{configuration_after, port_past}
 use Rattle.lldp_engine.specs.Port.Event as own
 use Rattle.lldp_engine.specs.Port.Effects.{status_then, up_then}
 use Rattle.lldp_engine.specs.Port.Past.{status_after, up_after}
-use Rattle.lldp_engine.specs.LastSet.{NoneSets, IsLastSet, IsLastStatus, IsLastLink, without_commands, IsLastConfiguration}
+use Rattle.lldp_engine.specs.Laws.LastSet.{NoneSets, IsLastSet, IsLastStatus, IsLastLink, without_commands, IsLastConfiguration}
 use Rattle.lldp_engine.proofs.PortsLemmas.{own_or_nothing}
 
 -- An event either sets the value, whatever came before it, or leaves what was before it.

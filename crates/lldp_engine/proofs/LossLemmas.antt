@@ -27,10 +27,10 @@ use Rattle.lldp_engine.specs.Heard.{Heard, refused, leaves, tells, heard_of, hea
 use Rattle.lldp_engine.specs.Counters.{wrapped, is_dropped, all_aged_out, counters_of}
 use Rattle.lldp_engine.specs.AgentState.{PortState}
 use Rattle.lldp_engine.specs.Past.{Past, with_event, happened, past_of}
-use Rattle.lldp_engine.specs.PortAt.{port_at}
-use Rattle.lldp_engine.specs.LastSet.{IsLastStatus, IsLastLink}
-use Rattle.lldp_engine.specs.Deaf.{HasStatus, Hears}
-use Rattle.lldp_engine.specs.Tally.{Makes, CountsAgedOut, KeepsAgeouts, CountsDrop, KeepsDrops, KeepsReceived, HasNoRoom}
+use Rattle.lldp_engine.specs.Laws.PortAt.{port_at}
+use Rattle.lldp_engine.specs.Laws.LastSet.{IsLastStatus, IsLastLink}
+use Rattle.lldp_engine.specs.Laws.Deaf.{HasStatus, Hears}
+use Rattle.lldp_engine.specs.Laws.Tally.{Makes, CountsAgedOut, KeepsAgeouts, CountsDrop, KeepsDrops, KeepsReceived, HasNoRoom}
 use Rattle.lldp_engine.specs.Port.Event.{PortEvent, frame, link, status, nothing, whose, for_port}
 use Rattle.lldp_engine.specs.Port.Effects.{heard_at, call_of, call_at}
 use Rattle.lldp_engine.specs.Port.Past.{Happened, status_after, up_after, heard_after, calls_after, told_after, marks_after}

@@ -6,7 +6,7 @@ use Rattle.lldp_transmit.specs.declared.event.Mark.{Mark}
 use Rattle.lldp_transmit.specs.declared.event.Mark.TheVariants.{Quiet}
 use Rattle.lldp_engine.specs.Frames.{IsSent}
 use Rattle.lldp_engine.specs.Past.{Past, past_of, port_past, marks_of}
-use Rattle.lldp_engine.specs.PortAt.{Sends}
+use Rattle.lldp_engine.specs.Laws.PortAt.{Sends}
 use Rattle.lldp_engine.specs.Port.Past.{mark_after}
 use Rattle.lldp_engine.proofs.AnswerLemmas.{IsOf, all_are, is_there}
 

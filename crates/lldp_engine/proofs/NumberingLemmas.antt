@@ -7,7 +7,7 @@ use Rattle.std.proofs.lemmas.List.Elements.{Contains-append_left, Contains-appen
 use Rattle.lldp_table.specs.Events.{Neighbor}
 use Rattle.lldp_engine.specs.AgentState.{PortState}
 use Rattle.lldp_engine.specs.NeighborLines.{neighbor_lines, numbered_lines, count_lines, port_lines, too_many_line}
-use Rattle.lldp_engine.specs.Numbering.{NumbersNeighbors}
+use Rattle.lldp_engine.specs.Laws.Numbering.{NumbersNeighbors}
 
 same_neighbor : (n m : Neighbor) → Some n ≡ Some m → n ≡ m
 same_neighbor n m h = cc

@@ -19,8 +19,8 @@ use Rattle.lldp_engine.specs.Command.{Command, show, set}
 use Rattle.lldp_engine.specs.Forms.{Form, complete, word, port, number, text, status, status_of, after_word, and_left, if_any, forms_left, first_fault, completed, read_forms, forms}
 use Rattle.lldp_engine.specs.Given.{said_by, unless_in_use, command_said, command_given}
 use Rattle.lldp_text.specs.Words.{words_of}
-use Rattle.lldp_engine.specs.Sayings.{show_word, neighbors_word, statistics_word, chassis_word, configuration_word, configure_word, system_word, hostname_word, description_word, lldp_word, interval_word, hold_word, limit_word, ports_word, status_word, update_word, word_of}
-use Rattle.lldp_engine.specs.OnlyForms.{AreWordsOf, IsNotInUse, IsLineOf}
+use Rattle.lldp_engine.specs.Laws.Sayings.{show_word, neighbors_word, statistics_word, chassis_word, configuration_word, configure_word, system_word, hostname_word, description_word, lldp_word, interval_word, hold_word, limit_word, ports_word, status_word, update_word, word_of}
+use Rattle.lldp_engine.specs.Laws.OnlyForms.{AreWordsOf, IsNotInUse, IsLineOf}
 use Rattle.lldp_engine.proofs.InUseLemmas.{held_decided}
 use Rattle.lldp_engine.proofs.SayingLemmas.{text_said, made_said, status_said}
 

@@ -14,7 +14,7 @@ use Rattle.lldp_engine.specs.declared.agent.open_fault.OpenFault.TheVariants.{Me
 use Rattle.lldp_engine.specs.Options.{Options, is_name_octet, is_port_name, has_same, fault_of}
 use Rattle.lldp_text.specs.Text.{is_text}
 use Rattle.lldp_engine.specs.FixedNumbers.{number_of_refusal}
-use Rattle.lldp_engine.specs.Opening.{IsName, IsText, Passes, IsFirstFault}
+use Rattle.lldp_engine.specs.Laws.Opening.{IsName, IsText, Passes, IsFirstFault}
 
 -- ## Each check by its test
 

@@ -23,7 +23,7 @@ use Rattle.lldp_engine.specs.AgentState.{PortState}
 use Rattle.lldp_engine.specs.Heard.{Heard}
 use Rattle.lldp_engine.specs.Counters.{counters_of}
 use Rattle.lldp_engine.specs.Past.{Past, with_event, happened, past_of, ports_after, port_past, agent_of}
-use Rattle.lldp_engine.specs.PortAt.{port_at, table_at}
+use Rattle.lldp_engine.specs.Laws.PortAt.{port_at, table_at}
 use Rattle.lldp_engine.specs.Port.Effects.{status_then, heard_at, call_at, cause_at}
 use Rattle.lldp_engine.specs.Port.Past.{Happened, status_after, up_after, heard_after, calls_after, told_after, settings_of, causes_after, marks_after, mark_after, counters_after, port_after}
 use Rattle.lldp_engine.proofs.AllowedLemmas.{port_table}

@@ -7,7 +7,7 @@ use Rattle.lldp_text.specs.Answer.{or_fault, on_ok, ◌>>=◌}
 use Rattle.lldp_engine.specs.Command.{Command, set}
 use Rattle.lldp_engine.specs.Forms.{Form, complete, word, status, and_left, fault_or, if_any, read_forms, status_of}
 use Rattle.lldp_engine.specs.Event.{status as set_status}
-use Rattle.lldp_engine.specs.Sayings.{lldp_word, status_word}
+use Rattle.lldp_engine.specs.Laws.Sayings.{lldp_word, status_word}
 
 -- the one form that takes the word, or its fault
 abbrev one_left : Result Form CommandFault → Result (List Form) CommandFault

@@ -14,10 +14,10 @@ use Rattle.lldp_engine.specs.Options.{Options}
 use Rattle.lldp_engine.specs.Status.{transmits, status_at_opening}
 use Rattle.lldp_engine.specs.Event.{Event, set, status}
 use Rattle.lldp_engine.specs.Frames.{IsSent}
-use Rattle.lldp_engine.specs.LastSet.{NoneSets}
+use Rattle.lldp_engine.specs.Laws.LastSet.{NoneSets}
 use Rattle.lldp_engine.specs.Past.{Past, past_of, port_past}
-use Rattle.lldp_engine.specs.PortAt.{Sends}
-use Rattle.lldp_engine.specs.Deaf.{HasStatus}
+use Rattle.lldp_engine.specs.Laws.PortAt.{Sends}
+use Rattle.lldp_engine.specs.Laws.Deaf.{HasStatus}
 use Rattle.lldp_engine.specs.Port.Past.{Happened, status_after, settings_of, caused_at, causes_after, mark_after}
 use Rattle.lldp_engine.proofs.LastSetLemmas.{status_is_last, last_is_status}
 use Rattle.lldp_engine.proofs.RightLemmas.{follows_status}

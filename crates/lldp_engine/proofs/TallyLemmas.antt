@@ -23,9 +23,9 @@ use Rattle.lldp_engine.specs.Heard.{Heard, refused, leaves, tells, heard_of}
 use Rattle.lldp_engine.specs.Counters.{wrapped, is_refused, is_error, discarded_tlvs, unrecognized_tlvs, is_ordinary, is_shutdown, counters_of}
 use Rattle.lldp_engine.specs.AgentState.{PortState}
 use Rattle.lldp_engine.specs.Past.{Past, with_event, happened, past_of, port_past}
-use Rattle.lldp_engine.specs.PortAt.{port_at, Sends}
-use Rattle.lldp_engine.specs.Deaf.{Hears}
-use Rattle.lldp_engine.specs.Tally.{AreMany, none, one_more, no_more, HasSent, HaveRisen, Adds, unknown_tlvs}
+use Rattle.lldp_engine.specs.Laws.PortAt.{port_at, Sends}
+use Rattle.lldp_engine.specs.Laws.Deaf.{Hears}
+use Rattle.lldp_engine.specs.Laws.Tally.{AreMany, none, one_more, no_more, HasSent, HaveRisen, Adds, unknown_tlvs}
 use Rattle.lldp_engine.specs.Port.Event.{frame}
 use Rattle.lldp_engine.specs.Port.Past.{Happened, heard_after, told_after, mark_after, marks_after, counters_after, port_after}
 use Rattle.lldp_engine.proofs.PortAtLemmas.{port_at_is}

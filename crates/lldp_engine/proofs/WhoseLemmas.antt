@@ -16,8 +16,8 @@ use Rattle.lldp_engine.specs.Configuration.{Configuration, configured}
 use Rattle.lldp_engine.specs.Status.{receives}
 use Rattle.lldp_engine.specs.Heard.{Heard, refused, leaves, tells, heard_by}
 use Rattle.lldp_engine.specs.Past.{Past, with_event, configuration_after, happened, past_of, port_past, ports_after, agent_of}
-use Rattle.lldp_engine.specs.PortAt.{neighbors_at, LeavesPort, LeavesTables}
-use Rattle.lldp_engine.specs.Neighbors.{one_tick_older}
+use Rattle.lldp_engine.specs.Laws.PortAt.{neighbors_at, LeavesPort, LeavesTables}
+use Rattle.lldp_engine.specs.Laws.Neighbors.{one_tick_older}
 use Rattle.lldp_engine.specs.Port.Event as own
 use Rattle.lldp_engine.specs.Port.Event.{PortEvent, one_port, whose, for_port}
 use Rattle.lldp_engine.specs.Port.Effects.{call_of, call_at}

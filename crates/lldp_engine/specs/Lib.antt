@@ -10,13 +10,7 @@ pub mod Port
 pub mod Place
 pub mod Past
 pub mod Standing
-pub mod LastSet
 pub mod Headline
-pub mod PortAt
-pub mod Deaf
-pub mod CauseOf
-pub mod Neighbors
-pub mod Tally
 pub mod NextWords
 pub mod Command
 pub mod Forms
@@ -31,11 +25,5 @@ pub mod Takes
 pub mod LineRoom
 pub mod Lines
 pub mod Code
-pub mod FixedTexts
-pub mod FixedKeys
 pub mod FixedNumbers
-pub mod Opening
-pub mod InUse
-pub mod Sayings
-pub mod OnlyForms
-pub mod Numbering
+pub mod Laws

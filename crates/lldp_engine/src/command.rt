@@ -1,9 +1,8 @@
 //! The commands, and how a line gives one.
-ghost use Rattle.std.specs.Prelude.{◌≡◌, ℕ, List, ◌∷◌, ◌++◌, Ok, IfOk, codes};
+ghost use Rattle.std.specs.Prelude.{◌≡◌, ◌∷◌, Ok, IfOk, codes};
 ghost use Rattle.lldp_engine.specs.AgentState.{AgentState};
 ghost use Rattle.lldp_text.specs.Answer.{on_ok};
-ghost use Rattle.lldp_engine.specs.Command.{Command as CommandSaid, show, command_of, AllowsCommand};
-ghost use Rattle.lldp_engine.specs.Forms.{Form, complete, going_on};
+ghost use Rattle.lldp_engine.specs.Command.{show, command_of, AllowsCommand};
 ghost use Rattle.lldp_engine.specs.Given.{said_by, unless_in_use, command_said, command_given, Says};
 ghost use Rattle.lldp_engine.specs.Code.SaidSetting.{IsSaidCommand};
 ghost use Rattle.lldp_engine.specs.Past.{Past, agent_of};
@@ -143,12 +142,3 @@ impl<A: Allocator> Agent<A> {
         self.read_words(first, words)
     }
 }
-
-/// A complete form never takes a further word, wherever it stands among the forms: any other form
-/// decides what is said of the word.
-pub fn complete_forms_take_no_word()
-    ensures { (names : List (List ℕ)) (before after : List Form) (command : CommandSaid)
-        (word : List ℕ) →
-        going_on names (before ++ complete command ∷ after) word
-        ≡ going_on names (before ++ after) word }
-{}

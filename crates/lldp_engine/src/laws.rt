@@ -9,12 +9,17 @@ ghost use Rattle.lldp_engine.specs.Port.Past.{Happened, status_after, up_after};
 ghost use Rattle.lldp_engine.specs.Port.Headline.{FollowsStatus};
 ghost use Rattle.lldp_engine.specs.Standing.{Stands};
 ghost use Rattle.lldp_engine.specs.Code.Step.{agent_after, agent_marks};
-ghost use Rattle.lldp_engine.specs.LastSet.{IsLastStatus, IsLastLink, IsLastConfiguration};
+ghost use Rattle.lldp_engine.specs.Laws.LastSet.{IsLastStatus, IsLastLink, IsLastConfiguration};
 ghost use Rattle.lldp_engine.specs.Headline.{Promised};
 
 pub mod counting;
 pub mod deafness;
+pub mod fixed;
+pub mod forms;
+pub mod in_use;
 pub mod local_changes;
+pub mod opening;
+pub mod sayings;
 pub mod sending;
 pub mod tables;
 pub mod whose;

@@ -9,7 +9,7 @@ use Rattle.std.proofs.lemmas.List.{drop-drop, take-append-drop, length-take-le, 
 use Rattle.std.proofs.lemmas.Option.{none-some}
 use Rattle.std.proofs.lemmas.Slice.Eq.{starts_is}
 use Rattle.lldp_pdu.specs.Frame.{nearest_bridge, lldp_ethertype, is_lldp_frame, lldpdu_of}
-use Rattle.lldp_pdu.specs.FrameForm.{HasForm}
+use Rattle.lldp_pdu.specs.Laws.FrameForm.{HasForm}
 use Rattle.lldp_pdu.proofs.Framing.{has_lldpdu}
 
 -- octets that start so are these octets and the rest

@@ -15,6 +15,6 @@ pub mod Info
 pub mod View
 pub mod Examined
 pub mod Frame
-pub mod FrameForm
 pub mod Draft
 pub mod Code
+pub mod Laws

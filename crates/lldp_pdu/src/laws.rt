@@ -11,7 +11,7 @@ ghost use Rattle.lldp_pdu.specs.Info.{info_of, IsInfo, TellsItself};
 ghost use Rattle.lldp_pdu.specs.Draft.{Draft, CanPut, CanBuild, IsReadBack, put_fault, lldpdu_octets};
 ghost use Rattle.lldp_pdu.specs.ManagementAddress.{Address, address_of, IsSpelled};
 ghost use Rattle.lldp_pdu.specs.Frame.{nearest_bridge, lldp_ethertype, lldpdu_of};
-ghost use Rattle.lldp_pdu.specs.FrameForm.{HasForm};
+ghost use Rattle.lldp_pdu.specs.Laws.FrameForm.{HasForm};
 ghost use Rattle.lldp_pdu.specs.WellFormed.{is_well_formed};
 ghost use Rattle.lldp_pdu.specs.declared.frame.TheConstants.{MOST_OCTETS};
 ghost use Rattle.lldp_pdu.specs.declared.tlv_type.TheConstants as code;

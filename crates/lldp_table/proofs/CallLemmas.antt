@@ -8,7 +8,7 @@ use Rattle.lldp_pdu.specs.Msap.{MsapId}
 use Rattle.lldp_table.specs.Msap.{same_msap}
 use Rattle.lldp_table.specs.Events.{Call, learn, forget, purge, tick, set_limit, TableEvent, learned, forgot, ticked, Neighbor, live, neighbors, limit_after, too_many_left, answer, is_stored, events_of}
 use Rattle.lldp_table.specs.Standing.{table_of}
-use Rattle.lldp_table.specs.Changes.{a_tick_before, told_by, sets_limit}
+use Rattle.lldp_table.specs.Laws.Changes.{a_tick_before, told_by, sets_limit}
 use Rattle.lldp_table.specs.Code.Steps.{aged}
 use Rattle.lldp_table.specs.declared.learned.Learned.{Learned}
 use Rattle.lldp_table.specs.declared.learned.Learned.TheVariants.{New, Refreshed, Dropped}

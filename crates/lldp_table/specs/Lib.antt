@@ -4,5 +4,5 @@ pub mod Counted
 pub mod Contents
 pub mod Standing
 pub mod Positions
-pub mod Changes
 pub mod Code
+pub mod Laws

@@ -7,7 +7,7 @@ ghost use Rattle.lldp_pdu.specs.Lldpdu.{extent, ttl_of, msap_of};
 ghost use Rattle.lldp_pdu.specs.Fault.{fault_of};
 ghost use Rattle.lldp_pdu.specs.Kept.{kept_of};
 ghost use Rattle.lldp_table.specs.declared.learned.Learned.TheVariants.{New, Refreshed, Dropped};
-ghost use Rattle.lldp_table.specs.Changes.{a_tick_before, told_by, sets_limit};
+ghost use Rattle.lldp_table.specs.Laws.Changes.{a_tick_before, told_by, sets_limit};
 ghost use Rattle.lldp_table.specs.Events.{Call, learn, forget, purge, tick, set_limit, Neighbor, TableEvent, ticked, aged_out, answer, event_of, events_of, neighbors, too_many_left};
 ghost use Rattle.lldp_table.specs.Contents.{Contents, IsExtent, IsHeld, IsSound};
 ghost use Rattle.lldp_table.specs.Code.Stored.{tag_of};

@@ -8,7 +8,5 @@ pub mod Capabilities
 pub mod ManagementAddress
 pub mod Identifier
 pub mod KeptTlv
-pub mod Alike
-pub mod FixedTexts
-pub mod FixedValues
 pub mod Code
+pub mod Laws

@@ -1,9 +1,9 @@
 //! Numbers among the words of a command.
-ghost use Rattle.std.specs.Prelude.{◌≡◌, ℕ, false, ◌≤◌, ◌^◌, ◌<◌, ◌↔◌, List, [], ◌∷◌, ◌++◌, Ok, Err, IfOk, min, IsTrue};
+ghost use Rattle.std.specs.Prelude.{◌≡◌, ◌≤◌, ◌<◌, ◌↔◌, Ok, Err, IfOk, min, IsTrue};
 ghost use Rattle.std.specs.List.{AllPass};
 ghost use Rattle.std.specs.Char.{is_ascii_digit};
 ghost use Rattle.std.specs.Str.Parse.{digits_value};
-ghost use Rattle.lldp_text.specs.Number.{number_of, is_number, IsOfDigits};
+ghost use Rattle.lldp_text.specs.Number.{number_of, is_number};
 ghost use Rattle.lldp_text.specs.declared.fault.CommandFault.TheVariants.{Number, Range};
 
 use crate::fault::CommandFault;
@@ -49,17 +49,3 @@ pub fn number(word: &[u8], least: u16, greatest: u16) -> Result<u16, CommandFaul
     }
     Ok(value as u16)
 }
-
-/// A word of digits alone writes its value, however many they are; every other word is no number.
-pub fn words_of_digits_alone_are_numbers()
-    ensures within { (word : List ℕ) (least greatest : ℕ) → IsOfDigits word →
-        least ≤ digits_value 10 word → digits_value 10 word ≤ greatest →
-        number_of word least greatest ≡ Ok (digits_value 10 word) }
-    ensures below { (word : List ℕ) (least greatest : ℕ) → IsOfDigits word →
-        digits_value 10 word < least → number_of word least greatest ≡ Err Range }
-    ensures above { (word : List ℕ) (least greatest : ℕ) → IsOfDigits word →
-        greatest < digits_value 10 word → number_of word least greatest ≡ Err Range }
-    ensures none { (least greatest : ℕ) → number_of [] least greatest ≡ Err Number }
-    ensures others { (front back : List ℕ) (c least greatest : ℕ) → is_ascii_digit c ≡ false →
-        number_of (front ++ c ∷ back) least greatest ≡ Err Number }
-{}

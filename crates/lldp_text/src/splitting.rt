@@ -1,10 +1,10 @@
 //! The words of a line, which spaces and tabs separate, plain or between quotes.
-ghost use Rattle.std.specs.Prelude.{◌≡◌, ℕ, ◌<◌, ◌≤◌, List, [], ◌∷◌, ◌++◌, length, false, is_some, is_ok, IsTrue, IsSomeAnd, IfOk, IfErr, IfSome, IfNone, ◌↔◌, MatchResult, MatchOption, Some, None};
+ghost use Rattle.std.specs.Prelude.{◌≡◌, ℕ, ◌<◌, ◌≤◌, List, [], ◌∷◌, ◌++◌, length, false, is_some, is_ok, IsTrue, IsSomeAnd, IfOk, IfErr, IfSome, IfNone, MatchResult, MatchOption, Some, None};
 ghost use Rattle.std.specs.Option.{option_map};
 ghost use Rattle.std.specs.List.{AllPass, AllByRecursion};
 ghost use Rattle.std.specs.Iterator.{YieldsFirstRef, item_count};
 ghost use Rattle.lldp_text.specs.Answer.{or_fault};
-ghost use Rattle.lldp_text.specs.Words.{words_of, is_separator, is_bare, is_unquote, may_end_word, begins_bare, begins_gap, AreWords};
+ghost use Rattle.lldp_text.specs.Words.{words_of, is_separator, is_bare, is_unquote, may_end_word, begins_bare, begins_gap};
 
 use crate::fault::CommandFault;
 use memchr::{memchr, memchr3};
@@ -156,10 +156,3 @@ pub fn split(line: &[u8]) -> Result<Words<'_>, CommandFault>
     check_quotes(line)?;
     Ok(Words { rest: line })
 }
-
-/// The words of a line are those that the grammar gives it, and it has none where a quote stands
-/// wrongly.
-pub fn words_are_spelled()
-    ensures { (line : List ℕ) (words : List (List ℕ)) →
-        (words_of line ≡ Some words) ↔ AreWords line words }
-{}

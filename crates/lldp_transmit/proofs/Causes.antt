@@ -16,7 +16,7 @@ use Rattle.lldp_transmit.proofs.Counters.{is_active-cons}
 use Rattle.lldp_transmit.proofs.Sending.{sent_reads}
 use Rattle.lldp_transmit.proofs.Standing.{allowed_if_active, exact, marks, stands_left}
 use Rattle.std.proofs.lemmas.Grind.{common_steps}
-use Rattle.lldp_transmit.specs.Causes.{HasCause, IsGiven, MayTransmit, IsLinked, CanSend, CanStop}
+use Rattle.lldp_transmit.specs.Laws.Causes.{HasCause, IsGiven, MayTransmit, IsLinked, CanSend, CanStop}
 
 -- ---- given and taken
 

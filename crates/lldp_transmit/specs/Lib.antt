@@ -1,4 +1,3 @@
-pub mod Causes
 pub mod Code
 pub mod Fronts
 pub mod History
@@ -7,3 +6,4 @@ pub mod Positions
 pub mod Remaining
 pub mod Standing
 pub mod Windows
+pub mod Laws

@@ -6,7 +6,7 @@ ghost use Rattle.lldp_transmit.specs.History.{Settings, Event, History, settings
 ghost use Rattle.lldp_transmit.specs.Moments.{Moment, moment, moments, mark_at, is_active, is_allowed, is_up, is_waiting, rested, signals_left, distance, timer_ends, due, open_at};
 ghost use Rattle.lldp_transmit.specs.Remaining.{credit_left};
 ghost use Rattle.lldp_transmit.specs.Positions.{HasStarted, HasRested, IsStart, IsStop, IsTimerEnd, IsSignal, IsOpening, AreLeft, IsDistance, HasWanted, IsDue, IsOpen, IsLeastRoom};
-ghost use Rattle.lldp_transmit.specs.Causes.{MayTransmit, IsLinked, CanSend, CanStop};
+ghost use Rattle.lldp_transmit.specs.Laws.Causes.{MayTransmit, IsLinked, CanSend, CanStop};
 ghost use Rattle.lldp_transmit.specs.declared.limits.TheConstants.{MOST_CREDIT, MOST_FAST, MOST_REINIT};
 ghost use Rattle.lldp_transmit.specs.Code.Machine.{Machine, opened, stepped};
 ghost use Rattle.lldp_transmit.specs.Standing.{AreSettings, Stands};

@@ -6,17 +6,10 @@
 #![tactic(auto)]
 
 mod event;
-mod laws;
+pub mod laws;
 mod limits;
 mod machine;
 
 pub use event::{Cause, Mark};
-pub use laws::{
-    causeless_events_change_nothing, causes_tell_allowed_and_up,
-    constants_are_the_greatest_settings, frames_are_timely, moments_keep_their_events,
-    opened_machines_stand, ordinary_frames_go_on_active_ports, positions_tell_activity,
-    positions_tell_sending, positions_tell_signals, shutdown_frames_go_at_stops,
-    steps_carry_standing, windows_hold,
-};
 pub use limits::{MOST_CREDIT, MOST_FAST, MOST_REINIT};
 pub use machine::Transmit;

@@ -9,9 +9,9 @@ ghost use Rattle.lldp_transmit.specs.declared.event.Mark.TheVariants.{Ordinary, 
 ghost use Rattle.lldp_engine.specs.Event.{Event, tick, frame};
 ghost use Rattle.lldp_engine.specs.AgentState.{PortState};
 ghost use Rattle.lldp_engine.specs.Past.{Past};
-ghost use Rattle.lldp_engine.specs.PortAt.{port_at};
-ghost use Rattle.lldp_engine.specs.Deaf.{Hears};
-ghost use Rattle.lldp_engine.specs.Tally.{HasSent, Adds, unknown_tlvs, Makes, CountsAgedOut, KeepsAgeouts, CountsDrop, KeepsDrops, KeepsReceived, HasNoRoom};
+ghost use Rattle.lldp_engine.specs.Laws.PortAt.{port_at};
+ghost use Rattle.lldp_engine.specs.Laws.Deaf.{Hears};
+ghost use Rattle.lldp_engine.specs.Laws.Tally.{HasSent, Adds, unknown_tlvs, Makes, CountsAgedOut, KeepsAgeouts, CountsDrop, KeepsDrops, KeepsReceived, HasNoRoom};
 
 /// `sent` is the number of events at which a port sent an ordinary frame, and `shutdowns` that of
 /// those at which it sent a shutdown frame, modulo 2^32.

@@ -4,10 +4,10 @@ ghost use Rattle.lldp_pdu.specs.Frame.{lldpdu_of};
 ghost use Rattle.lldp_engine.specs.declared.port.status.Status.TheVariants.{TxOnly, Disabled};
 ghost use Rattle.lldp_engine.specs.Options.{InRange};
 ghost use Rattle.lldp_engine.specs.Event.{frame};
-ghost use Rattle.lldp_engine.specs.LastSet.{IsLastLink};
+ghost use Rattle.lldp_engine.specs.Laws.LastSet.{IsLastLink};
 ghost use Rattle.lldp_engine.specs.Past.{Past};
-ghost use Rattle.lldp_engine.specs.PortAt.{LeavesPort};
-ghost use Rattle.lldp_engine.specs.Deaf.{HasStatus};
+ghost use Rattle.lldp_engine.specs.Laws.PortAt.{LeavesPort};
+ghost use Rattle.lldp_engine.specs.Laws.Deaf.{HasStatus};
 
 /// A port whose last status is TxOnly or Disabled, or whose last link event says down, is deaf: a
 /// frame leaves it as it was, as what is no LLDP frame leaves each port.

@@ -5,8 +5,8 @@ ghost use Rattle.lldp_transmit.specs.declared.event.Cause.TheVariants.{Tick, Cha
 ghost use Rattle.lldp_engine.specs.declared.port.status.Status.{Status};
 ghost use Rattle.lldp_engine.specs.Event.{tick, frame, link, set, hostname, description, interval, hold, limit, status, update};
 ghost use Rattle.lldp_engine.specs.Past.{Past, with_event};
-ghost use Rattle.lldp_engine.specs.PortAt.{neighbors_at};
-ghost use Rattle.lldp_engine.specs.CauseOf.{IsFor};
+ghost use Rattle.lldp_engine.specs.Laws.PortAt.{neighbors_at};
+ghost use Rattle.lldp_engine.specs.Laws.CauseOf.{IsFor};
 
 /// A tick is one for each port, and each command but a status command a local change for each.
 pub fn settings_are_local_changes()

@@ -4,10 +4,10 @@ ghost use Rattle.lldp_transmit.specs.declared.event.Mark.{Mark};
 ghost use Rattle.lldp_transmit.specs.declared.event.Mark.TheVariants.{Ordinary, Shutdown};
 ghost use Rattle.lldp_engine.specs.declared.port.status.Status.TheVariants.{RxAndTx, RxOnly, TxOnly, Disabled};
 ghost use Rattle.lldp_engine.specs.Event.{set, status};
-ghost use Rattle.lldp_engine.specs.LastSet.{NoneSets};
+ghost use Rattle.lldp_engine.specs.Laws.LastSet.{NoneSets};
 ghost use Rattle.lldp_engine.specs.Past.{Past};
-ghost use Rattle.lldp_engine.specs.PortAt.{Sends};
-ghost use Rattle.lldp_engine.specs.Deaf.{HasStatus};
+ghost use Rattle.lldp_engine.specs.Laws.PortAt.{Sends};
+ghost use Rattle.lldp_engine.specs.Laws.Deaf.{HasStatus};
 
 /// An ordinary frame goes only from a port whose last status is RxAndTx or TxOnly, and a shutdown
 /// frame only from one whose last status is RxOnly or Disabled.

@@ -8,9 +8,9 @@ ghost use Rattle.lldp_pdu.specs.Lldpdu.{ttl_of, msap_of};
 ghost use Rattle.lldp_engine.specs.declared.port.status.Status.TheVariants.{RxAndTx, RxOnly, TxOnly, Disabled};
 ghost use Rattle.lldp_engine.specs.Event.{frame, set, status};
 ghost use Rattle.lldp_engine.specs.Past.{Past, with_event};
-ghost use Rattle.lldp_engine.specs.PortAt.{table_at, neighbors_at, LeavesTables};
-ghost use Rattle.lldp_engine.specs.Deaf.{HasStatus, Hears};
-ghost use Rattle.lldp_engine.specs.Neighbors.{others_than};
+ghost use Rattle.lldp_engine.specs.Laws.PortAt.{table_at, neighbors_at, LeavesTables};
+ghost use Rattle.lldp_engine.specs.Laws.Deaf.{HasStatus, Hears};
+ghost use Rattle.lldp_engine.specs.Laws.Neighbors.{others_than};
 
 /// An LLDPDU speaks of the neighbor of its own name alone: all others of its port stay, in their
 /// order. With a TTL of 0 and no fault, on a port that hears, its own is gone; with a fault the

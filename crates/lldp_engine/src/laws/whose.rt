@@ -5,8 +5,8 @@ ghost use Rattle.lldp_engine.specs.declared.port.status.Status.{Status};
 ghost use Rattle.lldp_engine.specs.Options.{InRange};
 ghost use Rattle.lldp_engine.specs.Event.{tick, frame, link, set, Setting, limit, status};
 ghost use Rattle.lldp_engine.specs.Past.{Past, with_event, agent_of};
-ghost use Rattle.lldp_engine.specs.PortAt.{neighbors_at, LeavesPort, LeavesTables};
-ghost use Rattle.lldp_engine.specs.Neighbors.{one_tick_older};
+ghost use Rattle.lldp_engine.specs.Laws.PortAt.{neighbors_at, LeavesPort, LeavesTables};
+ghost use Rattle.lldp_engine.specs.Laws.Neighbors.{one_tick_older};
 
 /// A frame, a link event and a status command are of one port: every other port stays as it was and
 /// sends nothing.

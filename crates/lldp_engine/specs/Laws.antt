@@ -1,0 +1,14 @@
+-- What only laws say: the definitions of the calls in other words, by positions, by octets and by counts.
+pub mod CauseOf
+pub mod Deaf
+pub mod FixedKeys
+pub mod FixedTexts
+pub mod InUse
+pub mod LastSet
+pub mod Neighbors
+pub mod Numbering
+pub mod OnlyForms
+pub mod Opening
+pub mod PortAt
+pub mod Sayings
+pub mod Tally

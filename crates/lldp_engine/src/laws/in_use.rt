@@ -1,0 +1,17 @@
+//! When a limit is in use.
+ghost use Rattle.std.specs.Prelude.{◌≡◌, ◌↔◌, ◌≤◌, ℕ, List, Err};
+ghost use Rattle.lldp_text.specs.declared.fault.CommandFault.TheVariants.{InUse};
+ghost use Rattle.lldp_engine.specs.AgentState.{AgentState, AllowsSetting};
+ghost use Rattle.lldp_engine.specs.Event.{limit};
+ghost use Rattle.lldp_engine.specs.Given.{command_given};
+ghost use Rattle.lldp_engine.specs.Laws.InUse.{WouldLimitBelow, HoldAtMost};
+
+/// A line is told that a limit is in use exactly where its words would set one and some port holds
+/// more neighbors; and a limit may be set exactly where it is 1 to that of opening and every port
+/// holds at most so many.
+pub fn limits_below_what_ports_hold_are_in_use()
+    ensures told { (agent : AgentState) (line : List ℕ) →
+        (command_given agent line ≡ Err InUse) ↔ WouldLimitBelow agent line }
+    ensures allowed { (agent : AgentState) (most : ℕ) → AllowsSetting agent (limit most)
+        ↔ ((1 ≤ most) × (most ≤ agent.configuration.capacity) × HoldAtMost agent most) }
+{}

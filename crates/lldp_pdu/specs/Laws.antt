@@ -1,0 +1,2 @@
+-- What only laws say: the definitions of the calls in other words.
+pub mod FrameForm

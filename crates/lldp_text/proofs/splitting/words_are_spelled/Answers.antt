@@ -1,5 +1,0 @@
-use Rattle.lldp_text.proofs.WordsGrammar.{words_spelled}
-use Rattle.lldp_text.proofs.splitting.words_are_spelled.Goals as goal
-
-pub returns : goal.returns
-returns c = words_spelled

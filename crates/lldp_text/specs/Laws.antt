@@ -1,0 +1,4 @@
+-- What only laws say: texts and values by literal octets, and what is written alike.
+pub mod Alike
+pub mod FixedTexts
+pub mod FixedValues

@@ -1,0 +1,16 @@
+//! What is shown of neighbors tells them apart.
+ghost use Rattle.std.specs.Prelude.{◌≡◌, ℕ, List, ⊤};
+ghost use Rattle.lldp_pdu.specs.Msap.{IsIdentifier, MsapId};
+ghost use Rattle.lldp_text.specs.Text.{escaped};
+ghost use Rattle.lldp_text.specs.Identifier.{chassis_text, port_text};
+ghost use Rattle.lldp_text.specs.Laws.Alike.{TellsApart, IsNameOfOctets, AreShownAlike};
+
+/// Two texts are never escaped alike, nor two chassis IDs or two port IDs written alike; so two
+/// neighbors whose identifiers are shown alike have the same name.
+pub fn neighbors_are_never_shown_alike()
+    ensures texts { TellsApart (λ _. ⊤) escaped }
+    ensures chassis { TellsApart (λ body. IsIdentifier body) chassis_text }
+    ensures ports { TellsApart (λ body. IsIdentifier body) port_text }
+    ensures neighbors { (one other : MsapId) → IsNameOfOctets one → IsNameOfOctets other →
+        AreShownAlike one other → one ≡ other }
+{}

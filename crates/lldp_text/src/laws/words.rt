@@ -1,0 +1,28 @@
+//! Laws of words and of numbers among them.
+ghost use Rattle.std.specs.Prelude.{◌≡◌, ℕ, ◌<◌, ◌≤◌, List, [], ◌∷◌, ◌++◌, false, ◌↔◌, Some, Ok, Err};
+ghost use Rattle.lldp_text.specs.Words.{words_of, AreWords};
+ghost use Rattle.std.specs.Char.{is_ascii_digit};
+ghost use Rattle.std.specs.Str.Parse.{digits_value};
+ghost use Rattle.lldp_text.specs.Number.{number_of, IsOfDigits};
+ghost use Rattle.lldp_text.specs.declared.fault.CommandFault.TheVariants.{Number, Range};
+
+/// The words of a line are those that the grammar gives it, and it has none where a quote stands
+/// wrongly.
+pub fn words_are_spelled()
+    ensures { (line : List ℕ) (words : List (List ℕ)) →
+        (words_of line ≡ Some words) ↔ AreWords line words }
+{}
+
+/// A word of digits alone writes its value, however many they are; every other word is no number.
+pub fn words_of_digits_alone_are_numbers()
+    ensures within { (word : List ℕ) (least greatest : ℕ) → IsOfDigits word →
+        least ≤ digits_value 10 word → digits_value 10 word ≤ greatest →
+        number_of word least greatest ≡ Ok (digits_value 10 word) }
+    ensures below { (word : List ℕ) (least greatest : ℕ) → IsOfDigits word →
+        digits_value 10 word < least → number_of word least greatest ≡ Err Range }
+    ensures above { (word : List ℕ) (least greatest : ℕ) → IsOfDigits word →
+        greatest < digits_value 10 word → number_of word least greatest ≡ Err Range }
+    ensures none { (least greatest : ℕ) → number_of [] least greatest ≡ Err Number }
+    ensures others { (front back : List ℕ) (c least greatest : ℕ) → is_ascii_digit c ≡ false →
+        number_of (front ++ c ∷ back) least greatest ≡ Err Number }
+{}
