@@ -31,5 +31,6 @@ pub use laws::{
     tlv_types_are_the_standards, tlvs_give_the_cut,
 };
 pub use msap::Msap;
+pub use seen::Seen;
 pub use spelling::append_tlv;
 pub use tlv::{Tlv, Tlvs};

@@ -9,6 +9,7 @@ mod event;
 mod laws;
 mod limits;
 mod machine;
+mod parts;
 
 pub use event::{Cause, Mark};
 pub use laws::{
@@ -20,3 +21,4 @@ pub use laws::{
 };
 pub use limits::{MOST_CREDIT, MOST_FAST, MOST_REINIT};
 pub use machine::Transmit;
+pub use parts::Parts;

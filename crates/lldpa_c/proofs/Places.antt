@@ -34,7 +34,7 @@ body_of None = []
 body_of (Some x) = x.0.body
 
 -- the body of the first TLV stands behind two octets
-body_at : (octets : List ℕ) (u : TlvUnit) (others : List ℕ) → first_tlv octets ≡ Some (u, others)
+pub body_at : (octets : List ℕ) (u : TlvUnit) (others : List ℕ) → first_tlv octets ≡ Some (u, others)
     → (take (length u.body) (drop 2 octets) ≡ u.body) × (2 + length u.body ≤ length octets)
 body_at [] u others h = absurd cc
 body_at (high ∷ []) u others h = absurd cc
@@ -77,7 +77,7 @@ record Begins (octets : List ℕ) : Type 0 where
   first : first_tlv octets ≡ Some (chassis, behind)
   second : first_tlv behind ≡ Some (port, after)
 
-cases_Option : {A : Type 0} (o : Option A) → (o ≡ None) ⊎ ((x : A) × (o ≡ Some x))
+pub cases_Option : {A : Type 0} (o : Option A) → (o ≡ None) ⊎ ((x : A) × (o ≡ Some x))
 cases_Option None = inl refl
 cases_Option (Some x) = inr (x, refl)
 

@@ -4,6 +4,12 @@
 //! declares them.
 #![tactic(auto)]
 
+mod answer;
+mod bodies;
+mod build;
 mod examine;
 mod frame;
+mod giving;
+mod kept;
+mod machine;
 mod place;
