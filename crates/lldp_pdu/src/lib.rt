@@ -25,5 +25,6 @@ pub use frame::{MOST_OCTETS, frame_pdu};
 pub use info::Info;
 pub use kept::Kept;
 pub use msap::Msap;
+pub use seen::Seen;
 pub use spelling::append_tlv;
 pub use tlv::{Tlv, Tlvs};

@@ -15,14 +15,17 @@ fn counts_once(kind: u8) -> bool
     (PORT_DESCRIPTION..=SYSTEM_CAPABILITIES).contains(&kind)
 }
 
-/// Of which of the types that count once a well-formed TLV was met.
+/// Of which of the types that count once a well-formed TLV was met. Who walks over the TLVs of an
+/// LLDPDU without a `Kept`, as in parts, keeps it between them.
 #[derive(Clone, Copy, Debug)]
-pub(crate) struct Seen {
-    types: [bool; 4],
+pub struct Seen {
+    /// One for each of the types from Port Description to System Capabilities.
+    pub types: [bool; 4],
 }
 
 impl Seen {
-    pub(crate) const NONE: Seen = Seen { types: [false; 4] };
+    /// None was met.
+    pub const NONE: Seen = Seen { types: [false; 4] };
 
     /// Whether a TLV of the type was met, where one of the type counts.
     #[tactic(auto, unfolding(crate::specs::Code::Seen::has_flag))]
@@ -43,7 +46,7 @@ impl Seen {
     }
 
     /// Whether the next TLV is kept. It counts as met from then on where it is well formed.
-    pub(crate) fn keeps(&mut self, tlv: &Tlv<'_>) -> bool
+    pub fn keeps(&mut self, tlv: &Tlv<'_>) -> bool
         ensures kept { result ≡ is_kept_seen self.old.types (tlv_view tlv.now) }
         ensures met { self.new.types ≡ seen_after self.old.types (tlv_view tlv.now) }
     {

@@ -9,7 +9,9 @@ mod event;
 pub mod laws;
 mod limits;
 mod machine;
+mod parts;
 
 pub use event::{Cause, Mark};
 pub use limits::{MOST_CREDIT, MOST_FAST, MOST_REINIT};
 pub use machine::Transmit;
+pub use parts::Parts;

@@ -1,15 +1,17 @@
 //! The transmit machine of one port: a few counters, a few machine words.
 
-ghost use Rattle.std.specs.Prelude.{◌≡◌, ◌≤◌, ◌+◌, ◌-◌, ◌↔◌, [], ◌∷◌, min};
+ghost use Rattle.std.specs.Prelude.{◌≡◌, ◌≤◌, ◌+◌, ◌-◌, ◌↔◌, [], ◌∷◌, min, IfSome, IsSome};
 ghost use Rattle.lldp_transmit.specs.History.{settings, event};
 ghost use Rattle.lldp_transmit.specs.Moments.{moments, mark_at, is_active, is_allowed, is_up};
 ghost use Rattle.lldp_transmit.specs.Positions.{IsDueAndOpen, StopsAt, IsLeastRoom};
 ghost use Rattle.lldp_transmit.specs.Remaining.{credit_left};
 ghost use Rattle.lldp_transmit.specs.Standing.{AreSettings, Stands, ForEachHistory};
 ghost use Rattle.lldp_transmit.specs.Windows.{IsBoundedWith, StopsRarelyWith, IsEarliestWith};
+ghost use Rattle.lldp_transmit.specs.Code.Parts.{machine_of_parts};
 ghost use Rattle.lldp_transmit.specs.Code.Machine.{opened, served, signalled, ticked, stopped, stepped};
 
 use crate::event::{Cause, Mark};
+use crate::parts::Parts;
 use std::marker::Model;
 
 /// The transmit machine of one port.
@@ -94,6 +96,49 @@ impl Transmit {
             allowed,
             up: true,
         }
+    }
+
+    /// Its fields.
+    pub fn parts(&self) -> Parts
+        ensures { machine_of_parts result ≡ self.now }
+    {
+        Parts {
+            timer: self.timer,
+            credit_max: self.credit_max,
+            fast_init: self.fast_init,
+            reinit: self.reinit,
+            credit: self.credit,
+            wait: self.wait,
+            left: self.left,
+            waiting: self.waiting,
+            active: self.active,
+            allowed: self.allowed,
+            up: self.up,
+        }
+    }
+
+    /// The machine with these fields. None exactly where the credit is above `credit_max`, as no
+    /// machine's is.
+    pub fn of_parts(parts: &Parts) -> Option<Transmit>
+        ensures some { IfSome result (λ machine. machine ≡ machine_of_parts parts.now) }
+        ensures exists { IsSome result ↔ (parts.now.credit ≤ parts.now.credit_max) }
+    {
+        if parts.credit > parts.credit_max {
+            return None;
+        }
+        Some(Transmit {
+            timer: parts.timer,
+            credit_max: parts.credit_max,
+            fast_init: parts.fast_init,
+            reinit: parts.reinit,
+            credit: parts.credit,
+            wait: parts.wait,
+            left: parts.left,
+            waiting: parts.waiting,
+            active: parts.active,
+            allowed: parts.allowed,
+            up: parts.up,
+        })
     }
 
     /// Takes one event, with the tx-interval in force after it (1 to 3600 seconds), and tells which

@@ -1,0 +1,23 @@
+//! The fields of a transmit machine.
+
+/// The fields of a transmit machine, for who keeps one in a struct of C's.
+#[repr(C)]
+#[derive(Clone, Copy)]
+pub struct Parts {
+    /// Ticks until the timer ends.
+    pub timer: u16,
+    pub credit_max: u8,
+    pub fast_init: u8,
+    pub reinit: u8,
+    /// Ordinary frames that may go before the next tick.
+    pub credit: u8,
+    /// Ticks until the port may start again.
+    pub wait: u8,
+    /// Signals left in the burst.
+    pub left: u8,
+    /// A signal has had no frame yet.
+    pub waiting: bool,
+    pub active: bool,
+    pub allowed: bool,
+    pub up: bool,
+}

@@ -1,0 +1,36 @@
+-- What C is told of the bodies of two TLVs.
+use Rattle.std.specs.Prelude.{ℕ, ◌+◌, ◌≤◌, List, length}
+use Rattle.lldp_pdu.specs.declared.fields.Caps.{Caps}
+use Rattle.lldp_pdu.specs.ManagementAddress.{Address}
+use Rattle.lldpa_c.specs.declared.bodies.LldpaCapabilities.{LldpaCapabilities}
+use Rattle.lldpa_c.specs.declared.bodies.LldpaManagement.{LldpaManagement}
+use Rattle.lldpa_c.specs.Place.{octets_at}
+
+-- the capabilities that C is told
+abbrev pub caps_told : LldpaCapabilities → Caps
+caps_told c = record { available = c.available; enabled = c.enabled }
+
+-- the management address that C is told, its octets read from the body
+abbrev pub address_told : List ℕ → LldpaManagement → Address
+address_told body m = record {
+  family = m.family;
+  address = octets_at body m.address;
+  numbering = m.numbering;
+  interface = m.interface;
+  oid = octets_at body m.oid;
+}
+
+-- both places are in the body
+pub record IsWithin (body : List ℕ) (m : LldpaManagement) : Type 0 where
+  pub address : m.address.start + m.address.length ≤ length body
+  pub oid : m.oid.start + m.oid.length ≤ length body
+
+-- where the code says that the fields lie: two octets, the address, six octets, the object identifier
+abbrev pub management_of : Address → LldpaManagement
+management_of a = record {
+  address = record { start = 2; length = length a.address };
+  oid = record { start = 2 + length a.address + 6; length = length a.oid };
+  interface = a.interface;
+  family = a.family;
+  numbering = a.numbering;
+}

@@ -1,0 +1,49 @@
+-- What C is told of an LLDPDU.
+use Rattle.std.specs.Prelude.{◌≡◌, ℕ, ◌+◌, ◌<◌, ◌≤◌, List, length, take, Option, Some, None}
+use Rattle.lldp_pdu.specs.declared.fault.PduFault.{PduFault}
+use Rattle.lldp_pdu.specs.FaultNumber.{pdu_fault_number}
+use Rattle.lldp_pdu.specs.Msap.{MsapId}
+use Rattle.lldp_pdu.specs.Lldpdu.{extent, ttl_of, msap_of}
+use Rattle.lldp_pdu.specs.Kept.{kept_of, discarded_of, count_unrecognized}
+use Rattle.lldpa_c.specs.declared.place.LldpaPlace.{LldpaPlace}
+use Rattle.lldpa_c.specs.declared.examine.LldpaExamined.{LldpaExamined}
+use Rattle.lldpa_c.specs.Place.{octets_at}
+
+-- the number of a fault, or 0
+abbrev pub fault_number : Option PduFault → ℕ
+fault_number None = 0
+fault_number (Some fault) = pdu_fault_number fault
+
+-- the place holds these octets
+pub record Holds (octets : List ℕ) (place : LldpaPlace) (body : List ℕ) : Type 0 where
+  pub within : place.start + place.length ≤ length octets
+  pub held : octets_at octets place ≡ body
+
+-- what is told beside the name where the neighbor lives
+pub record TellsLife (octets : List ℕ) (told : LldpaExamined) : Type 0 where
+  pub within : told.extent ≤ length octets
+  pub extent : take told.extent octets ≡ extent octets
+  pub discarded : told.discarded ≡ discarded_of octets
+  pub unrecognized : told.unrecognized ≡ count_unrecognized (kept_of octets)
+
+-- what is told beside the name where the neighbor is gone: nothing
+pub record TellsNothing (told : LldpaExamined) : Type 0 where
+  pub extent : told.extent ≡ 0
+  pub discarded : told.discarded ≡ 0
+  pub unrecognized : told.unrecognized ≡ 0
+
+-- All that a sound LLDPDU tells.
+pub record Tells (octets : List ℕ) (told : LldpaExamined) : Type 0 where
+  pub ttl : told.ttl ≡ ttl_of octets
+  pub chassis : Holds octets told.chassis (msap_of octets).chassis
+  pub port : Holds octets told.port (msap_of octets).port
+  pub life : 0 < ttl_of octets → TellsLife octets told
+  pub gone : ttl_of octets ≡ 0 → TellsNothing told
+
+-- ---- where the code says that identifiers lie: the first two TLVs, each behind a header of two octets
+
+abbrev pub chassis_place : MsapId → LldpaPlace
+chassis_place msap = record { start = 2; length = length msap.chassis }
+
+abbrev pub port_place : MsapId → LldpaPlace
+port_place msap = record { start = 2 + length msap.chassis + 2; length = length msap.port }

@@ -1,0 +1,85 @@
+//! The fields of the bodies of two TLVs.
+ghost use Rattle.std.specs.Prelude.{◌≡◌, ◌+◌, ◌≤◌, false, length, Some, None, IsTrue, if◌then◌else◌};
+ghost use Rattle.lldp_pdu.specs.Capabilities.{caps_of};
+ghost use Rattle.lldp_pdu.specs.ManagementAddress.{address_of};
+ghost use Rattle.lldp_pdu.specs.View.{address_view};
+ghost use Rattle.lldpa_c.specs.Bodies.{caps_told, address_told, management_of, IsWithin};
+
+use crate::place::LldpaPlace;
+use lldp_pdu::{Mgmt, caps, mgmt};
+
+/// What a System Capabilities TLV says.
+#[repr(C)]
+#[derive(Clone, Copy)]
+pub struct LldpaCapabilities {
+    pub available: u16,
+    pub enabled: u16,
+}
+
+/// What a Management Address TLV says. Both places are in its body.
+#[repr(C)]
+#[derive(Clone, Copy)]
+pub struct LldpaManagement {
+    pub address: LldpaPlace,
+    pub oid: LldpaPlace,
+    pub interface: u32,
+    pub family: u8,
+    pub numbering: u8,
+}
+
+/// The fields of the body of a System Capabilities TLV. False exactly where it is not well formed,
+/// and then the struct stays as it was.
+#[unsafe(no_mangle)]
+pub extern "C" fn lldpa_caps(body: &[u8], told: &mut LldpaCapabilities) -> bool
+    ensures value { (if result then Some (caps_told told.new) else None) ≡ caps_of body.now }
+    ensures none { result ≡ false → told.new ≡ told.old }
+{
+    match caps(body) {
+        None => false,
+        Some(caps) => {
+            *told = LldpaCapabilities {
+                available: caps.available,
+                enabled: caps.enabled,
+            };
+            true
+        }
+    }
+}
+
+/// Where the fields of a Management Address lie in its body: behind two octets the address, and the
+/// object identifier behind six more.
+fn management(fields: &Mgmt<'_>) -> LldpaManagement
+    ensures { result ≡ management_of (address_view fields.now) }
+{
+    LldpaManagement {
+        address: LldpaPlace {
+            start: 2,
+            length: fields.address.len(),
+        },
+        oid: LldpaPlace {
+            start: 2 + fields.address.len() + 6,
+            length: fields.oid.len(),
+        },
+        interface: fields.interface,
+        family: fields.family,
+        numbering: fields.numbering,
+    }
+}
+
+/// The fields of the body of a Management Address TLV. False exactly where it is not well formed,
+/// and then the struct stays as it was.
+#[unsafe(no_mangle)]
+pub extern "C" fn lldpa_mgmt(body: &[u8], told: &mut LldpaManagement) -> bool
+    ensures value { (if result then Some (address_told body.now told.new) else None)
+        ≡ address_of body.now }
+    ensures within { IsTrue result → IsWithin body.now told.new }
+    ensures none { result ≡ false → told.new ≡ told.old }
+{
+    match mgmt(body) {
+        None => false,
+        Some(fields) => {
+            *told = management(&fields);
+            true
+        }
+    }
+}

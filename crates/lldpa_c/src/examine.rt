@@ -1,0 +1,115 @@
+//! What an LLDPDU tells.
+ghost use Rattle.std.specs.Prelude.{◌≡◌, ◌+◌, length, None, IsSome};
+ghost use Rattle.lldp_pdu.specs.Fault.{fault_of};
+ghost use Rattle.lldp_pdu.specs.View.{msap_view};
+ghost use Rattle.lldpa_c.specs.Examined.{fault_number, Tells, chassis_place, port_place};
+
+use crate::place::LldpaPlace;
+use lldp_pdu::{Examined, Info, Msap, examine};
+
+/// What a sound LLDPDU tells.
+#[repr(C)]
+#[derive(Clone, Copy)]
+pub struct LldpaExamined {
+    /// The body of the Chassis ID, its subtype first.
+    pub chassis: LldpaPlace,
+    /// The body of the Port ID, its subtype first.
+    pub port: LldpaPlace,
+    /// How many octets count, from the front. 0 where the TTL is 0.
+    pub extent: usize,
+    /// How many TLVs are discarded. 0 where the TTL is 0.
+    pub discarded: usize,
+    /// How many kept TLVs are of the types 9 to 127. 0 where the TTL is 0.
+    pub unrecognized: usize,
+    /// The time to live, in seconds. 0 says that the neighbor is gone.
+    pub ttl: u16,
+}
+
+/// How many octets of a TLV stand before its body.
+const TLV_HEADER: usize = 2;
+
+/// Where the body of the first TLV lies.
+fn chassis_place(msap: &Msap<'_>) -> LldpaPlace
+    ensures { result ≡ chassis_place (msap_view msap.now) }
+{
+    LldpaPlace {
+        start: TLV_HEADER,
+        length: msap.chassis.len(),
+    }
+}
+
+/// Where the body of the second TLV lies.
+fn port_place(msap: &Msap<'_>) -> LldpaPlace
+    ensures { result ≡ port_place (msap_view msap.now) }
+{
+    LldpaPlace {
+        start: TLV_HEADER + msap.chassis.len() + TLV_HEADER,
+        length: msap.port.len(),
+    }
+}
+
+/// What an LLDPDU tells of a neighbor that is gone.
+fn gone(msap: &Msap<'_>) -> LldpaExamined
+    ensures { result
+        ≡ record {
+          chassis = chassis_place (msap_view msap.now);
+          port = port_place (msap_view msap.now);
+          extent = 0;
+          discarded = 0;
+          unrecognized = 0;
+          ttl = 0;
+        } }
+{
+    LldpaExamined {
+        chassis: chassis_place(msap),
+        port: port_place(msap),
+        extent: 0,
+        discarded: 0,
+        unrecognized: 0,
+        ttl: 0,
+    }
+}
+
+/// What an LLDPDU tells of a neighbor that lives.
+fn alive(info: &Info<'_>) -> LldpaExamined
+    ensures { result
+        ≡ record {
+          chassis = chassis_place info.now.msap;
+          port = port_place info.now.msap;
+          extent = length info.now.octets;
+          discarded = info.now.discarded;
+          unrecognized = info.now.unrecognized;
+          ttl = info.now.ttl;
+        } }
+{
+    let msap = info.msap();
+    LldpaExamined {
+        chassis: chassis_place(&msap),
+        port: port_place(&msap),
+        extent: info.octets().len(),
+        discarded: info.discarded(),
+        unrecognized: info.unrecognized(),
+        ttl: info.ttl(),
+    }
+}
+
+/// What an LLDPDU of any length tells, or the number of its fault, 1 to 8, and 0 where it has none.
+/// Where it has one, the struct stays as it was.
+#[unsafe(no_mangle)]
+pub extern "C" fn lldpa_examine(pdu: &[u8], told: &mut LldpaExamined) -> u8
+    ensures fault { result ≡ fault_number (fault_of pdu.now) }
+    ensures told { fault_of pdu.now ≡ None → Tells pdu.now told.new }
+    ensures refused { IsSome (fault_of pdu.now) → told.new ≡ told.old }
+{
+    match examine(pdu) {
+        Err(fault) => fault.number(),
+        Ok(Examined::Shutdown(msap)) => {
+            *told = gone(&msap);
+            0
+        }
+        Ok(Examined::Info(info)) => {
+            *told = alive(&info);
+            0
+        }
+    }
+}

@@ -1,0 +1,31 @@
+//! The LLDPDU of an Ethernet frame.
+ghost use Rattle.std.specs.Prelude.{◌≡◌, ◌+◌, false, length, Some, None, IsTrue, if◌then◌else◌};
+ghost use Rattle.lldp_pdu.specs.Frame.{lldpdu_of};
+ghost use Rattle.lldpa_c.specs.Place.{octets_at};
+
+use crate::place::LldpaPlace;
+use lldp_pdu::frame_pdu;
+
+/// How many octets stand before the LLDPDU of a frame.
+const HEADER: usize = 14;
+
+/// Whether the octets are an LLDP frame, and where its LLDPDU lies. Where they are none, the place
+/// stays as it was.
+#[unsafe(no_mangle)]
+pub extern "C" fn lldpa_frame_pdu(frame: &[u8], pdu: &mut LldpaPlace) -> bool
+    ensures value { (if result then Some (octets_at frame.now pdu.new) else None)
+        ≡ lldpdu_of frame.now }
+    ensures within { IsTrue result → pdu.new.start + pdu.new.length ≡ length frame.now }
+    ensures none { result ≡ false → pdu.new ≡ pdu.old }
+{
+    match frame_pdu(frame) {
+        None => false,
+        Some(found) => {
+            *pdu = LldpaPlace {
+                start: HEADER,
+                length: found.len(),
+            };
+            true
+        }
+    }
+}

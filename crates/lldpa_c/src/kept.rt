@@ -1,0 +1,112 @@
+//! A walk over the kept TLVs of an extent.
+ghost use Rattle.std.specs.Prelude.{◌≡◌, ◌≤◌, ◌+◌, ◌-◌, [], ◌∷◌, true, false, length, drop, None, IsTrue, IfNone, IfSome};
+ghost use Rattle.lldp_pdu.specs.Cut.{cut};
+ghost use Rattle.lldp_pdu.specs.View.{tlv_view};
+ghost use Rattle.lldp_pdu.specs.Kept.{kept_of};
+ghost use Rattle.lldp_pdu.specs.Code.Seen.{none_seen, kept_seen};
+ghost use Rattle.lldpa_c.specs.Place.{octets_at, EndsWith};
+ghost use Rattle.lldpa_c.specs.Walk.{tlvs_from, left_of, IsExtent, GivesKept};
+
+use crate::place::LldpaPlace;
+use lldp_pdu::{Seen, Tlv, Tlvs};
+
+/// A walk over the kept TLVs. It begins with all fields 0.
+#[repr(C)]
+#[derive(Clone, Copy)]
+pub struct LldpaKept {
+    /// Where it goes on. 0: at the first TLV behind the mandatory ones.
+    pub next: usize,
+    /// The body of the TLV that was given last.
+    pub body: LldpaPlace,
+    /// Of which of the types 4 to 7 a well-formed TLV was met.
+    pub met: [bool; 4],
+    /// The type of the TLV that was given last.
+    pub kind: u8,
+}
+
+/// A kept TLV, what was met up to it, and the octets behind it.
+#[derive(Drop)]
+struct Found<'a> {
+    tlv: Tlv<'a>,
+    seen: Seen,
+    rest: &'a [u8],
+}
+
+/// The octets behind the first TLV.
+fn behind_first(octets: &[u8]) -> &[u8]
+    ensures tlvs { (cut result.now).tlvs ≡ drop 1 (cut octets.now).tlvs }
+    ensures place { EndsWith octets.now result.now }
+{
+    let mut tlvs = Tlvs::new(octets);
+    match tlvs.next() {
+        Some(_) => tlvs.rest(),
+        None => octets,
+    }
+}
+
+/// The octets where a walk goes on.
+fn rest_from(extent: &[u8], next: usize) -> &[u8]
+    ensures tlvs { (cut result.now).tlvs ≡ tlvs_from extent.now next }
+    ensures place { EndsWith extent.now result.now }
+{
+    if next == 0 {
+        behind_first(behind_first(behind_first(extent)))
+    } else {
+        &extent[next.min(extent.len())..]
+    }
+}
+
+/// The first kept TLV of these octets, where these types were met before.
+fn first_kept(octets: &[u8], met: Seen) -> Option<Found<'_>>
+    ensures none { IfNone result (kept_seen met.types (cut octets.now).tlvs ≡ []) }
+    ensures some { IfSome result (λ found. kept_seen met.types (cut octets.now).tlvs
+        ≡ tlv_view found.tlv ∷ kept_seen found.seen.types (cut found.rest.now).tlvs) }
+    ensures place { IfSome result (λ found.
+        GivesKept octets.now found.tlv.body.now found.rest.now) }
+{
+    let mut tlvs = Tlvs::new(octets);
+    let mut seen = met;
+    while let Some(tlv) = tlvs.next() {
+        if seen.keeps(&tlv) {
+            return Some(Found {
+                tlv,
+                seen,
+                rest: tlvs.rest(),
+            });
+        }
+    }
+    None
+}
+
+/// The next kept TLV of an extent, by a walk that is carried on. False where none is left, and then
+/// the walk stays as it was.
+#[unsafe(no_mangle)]
+pub extern "C" fn lldpa_next_kept(extent: &[u8], walk: &mut LldpaKept) -> bool
+    ensures given { IsTrue result → left_of extent.now walk.old
+        ≡ record {
+          kind = walk.new.kind;
+          body = octets_at extent.now walk.new.body;
+        } ∷ left_of extent.now walk.new }
+    ensures within { IsTrue result →
+        walk.new.body.start + walk.new.body.length ≤ length extent.now }
+    ensures ended { result ≡ false → left_of extent.now walk.old ≡ [] }
+    ensures kept { result ≡ false → walk.new ≡ walk.old }
+    ensures begun { IsExtent extent.now → walk.old.next ≡ 0 → walk.old.met ≡ none_seen →
+        left_of extent.now walk.old ≡ kept_of extent.now }
+{
+    let rest = rest_from(extent, walk.next);
+    let Some(found) = first_kept(rest, Seen { types: walk.met }) else {
+        return false;
+    };
+    let next = extent.len() - found.rest.len();
+    *walk = LldpaKept {
+        next,
+        body: LldpaPlace {
+            start: next - found.tlv.body.len(),
+            length: found.tlv.body.len(),
+        },
+        met: found.seen.types,
+        kind: found.tlv.kind,
+    };
+    true
+}

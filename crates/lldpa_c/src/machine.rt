@@ -1,0 +1,126 @@
+//! The transmit machine of one port.
+ghost use Rattle.std.specs.Prelude.{◌≡◌, ◌≤◌, ◌↔◌, ℕ, [], ◌∷◌, Some, None, IsSome, IsTrue};
+ghost use Rattle.lldp_transmit.specs.declared.event.Cause.{Cause};
+ghost use Rattle.lldp_transmit.specs.declared.event.Mark.{Mark};
+ghost use Rattle.lldp_transmit.specs.History.{settings};
+ghost use Rattle.lldp_transmit.specs.Moments.{moments};
+ghost use Rattle.lldp_transmit.specs.Remaining.{credit_left};
+ghost use Rattle.lldp_transmit.specs.Standing.{AreSettings, Stands, ForEachHistory};
+ghost use Rattle.lldp_transmit.specs.Code.Machine.{opened};
+ghost use Rattle.lldp_transmit.specs.Code.Parts.{machine_of_parts};
+ghost use Rattle.lldpa_c.specs.Machine.{cause_numbered, mark_number, CanTake, Takes};
+
+use crate::answer::{OK, OUT_OF_RANGE};
+use lldp_transmit::{Cause, MOST_CREDIT, MOST_FAST, MOST_REINIT, Mark, Parts, Transmit};
+
+/// The greatest tx-interval, in seconds.
+const MOST_INTERVAL: u16 = 3600;
+
+/// The cause of that number.
+fn cause_numbered(number: u8) -> Option<Cause>
+    ensures { result ≡ cause_numbered number }
+{
+    match number {
+        0 => Some(Cause::Tick),
+        1 => Some(Cause::Change),
+        2 => Some(Cause::Neighbor),
+        3 => Some(Cause::Stop),
+        4 => Some(Cause::Allow),
+        5 => Some(Cause::Down),
+        6 => Some(Cause::Up),
+        7 => Some(Cause::Nothing),
+        _ => None,
+    }
+}
+
+/// The number of a mark.
+fn mark_number(mark: Mark) -> u8
+    ensures { result ≡ mark_number mark }
+{
+    match mark {
+        Mark::Quiet => 0,
+        Mark::Ordinary => 1,
+        Mark::Shutdown => 2,
+    }
+}
+
+/// Whether a machine can be opened with these.
+fn are_settings(credit_max: u8, fast_init: u8, reinit: u8, allowed: bool) -> bool
+    ensures { IsTrue result ↔ AreSettings (settings credit_max fast_init reinit allowed) }
+{
+    (1..=MOST_CREDIT).contains(&credit_max)
+        && (1..=MOST_FAST).contains(&fast_init)
+        && (1..=MOST_REINIT).contains(&reinit)
+}
+
+/// Makes a machine with full credit, on a port whose link is up and that is not active. A number
+/// out of its range leaves it as it was.
+#[unsafe(no_mangle)]
+pub extern "C" fn lldpa_transmit_new(
+    machine: &mut Parts,
+    credit_max: u8,
+    fast_init: u8,
+    reinit: u8,
+    allowed: bool,
+) -> u8
+    ensures made { AreSettings (settings credit_max fast_init reinit allowed) → result ≡ 0 }
+    ensures opened { result ≡ 0 →
+        machine_of_parts machine.new ≡ opened (settings credit_max fast_init reinit allowed) }
+    ensures stands { result ≡ 0 →
+        Stands (settings credit_max fast_init reinit allowed) [] (machine_of_parts machine.new) }
+    ensures refused { ¬ (AreSettings (settings credit_max fast_init reinit allowed)) →
+        (result ≡ 100) × (machine.new ≡ machine.old) }
+{
+    if !are_settings(credit_max, fast_init, reinit, allowed) {
+        return OUT_OF_RANGE;
+    }
+    *machine = Transmit::new(credit_max, fast_init, reinit, allowed).parts();
+    OK
+}
+
+/// Takes one event, with the tx-interval in force after it, and tells which frame goes. What is out
+/// of its range leaves all as it was.
+#[unsafe(no_mangle)]
+pub extern "C" fn lldpa_transmit_event(
+    machine: &mut Parts,
+    cause: u8,
+    interval: u16,
+    mark: &mut u8,
+) -> u8
+    ensures taken { CanTake machine.old interval → IsSome (cause_numbered cause) → result ≡ 0 }
+    ensures step { result ≡ 0 → (c : Cause) × (m : Mark) × (cause_numbered cause ≡ Some c)
+        × (mark.new ≡ mark_number m)
+        × Takes (machine_of_parts machine.old) c interval (machine_of_parts machine.new) m }
+    ensures refused { ¬ (result ≡ 0) →
+        (result ≡ 100) × (machine.new ≡ machine.old) × (mark.new ≡ mark.old) }
+    ensures range { result ≡ 0 → CanTake machine.old interval }
+{
+    let Some(cause) = cause_numbered(cause) else {
+        return OUT_OF_RANGE;
+    };
+    if interval < 1 || interval > MOST_INTERVAL {
+        return OUT_OF_RANGE;
+    }
+    let Some(mut transmit) = Transmit::of_parts(machine) else {
+        return OUT_OF_RANGE;
+    };
+    let answer = transmit.event(cause, interval);
+    *machine = transmit.parts();
+    *mark = mark_number(answer);
+    OK
+}
+
+/// How many ordinary frames may go before the next tick. 0 for what is no machine.
+#[unsafe(no_mangle)]
+pub extern "C" fn lldpa_transmit_credit(machine: &Parts) -> u8
+    ensures value { machine.now.credit ≤ machine.now.credit_max → result ≡ machine.now.credit }
+    ensures left { machine.now.credit ≤ machine.now.credit_max →
+        ForEachHistory (machine_of_parts machine.now) (λ s past.
+        result ≡ credit_left s (moments s past)) }
+    ensures none { ¬ (machine.now.credit ≤ machine.now.credit_max) → result ≡ 0 }
+{
+    match Transmit::of_parts(machine) {
+        Some(transmit) => transmit.credit(),
+        None => 0,
+    }
+}
