@@ -242,13 +242,14 @@ def check_definitions(checks):
     """Each file of definitions is told in the section of its crate."""
     page = "docs/DEFINITIONS.md"
     for crate in CRATES:
-        files = sorted((TOP / "crates" / crate / "specs").glob("*.antt"))
+        specs = TOP / "crates" / crate / "specs"
+        files = sorted([*specs.glob("*.antt"), *specs.glob("Laws/*.antt")])
         if not files:
             continue
         section = (TOP / page).read_text().split(f"## `crates/{crate}/specs`")[1].split("\n## ")[0]
-        for path in files:
-            if path.stem not in ("Lib", "Code"):
-                checks.see(page, f"{crate}, {path.stem}", None if re.search(rf"`{path.stem}\b", section) else "is not told")
+        for name in (str(path.relative_to(specs).with_suffix("")) for path in files):
+            if name not in ("Lib", "Code", "Laws"):
+                checks.see(page, f"{crate}, {name}", None if re.search(rf"`{name}\b", section) else "is not told")
 
 
 def is_shown_by(name):
