@@ -13,9 +13,10 @@ from typing import List, Optional, Tuple
 from unittest import mock
 
 import lldpa
-from lldpa.agent import LONGEST_LINE, MARK, MARK_ANSWER, Agent, Answers, Ended, Refused, checked
-from lldpa.framing import command, ticks
-from lldpa.shown import Counters
+from lldpa.agent.synchronous import MARK, MARK_ANSWER, Agent, Answers, Ended, Refused, checked
+from lldpa.agent.framing import command, ticks
+from lldpa.agent.shown import Counters
+from lldpa.limits import LONGEST_LINE
 from made_captures import LLDP, OTHER
 from patience import eventually
 from support import DEFAULT_FRAME, PROGRAM, kill

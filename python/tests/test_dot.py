@@ -11,9 +11,9 @@ import unittest
 from pathlib import Path
 from typing import List, Optional, Tuple
 
-from lldpa.dot import DEEPEST, edges_of, is_dot
-from lldpa.dot_tokens import DotFault
-from lldpa.topology import TopologyFault, read_topology
+from lldpa.audit.dot import DEEPEST, edges_of, is_dot
+from lldpa.audit.dot_tokens import DotFault
+from lldpa.audit.topology import TopologyFault, read_topology
 from patience import by_the_clock
 from test_plan import TOPOLOGY
 

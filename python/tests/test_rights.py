@@ -13,7 +13,7 @@ import sys
 import unittest
 from pathlib import Path
 
-from lldpa.interface import IS_OURS, SO_ATTACH_FILTER, filter_program
+from lldpa.live.interface import IS_OURS, SO_ATTACH_FILTER, filter_program
 
 from bridged import Live, OnLinks, on_links
 from patience import eventually

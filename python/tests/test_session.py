@@ -12,12 +12,13 @@ import time
 import unittest
 from pathlib import Path
 
-from lldpa.batch import Entry
-from lldpa.logbook import MOST_WAITING, Logbook
-from lldpa.logfiles import LogFiles, open_folder, sizes_of
-from lldpa.logprocess import answer, answers_in
-from lldpa.seconds import Seconds
-from lldpa.session import MOST_TICKS, Session
+from lldpa.live.batch import Entry
+from lldpa.live.logbook import MOST_WAITING, Logbook
+from lldpa.live.logfiles import LogFiles, open_folder, sizes_of
+from lldpa.live.logprocess import answer, answers_in
+from lldpa.live.seconds import Seconds
+from lldpa.live.session import Session
+from lldpa.limits import MOST_TICKS
 
 from patience import eventually
 
