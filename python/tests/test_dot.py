@@ -120,7 +120,7 @@ class Large(unittest.TestCase):
         self.assertLess(time.process_time() - begin, 6)
 
     def test_memory(self) -> None:
-        program = ("import resource; from lldpa.topology import read_topology;"
+        program = ("import resource; from lldpa.audit.topology import read_topology;"
                    "n = sum(1 for _ in read_topology('graph {' + 'a:1 -- b:2;\\n' * 100000 + '}'));"
                    "print(n, resource.getrusage(resource.RUSAGE_SELF).ru_maxrss)")
         ran = subprocess.run([sys.executable, "-c", program], capture_output=True, text=True,

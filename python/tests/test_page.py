@@ -154,7 +154,7 @@ class Terminal(InAFolder):
 
     def test_progress(self) -> None:
         ours, theirs = pty.openpty()
-        program = ("import time; from lldpa.progress import Progress; p = Progress('x');\n"
+        program = ("import time; from lldpa.audit.progress import Progress; p = Progress('x');\n"
                    "for n in p.over(range(24), 24, 'files'): time.sleep(0.1)\n"
                    "p.clear()")
         with subprocess.Popen([sys.executable, "-c", program], stderr=theirs,

@@ -66,7 +66,7 @@ class Session:
         for moment, line in entries:
             clock = math.floor(moment + offset)
             if clock != self.clock:
-                self.kept.append(time.strftime(CLOCK, time.gmtime(clock)).encode())
+                self.kept.append(time.strftime(f"# {CLOCK}", time.gmtime(clock)).encode())
                 self.clock = clock
             self.kept.append(line)
         self.kept_entries += len(entries)
