@@ -18,9 +18,10 @@ from .heard import Heard
 from .logbook import Logbook
 from .logfiles import LogFiles, check_folder, open_folder
 from .seconds import Seconds
-from ..limits import CLOCK, MOST_TICKS
+from ..limits import CLOCK
 
 MEGABYTE = 1_000_000
+MOST_SECONDS_KEPT = 2  # in a row, until they are handed over
 TICK = b"tick"
 
 
@@ -70,7 +71,7 @@ class Session:
                 self.clock = clock
             self.kept.append(line)
         self.kept_entries += len(entries)
-        if self.kept_entries >= MOST_TICKS or any(line != TICK for _, line in entries):
+        if self.kept_entries >= MOST_SECONDS_KEPT or any(line != TICK for _, line in entries):
             self.hand_over()
 
     def hand_over(self) -> None:
