@@ -21,7 +21,7 @@ import time
 TOOLS = os.path.dirname(os.path.realpath(__file__))
 sys.path.insert(0, os.path.join(TOOLS, "..", "python"))
 from lldpa.control import Client  # noqa: E402
-from lldpa.show import read_show  # noqa: E402
+from lldpa.agent.show import read_show  # noqa: E402
 
 LIVE = os.path.join(TOOLS, "..", "bin", "lldpa-live")
 LINKS = 8

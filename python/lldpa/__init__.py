@@ -12,14 +12,14 @@
 from importlib import import_module
 from typing import TYPE_CHECKING
 
-from .show import Counters, Neighbor, Port, Show, ShowFault, lines_of, read_show, unescaped
+from .agent.show import Counters, Neighbor, Port, Show, ShowFault, lines_of, read_show, unescaped
 
 __version__ = "1.0.0"
 
 if TYPE_CHECKING:
-    from .agent import Agent, AsyncAgent, Ended, Refused
-    from .capture import BadCapture, Packet, packets_of
-    from .trace import Source, Told, ports_of, trace_of
+    from .agent.synchronous import Agent, AsyncAgent, Ended, Refused
+    from .capture.packets import BadCapture, Packet, packets_of
+    from .capture.trace import Source, Told, ports_of, trace_of
 
 __all__ = ["Agent", "AsyncAgent", "BadCapture", "Counters", "Ended", "Neighbor", "Packet", "Port",
            "Refused", "Show", "ShowFault", "Source", "Told", "lines_of", "packets_of", "ports_of",
@@ -27,9 +27,9 @@ __all__ = ["Agent", "AsyncAgent", "BadCapture", "Counters", "Ended", "Neighbor",
 
 
 # what is loaded when it is first used: asyncio takes 8 MB, and a bridge reads no captures
-LATER = {".agent": ("Agent", "AsyncAgent", "Ended", "Refused"),
-         ".capture": ("BadCapture", "Packet", "packets_of"),
-         ".trace": ("Source", "Told", "ports_of", "trace_of")}
+LATER = {".agent.synchronous": ("Agent", "AsyncAgent", "Ended", "Refused"),
+         ".capture.packets": ("BadCapture", "Packet", "packets_of"),
+         ".capture.trace": ("Source", "Told", "ports_of", "trace_of")}
 
 
 def __getattr__(name: str) -> object:

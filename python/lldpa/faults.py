@@ -8,8 +8,8 @@ import sys
 import traceback
 from typing import Any, Dict
 
-from .child import Ended
-from .console import report
+from .agent.child import Ended
+from .control.console import report
 
 
 class SettingsRefused(Exception):

@@ -7,8 +7,8 @@ from __future__ import annotations
 import unicodedata
 from typing import NamedTuple, Optional
 
-from .escapes import shown_text
-from .show import unescaped
+from .agent.escapes import shown_text
+from .agent.show import unescaped
 
 CUT = "…"
 MOST_MARKS = 2  # that stand above or below one letter

@@ -10,7 +10,7 @@ from typing import Any, Optional
 
 import rack
 from lldpa import AsyncAgent
-from lldpa.control import Server
+from lldpa.control.connection import Server
 from served import BRIDGE_LINES, PROGRAM, REPOSITORY, Served
 
 AUDIT = str(REPOSITORY / "bin" / "lldpa-audit")

@@ -11,7 +11,7 @@ from pathlib import Path
 from typing import Any, Coroutine, Optional
 
 from lldpa import AsyncAgent
-from lldpa.control import Client, Server
+from lldpa.control.connection import Client, Server
 
 REPOSITORY = Path(__file__).resolve().parents[2]
 PROGRAM = os.environ.get("LLDPA") or str(REPOSITORY / "crates" / "lldpa" / "out" / "lldpa")

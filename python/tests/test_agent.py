@@ -13,14 +13,15 @@ from typing import List, Optional, Tuple
 from unittest import mock
 
 import lldpa
-from lldpa.agent import LONGEST_LINE, MARK, MARK_ANSWER, Agent, Answers, Ended, Refused, checked
-from lldpa.framing import command, ticks
-from lldpa.shown import Counters
+from lldpa.agent.synchronous import MARK, MARK_ANSWER, Agent, Answers, Ended, Refused, checked
+from lldpa.agent.framing import command, ticks
+from lldpa.agent.shown import Counters
+from lldpa.limits import LONGEST_LINE
 from made_captures import LLDP, OTHER
 from patience import eventually
 from support import DEFAULT_FRAME, PROGRAM, kill
 
-def started(*ports: str, **options: lldpa.agent.Option) -> Agent:
+def started(*ports: str, **options: lldpa.agent.synchronous.Option) -> Agent:
     """An agent with these ports, eth0 where there are none."""
     return Agent.start(ports or ["eth0"], PROGRAM, **options)
 
@@ -175,7 +176,7 @@ class EndedAgents(unittest.TestCase):
                 Agent.start(ports, PROGRAM)  # type: ignore[arg-type]
 
     def test_a_program_that_does_not_answer(self) -> None:
-        with mock.patch("lldpa.agent.PATIENCE", 0.2), self.assertRaises(Ended) as ended:
+        with mock.patch("lldpa.agent.synchronous.PATIENCE", 0.2), self.assertRaises(Ended) as ended:
             Agent.start(["60"], "sleep")
         self.assertIsNone(ended.exception.status)
 
@@ -217,7 +218,7 @@ class Listening(unittest.TestCase):
 
     def test_what_one_client_tells_the_next_one_is_shown(self) -> None:
         self.first.frame("eth0", LLDP)
-        with mock.patch("lldpa.agent.PATIENCE", 0.2), self.assertRaises(Ended) as ended:
+        with mock.patch("lldpa.agent.synchronous.PATIENCE", 0.2), self.assertRaises(Ended) as ended:
             Agent.connect(self.number)
         self.assertIn("another client", ended.exception.text)
         self.first.close()

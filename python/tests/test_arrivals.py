@@ -9,8 +9,8 @@ from typing import Dict, Optional
 
 from bridged import OnLinks, on_links
 from lldpa import Agent
-from lldpa.arrivals import (MOST_OF_A_PORT, Arrivals, chassis_numbers_of, sender_of,
-                            since_of)
+from lldpa.control.arrivals import Arrivals, chassis_numbers_of, sender_of, since_of
+from lldpa.limits import MOST_NEIGHBORS
 from patience import eventually
 from served import PROGRAM, frame, numbered, tlv
 
@@ -117,7 +117,7 @@ class Noting(unittest.TestCase):
             self.arrivals.hear("eth0", frame(name, name, 30))
         about = self.arrivals.about()
         self.assertEqual([len(since_of(about)), len(chassis_numbers_of(about)), len(about)],
-                         [MOST_OF_A_PORT, MOST_OF_A_PORT, 2 * MOST_OF_A_PORT])
+                         [MOST_NEIGHBORS, MOST_NEIGHBORS, 2 * MOST_NEIGHBORS])
         self.assertIsNotNone(self.came())
         self.assertIsNone(self.came(2))
         self.arrivals.second = 30
@@ -148,7 +148,7 @@ class Noting(unittest.TestCase):
             self.arrivals.hear("eth0", frame(name, name, 1))
             self.arrivals.second += 1
         self.assertEqual(self.arrivals.last_number, 2000)
-        self.assertLessEqual(len(self.arrivals.numbers), 4 * MOST_OF_A_PORT)
+        self.assertLessEqual(len(self.arrivals.numbers), 4 * MOST_NEIGHBORS)
 
     def test_lines_of_a_bridge(self) -> None:
         lines = ["bridge.began=2026-11-23T19:40:00Z", "bridge.eth0.kernel-drops=0",

@@ -6,7 +6,7 @@ import signal
 import unittest
 from typing import List, Tuple
 
-from lldpa.agent import AsyncAgent, Ended, Refused
+from lldpa.agent.synchronous import AsyncAgent, Ended, Refused
 from made_captures import LLDP
 from support import DEFAULT_FRAME, PROGRAM, kill
 

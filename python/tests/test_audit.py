@@ -6,11 +6,11 @@ import random
 import unittest
 from typing import Dict, List, Sequence, Tuple
 
-from lldpa.audit import Finding, Verdict, audit
-from lldpa.names import NAMELESS, End, Names, Seen
-from lldpa.plan import Link, Plan
-from lldpa.planfault import PlanFault
-from lldpa.seen.tables import Tables
+from lldpa.audit.judging import Finding, Verdict, audit
+from lldpa.audit.names import NAMELESS, End, Names, Seen
+from lldpa.audit.plan import Link, Plan
+from lldpa.audit.planfault import PlanFault
+from lldpa.audit.seen.tables import Tables
 
 from slow_judge import SlowJudge
 

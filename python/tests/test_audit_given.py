@@ -13,9 +13,9 @@ from typing import List, Tuple
 
 import rack
 from auditing import AUDIT, InAFolder, run
-from lldpa.names import End, Names
-from lldpa.plan import Link, Plan
-from lldpa.what import What, placed
+from lldpa.audit.names import End, Names
+from lldpa.audit.plan import Link, Plan
+from lldpa.audit.what import What, placed
 from served import PROGRAM
 
 RIGHT = "2 planned: 1 right, 0 not, 1 not looked at (host01)\n"

@@ -7,7 +7,7 @@ import random
 import unittest
 from typing import List
 
-from lldpa.capture import BadCapture, Packet, interfaces_of, packets_of, reader_of
+from lldpa.capture.packets import BadCapture, Packet, interfaces_of, packets_of, reader_of
 from made_captures import (ETHERNET, FORMS, LLDP, NEAREST_BRIDGE, OTHER, SECOND, START, Frame,
                            block, interface, packet, pcap, pcapng, section, units_of, whole)
 

@@ -13,9 +13,9 @@ import unittest
 from unittest import mock
 
 from lldpa import Refused, read_show
-from lldpa import control
-from lldpa.control import Gone
-from lldpa.places import KEPT, MOST_CLIENTS
+from lldpa.control import connection as control
+from lldpa.control.connection import Gone
+from lldpa.control.places import KEPT, MOST_CLIENTS
 from patience import eventually
 from served import Served, numbered, tlv
 

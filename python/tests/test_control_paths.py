@@ -12,7 +12,7 @@ import sys
 import tempfile
 import unittest
 
-from lldpa.control import Client, Gone, InUse, Server
+from lldpa.control.connection import Client, Gone, InUse, Server
 from served import REPOSITORY, Served
 
 ASKER = """
@@ -28,7 +28,7 @@ for line in sys.stdin:
 """
 SERVING = """
 import asyncio, sys
-from lldpa.control import Server
+from lldpa.control.connection import Server
 async def ask(line):
     return [b"here"]
 async def serve():

@@ -9,11 +9,11 @@ from dataclasses import replace
 from typing import List
 
 from lldpa import Neighbor, Port
-from lldpa.as_json import neighbor_object
-from lldpa.details import MOST_LINES, details
-from lldpa.shown import Identifier
+from lldpa.control.as_json import neighbor_object
+from lldpa.control.details import MOST_LINES, details
+from lldpa.agent.shown import Identifier
 from lldpa.texts import width_of
-from lldpa.watching import changes
+from lldpa.control.watching import changes
 from test_organizational import SAMPLES
 
 ORG = tuple((f"org.{oui}.{sample.kind[1]}", bytes.fromhex(sample.octets).hex())

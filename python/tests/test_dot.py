@@ -11,9 +11,9 @@ import unittest
 from pathlib import Path
 from typing import List, Optional, Tuple
 
-from lldpa.dot import DEEPEST, edges_of, is_dot
-from lldpa.dot_tokens import DotFault
-from lldpa.topology import TopologyFault, read_topology
+from lldpa.audit.dot import DEEPEST, edges_of, is_dot
+from lldpa.audit.dot_tokens import DotFault
+from lldpa.audit.topology import TopologyFault, read_topology
 from patience import by_the_clock
 from test_plan import TOPOLOGY
 
@@ -120,7 +120,7 @@ class Large(unittest.TestCase):
         self.assertLess(time.process_time() - begin, 6)
 
     def test_memory(self) -> None:
-        program = ("import resource; from lldpa.topology import read_topology;"
+        program = ("import resource; from lldpa.audit.topology import read_topology;"
                    "n = sum(1 for _ in read_topology('graph {' + 'a:1 -- b:2;\\n' * 100000 + '}'));"
                    "print(n, resource.getrusage(resource.RUSAGE_SELF).ru_maxrss)")
         ran = subprocess.run([sys.executable, "-c", program], capture_output=True, text=True,

@@ -4,8 +4,8 @@ from __future__ import annotations
 
 import unittest
 
-from lldpa.events import Events
-from lldpa.show import Identifier, Neighbor, Port
+from lldpa.live.events import Events
+from lldpa.agent.show import Identifier, Neighbor, Port
 
 
 def neighbor(number: int, port: str = "eth0", name: str = "switch") -> Neighbor:

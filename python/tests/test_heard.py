@@ -5,10 +5,10 @@ from __future__ import annotations
 import unittest
 
 from lldpa import Agent, read_show
-from lldpa.beginning import Beginning
-from lldpa.heard import MOST_OF_A_PORT, Heard, msap_of, named
-from lldpa.interface import Frame
-from lldpa.show import Show
+from lldpa.live.beginning import Beginning
+from lldpa.live.heard import MOST_OF_A_PORT, Heard, msap_of, named
+from lldpa.live.interface import Frame
+from lldpa.agent.show import Show
 
 from served import PROGRAM, frame, numbered, tlv
 

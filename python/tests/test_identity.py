@@ -12,9 +12,9 @@ import time
 import unittest
 from pathlib import Path
 
-from lldpa.identity import chassis_address, description, management_address
-from lldpa.links import News
-from lldpa.patterns import NoPorts, ports_of
+from lldpa.live.identity import chassis_address, description, management_address
+from lldpa.live.links import LinkNews
+from lldpa.live.patterns import NoPorts, ports_of
 
 from bridged import Live, OnLinks, on_links
 from patience import eventually
@@ -25,9 +25,9 @@ LLDPD = shutil.which("lldpd")
 
 
 def one(number: int, name: str, kind: str = "", permanent: bytes = b"",
-        is_ethernet: bool = True) -> News:
+        is_ethernet: bool = True) -> LinkNews:
     """An interface of that kind, whose address ends with its number."""
-    return News(number, name, True, True, is_ethernet, bytes([2, 0, 0, 0, 0, number]), kind,
+    return LinkNews(number, name, True, True, is_ethernet, bytes([2, 0, 0, 0, 0, number]), kind,
                 permanent)
 
 

@@ -5,8 +5,9 @@ from __future__ import annotations
 import select
 import time
 
-from lldpa.interface import LONGEST_FRAME, Frame, Interface
-from lldpa.links import Links
+from lldpa.live.interface import Frame, Interface
+from lldpa.live.links import Links
+from lldpa.limits import LONGEST_FRAME
 
 from bridged import OnLinks, on_links
 from patience import SECONDS, eventually

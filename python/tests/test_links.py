@@ -1,4 +1,4 @@
-"""News of interfaces, as rtnetlink tells them."""
+"""LinkNews of interfaces, as rtnetlink tells them."""
 
 from __future__ import annotations
 
@@ -6,8 +6,8 @@ import select
 import socket
 import unittest
 
-from lldpa.links import Links, News
-from lldpa.ports import parted
+from lldpa.live.links import Links, LinkNews
+from lldpa.live.ports import ran_and_later
 
 from bridged import OnLinks, on_links
 from patience import eventually
@@ -81,7 +81,7 @@ class TestLinks(OnLinks):
             select.select([self.news.socket], [], [], 0.1)
             told.update({news.name: news for news in self.news.read()})
             return not told["eth0"].is_there and not told["eth1"].is_running
-        told["eth0"] = told["eth1"] = News(0, "", True, True, True, b"")
+        told["eth0"] = told["eth1"] = LinkNews(0, "", True, True, True, b"")
         self.assertTrue(eventually(is_right))
 
 
@@ -89,11 +89,11 @@ class TestParted(unittest.TestCase):
     """Which news go before the frames."""
 
     def test_news_up_to_the_last_time_that_each_ran(self) -> None:
-        def one(number: int, is_running: bool) -> News:
-            return News(number, f"eth{number}", True, is_running, True, b"")
+        def one(number: int, is_running: bool) -> LinkNews:
+            return LinkNews(number, f"eth{number}", True, is_running, True, b"")
         news = [one(0, False), one(1, True), one(0, True),
                 one(1, False), one(2, False), one(0, False)]
-        self.assertEqual(parted(news), (news[:3], news[3:]))
+        self.assertEqual(ran_and_later(news), (news[:3], news[3:]))
 
 
 if __name__ == "__main__":

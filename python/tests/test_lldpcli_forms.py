@@ -11,8 +11,8 @@ import lldpd_heard
 from by_lldpcli import PARTS
 from judges import flat
 from lldpa import Agent
-from lldpa.arrivals import Arrivals, chassis_numbers_of, since_of
-from lldpa.framing import Refused
+from lldpa.control.arrivals import Arrivals, chassis_numbers_of, since_of
+from lldpa.agent.framing import Refused
 from lldpa.lldpcli_forms.fixed import fixed
 from lldpa.lldpcli_forms.shows import Depth, Told, age, neighbors
 from lldpa.lldpcli_forms.tree import Node

@@ -7,10 +7,10 @@ import unittest
 from typing import Sequence
 
 from lldpa import Agent
-from lldpa.framing import rx
-from lldpa.looks import MOST_SENDERS, Looks, sender_of
-from lldpa.show import Port
-from lldpa.watching import Watch
+from lldpa.agent.framing import rx
+from lldpa.live.looks import MOST_SENDERS, Looks, sender_of
+from lldpa.agent.show import Port
+from lldpa.control.watching import Watch
 from served import PROGRAM, frame, numbered, tlv
 
 FOREVER = 1e9

@@ -10,9 +10,9 @@ from dataclasses import fields
 from typing import Dict, Tuple
 
 from lldpa import read_show
-from lldpa.exposition import escaped
-from lldpa.metrics import metrics
-from lldpa.show import Counters
+from lldpa.control.exposition import escaped
+from lldpa.control.metrics import metrics
+from lldpa.agent.show import Counters
 from served import BRIDGE_LINES, CTL, Served, frame, numbered, tlv
 
 SAMPLE = re.compile(r'([a-z_]+)(?:\{((?:[a-z_]+="(?:[^"\\\n]|\\["\\n])*",?)+)\})? ([0-9]+)')

@@ -5,13 +5,13 @@ import unittest
 from typing import Dict, List, Sequence
 
 from auditing import InAFolder, run
-from lldpa.audit import audit
-from lldpa.mismatches import mismatches
-from lldpa.names import End, Names, Seen
-from lldpa.plan import Link, Plan
-from lldpa.seen.shows import read_ports
-from lldpa.seen.tables import Tables
-from lldpa.link_settings import Settings, settings_of, speed_and_duplex
+from lldpa.audit.judging import audit
+from lldpa.audit.mismatches import mismatches
+from lldpa.audit.names import End, Names, Seen
+from lldpa.audit.plan import Link, Plan
+from lldpa.audit.seen.shows import read_ports
+from lldpa.audit.seen.tables import Tables
+from lldpa.audit.link_settings import Settings, settings_of, speed_and_duplex
 
 LINKS = 10_000
 PORTS = 100

@@ -6,14 +6,14 @@ from typing import List, Sequence
 
 import rack
 from auditing import InAFolder, run
-from lldpa.aliases import read_aliases
-from lldpa.audit import audit
-from lldpa.names import Aliases, End, Names, Seen
-from lldpa.plan import Link, Plan
-from lldpa.planfault import PlanFault
-from lldpa.report.report import Report
-from lldpa.seen.tables import Tables
-from lldpa.spelling import is_aggregate, plain, plain_port
+from lldpa.audit.aliases import read_aliases
+from lldpa.audit.judging import audit
+from lldpa.audit.names import Aliases, End, Names, Seen
+from lldpa.audit.plan import Link, Plan
+from lldpa.audit.planfault import PlanFault
+from lldpa.audit.report.report import Report
+from lldpa.audit.seen.tables import Tables
+from lldpa.audit.spelling import is_aggregate, plain, plain_port
 from served import frame, tlv
 
 # ports of which each line is spelled in all ways that vendors have for it

@@ -3,9 +3,9 @@ from __future__ import annotations
 
 import unittest
 
-from lldpa.differs import Differences
-from lldpa.names import End, Names, Seen, shown, text_of, without_domain
-from lldpa.report.order import natural
+from lldpa.audit.differs import Differences
+from lldpa.audit.names import End, Names, Seen, shown, text_of, without_domain
+from lldpa.audit.report.order import natural
 
 
 def seen(host: str, port: str) -> Seen:

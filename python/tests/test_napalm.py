@@ -6,8 +6,8 @@ import json
 import unittest
 from typing import Any, Optional
 
-from lldpa.seen.forms import reader_of
-from lldpa.seen.listing import Listing, SeenFault
+from lldpa.audit.seen.forms import reader_of
+from lldpa.audit.seen.listing import Listing, SeenFault
 
 DETAIL: Any = {
     "TenGigE0/0/0/8": [

@@ -9,7 +9,7 @@ import time
 import unittest
 
 from heard import Heard
-from lldpa.notify import Manager
+from lldpa.live.notify import Manager
 
 
 class Telling(unittest.TestCase):

@@ -17,14 +17,14 @@ from xml.etree import ElementTree
 
 import rack
 from auditing import AUDIT, InAFolder, run
-from lldpa.audit import audit
-from lldpa.names import End, Names, Seen
-from lldpa.plan import Link, Plan
-from lldpa.progress import Progress
-from lldpa.report.drawing import ENDS_OF_A_PICTURE
-from lldpa.report.page import page_of
-from lldpa.report.report import Report
-from lldpa.seen.tables import Tables
+from lldpa.audit.judging import audit
+from lldpa.audit.names import End, Names, Seen
+from lldpa.audit.plan import Link, Plan
+from lldpa.audit.progress import Progress
+from lldpa.audit.report.drawing import ENDS_OF_A_PICTURE
+from lldpa.audit.report.page import page_of
+from lldpa.audit.report.report import Report
+from lldpa.audit.seen.tables import Tables
 
 BROWSER = shutil.which("chromium") or shutil.which("chromium-browser")
 WIDTHS = (1280, 400)
@@ -154,7 +154,7 @@ class Terminal(InAFolder):
 
     def test_progress(self) -> None:
         ours, theirs = pty.openpty()
-        program = ("import time; from lldpa.progress import Progress; p = Progress('x');\n"
+        program = ("import time; from lldpa.audit.progress import Progress; p = Progress('x');\n"
                    "for n in p.over(range(24), 24, 'files'): time.sleep(0.1)\n"
                    "p.clear()")
         with subprocess.Popen([sys.executable, "-c", program], stderr=theirs,

@@ -6,8 +6,8 @@ import re
 import unittest
 
 from lldpa import Neighbor, Port, read_show
-from lldpa.people import summary, table
-from lldpa.shown import Identifier
+from lldpa.control.people import summary, table
+from lldpa.agent.shown import Identifier
 from lldpa.texts import cut
 from served import Served, frame, numbered, tlv
 

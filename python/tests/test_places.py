@@ -11,10 +11,10 @@ import unittest
 from contextlib import ExitStack
 from unittest import mock
 
-from lldpa import places
-from lldpa.bucket import AT_ONCE, Bucket
+from lldpa.control import places
+from lldpa.live.bucket import AT_ONCE, Bucket
 from lldpa.control import Client
-from lldpa.places import Place, Places
+from lldpa.control.places import Place, Places
 
 from bridged import OnLinks, on_links
 from patience import SECONDS, Standstill, by_the_clock, eventually

@@ -6,9 +6,9 @@ import unittest
 from pathlib import Path
 from typing import List, Tuple
 
-from lldpa.names import Names
-from lldpa.planfault import PlanFault
-from lldpa.planfile import read_plan
+from lldpa.audit.names import Names
+from lldpa.audit.planfault import PlanFault
+from lldpa.audit.planfile import read_plan
 
 # the forms that ptmd's documentation of topology files shows
 TOPOLOGY = """\

@@ -7,11 +7,11 @@ from pathlib import Path
 from typing import List, Mapping, Optional
 
 from auditing import InAFolder, run
-from lldpa.columns import given_columns
-from lldpa.names import Names
-from lldpa.plan import Plan
-from lldpa.planfault import PlanFault
-from lldpa.planfile import read_plan
+from lldpa.audit.columns import given_columns
+from lldpa.audit.names import Names
+from lldpa.audit.plan import Plan
+from lldpa.audit.planfault import PlanFault
+from lldpa.audit.planfile import read_plan
 import rack
 
 # as NetBox writes its cables, some of which are of power

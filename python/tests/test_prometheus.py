@@ -11,10 +11,11 @@ from typing import Any, Dict, List, Tuple
 from urllib.parse import parse_qs
 
 from auditing import InAFolder, run
-from lldpa.names import NAMELESS
-from lldpa.seen.fleet import fleet_of
-from lldpa.seen.prometheus import Answers, Hosts, PrometheusFault, Sample, answers_of, shown_url
-from lldpa.link_settings import Settings
+from lldpa.audit.names import NAMELESS
+from lldpa.audit.seen.fleet import fleet_of
+from lldpa.audit.seen.prometheus import (Answers, Hosts, PrometheusFault, Sample, answers_of,
+                                         shown_url)
+from lldpa.audit.link_settings import Settings
 
 NOW = 1_700_000_000.5
 PLAN = """\

@@ -10,10 +10,10 @@ from dataclasses import fields
 from typing import List
 
 from bridged import OnLinks, on_links
-from lldpa.answering import HELP, answered
-from lldpa.framing import Refused
-from lldpa.questions import COMMANDS, explanation, listed, question
-from lldpa.shown import Counters
+from lldpa.control.answering import HELP, answered
+from lldpa.agent.framing import Refused
+from lldpa.control.questions import COMMANDS, explanation, listed, question
+from lldpa.agent.shown import Counters
 from patience import eventually
 from served import CTL, REPOSITORY, Served, numbered, tlv
 

@@ -5,11 +5,11 @@ import json
 import unittest
 from typing import List, Mapping, Sequence
 
-from lldpa.audit import audit
-from lldpa.names import NAMELESS, End, Names, Seen
-from lldpa.plan import Link, Plan
-from lldpa.report.report import Report
-from lldpa.seen.tables import Tables
+from lldpa.audit.judging import audit
+from lldpa.audit.names import NAMELESS, End, Names, Seen
+from lldpa.audit.plan import Link, Plan
+from lldpa.audit.report.report import Report
+from lldpa.audit.seen.tables import Tables
 
 Known = Mapping[str, Sequence[Seen]]
 

@@ -13,7 +13,7 @@ import sys
 import unittest
 from pathlib import Path
 
-from lldpa.interface import IS_OURS, SO_ATTACH_FILTER, filter_program
+from lldpa.live.interface import IS_OURS, SO_ATTACH_FILTER, filter_program
 
 from bridged import Live, OnLinks, on_links
 from patience import eventually
@@ -27,8 +27,8 @@ SYS_PIDFD_OPEN, SYS_PIDFD_GETFD = 434, 438
 WITHIN = """
 import socket, sys
 sys.path.insert(0, sys.argv[1])
-from lldpa.interface import IS_OURS, Interface, filter_program
-from lldpa.privileges import give_up
+from lldpa.live.interface import IS_OURS, Interface, filter_program
+from lldpa.live.privileges import give_up
 from test_rights import what_is_refused
 port = Interface("eth0")
 give_up(None)

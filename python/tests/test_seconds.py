@@ -6,7 +6,7 @@ import time
 import unittest
 from unittest import mock
 
-from lldpa.seconds import Seconds
+from lldpa.live.seconds import Seconds
 
 
 class At:

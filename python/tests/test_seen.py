@@ -7,9 +7,9 @@ from dataclasses import fields
 from typing import Callable, Union
 
 import rack
-from lldpa.seen.quickshow import USUAL_PORT
-from lldpa.seen.shows import Ports, quick_ports, read_ports, slow_ports
-from lldpa.show import Counters, ShowFault, read_show
+from lldpa.audit.seen.quickshow import USUAL_PORT
+from lldpa.audit.seen.shows import Ports, quick_ports, read_ports, slow_ports
+from lldpa.agent.show import Counters, ShowFault, read_show
 
 SHOW = """\
 lldp.ge-0/0/1.neighbors=2

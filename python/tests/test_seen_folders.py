@@ -7,8 +7,8 @@ from typing import Any, Tuple
 
 import rack
 from auditing import InAFolder, run
-from lldpa.seen.folders import read_whats, without_ending
-from lldpa.seen.gather import What
+from lldpa.audit.seen.folders import read_whats, without_ending
+from lldpa.audit.seen.gather import What
 
 PLAN = """\
 host,port,peer,peer_port

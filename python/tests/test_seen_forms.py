@@ -9,13 +9,13 @@ from typing import Dict, List, Optional, Sequence, Tuple
 
 import lldpd_heard
 from lldpa import Agent
-from lldpa.names import Seen
-from lldpa.seen.files import MOST_OCTETS, read_file
-from lldpa.seen.forms import reader_of
-from lldpa.seen.listing import Listing, SeenFault
-from lldpa.seen.shows import read_ports
-from lldpa.link_settings import Settings
-from lldpa.show import ShowFault
+from lldpa.audit.names import Seen
+from lldpa.audit.seen.files import MOST_OCTETS, read_file
+from lldpa.audit.seen.forms import reader_of
+from lldpa.audit.seen.listing import Listing, SeenFault
+from lldpa.audit.seen.shows import read_ports
+from lldpa.audit.link_settings import Settings
+from lldpa.agent.show import ShowFault
 from served import PROGRAM
 
 LONG = "9" * 5000

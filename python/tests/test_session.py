@@ -12,12 +12,12 @@ import time
 import unittest
 from pathlib import Path
 
-from lldpa.batch import Entry
-from lldpa.logbook import MOST_WAITING, Logbook
-from lldpa.logfiles import LogFiles, open_folder, sizes_of
-from lldpa.logprocess import answer, answers_in
-from lldpa.seconds import Seconds
-from lldpa.session import MOST_TICKS, Session
+from lldpa.live.batch import Entry
+from lldpa.live.logbook import MOST_WAITING, Logbook
+from lldpa.live.logfiles import LogFiles, open_folder, sizes_of
+from lldpa.live.logprocess import answer, answers_in
+from lldpa.live.seconds import Seconds
+from lldpa.live.session import MOST_SECONDS_KEPT, Session
 
 from patience import eventually
 
@@ -75,7 +75,7 @@ class TestSession(InFolder):
         tick, frame = Entry(Seconds.now(), b"tick"), Entry(Seconds.now(), b"rx eth0 00")
         session.write([tick])
         self.assertEqual(session.book.size, len("# lldpa eth0\n"))
-        for entries in ([frame], [tick] * MOST_TICKS, [Entry(Seconds.now(), b"tick 6")]):
+        for entries in ([frame], [tick] * MOST_SECONDS_KEPT, [Entry(Seconds.now(), b"tick 6")]):
             session.write(entries)
             self.assertEqual(session.kept, [])
         session.write([tick])
@@ -84,7 +84,7 @@ class TestSession(InFolder):
         await session.close(5)
         first, second = ([line for line in log.read_text().splitlines() if line[0] != "#"]
                          for log in self.logs())
-        self.assertEqual(first, ["tick", "rx eth0 00", *["tick"] * MOST_TICKS, "tick 6", "tick"])
+        self.assertEqual(first, ["tick", "rx eth0 00", *["tick"] * MOST_SECONDS_KEPT, "tick 6", "tick"])
         self.assertEqual(second, ["up eth1", "tick"])
 
 

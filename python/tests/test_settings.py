@@ -7,7 +7,7 @@ import unittest
 from pathlib import Path
 
 from bridged import OnLinks, on_links
-from lldpa.refused import explained
+from lldpa.control.refused import explained
 from patience import eventually
 from served import numbered
 

@@ -7,9 +7,9 @@ import unittest
 from dataclasses import fields
 from typing import Iterator, List, Tuple
 
-from lldpa.agent import MARK, MARK_ANSWER
-from lldpa.show import (Configuration, Counters, Identifier, Neighbor, Show, ShowFault, lines_of,
-                        read_show, unescaped)
+from lldpa.agent.synchronous import MARK, MARK_ANSWER
+from lldpa.agent.show import (Configuration, Counters, Identifier, Neighbor, Show, ShowFault,
+                              lines_of, read_show, unescaped)
 from support import PROGRAM, REPOSITORY
 
 sys.dont_write_bytecode = True

@@ -6,8 +6,8 @@ import json
 import unicodedata
 import unittest
 
-from lldpa.escapes import shown_text
-from lldpa.show import unescaped
+from lldpa.agent.escapes import shown_text
+from lldpa.agent.show import unescaped
 from lldpa.texts import printable, readable, shown_octets, text_of, width_of, wrapped
 
 SHOWN = ("a", "é", "ß", "Ω", "ж", "א", "ع", "京", "한", "€", "→", "😀", "½", "\\", "~", "¡")

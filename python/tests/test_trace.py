@@ -10,7 +10,7 @@ import unittest
 from typing import Dict, List, Optional, Sequence, Tuple
 
 from lldpa import Source, Told, ports_of, trace_of
-from lldpa.trace import TooManyPorts
+from lldpa.capture.trace import TooManyPorts
 from made_captures import (FORMS, LLDP, OTHER, SECOND, START, TAGGED, Frame, block, interface,
                            lldp_frame, packet, pcap, pcapng, section, whole)
 from support import CAPTURE, PROGRAM, FilesCase, run_capture

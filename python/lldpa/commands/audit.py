@@ -8,24 +8,24 @@ import sys
 from typing import Optional, Sequence
 
 from .. import output
-from ..aliases import read_aliases
-from ..audit import audit
-from ..child import Ended
-from ..framing import Refused
-from ..mismatches import mismatches
-from ..names import NO_ALIASES, Names
-from ..planfault import PlanFault
-from ..planfile import read_plan
-from ..progress import Progress
-from ..report.files import FileFault, write
-from ..report.page import page_of
-from ..report.picture import drawn
-from ..report.report import Report
-from ..seen.files import read_files
-from ..seen.folders import read_whats
-from ..show import ShowFault
-from ..source import hold
-from ..what import of_hosts, placed
+from ..audit.aliases import read_aliases
+from ..audit.judging import audit
+from ..agent.child import Ended
+from ..agent.framing import Refused
+from ..audit.mismatches import mismatches
+from ..audit.names import NO_ALIASES, Names
+from ..audit.planfault import PlanFault
+from ..audit.planfile import read_plan
+from ..audit.progress import Progress
+from ..audit.report.files import FileFault, write
+from ..audit.report.page import page_of
+from ..audit.report.picture import drawn
+from ..audit.report.report import Report
+from ..audit.seen.files import read_files
+from ..audit.seen.folders import read_whats
+from ..agent.show import ShowFault
+from ..capture.source import hold
+from ..audit.what import of_hosts, placed
 from .auditwords import read_words
 from .seenwords import ControlFault, gathered
 

@@ -4,7 +4,7 @@ from __future__ import annotations
 import argparse
 from typing import Optional, Sequence
 
-from ..columns import given_columns
+from ..audit.columns import given_columns
 from ..version import add_version
 from .seenwords import add_reader_options, is_nothing_given
 

@@ -8,8 +8,8 @@ from typing import Dict, List, Mapping, Optional, Sequence, Tuple
 
 from .. import output
 from ..output import complain
-from ..source import PORT_NAME_RULE, STANDARD_INPUT, Source, is_port_name
-from ..trace import Told, TooManyPorts, ports_of, trace_of
+from ..capture.source import PORT_NAME_RULE, STANDARD_INPUT, Source, is_port_name
+from ..capture.trace import Told, TooManyPorts, ports_of, trace_of
 from ..version import add_version
 
 NAME = "lldpa-capture"

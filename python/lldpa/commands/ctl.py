@@ -10,18 +10,18 @@ import time
 from typing import Optional, Sequence
 
 from .. import output
-from ..arrivals import Since, since_of
-from ..as_json import neighbor_object
-from ..control import DEFAULT_PATH, Client, Gone
-from ..framing import Refused
-from ..people import terminal_width
-from ..publishing import NotWritten, publish
-from ..questions import COMMANDS, check, explanation, question
-from ..refused import words_of
-from ..show import ShowFault, read_show
+from ..control.arrivals import Since, since_of
+from ..control.as_json import neighbor_object
+from ..control.connection import DEFAULT_PATH, Client, Gone
+from ..agent.framing import Refused
+from ..control.people import terminal_width
+from ..control.publishing import NotWritten, publish
+from ..control.questions import COMMANDS, check, explanation, question
+from ..control.refused import words_of
+from ..agent.show import ShowFault, read_show
 from ..texts import printable
 from ..version import add_version
-from ..watching import News, Watch, news_line
+from ..control.watching import NeighborNews, Watch, news_line
 
 SECONDS_BETWEEN_LOOKS = 0.5
 NO_PORT = "no such port"
@@ -65,7 +65,7 @@ def watch(client: Client, as_json: bool) -> None:
             print(line, flush=True)
 
 
-def news_object(news: News, now: str, since: Since) -> str:
+def news_object(news: NeighborNews, now: str, since: Since) -> str:
     """What happened to a neighbor, as JSON in one line."""
     told = {"time": now, "what": news.what, "changes": list(news.changes)}
     return json.dumps({**told, "neighbor": neighbor_object(news.neighbor, since)})

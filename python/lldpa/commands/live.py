@@ -8,13 +8,14 @@ import os
 import sys
 from typing import Callable, Dict, Sequence, Tuple
 
-from ..child import Option
-from ..console import open_missing_streams
-from ..control import DEFAULT_PATH
+from ..agent.child import Option
+from ..control.console import open_missing_streams
+from ..control.connection import DEFAULT_PATH
 from ..faults import report_all, report_fault
-from ..patterns import MOST_PORTS, is_able, is_pattern, parts_of
-from ..running import live
+from ..live.patterns import is_able, is_pattern, parts_of
+from ..live.running import live
 from ..version import add_version
+from ..limits import MOST_PORTS
 
 USAGE = "lldpa-live [OPTION...] PORT... [-- OPTIONS OF LLDPA]"
 EPILOG = """\

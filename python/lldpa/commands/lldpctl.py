@@ -8,12 +8,12 @@ import time
 from typing import List, NamedTuple, Optional, Sequence
 
 from .. import __version__, output
-from ..control import DEFAULT_PATH, Client, Gone
-from ..framing import Refused
+from ..control.connection import DEFAULT_PATH, Client, Gone
+from ..agent.framing import Refused
 from ..lldpcli_forms.shows import LINES, Told, told_by
 from ..lldpcli_forms.words import of_lldpcli, of_lldpctl
 from ..lldpcli_forms.writing import FORMS
-from ..show import ShowFault
+from ..agent.show import ShowFault
 from ..texts import printable
 from .ctl import said_of
 

@@ -7,15 +7,15 @@ import socket
 from typing import Callable, Iterator, Sequence
 from urllib.parse import urlsplit
 
-from ..control import DEFAULT_PATH
-from ..names import Names, shown
-from ..plan import Plan
-from ..seen.files import SeenFile
-from ..seen.fleet import fleet_of
-from ..seen.gather import Gathering
-from ..seen.prometheus import HOST_OF_INSTANCE, INSTANCE, STALE_AFTER, Hosts, answers_of
-from ..seen.tables import Tables
-from ..what import What
+from ..control.connection import DEFAULT_PATH
+from ..audit.names import Names, shown
+from ..audit.plan import Plan
+from ..audit.seen.files import SeenFile
+from ..audit.seen.fleet import fleet_of
+from ..audit.seen.gather import Gathering
+from ..audit.seen.prometheus import HOST_OF_INSTANCE, INSTANCE, STALE_AFTER, Hosts, answers_of
+from ..audit.seen.tables import Tables
+from ..audit.what import What
 
 Say = Callable[[str], None]
 

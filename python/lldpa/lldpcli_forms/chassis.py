@@ -5,7 +5,7 @@ import ipaddress
 import socket
 from typing import Iterable, Iterator, Mapping, Optional, Tuple
 
-from ..show import Identifier, LocalChassis, Neighbor, unescaped
+from ..agent.show import Identifier, LocalChassis, Neighbor, unescaped
 from .tree import Node, said_text, text_of
 
 CAPABILITIES = ("Other", "Repeater", "Bridge", "Router", "Wlan", "Tel", "Docsis", "Station")

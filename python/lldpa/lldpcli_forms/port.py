@@ -5,7 +5,7 @@ from typing import Iterator, Optional, Tuple
 
 from ..organizational import (LinkAggregation, MacPhy, MaxFrameSize, Organizational, Power,
                               PowerOfPairs, PowerRequest)
-from ..show import Neighbor
+from ..agent.show import Neighbor
 from .chassis import IP_OF_PORT, MAC_OF_PORT, first, identifier_node
 from .mau_texts import MAU_TEXTS
 from .tree import Node, yes

@@ -6,9 +6,9 @@ import time
 from enum import Enum
 from typing import Iterable, Iterator, List, Mapping, NamedTuple, Optional, Sequence
 
-from ..arrivals import Since, chassis_numbers_of, since_of
-from ..show import Counters, Identifier, Neighbor, Show, read_show
-from ..tallies import summed
+from ..control.arrivals import Since, chassis_numbers_of, since_of
+from ..agent.show import Counters, Identifier, Neighbor, Show, read_show
+from ..control.tallies import summed
 from .chassis import chassis_of, identifier_node, local_chassis
 from .further import parted, unknown_nodes, vlan_nodes
 from .med import med_nodes

@@ -3,7 +3,7 @@ from __future__ import annotations
 
 from typing import Callable, List, NamedTuple, Optional, Sequence
 
-from ..framing import Refused
+from ..agent.framing import Refused
 from .shows import Depth, Told, chassis, interfaces, neighbors, statistics
 from .tree import Node
 

@@ -10,8 +10,7 @@
 Octets that do not have the form of their kind are never read as something else: they stay in
 hexadecimal. Texts stay octets, as they were sent.
 """
-from .dcb import (ApplicationPriorities, ApplicationPriority, Ets, EtsRecommendation, EtsTables,
-                  Pfc)
+from .dcb import ApplicationPriorities, ApplicationPriority, Ets, EtsRecommendation, EtsTables, Pfc
 from .dot1 import (LinkAggregation, ManagementVlan, PortVlan, ProtocolIdentity, ProtocolVlan,
                    VidUsageDigest, VlanName)
 from .dot3 import Eee, MacPhy, MaxFrameSize, Power, PowerOfPairs, PowerRequest

@@ -1,0 +1,1 @@
+"""A running lldpa, and the shows that it prints."""

@@ -1,0 +1,223 @@
+"""Reads the lines of lldpa's shows (`read_show`), and gives the very lines again (`lines_of`).
+
+Each line is `KEY=VALUE`; the manual page lldpa(1) lists every key.
+"""
+from __future__ import annotations
+
+import re
+from dataclasses import fields
+from typing import Iterable, Iterator, List, Optional, Tuple
+
+from .shown import SAID_KEY, Configuration, Counters, Identifier, LocalChassis, Neighbor, Port, Show
+
+__all__ = ["Configuration", "Counters", "Identifier", "LocalChassis", "Neighbor", "Port", "Show",
+           "ShowFault", "lines_of", "read_show", "unescaped"]
+
+DIGITS = "(?:0|[1-9][0-9]{0,18})"
+NUMBER = re.compile(DIGITS)
+NAME = r"[A-Za-z0-9_/:-]{1,15}"
+PORT_BEGIN = re.compile(rf"lldp\.({NAME})\.neighbors=({DIGITS})")
+COUNTERS_BEGIN = re.compile(rf"lldp\.({NAME})\.sent={DIGITS}")
+STATUS_LINE = re.compile(rf"configuration\.({NAME})\.status=(rx-and-tx|rx-only|tx-only|disabled)")
+CHASSIS_KINDS = {"component", "ifalias", "portcomp", "mac", "ip", "ifname", "local", "unhandled"}
+PORT_KINDS = {"ifalias", "component", "mac", "ip", "ifname", "circuit", "local", "unhandled"}
+SAID = re.compile(SAID_KEY)
+ESCAPE = re.compile(r"\\(\\|x[0-9a-f]{2})".encode())
+
+
+class ShowFault(ValueError):
+    """Lines that are no show: which line it is, and what was expected in its place."""
+
+
+def unescaped(text: str) -> bytes:
+    """The octets behind an escaped text."""
+    def octet(found: re.Match[bytes]) -> bytes:
+        return b"\\" if found[1] == b"\\" else bytes.fromhex(found[1][1:].decode())
+    return ESCAPE.sub(octet, text.encode("ascii"))
+
+
+def read_show(lines: Iterable[str]) -> Show:
+    """What the lines tell of one show, or of several.
+
+    The order of shows is neighbors, statistics, chassis, configuration. A line may end with its
+    line feed. Raises ShowFault, which names the line, where one is not known or out of place.
+    """
+    return Reader(lines).show()
+
+
+class Reader:
+    """Takes lines one after the other, each as what is expected at its place."""
+
+    def __init__(self, lines: Iterable[str]) -> None:
+        self.lines = [line[:-1] if line.endswith("\n") else line for line in lines]
+        self.at = 0
+        everything = "".join(self.lines)
+        if not (everything.isascii() and everything.isprintable()):
+            while self.next().isascii() and self.next().isprintable():
+                self.at += 1
+            raise self.fault("a line of octets from the space to the tilde")
+
+    def fault(self, expected: str) -> ShowFault:
+        """Tells what was expected in place of the next line."""
+        found = repr(self.lines[self.at]) if self.at < len(self.lines) else "the end"
+        return ShowFault(f"line {self.at + 1}: {found} where {expected} was expected")
+
+    def next(self, further: int = 0) -> str:
+        """The next line, or one further on, or nothing behind the end."""
+        try:
+            return self.lines[self.at + further]
+        except IndexError:
+            return ""
+
+    def text(self, key: str) -> str:
+        """Takes the line of that key, and gives its value."""
+        line = self.next()
+        if not line.startswith(key + "="):
+            raise self.fault(f"{key}=")
+        self.at += 1
+        return line[len(key) + 1:]
+
+    def number(self, key: str) -> int:
+        """Takes the line of that key, and gives its number."""
+        text = self.text(key)
+        if not NUMBER.fullmatch(text):
+            self.at -= 1
+            raise self.fault(f"{key}= and a number")
+        return int(text)
+
+    def show(self) -> Show:
+        """All lines."""
+        ports = tuple(self.ports())
+        counters = dict(self.counters())
+        chassis = self.chassis() if self.next().startswith("local-chassis.") else None
+        is_configured = self.next().startswith("configuration.")
+        configuration = self.configuration() if is_configured else None
+        if self.at < len(self.lines):
+            raise self.fault("the end, or a line of a further show,")
+        return Show(ports, counters, chassis, configuration)
+
+    def ports(self) -> Iterator[Port]:
+        """The ports of `show neighbors`."""
+        names = set()
+        while found := PORT_BEGIN.fullmatch(self.next()):
+            name, count = found[1], int(found[2])
+            if name in names:
+                raise self.fault("another port's name")
+            names.add(name)
+            self.at += 1
+            octets = self.number(f"lldp.{name}.octets")
+            too_many = self.text(f"lldp.{name}.too-many")
+            if too_many not in ("yes", "no"):
+                self.at -= 1
+                raise self.fault(f"lldp.{name}.too-many=, with yes or no,")
+            neighbors = tuple(self.neighbor(name, place) for place in range(1, count + 1))
+            yield Port(name, count, octets, too_many == "yes", neighbors)
+
+    def neighbor(self, port: str, place: int) -> Neighbor:
+        """One neighbor, with the lines of what it said."""
+        front = f"lldp.{port}.{place}."
+        chassis = self.identifier(front + "chassis.", CHASSIS_KINDS)
+        port_id = self.identifier(front + "port.", PORT_KINDS)
+        ttl, expires = self.number(front + "ttl"), self.number(front + "expires")
+        said: List[Tuple[str, str]] = []
+        line = self.next()
+        while line.startswith(front):
+            key, mark, value = line[len(front):].partition("=")
+            if not mark or not SAID.fullmatch(key):
+                raise self.fault("a key of a neighbor")
+            said.append((key, value))
+            self.at += 1
+            line = self.next()
+        return Neighbor(port, place, chassis, port_id, ttl, expires, tuple(said))
+
+    def identifier(self, front: str, kinds: set[str]) -> Identifier:
+        """A chassis ID or port ID."""
+        line = self.next()
+        kind, mark, text = line[len(front):].partition("=")
+        if not line.startswith(front) or not mark or kind not in kinds:
+            raise self.fault(front + "KIND=")
+        self.at += 1
+        return Identifier(kind, text)
+
+    def counters(self) -> Iterator[Tuple[str, Counters]]:
+        """The ports of `show statistics`."""
+        names = set()
+        while found := COUNTERS_BEGIN.fullmatch(self.next()):
+            if found[1] in names:
+                raise self.fault("another port's name")
+            names.add(found[1])
+            keys = [f"lldp.{found[1]}.{shown_key(one.name)}" for one in fields(Counters)]
+            yield found[1], Counters(*(self.number(key) for key in keys))
+
+    def chassis(self) -> LocalChassis:
+        """The lines of `show chassis`."""
+        keys = [one.name for one in fields(LocalChassis)]
+        if not self.next(4).startswith("local-chassis.mgmt="):
+            keys.remove("mgmt")
+        return LocalChassis(**{key: self.text(f"local-chassis.{key}") for key in keys})
+
+    def configuration(self) -> Configuration:
+        """The lines of `show configuration`."""
+        names = [one.name for one in fields(Configuration) if one.name != "statuses"]
+        numbers = {name: self.number(f"configuration.{shown_key(name)}") for name in names}
+        begin, count, statuses = self.at, self.number("configuration.ports"), {}
+        while found := STATUS_LINE.fullmatch(self.next()):
+            statuses[found[1]] = found[2]
+            self.at += 1
+        if self.at != begin + 1 + count or len(statuses) != count:
+            raise self.fault(f"the status of {count} ports")
+        return Configuration(**numbers, statuses=statuses)
+
+
+def shown_key(name: str) -> str:
+    """A field's name as the key of its line."""
+    return name.replace("_", "-")
+
+
+def lines_of(show: Show) -> List[str]:
+    """The lines of what was read, each without its line feed."""
+    lines = [line for port in show.ports for line in port_lines(port)]
+    for name, counters in show.counters.items():
+        lines += [f"lldp.{name}.{shown_key(one.name)}={getattr(counters, one.name)}"
+                  for one in fields(Counters)]
+    if show.chassis is not None:
+        values = ((one.name, getattr(show.chassis, one.name)) for one in fields(LocalChassis))
+        lines += [f"local-chassis.{key}={value}" for key, value in values if value is not None]
+    if show.configuration is not None:
+        lines += configuration_lines(show.configuration)
+    return lines
+
+
+def port_lines(port: Port) -> Iterator[str]:
+    """The lines of one port of `show neighbors`."""
+    yield f"lldp.{port.name}.neighbors={port.neighbors_held}"
+    yield f"lldp.{port.name}.octets={port.octets}"
+    yield f"lldp.{port.name}.too-many={'yes' if port.too_many else 'no'}"
+    for neighbor in port.neighbors:
+        yield from neighbor_lines(neighbor)
+
+
+def neighbor_lines(neighbor: Neighbor) -> Iterator[str]:
+    """The lines of one neighbor."""
+    front = f"lldp.{neighbor.port}.{neighbor.place}."
+    yield f"{front}chassis.{neighbor.chassis}"
+    yield f"{front}port.{neighbor.port_id}"
+    yield f"{front}ttl={neighbor.ttl}"
+    yield f"{front}expires={neighbor.expires}"
+    for key, value in neighbor.said:
+        yield f"{front}{key}={value}"
+
+
+def configuration_lines(configuration: Configuration) -> Iterator[str]:
+    """The lines of `show configuration`."""
+    for one in fields(Configuration):
+        if one.name != "statuses":
+            yield f"configuration.{shown_key(one.name)}={getattr(configuration, one.name)}"
+    yield f"configuration.ports={len(configuration.statuses)}"
+    for name, status in configuration.statuses.items():
+        yield f"configuration.{name}.status={status}"
+
+
+def counted(number: int, what: str) -> str:
+    """A number with its noun: `no neighbors`, `1 neighbor`, `2 neighbors`."""
+    return f"{number or 'no'} {what}{'' if number == 1 else 's'}"

@@ -1,0 +1,166 @@
+"""A running lldpa: a child of this process, or one that listens on 127.0.0.1.
+
+`Agent` is for scripts and waits for each answer; `AsyncAgent` has the same calls for asyncio.
+"""
+from __future__ import annotations
+
+import select
+import socket
+from contextlib import suppress
+from typing import Iterable, List, Mapping, Optional, Sequence
+
+from .asynchronous import AsyncAgent
+from .child import PATIENCE, Child, Ended, Option, words_of
+from .framing import (AT_ONCE, HOST, MARK, MARK_ANSWER, NO_ANSWER, NO_CONNECTION, Answers,
+                      FrameCallback, Line, Refused, accepted, checked, command, hand_over, rx,
+                      ticks, with_mark)
+from .show import Counters, Neighbor, Show, read_show
+from ..limits import LONGEST_LINE
+
+__all__ = ["LONGEST_LINE", "MARK", "MARK_ANSWER", "Agent", "Answers", "AsyncAgent", "Ended",
+           "Refused", "checked"]
+
+
+class Agent:
+    """An agent that is asked, and answers. One thread at a time may use it.
+
+    Frames that its ports send go to `on_frame(port, octets)`, before the call that made them ends.
+    """
+
+    def __init__(self, connection: socket.socket, child: Optional[Child],
+                 on_frame: Optional[FrameCallback]) -> None:
+        """Takes the socket of the agent's trace; `start` and `connect` make one."""
+        self._socket = connection
+        self._child = child
+        self._on_frame = on_frame
+        self._answers = Answers()
+        self._is_whole = True
+        self._over: Optional[Ended] = None
+        connection.setblocking(False)
+        try:
+            self._exchange(with_mark([]), PATIENCE)
+        except BaseException:
+            self.close(patience=0)
+            raise
+
+    @classmethod
+    def start(cls, ports: Sequence[str], program: str = "lldpa", *,
+              on_frame: Optional[FrameCallback] = None, **options: Option) -> Agent:
+        """Runs an agent with these ports. Options are the program's: `max_neighbors=4`.
+
+        Raises OSError where there is no such program, and Ended where it refuses its words.
+        """
+        child = Child(words_of(ports, program, options))
+        return cls(child.socket, child, on_frame)
+
+    @classmethod
+    def connect(cls, number: int, *, on_frame: Optional[FrameCallback] = None) -> Agent:
+        """Takes the agent that listens on this port of 127.0.0.1.
+
+        Raises OSError where none listens, and Ended where it does not answer within 10 seconds.
+        """
+        return cls(socket.create_connection((HOST, number)), None, on_frame)
+
+    @property
+    def pid(self) -> Optional[int]:
+        """The number of the child's process, None for an agent that listens."""
+        return None if self._child is None else self._child.pid
+
+    def ask(self, line: Line) -> List[str]:
+        """The lines that this one is answered; raises Refused, Ended, or ValueError for no line."""
+        return accepted(self.tell([line]))
+
+    def tell(self, lines: Iterable[Line]) -> List[str]:
+        """The lines that these are answered together, those of refused ones among them."""
+        return hand_over(self._exchange(with_mark(lines)), self._on_frame)
+
+    def frame(self, port: str, octets: bytes) -> None:
+        """A frame came in at a port. One that is no LLDP frame changes nothing."""
+        self.ask(rx(port, octets))
+
+    def tick(self, seconds: int = 1) -> None:
+        """So many seconds go by."""
+        for line in ticks(seconds):
+            self.ask(line)
+
+    def link(self, port: str, up: bool) -> None:
+        """The link of a port came, or went."""
+        self.ask(f"{'up' if up else 'down'} {port}")
+
+    def configure(self, *words: str) -> None:
+        """A command: `configure("system", "hostname", "sw 1")`."""
+        self.ask(command("configure", *words))
+
+    def update(self) -> None:
+        """Has each port send the present state again."""
+        self.ask("update")
+
+    def show(self, what: str) -> Show:
+        """One of the shows: neighbors, statistics, chassis, configuration."""
+        return read_show(self.ask(command("show", what)))
+
+    def neighbors(self) -> List[Neighbor]:
+        """The neighbors of all ports."""
+        return self.show("neighbors").neighbors
+
+    def statistics(self) -> Mapping[str, Counters]:
+        """The counters of each port by its name."""
+        return self.show("statistics").counters
+
+    def close(self, patience: float = PATIENCE) -> None:
+        """Ends the agent's trace and waits for its end, as a child for so many seconds at most.
+
+        A port that is to take leave of its peers is disabled before:
+        `configure("ports", "eth0", "lldp", "status", "disabled")`.
+        """
+        with self._socket, suppress(OSError):
+            self._socket.shutdown(socket.SHUT_WR)
+            self._socket.settimeout(patience)
+            while self._socket.recv(AT_ONCE):
+                pass
+        if self._child is not None:
+            self._child.end(patience)
+
+    def __enter__(self) -> Agent:
+        return self
+
+    def __exit__(self, *_: object) -> None:
+        self.close()
+
+    def _exchange(self, octets: bytes, patience: Optional[float] = None) -> List[bytes]:
+        """Writes, and gives the answer; reads meanwhile, so that neither side blocks the other."""
+        if self._over is not None:
+            raise Ended(self._over.status, self._over.text)
+        if not self._is_whole:
+            raise Ended(None, "an answer was not read to its end, so no further line can be asked")
+        self._is_whole = False
+        unsent = memoryview(octets)
+        try:
+            while True:
+                event = self._wait(bool(unsent), patience)
+                if event & select.POLLOUT:
+                    unsent = unsent[self._socket.send(unsent):]
+                if event & ~select.POLLOUT:
+                    received = self._socket.recv(AT_ONCE)
+                    if not received:
+                        raise self._ended()
+                    for answer in self._answers.feed(received):
+                        self._is_whole = True
+                        return answer
+        except ConnectionError:
+            raise self._ended() from None
+
+    def _wait(self, wants_to_write: bool, patience: Optional[float]) -> int:
+        """What the socket is ready for."""
+        poller = select.poll()
+        poller.register(self._socket, select.POLLIN | (select.POLLOUT if wants_to_write else 0))
+        ready = poller.poll(None if patience is None else 1000 * patience)
+        if not ready:
+            raise Ended(None, NO_ANSWER)
+        return ready[0][1]
+
+    def _ended(self) -> Ended:
+        """Why there is no agent any more, which each later call says too."""
+        end = Ended(None, NO_CONNECTION) if self._child is None else self._child.end()
+        self._over = Ended(end.status, end.text)
+        return end

@@ -1,0 +1,86 @@
+"""Pictures of a host for a page: each end with a fault, what it wants, and what it has.
+
+A picture is 360 pixels wide, so that it has room on the screen of a telephone.
+"""
+from __future__ import annotations
+
+import html
+from typing import Iterator, NamedTuple, Sequence
+
+from ..judging import Finding, Verdict
+from ..names import shown
+from .hints import Hints
+
+WIDTH = 360
+ENDS_OF_A_PICTURE = 24
+MOST_NEIGHBORS = 3
+ROW, GAP, MARGIN = 22, 8, 6
+BOX = 18
+PORT_LEFT, PORT_RIGHT = MARGIN, 106
+PEER_LEFT, PEER_RIGHT = 178, WIDTH - MARGIN
+LETTER = 6.7  # the width of a letter of the font, in pixels
+
+
+class Line(NamedTuple):
+    """A line from a port to a peer: its style, and the peer's text."""
+
+    style: str
+    peer: str
+
+
+def pictures_of(host: str, faults: Sequence[Finding], hints: Hints) -> Iterator[str]:
+    """The pictures of a host's faults in SVG, of so many ends each."""
+    for begin in range(0, len(faults), ENDS_OF_A_PICTURE):
+        yield picture(host, faults[begin:begin + ENDS_OF_A_PICTURE], hints)
+
+
+def picture(host: str, faults: Sequence[Finding], hints: Hints) -> str:
+    """One picture."""
+    parts, top = [], MARGIN
+    for fault in faults:
+        lines = lines_of(fault, hints)
+        parts.append(group(fault, lines, top))
+        top += ROW * len(lines) + GAP
+    height = top - GAP + MARGIN
+    title = html.escape(f"{shown(host)}: {len(faults)} ends with a fault")
+    return (f'<svg viewBox="0 0 {WIDTH} {height}" width="{WIDTH}" height="{height}" role="img" '
+            f'aria-label="{title}">{"".join(parts)}</svg>')
+
+
+def lines_of(fault: Finding, hints: Hints) -> list[Line]:
+    """The lines of an end: to each neighbor, and to the one that is wanted and not there."""
+    wants, is_wanted = fault.wants, False
+    lines = []
+    for neighbor in fault.has:
+        is_it = wants is not None and hints.names.answers(neighbor, hints.names.end(wants))
+        is_wanted = is_wanted or is_it
+        lines.append(Line("right" if is_it else "has", str(wants if is_it else neighbor)))
+    if len(lines) > MOST_NEIGHBORS:
+        more = len(lines) - MOST_NEIGHBORS
+        lines[MOST_NEIGHBORS:] = [Line("has", f"{more} more")]
+    if wants is not None and not is_wanted:
+        unknown = fault.verdict is Verdict.NO_DATA
+        lines.append(Line("unknown" if unknown else "wants", str(wants)))
+    return lines or [Line("unknown", "?")]
+
+
+def group(fault: Finding, lines: Sequence[Line], top: int) -> str:
+    """The port of an end, its lines, and their peers."""
+    middle = top + (len(lines) - 1) * ROW // 2
+    kind = "unknown" if fault.verdict is Verdict.NO_DATA else "fault"
+    parts = [box(PORT_LEFT, PORT_RIGHT, middle, f"port {kind}", shown(fault.end.port))]
+    for number, line in enumerate(lines):
+        at = top + number * ROW
+        parts.append(f'<line class="{line.style}" x1="{PORT_RIGHT}" y1="{middle + BOX // 2}" '
+                     f'x2="{PEER_LEFT}" y2="{at + BOX // 2}"/>')
+        parts.append(box(PEER_LEFT, PEER_RIGHT, at, f"peer {line.style}", line.peer))
+    return "".join(parts)
+
+
+def box(left: int, right: int, top: int, style: str, text: str) -> str:
+    """A box with as much of a text as it has room for; the whole is told where one points at it."""
+    room = int((right - left - 8) / LETTER)
+    seen = text if len(text) <= room else text[:room - 1] + "\N{HORIZONTAL ELLIPSIS}"
+    return (f'<g class="{style}"><title>{html.escape(text)}</title>'
+            f'<rect x="{left}" y="{top}" width="{right - left}" height="{BOX}" rx="3"/>'
+            f'<text x="{left + 4}" y="{top + 13}">{html.escape(seen)}</text></g>')

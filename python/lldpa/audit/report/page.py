@@ -1,0 +1,108 @@
+"""A report as one page in HTML, which needs no other file and runs no script."""
+from __future__ import annotations
+
+import html
+from collections import Counter
+from typing import Iterator, Sequence
+
+from ..judging import Finding, Verdict
+from ..names import End, shown
+from .drawing import pictures_of
+from .report import Report
+from .style import STYLE
+
+MISMATCH = "mismatch"
+
+
+def page_of(report: Report) -> bytes:
+    """The page."""
+    return "".join(Page(report).parts()).encode(errors="backslashreplace")
+
+
+class Page:
+    """The parts of a page: the count, faults by kind and by host, and each host with faults."""
+
+    def __init__(self, report: Report) -> None:
+        self.report = report
+        self.lines = report.fault_lines
+        self.names = report.names
+        self.hosts: dict[str, list[Finding]] = {}
+        for fault in self.lines.told:
+            self.hosts.setdefault(self.names.host(fault.end.host), []).append(fault)
+
+    def parts(self) -> Iterator[str]:
+        """The page from its begin to its end."""
+        file = text(self.report.plan.file)
+        yield ('<!DOCTYPE html>\n<html lang="en">\n<head>\n<meta charset="utf-8">\n'
+               '<meta name="viewport" content="width=device-width, initial-scale=1">\n'
+               f"<title>Cabling by {file}</title>\n<style>{STYLE}</style>\n</head>\n<body>\n"
+               f"<h1>Cabling by {file}</h1>\n<p class=count>{text(str(self.report.count))}</p>\n")
+        yield '<div class="tables">\n'
+        yield from self.by_kind()
+        yield from self.by_host()
+        yield "</div>\n"
+        yield from self.not_looked_at()
+        for number, faults in enumerate(self.hosts.values()):
+            yield from self.host(number, faults)
+        yield "</body>\n</html>\n"
+
+    def by_kind(self) -> Iterator[str]:
+        """How many ends have each kind of fault."""
+        counts = Counter(kind_of(fault) for fault in self.lines.told)
+        yield "<table><caption>By kind</caption><tr><th>Fault<th>Ends</tr>\n"
+        for kind, number in counts.most_common():
+            yield f"<tr><td>{kind}<td class=number>{number}</tr>\n"
+        yield "</table>\n"
+
+    def by_host(self) -> Iterator[str]:
+        """How many ends with a fault each host has, and of what kinds."""
+        yield "<table><caption>By host</caption><tr><th>Host<th>Ends<th>Faults</tr>\n"
+        for number, faults in enumerate(self.hosts.values()):
+            counts = Counter(kind_of(fault) for fault in faults)
+            kinds = ", ".join(f"{count} {kind}" for kind, count in counts.most_common())
+            yield (f'<tr><td><a href="#h{number}">{text(shown(faults[0].end.host))}</a>'
+                   f"<td class=number>{len(faults)}<td>{kinds}</tr>\n")
+        yield "</table>\n"
+
+    def not_looked_at(self) -> Iterator[str]:
+        """The hosts of which nothing is given."""
+        hosts = self.report.count.hosts
+        if hosts:
+            names = ", ".join(text(shown(host)) for host in hosts)
+            yield (f"<details><summary>{len(hosts)} hosts were not looked at</summary>"
+                   f"<p>{names}</p></details>\n")
+
+    def host(self, number: int, faults: Sequence[Finding]) -> Iterator[str]:
+        """A host: its pictures, and its ends with a fault."""
+        name = faults[0].end.host
+        yield f'<section id="h{number}">\n<h2>{text(shown(name))}</h2>\n<div class="pictures">\n'
+        for picture in pictures_of(name, faults, self.lines.hints):
+            yield f"{picture}\n"
+        yield "</div>\n<table class=faults><tr><th>Port<th>Fault<th>In the plan</tr>\n"
+        for fault in faults:
+            yield self.row(fault)
+        yield "</table>\n</section>\n"
+
+    def row(self, fault: Finding) -> str:
+        """An end with a fault, and its row of the plan."""
+        says = text(self.lines.text(fault))
+        if not self.lines.has_line(fault):
+            says += " <small>(told at another end, too)</small>"
+        return (f"<tr><td><b>{text(shown(fault.end.port))}</b><td>{says}"
+                f"<td>{self.planned(fault.end)}</tr>\n")
+
+    def planned(self, end: End) -> str:
+        """The row of the plan in which an end stands."""
+        wish = self.report.plan.ends.get(self.names.end(end))
+        row = self.report.plan.row(wish) if wish else ""
+        return f"<small>line {wish.line}</small> <code>{text(row)}</code>" if wish and row else ""
+
+
+def kind_of(fault: Finding) -> str:
+    """The kind of a fault; a right link whose ends disagree has a mismatch."""
+    return MISMATCH if fault.verdict is Verdict.RIGHT else str(fault.verdict.value)
+
+
+def text(name: str) -> str:
+    """A text as HTML, with a blank for what does not print."""
+    return html.escape("".join(letter if letter.isprintable() else " " for letter in name))

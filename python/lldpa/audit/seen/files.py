@@ -1,0 +1,75 @@
+"""Reads files of neighbors in any form, with a process for each processor where there are many."""
+from __future__ import annotations
+
+import os
+from concurrent.futures import ProcessPoolExecutor
+from typing import Callable, Iterator, NamedTuple, Optional, Sequence
+
+from ...agent.show import ShowFault
+from ...capture.source import opened
+from ...capture.unzip import MAGIC, Unzipped
+from ...capture.window import BadCapture
+from .forms import FRONT, reader_of
+from .listing import Listing, SeenFault
+
+# one process reads fewer files sooner than several have begun
+MANY = 100
+FILES_AT_A_TIME = 20
+# more than the show of 64 ports with 128 neighbors each has; what is read takes up to 30 times it
+MOST_OCTETS = 32 * 1024 * 1024
+
+Take = Callable[[int], bytes]
+
+
+class SeenFile(NamedTuple):
+    """The neighbors of ports in a file, or what is wrong with it; neither if it has no form that
+    is read here, and may be a capture."""
+
+    listing: Optional[Listing] = None
+    fault: str = ""
+
+
+def read_file(path: str) -> SeenFile:
+    """What is in a file. Raises OSError."""
+    try:
+        with opened(path) as file:
+            begin = file.read(len(MAGIC))
+            take: Take = file.read
+            if begin == MAGIC:
+                begin, take = b"", Unzipped(file, begin).read
+            front = begin + taken(take, FRONT)
+            read = reader_of(front)
+            return SeenFile() if read is None else SeenFile(read(front + rest_of(take)))
+    except (BadCapture, ShowFault, SeenFault) as fault:
+        return SeenFile(None, f"{path}: {fault}")
+
+
+def rest_of(take: Take) -> bytes:
+    """What is left of a list of neighbors. Raises SeenFault where it is too much for one."""
+    octets = taken(take, MOST_OCTETS)
+    if len(octets) == MOST_OCTETS:
+        raise SeenFault(f"it has over {MOST_OCTETS} octets, and no list has so many")
+    return octets
+
+
+def taken(take: Take, size: int) -> bytes:
+    """So many octets, or all that there are."""
+    parts: list[bytes] = []
+    while size > 0:
+        part = take(size)
+        if not part:
+            break
+        parts.append(part)
+        size -= len(part)
+    return b"".join(parts)
+
+
+def read_files(paths: Sequence[str]) -> Iterator[SeenFile]:
+    """What is in each file, in their order. Many are read from the call on. Raises OSError."""
+    processors = len(os.sched_getaffinity(0))
+    if len(paths) < MANY or processors < 2:
+        return map(read_file, paths)
+    pool = ProcessPoolExecutor(processors)
+    read = pool.map(read_file, paths, chunksize=FILES_AT_A_TIME)
+    pool.shutdown(wait=False)
+    return read

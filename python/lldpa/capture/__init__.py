@@ -1,0 +1,1 @@
+"""Captures: the packets of their files, and the trace that they make."""

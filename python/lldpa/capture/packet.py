@@ -1,0 +1,42 @@
+"""What captures tell of their interfaces and packets."""
+from __future__ import annotations
+
+from typing import NamedTuple, Optional, Tuple
+
+SECOND = 10**9
+ETHERNET = 1
+LINK_TYPES = {
+    0: "NULL", 1: "ETHERNET", 6: "IEEE802_5", 8: "SLIP", 9: "PPP", 10: "FDDI", 50: "PPP_HDLC",
+    51: "PPP_ETHER", 101: "RAW", 104: "C_HDLC", 105: "IEEE802_11", 107: "FRELAY", 108: "LOOP",
+    113: "LINUX_SLL", 117: "PFLOG", 119: "PRISM", 127: "IEEE802_11_RADIOTAP", 189: "USB_LINUX",
+    192: "PPI", 195: "IEEE802_15_4", 201: "BLUETOOTH_HCI_H4_WITH_PHDR", 220: "USB_LINUX_MMAPPED",
+    228: "IPV4", 229: "IPV6", 239: "NFLOG", 247: "INFINIBAND", 253: "NETLINK", 276: "LINUX_SLL2",
+}
+
+
+class CaptureInterface(NamedTuple):
+    """Where packets were taken: its name where the file has one, its link type, the units of its
+    time stamps in a second, the seconds to add to them, and the most octets taken of a packet."""
+    name: Optional[str]
+    link_type: int
+    units: int
+    offset: int
+    most: int
+
+
+class Packet(NamedTuple):
+    """What was taken of a packet, its whole length, and its time: nanoseconds since 1970, or None
+    where the file has none for it."""
+    interface: CaptureInterface
+    time: Optional[int]
+    octets: bytes
+    length: int
+
+
+# Of a packet its interface, its time, from where to where its octets stand, and its whole length.
+Look = Tuple[CaptureInterface, Optional[int], int, int, int]
+
+
+def link_type_text(number: int) -> str:
+    """The name and the number of a link type."""
+    return f"{LINK_TYPES.get(number, 'unknown')} ({number})"

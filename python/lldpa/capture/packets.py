@@ -1,0 +1,63 @@
+"""The packets of a capture: on which interface each came, when, and its octets.
+
+    for packet in packets_of(open("lab.pcap", "rb")):
+        print(packet.time, packet.octets.hex())
+"""
+from __future__ import annotations
+
+from contextlib import suppress
+from typing import BinaryIO, Iterator, List
+
+from .packet import ETHERNET, SECOND, CaptureInterface, Look, Packet, link_type_text
+from .pcap import PcapReader, form_of
+from .pcapng import SECTION_HEADER, PcapngReader
+from .reader import Reader
+from .unzip import MAGIC, Unzipped
+from .window import BadCapture, Window
+
+__all__ = ["ETHERNET", "SECOND", "BadCapture", "CaptureInterface", "Look", "Packet", "Reader",
+           "interfaces_of", "link_type_text", "packets_of", "reader_of"]
+
+COMPRESSED = {b"\xfd7": "xz", b"\x28\xb5": "zstd", b"BZ": "bzip2"}
+NO_PACKET = b"\0" * 1024
+
+
+def reader_of(file: BinaryIO) -> Reader:
+    """What reads a capture from its begin, which gzip may have compressed.
+
+    Raises BadCapture where that is none of a capture.
+    """
+    window = Window(file)
+    if window.move(0, 2) and window.octets.startswith(MAGIC):
+        window = Window(Unzipped(file, window.octets))
+    if not window.move(0, 4):
+        raise BadCapture("it is empty")
+    magic = window.octets[:4]
+    form = form_of(magic)
+    if form is not None:
+        return PcapReader(window, *form)
+    if magic == SECTION_HEADER:
+        return PcapngReader(window)
+    if magic[:2] in COMPRESSED:
+        raise BadCapture(f"it is compressed by {COMPRESSED[magic[:2]]}: unpack it first")
+    raise BadCapture(f"it is no capture: octet 0 begins with {magic.hex(' ')}, "
+                     "which is neither pcap nor pcapng")
+
+
+def packets_of(file: BinaryIO) -> Iterator[Packet]:
+    """The packets of a capture. Raises BadCapture where it cannot be read on."""
+    reader = reader_of(file)
+    for interface, time, begin, end, length in reader.looks(b""):
+        yield Packet(interface, time, reader.window.octets[begin:end], length)
+
+
+def interfaces_of(file: BinaryIO) -> List[CaptureInterface]:
+    """The interfaces that a pcapng file describes, as far as it can be read; pcap has none."""
+    described: List[CaptureInterface] = []
+    with suppress(BadCapture):
+        reader = reader_of(file)
+        if isinstance(reader, PcapngReader):
+            described = reader.described
+            for _ in reader.looks(NO_PACKET):
+                pass
+    return described

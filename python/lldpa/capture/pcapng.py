@@ -1,0 +1,145 @@
+"""Files of pcapng: blocks, in sections with a byte order and interfaces of their own.
+
+See https://datatracker.ietf.org/doc/draft-ietf-opsawg-pcapng/.
+"""
+from __future__ import annotations
+
+import struct
+from typing import Dict, List, Optional
+
+from .packet import ETHERNET, SECOND, CaptureInterface, Look
+from .reader import UNKNOWN, Reader
+from .window import Window
+
+SECTION_HEADER = b"\n\r\r\n"
+SECTION, INTERFACE, OLD_PACKET, SIMPLE_PACKET, ENHANCED_PACKET = 0x0A0D0D0A, 1, 2, 3, 6
+NAME, RESOLUTION, OFFSET = 2, 9, 14
+BYTE_ORDERS = {b"\x1a\x2b\x3c\x4d": ">", b"\x4d\x3c\x2b\x1a": "<"}
+MICROSECONDS = b"\x06"
+
+
+class PcapngReader(Reader):
+    """The blocks of such a file. `described` has the interfaces of all sections so far.
+
+    Packets may be passed over of the first `_passable` interfaces, those in front of one that is no
+    Ethernet: of that one each packet is looked at, so that it is seen.
+    """
+    HEAD_SIZE = 12
+    OCTETS_AT = 28
+
+    def __init__(self, window: Window) -> None:
+        super().__init__(window)
+        self.described: List[CaptureInterface] = []
+        self._begin_section("<")
+
+    def record_size(self) -> int:
+        """The size of the next block."""
+        octets, at = self.window.octets, self.at
+        order = self._order
+        if octets.startswith(SECTION_HEADER, at):
+            order = BYTE_ORDERS.get(octets[at + 8:at + 12], "")
+            if not order:
+                raise self.window.damage(at, "a section of no known byte order")
+        size: int = struct.unpack_from(order + "I", octets, at + 4)[0]
+        if size < self.HEAD_SIZE:
+            raise self.window.damage(at, f"a block of {size} octets")
+        return size
+
+    def read_record(self, at: int) -> Optional[Look]:
+        """Looks at the block at this place, which tells of a section, an interface or a packet."""
+        octets = self.window.octets
+        if octets.startswith(SECTION_HEADER, at):
+            self._begin_section(BYTE_ORDERS[octets[at + 8:at + 12]])
+        kind, size = struct.unpack_from(self._order + "II", octets, at)
+        begin, end = at + 8, at + size - 4
+        if octets[at + 4:begin] != octets[end:end + 4]:
+            raise self.window.damage(at, "a block's two lengths differ")
+        try:
+            if kind == INTERFACE:
+                self._describe(octets[begin:end])
+            elif kind == ENHANCED_PACKET:
+                return self._packet("IIIII", begin, end)
+            elif kind == OLD_PACKET:
+                return self._packet("HxxIIII", begin, end)
+            elif kind == SIMPLE_PACKET:
+                return self._simple_packet(begin, end)
+        except (struct.error, IndexError):
+            raise self.window.damage(at, "a block that its fields do not fit") from None
+        return None
+
+    def pass_over(self, stop: int) -> Optional[int]:
+        """Passes over packets; see Reader. What is wrong with a block is left to read_record."""
+        octets, unpack, unpack_size = self.window.octets, self._unpack_packet, self._unpack_size
+        at, latest, passed, count = self.at, self.latest, None, 0
+        while at + 28 < stop:
+            kind, size, place, high, low, captured, _ = unpack(octets, at)
+            stamp = (high << 32) + low
+            end = at + size
+            if (kind != ENHANCED_PACKET or stamp < latest or end > len(octets)
+                    or captured + 32 > size or place >= self._passable
+                    or unpack_size(octets, end - 4)[0] != size):
+                break
+            passed, at, latest = at, end, stamp
+            count += 1
+        self.at, self.latest = at, latest
+        self.number += count
+        return passed
+
+    def _begin_section(self, order: str) -> None:
+        self._order = order
+        self._unpack_packet = struct.Struct(order + "IIIIIII").unpack_from
+        self._unpack_size = struct.Struct(order + "I").unpack_from
+        self._interfaces: List[CaptureInterface] = []
+        self._passable = 0
+        self._has_one_clock = True
+        self.latest = UNKNOWN
+
+    def _describe(self, body: bytes) -> None:
+        """Remembers the interface that a block describes. Time stamps of interfaces with other
+        units cannot be compared as they stand."""
+        link_type, most = struct.unpack_from(self._order + "HxxI", body)
+        options = self._options(body[8:])
+        resolution = (options.get(RESOLUTION) or MICROSECONDS)[0]
+        power, base = resolution & 0x7F, 2 if resolution & 0x80 else 10
+        (offset,) = struct.unpack(self._order + "q", options.get(OFFSET, bytes(8)))
+        name = options.get(NAME, b"").decode("utf-8", "replace").rstrip("\0")
+        interface = CaptureInterface(name or None, link_type, base**power, offset, most)
+        self._interfaces.append(interface)
+        self.described.append(interface)
+        if link_type == ETHERNET and self._passable == len(self._interfaces) - 1:
+            self._passable += 1
+        clocks = {(one.units, one.offset) for one in self._interfaces}
+        self._has_one_clock = len(clocks) == 1
+        self.latest = UNKNOWN
+
+    def _options(self, octets: bytes) -> Dict[int, bytes]:
+        """The options of a block by their codes."""
+        options = {}
+        while len(octets) >= 4:
+            code, length = struct.unpack_from(self._order + "HH", octets)
+            if code == 0:
+                break
+            options[code] = octets[4:4 + length]
+            octets = octets[4 + (length + 3 & ~3):]
+        return options
+
+    def _packet(self, fields: str, begin: int, end: int) -> Look:
+        """The packet of a block that names its interface."""
+        unpacked = struct.unpack_from(self._order + fields, self.window.octets, begin)
+        place, high, low, captured, length = unpacked
+        interface = self._interfaces[place]
+        if begin + 20 + captured > end:
+            raise IndexError
+        stamp = (high << 32) + low
+        self.latest = stamp if self._has_one_clock else UNKNOWN
+        time = stamp * SECOND // interface.units + interface.offset * SECOND
+        return interface, time, begin + 20, begin + 20 + captured, length
+
+    def _simple_packet(self, begin: int, end: int) -> Look:
+        """The packet of a block with its length alone. It is one of the first interface."""
+        (length,) = struct.unpack_from(self._order + "I", self.window.octets, begin)
+        interface = self._interfaces[0]
+        captured = min(length, interface.most or length)
+        if begin + 4 + captured > end:
+            raise IndexError
+        return interface, None, begin + 4, begin + 4 + captured, length

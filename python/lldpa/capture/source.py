@@ -1,0 +1,75 @@
+"""The files that a trace is made of, and the ports of their frames."""
+from __future__ import annotations
+
+import os
+import shutil
+import stat
+import tempfile
+from typing import IO, BinaryIO, Dict, Mapping, NamedTuple, Optional
+
+from .packets import CaptureInterface
+from .unzip import MAGIC, Unzipped
+from ..limits import PORT_NAME
+
+PORT_NAME_RULE = "a port's name has 1 to 15 letters, digits, -, _, / and :"
+UNNAMED = "eth0"
+STANDARD_INPUT = "-"
+
+
+class Source(NamedTuple):
+    """A capture's file, `-` for standard input, and the port of all its frames where one is given.
+
+    Else `names` has the ports of interfaces that are to have another name than their own.
+    """
+    file: str
+    port: Optional[str] = None
+    names: Mapping[str, str] = {}
+
+
+def port_of(source: Source, interface: CaptureInterface) -> str:
+    """The name for the port of an interface: it may be no name that a port can have."""
+    if source.port is not None or interface.name is None:
+        return source.port or UNNAMED
+    return source.names.get(interface.name, interface.name)
+
+
+def is_port_name(text: str) -> bool:
+    """Whether a port can have that name."""
+    return PORT_NAME.fullmatch(text) is not None
+
+
+# copies of what can be read only once, by the names of the files
+HELD: Dict[str, IO[bytes]] = {}
+
+
+def opened(file: str) -> BinaryIO:
+    """The file, whose octets come as soon as they are there."""
+    if file == STANDARD_INPUT:
+        return open(0, "rb", buffering=0, closefd=False)
+    if file in HELD:
+        return open(f"/proc/{os.getpid()}/fd/{HELD[file].fileno()}", "rb", buffering=0)
+    return open(file, "rb", buffering=0)
+
+
+def hold(file: str) -> None:
+    """Lets a pipe be opened as often as a file, by a copy of all its octets. Raises OSError."""
+    if file not in HELD and os.path.exists(file) and is_stream(os.stat(file).st_mode):
+        copy = tempfile.TemporaryFile(buffering=0)
+        with open(file, "rb", buffering=0) as octets:
+            shutil.copyfileobj(octets, copy)
+        HELD[file] = copy
+
+
+def is_stream(mode: int) -> bool:
+    """Whether what has this mode can be read once: a FIFO, the pipe of `<(..)`, a terminal."""
+    return stat.S_ISFIFO(mode) or stat.S_ISSOCK(mode) or stat.S_ISCHR(mode)
+
+
+def whole(file: str) -> bytes:
+    """All octets of a file, which gzip may have compressed. Raises OSError and BadCapture."""
+    with opened(file) as octets:
+        text = octets.read()
+        if not text.startswith(MAGIC):
+            return text
+        unzipped = Unzipped(octets, text)
+        return b"".join(iter(lambda: unzipped.read(1 << 20), b""))

@@ -1,0 +1,226 @@
+"""Captures as one trace for lldpa: their LLDP frames in the order of their time stamps, and the
+seconds between them."""
+from __future__ import annotations
+
+import os
+from contextlib import suppress
+from heapq import merge
+from typing import Callable, Dict, Iterator, List, NamedTuple, Optional, Sequence
+
+from .packets import (ETHERNET, SECOND, BadCapture, CaptureInterface, Reader, interfaces_of,
+                      link_type_text, reader_of)
+from ..agent.framing import rx, ticks
+from .notes import Notes, Tell
+from .source import PORT_NAME_RULE, UNNAMED, Source, is_port_name, opened, port_of
+from ..limits import LONGEST_FRAME, MOST_PORTS, MOST_TICKS, NEAREST_BRIDGE, SHORTEST_FRAME
+
+__all__ = ["Source", "Told", "TooManyPorts", "frames_of", "ports_of", "trace_of"]
+
+ETHERTYPE = bytes.fromhex("88cc")
+TAGS = (b"\x81\x00", b"\x88\xa8", b"\x91\x00")
+
+
+class TooManyPorts(Exception):
+    """Captures with frames for more ports than an agent has."""
+
+
+class Told(NamedTuple):
+    """Who is told what is passed over (`note`), and what makes the trace incomplete (`fault`)."""
+    note: Tell
+    fault: Tell
+
+
+class Moment(NamedTuple):
+    """A time of a capture, the line of the frame that came then, or nothing, and the notes."""
+    time: Optional[int]
+    line: str
+    notes: Notes
+
+
+def ports_of(sources: Sequence[Source]) -> List[str]:
+    """The ports of captures, in the order of sources and interfaces, each once.
+
+    Of more than 64 it gives those that have LLDP frames; raises TooManyPorts if these are too many
+    as well. Standard input and pipes, which can be read once, count with the port they are given.
+    """
+    ports: Dict[str, None] = {}
+    for source in sources:
+        ports.update((name, None) for name in names_of(source) if is_port_name(name))
+    if len(ports) > MOST_PORTS:
+        heard = {line.split(" ")[1] for line in frames_of(sources, Told(ignored, ignored), False)}
+        ports = {name: None for name in ports if name in heard}
+    if len(ports) > MOST_PORTS:
+        raise TooManyPorts(f"{len(ports)} ports, and {MOST_PORTS} are the most")
+    return list(ports)
+
+
+def names_of(source: Source) -> Sequence[str]:
+    """The names for the ports of a capture's interfaces, or for the one that it has."""
+    interfaces: List[CaptureInterface] = []
+    if source.port is None and os.path.isfile(source.file):
+        with suppress(OSError), opened(source.file) as file:
+            interfaces = interfaces_of(file)
+    ethernet = [one for one in interfaces if one.link_type == ETHERNET]
+    return [port_of(source, one) for one in ethernet] or [source.port or UNNAMED]
+
+
+def ignored(_: str) -> None:
+    """Hears what is told, and does nothing."""
+
+
+def trace_of(sources: Sequence[Source], told: Told, seconds: bool = True) -> Iterator[str]:
+    """The lines of the trace, with its seconds or without.
+
+    A capture that cannot be read, or not to its end, is a fault that names its file; the others
+    are read on. Raises TooManyPorts before the first line.
+    """
+    ports_of(sources)
+    yield from frames_of(sources, told, seconds)
+
+
+def frames_of(sources: Sequence[Source], told: Told, seconds: bool) -> Iterator[str]:
+    """The lines of a trace of any number of ports."""
+    moments = merge(*(Recording(source, told).moments() for source in sources), key=order)
+    clock = Clock()
+    for time, line, notes in moments:
+        if seconds and time is not None:
+            missing = clock.seconds_to(time)
+            if missing > MOST_TICKS:
+                notes.tell("jump", f"nothing comes for {missing} s (was the clock set?): "
+                           f"{MOST_TICKS} of them are counted, after which nobody is left")
+                missing = MOST_TICKS
+            if missing:
+                yield from ticks(missing)
+        if line:
+            yield line
+
+
+def order(moment: Moment) -> int:
+    """Moments of captures without time stamps come first."""
+    return moment.time or 0
+
+
+class Clock:
+    """Counts the whole seconds since the first time that it is told."""
+
+    def __init__(self) -> None:
+        self._start: Optional[int] = None
+        self._told = 0
+
+    def seconds_to(self, time: int) -> int:
+        """The seconds up to a time that were not told before."""
+        if self._start is None:
+            self._start = time
+        seconds = (time - self._start) // SECOND - self._told
+        self._told += seconds
+        return seconds
+
+
+class Recording:
+    """The moments of one capture: its begin, its LLDP frames, and its end."""
+
+    def __init__(self, source: Source, told: Told) -> None:
+        self._source = source
+        self._told = told
+        self._notes = Notes(told.note, source.file)
+        self._latest: Optional[int] = None
+        self._ports: Dict[CaptureInterface, str] = {}
+
+    def moments(self) -> Iterator[Moment]:
+        """The moments, at times that never go back."""
+        try:
+            with opened(self._source.file) as file:
+                yield from self._frames(reader_of(file))
+        except BadCapture as why:
+            self._fault(str(why))
+        except OSError as error:
+            self._fault(error.strerror or str(error))
+        self._notes.end()
+        yield Moment(self._latest, "", self._notes)
+
+    def _frames(self, reader: Reader) -> Iterator[Moment]:
+        """The begin and the frames. Of other packets the time alone is looked at."""
+        shift, interface_before = 0, None
+        for interface, stamp, begin, end, length in reader.looks(NEAREST_BRIDGE):
+            if interface is not interface_before:
+                interface_before = interface
+                self._need_ethernet(interface)
+            if stamp is not None:
+                time = stamp + shift
+                if self._latest is None:
+                    yield Moment(time, "", self._notes)
+                elif time < self._latest:
+                    shift += self._set_back(self._latest - time)
+                    time = self._latest
+                self._latest = time
+            line = self._line(reader.number, interface, reader.window.octets[begin:end], length)
+            if line:
+                yield Moment(self._latest, line, self._notes)
+
+    def _line(self, number: int, interface: CaptureInterface, octets: bytes, length: int) -> str:
+        """The line of a packet, or nothing where it is no LLDP frame or is passed over."""
+        if interface.link_type != ETHERNET or not is_lldp(octets, length):
+            return ""
+        fault = fault_of(octets, length)
+        if fault:
+            self._notes.tell(fault, f"frame {number} is passed over: it is "
+                                    f"{fault.format(len(octets), length)}")
+            return ""
+        port = self._ports.get(interface)
+        if port is None:
+            port = self._ports[interface] = self._port(interface)
+        return rx(port, octets) if port else ""
+
+    def _port(self, interface: CaptureInterface) -> str:
+        """The port of an interface, or nothing where it can be none, which is told."""
+        port = port_of(self._source, interface)
+        if is_port_name(port):
+            return port
+        self._fault(f"its interface {port!r} can be no port: {PORT_NAME_RULE}; "
+                    f"write --port '{port}=NAME'")
+        return ""
+
+    def _need_ethernet(self, interface: CaptureInterface) -> None:
+        """Tells once of an interface whose packets are passed over."""
+        if interface.link_type != ETHERNET and interface not in self._ports:
+            self._ports[interface] = ""
+            name = f" of its interface {interface.name!r}" if interface.name else ""
+            self._fault(f"the link type{name} is {link_type_text(interface.link_type)}, and only "
+                        "ETHERNET (1) is read: capture on an Ethernet interface")
+
+    def _fault(self, why: str) -> None:
+        self._told.fault(f"{self._source.file}: {why}")
+
+    def _set_back(self, nanoseconds: int) -> int:
+        """By how much later times are moved on, where a time stamp is before the latest one: not at
+        all by less than a second, since packets of several queues may stand out of order."""
+        if nanoseconds < SECOND:
+            return 0
+        self._notes.tell("set back", f"the time stamps go back by {nanoseconds // SECOND} s, for "
+                                     "which there is no tick")
+        return nanoseconds
+
+
+def is_lldp(octets: bytes, length: int) -> bool:
+    """Whether a packet is for LLDP at the nearest bridge, with tags or without, as far as what was
+    taken of it tells: its address at least."""
+    if octets[12:14] == ETHERTYPE:
+        return octets.startswith(NEAREST_BRIDGE)
+    if len(octets) == length < SHORTEST_FRAME:
+        return False
+    place = 12
+    while octets[place:place + 2] in TAGS:
+        place += 4
+    kind = octets[place:place + 2]
+    return octets.startswith(NEAREST_BRIDGE) and ETHERTYPE.startswith(kind)
+
+
+def fault_of(octets: bytes, length: int) -> str:
+    """Why an LLDP frame is not handed to the agent, or nothing. Numbers may be put into it."""
+    if len(octets) < length:
+        return "snapped to {} of {} octets"
+    if octets[12:14] in TAGS:
+        return "tagged"
+    if len(octets) > LONGEST_FRAME:
+        return f"longer than {LONGEST_FRAME} octets"
+    return ""

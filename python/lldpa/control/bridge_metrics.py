@@ -1,0 +1,102 @@
+"""What a bridge tells of itself in its lines `bridge.KEY=VALUE`, in Prometheus' text format."""
+
+from __future__ import annotations
+
+import calendar
+import re
+import time
+from typing import Iterable, Iterator, Mapping, NamedTuple, Optional
+
+from .exposition import lines_of
+from ..limits import CLOCK
+
+LINE = re.compile(r"bridge\.(?:([^.=]+)\.)?([a-z-]+)=(.*)")
+UP = ("lldpa_up", "gauge", "Whether the bridge answers and its agent does, 1 or 0.")
+
+
+class State(NamedTuple):
+    """A metric with a sample for each state that there can be: 1 for the one that is."""
+
+    key: str
+    name: str
+    text: str
+    states: tuple[str, ...]
+
+
+class OfPorts(NamedTuple):
+    """A metric of each port; a value that is a word counts 1 where it is this one."""
+
+    key: str
+    name: str
+    kind: str
+    text: str
+    word: Optional[str] = None
+
+
+STATES = (
+    State("agent", "lldpa_agent_state", "What the agent does, 1 for what it is.",
+          ("running", "silent", "waiting")),
+    State("log", "lldpa_log_state", "What has become of the log, 1 for what it is.",
+          ("full", "off", "on", "stalled")),
+)
+OF_PORTS = (
+    OfPorts("interface", "lldpa_interface_present", "gauge",
+            "Whether the interface of the port is there, 1 or 0.", "present"),
+    OfPorts("link", "lldpa_link_up", "gauge", "Whether the port has a carrier, 1 or 0.", "up"),
+    OfPorts("kernel-drops", "lldpa_kernel_drops_total", "counter",
+            "Frames that the kernel dropped since the bridge did not read them in time."),
+    OfPorts("limit-drops", "lldpa_limit_drops_total", "counter",
+            "Frames that came faster than a port may, dropped before the agent."),
+    OfPorts("unsent", "lldpa_unsent_total", "counter",
+            "Frames of the agent that the interface did not take."),
+    OfPorts("left-out", "lldpa_left_out_total", "counter",
+            "Frames of the agent that a standstill left out: the last of each port was sent."),
+)
+
+
+class BridgeLines:
+    """The lines of a bridge by their keys, those of the ports apart."""
+
+    def __init__(self, lines: Iterable[str]) -> None:
+        self.own: dict[str, str] = {}
+        self.ports: dict[str, dict[str, str]] = {}
+        for found in filter(None, map(LINE.fullmatch, lines)):
+            of = self.own if found[1] is None else self.ports.setdefault(found[1], {})
+            of[found[2]] = found[3]
+
+    @property
+    def is_up(self) -> bool:
+        """Whether the agent answers: it is not silent, and not one that waits to be opened."""
+        return self.own.get("agent", "running") == "running"
+
+
+def bridge_lines(told: BridgeLines) -> Iterator[str]:
+    """The metrics of a bridge; of what it does not tell there is none."""
+    yield from lines_of(*UP, [({}, int(told.is_up))])
+    if "began" in told.own:
+        start = calendar.timegm(time.strptime(told.own["began"], CLOCK))
+        yield from lines_of("lldpa_start_time_seconds", "gauge",
+                            "When the bridge began, in seconds since 1970.", [({}, start)])
+    for state in STATES:
+        if state.key in told.own:
+            samples = [({"state": one}, int(told.own[state.key] == one)) for one in state.states]
+            yield from lines_of(state.name, "gauge", state.text, samples)
+    if "log-lines-lost" in told.own:
+        yield from lines_of("lldpa_log_lines_lost_total", "counter",
+                            "Lines of the agent that are in no file of the log.",
+                            [({}, int(told.own["log-lines-lost"]))])
+    for one in OF_PORTS:
+        yield from lines_of(one.name, one.kind, one.text, [
+            ({"port": port}, number_of(one, values))
+            for port, values in told.ports.items() if one.key in values])
+
+
+def number_of(one: OfPorts, values: Mapping[str, str]) -> int:
+    """The value of a port as a number."""
+    value = values[one.key]
+    return int(value) if one.word is None else int(value == one.word)
+
+
+def down_lines() -> list[str]:
+    """All that there is to tell where nobody answers."""
+    return list(lines_of(*UP, [({}, 0)]))

@@ -1,0 +1,1 @@
+"""lldpa-live: interfaces, their frames and the clock, told to an agent."""

@@ -1,0 +1,58 @@
+"""An agent that may hang: that it does not answer is told, and after a while it is ended."""
+
+from __future__ import annotations
+
+import asyncio
+from typing import Callable, Iterable, List
+
+from ..agent.synchronous import AsyncAgent
+from ..agent.framing import Line
+from .waiting import Waiting
+
+SECONDS_TO_TELL = 5.0
+SECONDS_TO_END = 30.0
+SECONDS_BETWEEN_LOOKS = 0.25
+
+
+class Patient:
+    """Asks an agent, which is `is_silent` where it has said nothing for 5 seconds while it was
+    asked, and is ended after 30."""
+
+    def __init__(self, agent: AsyncAgent, report: Callable[[str], None]) -> None:
+        self.agent = agent
+        self.report = report
+        self.waiting = Waiting()
+        self.is_silent = False
+
+    async def tell(self, lines: Iterable[Line]) -> List[str]:
+        """As AsyncAgent.tell. Raises Ended also where the agent was ended for its silence."""
+        self.looking = asyncio.get_running_loop().call_later(SECONDS_BETWEEN_LOOKS, self.look)
+        try:
+            answer = await self.agent.tell(lines)
+        finally:
+            self.looking.cancel()
+        self.waiting.begin()
+        if self.is_silent:
+            self.is_silent = False
+            self.report("the agent answers again")
+        return answer
+
+    def look(self) -> None:
+        """Looks how long the agent has said nothing."""
+        seconds = self.waiting.look()
+        if seconds >= SECONDS_TO_TELL and not self.is_silent:
+            self.is_silent = True
+            self.report(f"the agent has not answered for {SECONDS_TO_TELL:.0f} seconds")
+        if seconds >= SECONDS_TO_END:
+            self.report(f"the agent has not answered for {SECONDS_TO_END:.0f} seconds: it is ended")
+            self.kill()
+            return
+        self.looking = asyncio.get_running_loop().call_later(SECONDS_BETWEEN_LOOKS, self.look)
+
+    def kill(self) -> None:
+        """Ends the agent at once."""
+        self.agent.kill()
+
+    async def close(self, patience: float) -> None:
+        """As AsyncAgent.close."""
+        await self.agent.close(patience)

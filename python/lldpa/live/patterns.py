@@ -1,0 +1,68 @@
+"""Ports that are given by patterns, as those of lldpd's option -I."""
+
+from __future__ import annotations
+
+import re
+from fnmatch import fnmatchcase
+from typing import Iterable, Sequence
+
+from .links import LinkNews
+from ..limits import MOST_PORTS, PORT_NAME
+
+PATTERN = re.compile(r"[A-Za-z0-9_/:*?\[\]^-]{1,64}")  # of a name with wildcards
+WILDCARDS = set("*?[")
+TOO_MANY = ("{} ports, and {} are the most of an agent: run a second service for the others "
+            "(lldpa-live(8), Ports)")
+
+
+class NoPorts(LookupError):
+    """Patterns that give no ports, or too many."""
+
+
+def parts_of(words: Iterable[str]) -> list[str]:
+    """The names and patterns of words, which may have several with commas between them."""
+    return [part for word in words for part in word.split(",") if part]
+
+
+def is_pattern(part: str) -> bool:
+    """Whether it is a pattern, or takes names away, and is not the name of a port."""
+    return part.startswith("!") or bool(WILDCARDS & set(part))
+
+
+def is_able(part: str) -> bool:
+    """Whether it can be a port's name or a pattern of such names."""
+    if is_pattern(part):
+        return bool(PATTERN.fullmatch(part.lstrip("!"))) and not part.startswith("!!!")
+    return bool(PORT_NAME.fullmatch(part))
+
+
+def ports_of(parts: Sequence[str], found: Iterable[LinkNews]) -> list[str]:
+    """The ports that names and patterns give. A name is a port, whether its interface is there or
+    not. A pattern gives the interfaces it matches of those that are hardware, or that are named
+    besides. `!PATTERN` takes away what it matches, and `!!PATTERN` gives it all the same.
+
+    Raises NoPorts where there is no port, or there are over 64.
+    """
+    named = [part for part in parts if not is_pattern(part)]
+    able = [one.name for one in sorted(found, key=lambda one: one.number)
+            if one.is_ethernet and PORT_NAME.fullmatch(one.name)
+            and (one.is_hardware or one.name in named)]
+    given: list[str] = []
+    for part in parts:
+        if not is_pattern(part):
+            given.append(part)
+        elif not part.startswith("!") or part.startswith("!!"):
+            given += [name for name in able if fnmatchcase(name, part.lstrip("!"))]
+    ports = [name for name in dict.fromkeys(given) if is_wanted(name, parts)]
+    if not ports:
+        raise NoPorts(f"{','.join(parts)}: no Ethernet interface of hardware has such a name")
+    if len(ports) > MOST_PORTS:
+        raise NoPorts(TOO_MANY.format(len(ports), MOST_PORTS))
+    return ports
+
+
+def is_wanted(name: str, parts: Sequence[str]) -> bool:
+    """Whether nothing takes a name away, or something gives it all the same."""
+    given = any(fnmatchcase(name, part[2:]) for part in parts if part.startswith("!!"))
+    return given or not any(fnmatchcase(name, part[1:]) for part in parts
+                            if part.startswith("!") and not part.startswith("!!"))

@@ -1,0 +1,155 @@
+"""The ports of a bridge: each finds, keeps and loses the interface of its name."""
+
+from __future__ import annotations
+
+import select
+from typing import Callable, Iterable, Sequence
+
+from ..control.arrivals import Arrivals
+from .drops import BY_KERNEL, BY_LIMIT, Drops
+from .interface import Frame, Interface
+from .links import LinkNews
+from .seconds import Seconds
+
+MOST_AT_ONCE = 64  # frames that are read at a turn, of all ports together
+
+Report = Callable[[str], None]
+
+
+class Ports:
+    """The ports of a bridge. `report` is told, as a line for people, what becomes of them."""
+
+    def __init__(self, interfaces: Sequence[Interface], report: Report) -> None:
+        self.by_name = {interface.name: interface for interface in interfaces}
+        self.report = report
+        self.arrivals = Arrivals([*self.by_name])
+        self.waiting: list[tuple[float, Frame]] = []  # frames that were read, by their moments
+        self.awaited: set[str] = set()  # whose interfaces were told to be missing
+        self.drops = (Drops(BY_KERNEL, lambda port: port.drops, report),
+                      Drops(BY_LIMIT, lambda port: port.limit_drops, report))
+        self.readable = select.epoll()
+        for interface in interfaces:
+            self.readable.register(interface.socket, select.EPOLLIN)
+
+    def take_link(self, news: LinkNews) -> list[bytes]:
+        """What an agent is to be told of the news of an interface: `up PORT`, `down PORT`."""
+        lines: list[bytes] = []
+        for port in self.by_name.values():
+            if news.is_there and news.name == port.name:
+                if port.number not in (None, news.number):
+                    lines += self.lose(port, "gone")
+                if port.number is None:
+                    self.find(port, news)
+                if port.number is not None:
+                    port.address = news.address
+                    lines += told_link(port, news.is_running)
+            elif port.number == news.number:
+                lines += self.lose(port, f"now {news.name}" if news.is_there else "gone")
+        return lines
+
+    def find(self, port: Interface, news: LinkNews) -> None:
+        """Takes an interface that has come."""
+        if not news.is_ethernet:
+            self.report(f"{port.name}: not an Ethernet interface, so it is not used")
+            return
+        try:
+            port.take(news.number)
+        except OSError as error:
+            self.report(f"{port.name}: the interface cannot be used: {error.strerror}")
+            return
+        if port.is_up is not None or port.name in self.awaited:
+            self.report(f"{port.name}: the interface is there, and in use")
+
+    def lose(self, port: Interface, what: str) -> list[bytes]:
+        """Lets go of an interface that has gone."""
+        port.release()
+        self.report(f"{port.name}: the interface is {what}; waiting for the next of that name")
+        return told_link(port, False)
+
+    def await_missing(self) -> list[bytes]:
+        """What an agent is to be told at the start of ports whose interface is not there."""
+        lines: list[bytes] = []
+        for port in self.by_name.values():
+            if port.number is None:
+                if port.name not in self.awaited:
+                    self.report(f"{port.name}: no such interface yet; waiting for it")
+                lines += told_link(port, False)
+        return lines
+
+    def read(self, seconds: Seconds, most: int = MOST_AT_ONCE) -> float:
+        """Reads some frames, so many at most of all ports together, and gives the moment up to
+        which none is left in any socket.
+
+        A port whose frames still wait is not read, so that few wait, however many come.
+        """
+        now = seconds.now()
+        readable = {number for number, _ in self.readable.poll(0)}
+        unfinished = {frame.port for _, frame in self.waiting}
+        ports = [port for port in self.by_name.values() if port.name not in unfinished
+                 and (port.has_more or port.socket.fileno() in readable)]
+        if ports:
+            seconds.note_wall_clock()  # which the stamps of their frames are read by
+        for port in ports:
+            for frame in port.read(max(1, most // len(ports))):
+                self.take_frame(port, seconds.moment(frame.stamp), frame)
+        self.waiting.sort(key=lambda entry: entry[0])
+        return min([now, *(port.read_to for port in self.by_name.values() if port.has_more)])
+
+    def take_frame(self, port: Interface, moment: float, frame: Frame) -> None:
+        """Takes a frame that was read, unless its port has sent more than it may."""
+        port.read_to = moment
+        if port.bucket.takes(moment):
+            self.waiting.append((moment, frame))
+        else:
+            port.limit_drops += 1
+
+    def have_more(self) -> bool:
+        """Whether frames were left in a socket."""
+        return any(port.has_more for port in self.by_name.values())
+
+    def frames_until(self, moment: float) -> Iterable[tuple[float, Frame]]:
+        """Takes out the frames up to a moment, in their order."""
+        while self.waiting and self.waiting[0][0] <= moment:
+            yield self.waiting.pop(0)
+
+    def report_drops(self) -> None:
+        """Tells of frames that were dropped, each kind at most once a minute."""
+        for port in self.by_name.values():
+            port.count_drops()
+        for drops in self.drops:
+            drops.tell(self.by_name.values())
+
+    def about(self) -> list[str]:
+        """Lines that say of each port what the agent can't know."""
+        lines = []
+        for port in self.by_name.values():
+            port.count_drops()
+            where = "awaited" if port.number is None else "present"
+            lines.append(f"bridge.{port.name}.interface={where}")
+            lines.append(f"bridge.{port.name}.link={'up' if port.is_up else 'down'}")
+            lines.append(f"bridge.{port.name}.kernel-drops={port.drops}")
+            lines.append(f"bridge.{port.name}.limit-drops={port.limit_drops}")
+            lines.append(f"bridge.{port.name}.unsent={port.unsent}")
+            lines.append(f"bridge.{port.name}.left-out={port.left_out}")
+        return lines + self.arrivals.about()
+
+    def close(self) -> None:
+        """Lets go of all sockets."""
+        self.readable.close()
+        for port in self.by_name.values():
+            port.close()
+
+
+def told_link(port: Interface, is_up: bool) -> list[bytes]:
+    """The line of a link that came or went, none where the agent knows it already."""
+    if port.is_up == is_up:
+        return []
+    port.is_up = is_up
+    return [b"%s %s" % (b"up" if is_up else b"down", port.name.encode())]
+
+
+def ran_and_later(news: Sequence[LinkNews]) -> tuple[list[LinkNews], list[LinkNews]]:
+    """LinkNews up to the last time that their interface ran, and the others."""
+    last = {one.number: place for place, one in enumerate(news) if one.is_running}
+    ran = [one for place, one in enumerate(news) if place <= last.get(one.number, -1)]
+    return ran, [one for place, one in enumerate(news) if place > last.get(one.number, -1)]
