@@ -6,7 +6,7 @@
 At the far end an lldpd sends what it is configured to: TLVs of IEEE 802.1 and 802.3, LLDP-MED and custom ones. Then frames of
 real senders and made ones (python/tests/judged.json) are sent, and texts with every octet. At the near end stand `lldpd -r` and
 lldpa-live, which receive the same. Each command is asked in each of the forms plain, keyvalue, json and json0, and each key and
-each value is compared but for the age. A difference is a failure unless docs/LLDPCLI.md lists it. It needs Linux, root, and
+each value is compared but for the age. A difference is a failure unless docs/LLDPD.md lists it. It needs Linux, root, and
 Debian's packages lldpd and iproute2. The last line is `N passed, M failed`.
 """
 import argparse
@@ -30,7 +30,7 @@ from patience import eventually  # noqa: E402
 from served import frame, tlv  # noqa: E402
 from wires import Wires, inside, ip  # noqa: E402
 
-PAGE = TOP / "docs" / "LLDPCLI.md"
+PAGE = TOP / "docs" / "LLDPD.md"
 HEADING = "## `lldpctl`, in lldpcli's place"
 JUDGED = TOP / "python" / "tests" / "judged.json"
 FORMS = ("plain", "keyvalue", "json", "json0")

@@ -4,5 +4,5 @@
     plain, keyvalue, as_json             the forms
     words                                the commands
 
-Keys, values and layout are those of lldpcli 1.0.16; docs/LLDPCLI.md lists what differs.
+Keys, values and layout are those of lldpcli 1.0.16; docs/LLDPD.md lists what differs.
 """
