@@ -4,3 +4,10 @@ pub mod Walk
 pub mod Bodies
 pub mod Machine
 pub mod Building
+pub mod Handle
+pub mod Marks
+pub mod Agent
+pub mod Frame
+pub mod Opening
+pub mod Command
+pub mod Show

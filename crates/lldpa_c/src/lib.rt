@@ -4,12 +4,21 @@
 //! declares them.
 #![tactic(auto)]
 
+mod agent;
 mod answer;
 mod bodies;
 mod build;
+mod command;
 mod examine;
 mod frame;
+mod frame_of;
 mod giving;
+mod handle;
+mod holder;
 mod kept;
 mod machine;
+mod marks;
+mod open;
+mod options;
 mod place;
+mod show;

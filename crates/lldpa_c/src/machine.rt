@@ -34,7 +34,7 @@ fn cause_numbered(number: u8) -> Option<Cause>
 }
 
 /// The number of a mark.
-fn mark_number(mark: Mark) -> u8
+pub(crate) fn mark_number(mark: Mark) -> u8
     ensures { result ≡ mark_number mark }
 {
     match mark {

@@ -1,0 +1,40 @@
+-- What happens to an agent behind a handle.
+use Rattle.std.specs.Prelude.{◌≡◌, ℕ, true, false, List, map}
+use Rattle.std.specs.List.{AllByRecursion}
+use Rattle.lldp_transmit.specs.declared.event.Mark.{Mark}
+use Rattle.lldp_engine.specs.AgentState.{AgentState, IsPort, Allows}
+use Rattle.lldp_engine.specs.Event.{Event}
+use Rattle.lldp_engine.specs.Frames.{IsSent}
+use Rattle.lldp_engine.specs.Past.{Past, with_event, marks_of}
+use Rattle.lldp_engine.specs.Standing.{Stands}
+use Rattle.lldp_engine.specs.Headline.{PromisedStep}
+use Rattle.lldp_engine.specs.Code.Step.{agent_after, agent_marks}
+use Rattle.lldpa_c.specs.declared.holder.LldpaAgent.{LldpaAgent}
+use Rattle.lldpa_c.specs.declared.marks.LldpaMarks.{LldpaMarks}
+use Rattle.lldpa_c.specs.Marks.{numbered, marks_told}
+
+-- The clauses of an agent's step: from this agent, by this event, to that one, with these ports that send.
+pub record Steps (agent : AgentState) (event : Event) (after : AgentState) (sent : List (ℕ × Mark)) : Type 0 where
+  pub next : after ≡ agent_after event agent
+  pub marks : sent ≡ agent_marks event agent
+  pub ports : AllByRecursion (λ mark. IsPort after mark.0 × IsSent mark.1) sent
+  pub stands : (past : Past) → Stands past agent → Stands (with_event past event) after
+  pub marks_past : (past : Past) → Stands past agent → sent ≡ marks_of (with_event past event)
+  pub headline : (past : Past) → Stands past agent → PromisedStep past event sent after
+
+-- the event was taken, and the ports that send are told
+pub record Takes (before : LldpaAgent) (event : Event) (after : LldpaAgent) (told : LldpaMarks) : Type 0 where
+  pub open_before : before.is_open ≡ true
+  pub open_after : after.is_open ≡ true
+  pub allowed : Allows before.held.agent event
+  pub sent : List (ℕ × Mark)
+  pub told_are : marks_told told ≡ map numbered sent
+  pub steps : Steps before.held.agent event after.held.agent sent
+
+-- An event that is allowed is taken. Else nothing is told, the handle holds what it held, and the answer says why.
+pub record Answers (before : LldpaAgent) (event : Event) (told_before : LldpaMarks) (answer : ℕ) (after : LldpaAgent) (told : LldpaMarks) : Type 0 where
+  pub taken : answer ≡ 0 → Takes before event after told
+  pub closed : before.is_open ≡ false → (answer ≡ 102) × (after.is_open ≡ false) × (told ≡ told_before)
+  pub allowed : before.is_open ≡ true → Allows before.held.agent event → answer ≡ 0
+  pub refused : before.is_open ≡ true → ¬ (Allows before.held.agent event) →
+      (answer ≡ 103) × (after.is_open ≡ true) × (after.held.agent ≡ before.held.agent) × (told ≡ told_before)

@@ -1,0 +1,55 @@
+-- Commands to the agent behind a handle.
+use Rattle.std.specs.Prelude.{◌≡◌, ℕ, ◌==◌, true, false, List, [], map, Option, Some, None, Result, Ok, Err, if◌then◌else◌}
+use Rattle.lldp_transmit.specs.declared.event.Mark.{Mark}
+use Rattle.lldp_text.specs.declared.fault.CommandFault.{CommandFault}
+use Rattle.lldp_text.specs.Fault.{number_of_fault}
+use Rattle.lldp_engine.specs.declared.command.Show.{Show}
+use Rattle.lldp_engine.specs.declared.command.Show.TheVariants.{Neighbors, Statistics, Chassis, Configuration}
+use Rattle.lldp_engine.specs.AgentState.{AgentState}
+use Rattle.lldp_engine.specs.Command as command
+use Rattle.lldp_engine.specs.Event as event
+use Rattle.lldp_engine.specs.Given.{command_given}
+use Rattle.lldpa_c.specs.declared.holder.LldpaAgent.{LldpaAgent}
+use Rattle.lldpa_c.specs.declared.marks.LldpaMarks.{LldpaMarks}
+use Rattle.lldpa_c.specs.Marks.{numbered, marks_told}
+use Rattle.lldpa_c.specs.Agent.{Steps}
+
+-- the numbers of shows
+abbrev pub show_number : Show → ℕ
+show_number Neighbors = 1
+show_number Statistics = 2
+show_number Chassis = 3
+show_number Configuration = 4
+
+-- the shows by their numbers
+abbrev pub show_numbered : ℕ → Option Show
+show_numbered n =
+    if n == 1 then Some Neighbors
+    else if n == 2 then Some Statistics
+    else if n == 3 then Some Chassis
+    else if n == 4 then Some Configuration
+    else None
+
+-- a setting is carried out, and the ports that send are told
+pub record CarriesOut (setting : event.Setting) (agent after : AgentState) (told : LldpaMarks) : Type 0 where
+  pub sent : List (ℕ × Mark)
+  pub told_are : marks_told told ≡ map numbered sent
+  pub steps : Steps agent (event.set setting) after sent
+
+-- What is made of a command, or of its fault: of a fault its number, and nothing is changed; of a show its number, and
+-- no port sends; a setting is carried out.
+abbrev pub Obeys : Result command.Command CommandFault → AgentState → ℕ → LldpaMarks → ℕ → AgentState → ℕ → LldpaMarks → Type 0
+Obeys (Err fault) agent show told answer after show_after told_after =
+    (answer ≡ number_of_fault fault) × (after ≡ agent) × (show_after ≡ show) × (told_after ≡ told)
+Obeys (Ok (command.show what)) agent show told answer after show_after told_after =
+    (answer ≡ 0) × (after ≡ agent) × (show_after ≡ show_number what) × (marks_told told_after ≡ [])
+Obeys (Ok (command.set setting)) agent show told answer after show_after told_after =
+    (answer ≡ 0) × (show_after ≡ 0) × CarriesOut setting agent after told_after
+
+-- A line is obeyed where the handle is open. Else nothing is told.
+pub record Obeyed (before : LldpaAgent) (line : List ℕ) (show : ℕ) (told : LldpaMarks) (answer : ℕ) (after : LldpaAgent) (show_after : ℕ) (told_after : LldpaMarks) : Type 0 where
+  pub obeyed : before.is_open ≡ true →
+      (after.is_open ≡ true)
+      × Obeys (command_given before.held.agent line) before.held.agent show told answer after.held.agent show_after told_after
+  pub closed : before.is_open ≡ false →
+      (answer ≡ 102) × (after.is_open ≡ false) × (show_after ≡ show) × (told_after ≡ told)

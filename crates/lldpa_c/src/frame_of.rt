@@ -1,0 +1,70 @@
+//! The frame that a port sends.
+ghost use Rattle.std.specs.Prelude.{◌≡◌, ◌≤◌, true, false, length, take, Some, IfSome, IsSome};
+ghost use Rattle.lldp_transmit.specs.declared.event.Mark.{Mark};
+ghost use Rattle.lldp_engine.specs.AgentState.{IsPort};
+ghost use Rattle.lldp_engine.specs.Frames.{IsSent};
+ghost use Rattle.lldpa_c.specs.Frame.{mark_numbered, Writes, Keeps};
+
+use crate::answer::{NO_PORT, NOT_OPEN, OUT_OF_RANGE};
+use crate::giving::give;
+use crate::holder::LldpaAgent;
+use lldp_engine::{Agent, Mark};
+use std::alloc::Global;
+
+/// The mark of that number, of a frame that goes.
+fn mark_numbered(number: u8) -> Option<Mark>
+    ensures value { result ≡ mark_numbered number }
+    ensures sent { IfSome result IsSent }
+{
+    match number {
+        1 => Some(Mark::Ordinary),
+        2 => Some(Mark::Shutdown),
+        _ => None,
+    }
+}
+
+/// Writes the frame of a port into the caller's room.
+fn write(agent: &Agent, port: u8, mark: Mark, room: &mut [u8], written: &mut usize) -> u8
+    requires { IsSent mark }
+    ensures written { result ≡ 0 → Writes agent.now port mark (take written.new room.new) }
+    ensures within { result ≡ 0 → written.new ≤ length room.new }
+    ensures port { result ≡ 0 → IsPort agent.now port }
+    ensures answers { IsPort agent.now port → 1514 ≤ length room.old → result ≡ 0 }
+    ensures refused { ¬ (result ≡ 0) → (room.new ≡ room.old) × (written.new ≡ written.old) }
+    ensures none { ¬ (IsPort agent.now port) → result ≡ 103 }
+{
+    if port >= agent.ports() {
+        return NO_PORT;
+    }
+    give(agent.frame(port, mark).as_slice(), room, written)
+}
+
+/// The frame that a port sends, with the present configuration.
+#[unsafe(no_mangle)]
+pub extern "C" fn lldpa_frame_of(
+    alloc: Global,
+    agent: &mut LldpaAgent,
+    port: u8,
+    mark: u8,
+    room: &mut [u8],
+    written: &mut usize,
+) -> u8
+    ensures written { result ≡ 0 → (m : Mark) × (mark_numbered mark ≡ Some m)
+        × Writes agent.old.held.agent port m (take written.new room.new) }
+    ensures within { result ≡ 0 → written.new ≤ length room.new }
+    ensures answers { agent.old.is_open ≡ true → IsSome (mark_numbered mark) →
+        IsPort agent.old.held.agent port → 1514 ≤ length room.old → result ≡ 0 }
+    ensures kept { Keeps agent.old agent.new }
+    ensures refused { ¬ (result ≡ 0) → (room.new ≡ room.old) × (written.new ≡ written.old) }
+    ensures closed { agent.old.is_open ≡ false → ¬ (result ≡ 0) }
+{
+    let Some(mark) = mark_numbered(mark) else {
+        return OUT_OF_RANGE;
+    };
+    let Some(held) = agent.take(alloc) else {
+        return NOT_OPEN;
+    };
+    let answer = write(&held, port, mark, room, written);
+    agent.put(held);
+    answer
+}

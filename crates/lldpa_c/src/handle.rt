@@ -1,0 +1,79 @@
+//! What a handle of C's holds: an agent behind a pointer, or nothing.
+ghost use Rattle.std.specs.Prelude.{◌≡◌, Bool, true, false};
+ghost use Rattle.lldp_engine.specs.AgentState.{AgentState};
+ghost use Rattle.lldpa_c.specs.Handle.{held_owns, agent_coded};
+
+mod parts;
+
+use lldp_engine::Agent;
+use parts::Parts;
+use std::alloc::Global;
+use std::marker::Model;
+
+/// An agent in memory of its own, as C has it: a pointer, of which C is not told the type. `owned` says whether there is one. To
+/// drop it forgets the agent, and gives no memory back.
+#[repr(C)]
+#[derive(Drop)]
+pub struct Held {
+    ptr: *mut u8,
+    alloc: Global,
+    pub ghost owned: { Bool },
+    pub ghost agent: { AgentState } by { agent_coded },
+}
+
+impl Model for Held {
+    ghost also_owns = { λ h. held_owns h.owned h.alloc h.ptr h.agent };
+}
+
+/// A pointer to no agent.
+fn nowhere() -> *mut u8 {
+    std::ptr::null_mut()
+}
+
+impl Held {
+    fn of_parts(parts: Parts<Agent, Global>) -> Held
+        ensures { (result.owned ≡ true) × (result.agent ≡ parts.value) }
+    {
+        let Parts { ptr, alloc } = parts;
+        let ptr = ptr as *mut u8;
+        Held { ptr, alloc }
+    }
+
+    fn into_parts(self) -> Parts<Agent, Global>
+        requires { self.owned ≡ true }
+        ensures { result.value ≡ self.agent }
+    {
+        let Held { ptr, alloc } = self;
+        let ptr = ptr as *mut Agent;
+        Parts { ptr, alloc }
+    }
+
+    fn closed(ptr: *mut u8, alloc: Global) -> Held
+        ensures { result.owned ≡ false }
+    {
+        Held { ptr, alloc }
+    }
+
+    /// No agent.
+    pub fn none(alloc: Global) -> Held
+        ensures { result.owned ≡ false }
+    {
+        Held::closed(nowhere(), alloc)
+    }
+
+    /// The agent in this box.
+    pub fn of(agent: Box<Agent>) -> Held
+        ensures owned { result.owned ≡ true }
+        ensures agent { result.agent ≡ agent.value }
+    {
+        Held::of_parts(Parts::of(agent))
+    }
+
+    /// The box of the agent.
+    pub fn into_box(self) -> Box<Agent>
+        requires { self.owned ≡ true }
+        ensures { result.value ≡ self.agent }
+    {
+        self.into_parts().into_box()
+    }
+}

@@ -1,0 +1,40 @@
+//! The ports that send, as C is told them.
+ghost use Rattle.std.specs.Prelude.{◌≡◌, map};
+ghost use Rattle.lldpa_c.specs.Marks.{marks_told, numbered};
+
+use crate::machine::mark_number;
+use lldp_engine::Marks;
+
+/// A port that sends, and what.
+#[repr(C)]
+#[derive(Clone, Copy)]
+pub struct LldpaMark {
+    pub port: u8,
+    pub mark: u8,
+}
+
+/// The ports that send: the first `count` of the items, rising.
+#[repr(C)]
+#[derive(Clone, Copy)]
+pub struct LldpaMarks {
+    pub items: [LldpaMark; 64],
+    pub count: u8,
+}
+
+/// Tells C which ports send.
+pub(crate) fn tell(sent: &Marks, told: &mut LldpaMarks)
+    ensures { marks_told told.new ≡ map numbered sent.now.items }
+{
+    let mut items = told.items;
+    let all = sent.as_slice();
+    for (i, (port, mark)) in all.iter().enumerate() {
+        items[i] = LldpaMark {
+            port: *port,
+            mark: mark_number(*mark),
+        };
+    }
+    *told = LldpaMarks {
+        items,
+        count: sent.len() as u8,
+    };
+}
