@@ -63,7 +63,8 @@ class Edges(unittest.TestCase):
 
     def test_names(self) -> None:
         for written, name in (('"a"', "a"), ('"a\\"b"', 'a"b'), ('"a\\\\"', "a\\\\"),
-                              ('"a\\\nb"', "ab"), ('"a\\nb"', "a\\nb"), ('"a" + "b"', "ab"), ("<a<b>c>", "a<b>c"),
+                              ('"a\\\nb"', "ab"), ('"a\\nb"', "a\\nb"), ('"a" + "b"', "ab"),
+                              ("<a<b>c>", "a<b>c"),
                               ("-.5", "-.5"), ("caf\xe9_1", "caf\xe9_1"), ('"graph"', "graph")):
             self.assertEqual(edges(f"graph {{ {written}:1 -- x:{written} }}"),
                              [((name, "1"), ("x", name))])

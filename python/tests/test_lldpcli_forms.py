@@ -198,7 +198,8 @@ class Commands(unittest.TestCase):
     def test_what_there_is_not(self) -> None:
         for words in ("", "configure", "watch", "show", "show configuration", "show bogus",
                       "show neighbors details summary", "show neighbors ports",
-                      "show chassis ports a", "show statistics details", "show neighbors ports a ports b", "s x"):
+                      "show chassis ports a", "show statistics details",
+                      "show neighbors ports a ports b", "s x"):
             with self.assertRaises(Refused, msg=words):
                 of_lldpcli(words.split())
 

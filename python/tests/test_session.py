@@ -84,7 +84,8 @@ class TestSession(InFolder):
         await session.close(5)
         first, second = ([line for line in log.read_text().splitlines() if line[0] != "#"]
                          for log in self.logs())
-        self.assertEqual(first, ["tick", "rx eth0 00", *["tick"] * MOST_SECONDS_KEPT, "tick 6", "tick"])
+        self.assertEqual(first, ["tick", "rx eth0 00", *["tick"] * MOST_SECONDS_KEPT, "tick 6",
+                                 "tick"])
         self.assertEqual(second, ["up eth1", "tick"])
 
 

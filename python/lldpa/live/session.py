@@ -58,8 +58,9 @@ class Session:
         self.clock = None
 
     def write(self, entries: Sequence[Entry]) -> None:
-        """Notes lines, and before those of each second the wall clock. Seconds in which nothing else
-        happens are kept for a while, since each time that lines are handed over has a price."""
+        """Notes lines, and before those of each second the wall clock. Seconds in which nothing
+        else happens are kept for a while, since each time that lines are handed over has a price.
+        """
         if self.book is None:
             return
         self.book.look()
