@@ -190,7 +190,7 @@ def see_library(sources: Sources) -> None:
         found = counts_of(re.escape(call), code)
         sources.see(found == {LIBRARY_OPENS: 1}, f"{call} stands in {found}")
     for name, text in code.items():
-        rest = re.sub(r"\bBox<\w+(?:, A)?>|\bBox::(?:new\(alloc, agent\)|into_raw|from_raw)", "", text)
+        rest = re.sub(r"\bspecs\.Box\b|\bBox<\w+(?:, A)?>|\bBox::(?:new\(alloc, agent\)|into_raw|from_raw)", "", text)
         takes = re.search(TAKES_MEMORY, rest) is not None
         sources.see(not takes, f"{name}: names a type that takes memory")
 
