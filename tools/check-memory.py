@@ -10,7 +10,8 @@ are handed it.
 Accesses: `Times` counts each get and set of a stored time. So its numbers are reached by `get`, `set`
 and `look` alone, and it cannot be copied; and `look`, which is not counted, is reached from
 `Table::lefts`, which no tick calls: it is called by the show of neighbors alone. A proof by hand could
-say of a count what it likes, so there is none but the two of `Count`.
+say of a count what it likes, so there is none but the two of `Count`, and those of the library for C, which move
+the pointer of a handle.
 
     tools/check-memory.py
 
@@ -49,6 +50,9 @@ HANDED_ON = (
 NO_HANDING_ON = r"\balloc: (?:A|Global)\b|\bstd::alloc\b"
 PROGRAM = "lldp_program/src/program.rt"
 READ_THE_WORDS = ("lldpa/src/main.rt", "lldp_program/src/program.rt", "lldp_program/src/arguments.rt")
+LIBRARY_OPENS = "lldpa_c/src/open.rt"
+LIBRARY_TAKES = ("Agent::open(alloc, &given)", "Box::new(alloc, agent)")
+HANDLES = "lldpa_c/proofs/handle/"
 WALKS = ("count/Count/add/Proof.antt", "count/Count/new/Proof.antt")
 # What may be reached how often, and from which modules of lldp_table alone.
 REACHED: tuple[tuple[str, dict[str, int]], ...] = (
@@ -169,14 +173,26 @@ def see_handed_on(sources: Sources) -> None:
 
 def see_global(sources: Sources) -> None:
     """`Global` is named as a type alone, and handed to those that read the words."""
-    for name, code in sources.code("").items():
+    for name, code in sources.code("lldp_", "lldpa/").items():
         rest = re.sub(r"^use .*?;", "", code, flags=re.M | re.S)
         rest = re.sub(r": Global\b[,)]|<A: Allocator = Global>", "", rest)
         is_made = re.search(r"\bGlobal\b", rest) is not None
         sources.see(not is_made, f"{name}: makes a Global of its own")
-    for name, code in sources.code("lldpa", "lldp_program").items():
+    for name, code in sources.code("lldpa/", "lldp_program").items():
         is_handed = re.search(r": Global\b|\bHostRuntime\b|\.alloc\(\)", code) is not None
         sources.see(name in READ_THE_WORDS or not is_handed, f"{name}: is handed an allocator")
+
+
+def see_library(sources: Sources) -> None:
+    """The library for C takes memory where it opens an agent, for the agent and for the box behind a handle."""
+    code = sources.code("lldpa_c/")
+    for call in LIBRARY_TAKES:
+        found = counts_of(re.escape(call), code)
+        sources.see(found == {LIBRARY_OPENS: 1}, f"{call} stands in {found}")
+    for name, text in code.items():
+        rest = re.sub(r"\bspecs\.Box\b|\bBox<\w+(?:, A)?>|\bBox::(?:new\(alloc, agent\)|into_raw|from_raw)", "", text)
+        takes = re.search(TAKES_MEMORY, rest) is not None
+        sources.see(not takes, f"{name}: names a type that takes memory")
 
 
 def see_reached(sources: Sources) -> None:
@@ -203,14 +219,16 @@ def see_all(sources: Sources) -> None:
     see_handed(sources)
     see_handed_on(sources)
     see_global(sources)
+    see_library(sources)
     see_reached(sources)
 
 
 def see_walks(sources: Sources) -> None:
-    """No proof is written by hand but those of `Count`."""
+    """No proof is written by hand but those of `Count`, and those of what moves a handle of C's."""
     for path in sorted(CRATES.glob("*/proofs/**/Proof.antt")):
         name = str(path.relative_to(CRATES))
-        sources.see(name in [f"lldp_table/proofs/{walk}" for walk in WALKS], f"{name}: by hand")
+        is_known = name in [f"lldp_table/proofs/{walk}" for walk in WALKS] or name.startswith(HANDLES)
+        sources.see(is_known, f"{name}: by hand")
 
 
 def edited(path: pathlib.Path) -> Sources:

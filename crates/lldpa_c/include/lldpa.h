@@ -1,7 +1,8 @@
 /*
  * lldpa: the proved LLDP reader, transmit machine and agent (IEEE 802.1AB-2009), for C and for what calls C.
  *
- * Link with liblldpa_c.a and, for the functions of an agent, with the heap of the C library. C99.
+ * Link with liblldpa.a (`pkg-config --cflags --libs lldpa`), which takes memory by malloc and gives it back by free.
+ * C99.
  *
  * What the caller must keep, everywhere:
  *  - A pointer points to memory of its type that is there, aligned and initialized, and it is never NULL, also where
@@ -259,9 +260,10 @@ typedef struct lldpa_agent {
 #define LLDPA_TEXT 6           /* the hostname is over 255 octets, or has one that is not printable */
 
 /*
- * Opens an agent. All memory that it will ever need is taken here: about 1.5 KB for each of max_neighbors on each port.
- * Answers 0, and the agent is open. Or LLDPA_OUT_OF_RANGE for role or one of the four numbers, LLDPA_IS_OPEN, or the
- * first fault, 1 to 6; the handle stays as it was.
+ * Opens an agent. All memory that it will ever need is taken here: about 1.6 KB for each of max_neighbors on each port.
+ * Answers 0, and the agent is open. Or LLDPA_IS_OPEN; or LLDPA_OUT_OF_RANGE for role, one of the four numbers, or a text
+ * that is not UTF-8; or the first fault, 1 to 6. Then the handle stays as it was. Of more than 65 names only the first
+ * 65 are looked at.
  */
 uint8_t lldpa_open(const lldpa_options *options, lldpa_agent *agent);
 
@@ -342,7 +344,8 @@ typedef struct lldpa_lines {
  *   room  of 2049 octets each line fits
  *   told  written where the answer is 0
  * Answers 0, LLDPA_NOT_OPEN, LLDPA_OUT_OF_RANGE for the show, or LLDPA_NO_ROOM where not even the first line fits.
- * Whoever goes on with `next` gets all lines, as long as the agent is told nothing meanwhile.
+ * Whoever goes on with `next` gets all lines, as long as the agent is told nothing meanwhile. A line costs those before
+ * it too.
  */
 uint8_t lldpa_show_lines(lldpa_agent *agent, uint8_t show, uint32_t from, uint8_t *room, size_t room_length,
                          lldpa_lines *told);

@@ -11,3 +11,5 @@ pub mod Frame
 pub mod Opening
 pub mod Command
 pub mod Show
+pub mod Filled
+pub mod Texts

@@ -11,7 +11,7 @@ use lldp_engine::{Agent, Show};
 use std::alloc::Global;
 
 /// The show of that number.
-fn show_numbered(number: u8) -> Option<Show>
+pub(crate) fn show_numbered(number: u8) -> Option<Show>
     ensures { result ≡ show_numbered number }
 {
     match number {
