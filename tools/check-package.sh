@@ -140,8 +140,43 @@ for name in lldpa lldpa-live lldpa-ctl lldpa-capture lldpa-audit lldpctl; do
 done
 command -v zsh > /dev/null || echo "skipped: reading zsh's completions, since there is no zsh"
 
+# The package of the library has what tools/install.sh --library installs, and pkg-config finds it there.
+library_package() {
+    LLDPA_LIB_DIR=$room/built
+    export LLDPA_LIB_DIR
+    developed=$(tools/package.sh --library "$room" 2> "$room/said")
+    judge $? "tools/package.sh --library: $(cat "$room/said")"
+    dpkg-deb -x "$developed" "$room/developed"
+    install_into "$room/dev" --library /usr
+    listed "$room/developed" | grep -v '^usr/share/doc/lldpa-dev/\(copyright\|changelog.Debian.gz\) \|^usr/share/lintian\>' > "$room/packaged"
+    listed "$room/dev" | diff - "$room/packaged"
+    judge $? "the package of the library has other files than tools/install.sh --library installs"
+    DESTDIR=$room/dev tools/install.sh --uninstall --library /usr > "$room/said" 2>&1
+    left=$(find "$room/dev" ! -type d)
+    [ -z "$left" ]
+    judge $? "tools/install.sh --uninstall --library leaves $left"
+    if command -v pkg-config > /dev/null && command -v cc > /dev/null; then
+        told=$(dirname "$(find "$room/developed" -name lldpa.pc)")
+        # shellcheck disable=SC2046 # these are flags, each a word
+        cc examples/c/who.c -o "$room/who" $(PKG_CONFIG_LIBDIR=$told PKG_CONFIG_SYSROOT_DIR=$room/developed \
+            pkg-config --cflags --libs lldpa) > "$room/out" 2>&1 && "$room/who" docs/lab.pcap > "$room/out" 2>&1 &&
+            cmp -s "$room/out" examples/c/who.expect
+        judge $? "examples/c/who.c, built as pkg-config says: $(cat "$room/out")"
+    else
+        echo "skipped: a program that is built as pkg-config says, since there is no pkg-config or no cc"
+    fi
+}
+
+developed=
+if tools/library.sh "$room/built" > "$room/said" 2>&1; then
+    library_package
+else
+    echo "skipped: the package of the library: $(cat "$room/said")"
+fi
+
 if command -v lintian > /dev/null; then
-    lintian --fail-on error,warning --allow-root "$package" > "$room/out" 2>&1 && [ ! -s "$room/out" ]
+    # shellcheck disable=SC2086 # there may be no package of the library
+    lintian --fail-on error,warning --allow-root "$package" $developed > "$room/out" 2>&1 && [ ! -s "$room/out" ]
     judge $? "lintian: $(cat "$room/out")"
 else
     echo "skipped: lintian, which is not installed"

@@ -1,12 +1,12 @@
 #!/bin/sh
 # Checks the built program: the transcripts of examples/, the examples and the links of the pages, what the sources
-# say of memory, the completion, the package, misuse of its words and streams, every value of each range, refused
-# memory, counts of instructions, lines that are nearly right, and traces of fixed and of random seeds beside the model
-# and the judge of windows; and looks that all that it is to try by name is tried.
+# say of memory, the completion, the library, the packages, misuse of its words and streams, every value of each range,
+# refused memory, counts of instructions, lines that are nearly right, and traces of fixed and of random seeds beside
+# the model and the judge of windows; and looks that all that it is to try by name is tried.
 #     tools/check.sh [PROGRAM]
 # PROGRAM is the one that the gate leaves unless given. It needs sh, bash, python3 and cmp, a C compiler for refused
-# memory, valgrind for the counts, and mypy for the types of the Python package; what had to be skipped is said and not
-# counted. The last line is `N passed, M failed`.
+# memory and the library, which also wants the toolchain, valgrind and cargo, valgrind for the counts, and mypy for the
+# types of the Python package; what had to be skipped is said and not counted. The last line is `N passed, M failed`.
 set -u
 cd "$(dirname "$0")/.." || exit 2
 program=$(realpath -- "${1:-crates/lldpa/out/lldpa}")
@@ -327,6 +327,8 @@ python_types
 part "captures" python3 tools/check-capture.py --program "$program"
 # The worked audit of docs/audit: its lines, from a plan in CSV and in DOT, and its picture.
 part "audit of eight ports" python3 tools/check-audit.py --program "$program"
+# The library for C: vectors, transcripts and refused memory over it, its crate for Rust, and its examples.
+part "the library" python3 tools/check-library.py
 # The Debian package, and what tools/install.sh installs.
 part "the package" tools/check-package.sh "$program"
 refused_arguments

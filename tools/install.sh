@@ -2,23 +2,27 @@
 # Installs lldpa under a prefix, /usr/local unless given: the program, those of bin/ with the Python package that they
 # stand on, the manual pages, completions for bash and zsh, the service with its configuration, a timer that writes its
 # metrics, alerts for Prometheus, and the documents.
-#     tools/install.sh [--uninstall] [--python FOLDER] [PREFIX]
+#     tools/install.sh [--uninstall] [--python FOLDER] [--library] [PREFIX]
 # With --uninstall it takes away what it installs, but for a configuration that was changed. `import lldpa` works for
 # the python3 that looks into FOLDER, by itself the first one below the prefix where python3 looks. DESTDIR, where it is
 # set, is put in front. LLDPA names the program, crates/lldpa/out/lldpa unless it is set.
-# tools/package.sh makes its package of what this installs under /usr.
+# With --library it installs the library for C in place of all that: the header, the archive and what pkg-config tells of
+# it. LLDPA_LIB_DIR, where it is set, names the folder that tools/library.sh made, crates/lldpa_c/out/lib unless it is set.
+# tools/package.sh makes its packages of what this installs under /usr.
 set -eu
 usage() {
-    echo "usage: tools/install.sh [--uninstall] [--python FOLDER] [PREFIX]" >&2
+    echo "usage: tools/install.sh [--uninstall] [--python FOLDER] [--library] [PREFIX]" >&2
     exit 2
 }
 
 uninstall=
 prefix=/usr/local
 looks=
+library=
 while [ $# -gt 0 ]; do
     case $1 in
         --uninstall) uninstall=yes ;;
+        --library) library=yes ;;
         --python)
             [ $# -gt 1 ] || usage
             looks=${2%/}
@@ -30,6 +34,7 @@ while [ $# -gt 0 ]; do
     shift
 done
 program=$(realpath -- "${LLDPA:-$(dirname "$0")/../crates/lldpa/out/lldpa}")
+built=$(realpath -m -- "${LLDPA_LIB_DIR:-$(dirname "$0")/../crates/lldpa_c/out/lib}")
 cd "$(dirname "$0")/.."
 umask 022
 root=${DESTDIR:-}
@@ -42,8 +47,28 @@ case $prefix in
     *) etc=$prefix/etc zsh=site-functions interpreter='/usr/bin/env python3' ;;
 esac
 
+# Where archives stand: below /usr in the folder of the architecture.
+archives=$prefix/lib
+[ "$prefix" != /usr ] || archives=$prefix/lib/$(dpkg-architecture -qDEB_HOST_MULTIARCH 2> /dev/null || true)
+archives=${archives%/}
+
+# The files of the library for C.
+library_files() {
+    echo "plain $built/lldpa.h $prefix/include/lldpa.h"
+    echo "plain $built/liblldpa.a $archives/liblldpa.a"
+    echo "told share/pkgconfig/lldpa.pc $archives/pkgconfig/lldpa.pc"
+    echo "plain docs/LIBRARY.md $documents-dev/LIBRARY.md"
+    for file in examples/c/*.c examples/go/* examples/python/*.py; do
+        echo "plain $file $documents-dev/$file"
+    done
+}
+
 # Each file: how it is installed, where it is, and where it goes. The programs of bin/ stay beside their package.
 files() {
+    if [ -n "$library" ]; then
+        library_files
+        return
+    fi
     echo "program $program $prefix/bin/lldpa"
     for file in bin/*; do
         [ -L "$file" ] || echo "script $file $prefix/lib/lldpa/$file"
@@ -82,6 +107,7 @@ files() {
 # Each link: where it leads, and where it stands. lldpctl is beside its package alone, since lldpd has one of that name;
 # lldpcli is another name of it.
 links() {
+    [ -z "$library" ] || return 0
     for file in bin/lldpa-*; do
         echo "../lib/lldpa/$file $prefix/$file"
     done
@@ -110,6 +136,11 @@ put() {
             ;;
         unit)
             sed "s,/usr/local/,$prefix/,g; s,/etc/default/,$etc/default/,g; s,/etc/lldpa,$etc/lldpa,g" "$2" > "$3"
+            chmod 644 "$3"
+            ;;
+        told)
+            version=$(sed -n 's/^## \([0-9][0-9.]*\)$/\1/p' CHANGELOG.md | head -n 1)
+            sed "s,@prefix@,$prefix,; s,@libdir@,$archives,; s,@version@,$version," "$2" > "$3"
             chmod 644 "$3"
             ;;
         configuration)
@@ -142,12 +173,22 @@ if [ -n "$uninstall" ]; then
     links | while read -r _ name; do
         rm -f "$root$name"
     done
+    if [ -n "$library" ]; then
+        rm -rf "$root$documents-dev"
+        echo "uninstalled from $root$prefix"
+        exit
+    fi
     rm -rf "$root$prefix/lib/lldpa" "$root$prefix/share/lldpa" "$root$documents"
     [ ! -d "$root$etc/lldpa.d" ] || rmdir --ignore-fail-on-non-empty "$root$etc/lldpa.d"
     echo "uninstalled from $root$prefix"
     exit
 fi
-[ -f "$program" ] || { echo "no $program: build the program with rt run in crates/lldpa" >&2; exit 1; }
+if [ -n "$library" ]; then
+    [ -f "$built/liblldpa.a" ] || { echo "no $built/liblldpa.a: tools/library.sh makes it" >&2; exit 1; }
+    looks=none
+else
+    [ -f "$program" ] || { echo "no $program: build the program with rt run in crates/lldpa" >&2; exit 1; }
+fi
 files | while read -r way source name; do
     put "$way" "$source" "$root$name"
 done

@@ -1,28 +1,37 @@
 #!/bin/sh
-# Makes what C programs are built with, of the archive that `rt lib` leaves in crates/lldpa_c/out: FOLDER/lib/liblldpa.a,
-# which has the functions by which the library takes memory too, FOLDER/lib/pkgconfig/lldpa.pc and
-# FOLDER/include/lldpa.h.
-#     tools/library.sh FOLDER [PREFIX]
-# PREFIX, FOLDER unless given, is where the pkg-config file says that they lie. It needs ar, and the kit that built the
-# archive for its `liblibc_c.a`.
+# Makes the library that programs link: liblldpa.a, liblldpa.so and lldpa.h, in a folder.
+#     tools/library.sh [FOLDER]
+# FOLDER is crates/lldpa_c/out/lib unless given. liblldpa.a is the archive that `rt lib` builds in crates/lldpa_c, with
+# the object of the toolchain that asks malloc for memory; liblldpa.so is made of it by `cc -shared`, where there is cc.
+# The archive is built where it is missing or older than a source. It needs rt and ar. The name of the folder goes to
+# standard output.
 set -eu
 cd "$(dirname "$0")/.."
-folder=$1
-prefix=${2:-$(realpath -m -- "$folder")}
-crate=crates/lldpa_c
-archive=$crate/out/liblldpa_c.a
-if [ ! -f "$archive" ]; then
-    echo "no archive at $archive: rt lib in $crate builds it" >&2
+built=crates/lldpa_c/out/liblldpa_c.a
+folder=$(realpath -m -- "${1:-crates/lldpa_c/out/lib}")
+
+fail() {
+    echo "tools/library.sh: $1" >&2
     exit 1
-fi
-kit=$(dirname "$(rt doc)")
+}
+
+command -v ar > /dev/null || fail "there is no ar"
+command -v rt > /dev/null || fail "there is no rt, the toolchain that builds the archive"
+heap=$(dirname "$(rt doc)")/c/liblibc_c.a
+[ -f "$heap" ] || fail "the toolchain has no $heap"
 room=$(mktemp -d)
 trap 'rm -rf "$room"' EXIT
-mkdir -p "$folder/lib/pkgconfig" "$folder/include"
-(cd "$room" && ar x "$kit/c/liblibc_c.a" heap.pic.o)
-cp "$archive" "$room/liblldpa.a"
-ar rs "$room/liblldpa.a" "$room/heap.pic.o" 2> "$room/said"
-cp "$room/liblldpa.a" "$folder/lib/"
-cp "$crate/include/lldpa.h" "$folder/include/"
-version=$(sed -n 's/^## \([0-9][0-9.]*\).*/\1/p' CHANGELOG.md | head -n 1)
-sed "s|@PREFIX@|$prefix|; s|@VERSION@|${version:-0}|" "$crate/include/lldpa.pc.in" > "$folder/lib/pkgconfig/lldpa.pc"
+if [ ! -f "$built" ] || [ -n "$(find crates/*/src -name '*.rt' -newer "$built")" ]; then
+    (cd crates/lldpa_c && rt lib) > "$room/said" 2>&1 || fail "rt lib: $(tail -n 5 "$room/said")"
+fi
+mkdir -p "$folder"
+archive=$(realpath "$built")
+(cd "$room" && ar x "$archive" && ar x "$heap" && ar rcsD liblldpa.a ./*.o)
+install -m 644 "$room/liblldpa.a" crates/lldpa_c/include/lldpa.h "$folder"
+if command -v cc > /dev/null; then
+    echo '{ global: lldpa_*; local: *; };' > "$room/exports"
+    cc -shared -Wl,--whole-archive "$folder/liblldpa.a" -Wl,--no-whole-archive -Wl,-z,defs,-soname,liblldpa.so \
+        -Wl,--version-script="$room/exports" -o "$folder/liblldpa.so"
+    chmod 644 "$folder/liblldpa.so"
+fi
+echo "$folder"

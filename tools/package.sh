@@ -1,13 +1,14 @@
 #!/bin/sh
-# Makes a Debian package, lldpa_VERSION-REVISION_ARCH.deb, of what tools/install.sh installs under /usr.
-#     tools/package.sh [--revision N] [FOLDER]
+# Makes a Debian package, lldpa_VERSION-REVISION_ARCH.deb, of what tools/install.sh installs under /usr; or with --library
+# lldpa-dev_VERSION-REVISION_ARCH.deb, of what tools/install.sh --library does.
+#     tools/package.sh [--library] [--revision N] [FOLDER]
 # The package is written to FOLDER, the one where this is called unless given, and its name to standard output. VERSION is
 # the newest of CHANGELOG.md and must be what the program says of itself. N, 1 unless given, is for a second package of
 # one version. LLDPA names the program, crates/lldpa/out/lldpa unless it is set. Who makes it is named by DEBFULLNAME
 # and DEBEMAIL, and else is who made the last commit. It needs dpkg-deb, dpkg and binutils, and no root.
 set -eu
 usage() {
-    echo "usage: tools/package.sh [--revision N] [FOLDER]" >&2
+    echo "usage: tools/package.sh [--library] [--revision N] [FOLDER]" >&2
     exit 2
 }
 
@@ -17,6 +18,7 @@ fail() {
 }
 
 revision=1
+name=lldpa
 folder=.
 while [ $# -gt 0 ]; do
     case $1 in
@@ -25,6 +27,7 @@ while [ $# -gt 0 ]; do
             revision=$2
             shift
             ;;
+        --library) name=lldpa-dev ;;
         -*) usage ;;
         *) folder=$1 ;;
     esac
@@ -74,9 +77,28 @@ Description: agent for the Link Layer Discovery Protocol (LLDP)
 END
 }
 
+# The package of the library for C.
+library_control() {
+    cat << END
+Package: lldpa-dev
+Version: $version
+Architecture: $architecture
+Maintainer: $maker
+Installed-Size: $(du -sk --apparent-size "$tree" | cut -f 1)
+Depends: libc6-dev
+Section: libdevel
+Priority: optional
+Description: agent for the Link Layer Discovery Protocol (LLDP) - library for C
+ With these files a program in C, or in a language that calls C, reads and
+ builds LLDPDUs, and runs an agent of its own. Every call of the library is
+ proved to do what its definition says. It is a static archive with a header
+ and a file for pkg-config.
+END
+}
+
 changelog() {
     cat << END
-lldpa ($version) unstable; urgency=medium
+$name ($version) unstable; urgency=medium
 
   * lldpa ${version%-*}. What it brings stands in changelog.gz.
 
@@ -84,17 +106,27 @@ lldpa ($version) unstable; urgency=medium
 END
 }
 
-DESTDIR=$tree LLDPA=$program tools/install.sh --python /usr/lib/python3/dist-packages /usr > /dev/null
-strip --remove-section=.comment --remove-section=.note "$tree/usr/bin/lldpa"
-changelog | gzip -9n > "$tree/usr/share/doc/lldpa/changelog.Debian.gz"
-install -m 644 share/debian/copyright "$tree/usr/share/doc/lldpa/copyright"
-install -D -m 644 share/debian/lintian-overrides "$tree/usr/share/lintian/overrides/lldpa"
+if [ "$name" = lldpa ]; then
+    DESTDIR=$tree LLDPA=$program tools/install.sh --python /usr/lib/python3/dist-packages /usr > /dev/null
+    strip --remove-section=.comment --remove-section=.note "$tree/usr/bin/lldpa"
+else
+    DESTDIR=$tree tools/install.sh --library /usr > /dev/null
+    find "$tree" -name '*.a' -exec strip -D --strip-debug --remove-section=.comment --remove-section=.note {} +
+fi
+changelog | gzip -9n > "$tree/usr/share/doc/$name/changelog.Debian.gz"
+install -m 644 share/debian/copyright "$tree/usr/share/doc/$name/copyright"
+mkdir -p "$tree/usr/share/lintian/overrides"
+sed "s/^lldpa:/$name:/" share/debian/lintian-overrides > "$tree/usr/share/lintian/overrides/$name"
 mkdir "$room/DEBIAN"
-control > "$room/DEBIAN/control"
-printf '%s\n' /etc/default/lldpa /etc/lldpa.conf /etc/lldpa.d/README > "$room/DEBIAN/conffiles"
+if [ "$name" = lldpa ]; then
+    control > "$room/DEBIAN/control"
+    printf '%s\n' /etc/default/lldpa /etc/lldpa.conf /etc/lldpa.d/README > "$room/DEBIAN/conffiles"
+    install -m 755 share/debian/postinst share/debian/prerm share/debian/postrm "$room/DEBIAN"
+else
+    library_control > "$room/DEBIAN/control"
+fi
 (cd "$tree" && find usr -type f -exec md5sum {} + | LC_ALL=C sort -k 2) > "$room/DEBIAN/md5sums"
-install -m 755 share/debian/postinst share/debian/prerm share/debian/postrm "$room/DEBIAN"
 mv "$room/DEBIAN" "$tree/DEBIAN"
-package=$folder/lldpa_${version}_$architecture.deb
+package=$folder/${name}_${version}_$architecture.deb
 dpkg-deb --root-owner-group --build "$tree" "$package" > "$room/said" || fail "$(cat "$room/said")"
 echo "$package"

@@ -314,8 +314,8 @@ uint8_t lldpa_link(lldpa_agent *agent, uint8_t port, bool up, lldpa_marks *marks
 #define LLDPA_IN_USE 8       /* some port holds more neighbors than the limit */
 
 /*
- * Takes a line of a command, "configure .." or "show ..", without its line feed. A setting is carried out, a show is
- * only read: lldpa_show_lines gives its lines.
+ * Takes a line of a command, "configure ..", "update" or "show ..", without its line feed. A setting is carried out, a
+ * show is only read: lldpa_show_lines gives its lines.
  *   show   LLDPA_SHOW_NOTHING, or which show it is, where the answer is 0
  *   marks  which ports send, where the answer is 0
  * Answers 0; or 1 to 8, LLDPA_NOT_OPEN, and nothing is changed.

@@ -1,0 +1,86 @@
+/*
+ * Prints who is seen in a capture: a line for each neighbor, with its chassis ID, its port ID, its time to live and its
+ * system name.
+ *     cc who.c $(pkg-config --cflags --libs lldpa) -o who && ./who FILE.pcap
+ */
+#include <lldpa.h>
+#include <stdio.h>
+#include <string.h>
+
+/* The identifiers that were printed: of a later frame of the same sender nothing is. */
+static uint8_t seen[1024][512];
+static size_t seen_lengths[1024], seen_count;
+
+static uint32_t number(const uint8_t *at, int is_little)
+{
+    return is_little ? at[0] | at[1] << 8 | at[2] << 16 | (uint32_t)at[3] << 24
+                     : at[3] | at[2] << 8 | at[1] << 16 | (uint32_t)at[0] << 24;
+}
+
+/* An address as octets, another identifier or a text as letters. */
+static void print_octets(const uint8_t *octets, size_t length, int is_address)
+{
+    for (size_t at = 0; at < length; at++) {
+        int is_letter = octets[at] > ' ' && octets[at] <= '~';
+        printf(is_address ? "%s%02x" : is_letter ? "%s%c" : "%s\\x%02x", is_address && at > 0 ? ":" : "", octets[at]);
+    }
+}
+
+/* Whether an LLDPDU comes from someone who was not seen before. Its identifiers stand at its front. */
+static int is_new(const uint8_t *pdu, size_t length)
+{
+    for (size_t at = 0; at < seen_count; at++) {
+        if (seen_lengths[at] == length && memcmp(seen[at], pdu, length) == 0) {
+            return 0;
+        }
+    }
+    if (seen_count < 1024 && length <= 512) {
+        memcpy(seen[seen_count], pdu, length);
+        seen_lengths[seen_count++] = length;
+    }
+    return 1;
+}
+
+static void print_neighbor(const uint8_t *pdu, size_t length)
+{
+    lldpa_examined told;
+    lldpa_kept walk = {0};
+    if (lldpa_examine(pdu, length, &told) != LLDPA_OK || told.ttl == 0 ||
+        !is_new(pdu, told.port.start + told.port.length)) {
+        return;
+    }
+    const uint8_t *chassis = pdu + told.chassis.start, *port = pdu + told.port.start;
+    print_octets(chassis + 1, told.chassis.length - 1, chassis[0] == 4 || chassis[0] == 5);
+    putchar(' ');
+    print_octets(port + 1, told.port.length - 1, port[0] == 3 || port[0] == 4);
+    printf(" %u", told.ttl);
+    while (lldpa_next_kept(pdu, told.extent, &walk)) {
+        if (walk.kind == 5) {
+            putchar(' ');
+            print_octets(pdu + walk.body.start, walk.body.length, 0);
+        }
+    }
+    putchar('\n');
+}
+
+int main(int count, char **words)
+{
+    static uint8_t header[24], frame[65536];
+    FILE *capture = count == 2 ? fopen(words[1], "rb") : NULL;
+    if (capture == NULL || fread(header, 1, 24, capture) != 24) {
+        fputs("usage: who FILE.pcap\n", stderr);
+        return 2;
+    }
+    int is_little = header[3] == 0xa1;
+    while (fread(header, 1, 16, capture) == 16) {
+        size_t length = number(header + 8, is_little);
+        lldpa_place pdu;
+        if (length > sizeof frame || fread(frame, 1, length, capture) != length) {
+            break;
+        }
+        if (lldpa_frame_pdu(frame, length, &pdu)) {
+            print_neighbor(frame + pdu.start, pdu.length);
+        }
+    }
+    return 0;
+}

@@ -1,0 +1,3 @@
+module lldpa/examples/go
+
+go 1.19

@@ -1,0 +1,103 @@
+#!/usr/bin/env python3
+"""Prints who is seen in a capture: a line for each neighbor, with its chassis ID, its port ID, its
+time to live and its system name.
+
+    LLDPA_LIB_DIR=FOLDER who.py FILE.pcap
+
+FOLDER is where liblldpa.so stands; without it the linker's folders are searched.
+"""
+from __future__ import annotations
+
+import ctypes
+import os
+import struct
+import sys
+from ctypes import POINTER, Structure, byref, c_bool, c_char_p, c_size_t, c_uint8, c_uint16
+from typing import Iterator
+
+
+class Place(Structure):
+    """Octets among those that were given."""
+    _fields_ = [("start", c_size_t), ("length", c_size_t)]
+
+    def of(self, octets: bytes) -> bytes:
+        """The octets at the place."""
+        return octets[self.start:self.start + self.length]
+
+
+class Examined(Structure):
+    """What a sound LLDPDU tells."""
+    _fields_ = [("chassis", Place), ("port", Place), ("extent", c_size_t), ("discarded", c_size_t),
+                ("unrecognized", c_size_t), ("ttl", c_uint16)]
+
+
+class Kept(Structure):
+    """A walk over the kept TLVs."""
+    _fields_ = [("next", c_size_t), ("body", Place), ("met", c_bool * 4), ("kind", c_uint8)]
+
+
+def library() -> ctypes.CDLL:
+    """The library, with the types of what is called of it."""
+    folder = os.environ.get("LLDPA_LIB_DIR")
+    found = ctypes.CDLL(os.path.join(folder, "liblldpa.so") if folder else "liblldpa.so")
+    for name, answer, told in (("lldpa_frame_pdu", c_bool, Place),
+                               ("lldpa_examine", c_uint8, Examined),
+                               ("lldpa_next_kept", c_bool, Kept)):
+        function = getattr(found, name)
+        function.restype, function.argtypes = answer, [c_char_p, c_size_t, POINTER(told)]
+    return found
+
+
+def shown(octets: bytes, is_address: bool) -> str:
+    """An address as octets, another identifier or a text as letters."""
+    if is_address:
+        return octets.hex(":")
+    return "".join(chr(octet) if 0x20 < octet < 0x7f else f"\\x{octet:02x}" for octet in octets)
+
+
+def frames(capture: bytes) -> Iterator[bytes]:
+    """The frames of a capture."""
+    length_of = struct.Struct("<I" if capture[3] == 0xa1 else ">I")
+    at = 24
+    while at + 16 <= len(capture):
+        end = at + 16 + length_of.unpack_from(capture, at + 8)[0]
+        if end > len(capture):
+            return
+        yield capture[at + 16:end]
+        at = end
+
+
+def line_of(lldpa: ctypes.CDLL, pdu: bytes, told: Examined) -> str:
+    """The line of a neighbor."""
+    chassis, port, walk = told.chassis.of(pdu), told.port.of(pdu), Kept()
+    words = [shown(chassis[1:], chassis[0] in (4, 5)), shown(port[1:], port[0] in (3, 4))]
+    words.append(str(told.ttl))
+    while lldpa.lldpa_next_kept(pdu, told.extent, byref(walk)):
+        if walk.kind == 5:
+            words.append(shown(walk.body.of(pdu), False))
+    return " ".join(words)
+
+
+def main() -> int:
+    """Prints each neighbor once."""
+    if len(sys.argv) != 2:
+        print("usage: who.py FILE.pcap", file=sys.stderr)
+        return 2
+    with open(sys.argv[1], "rb") as file:
+        capture = file.read()
+    lldpa, seen = library(), set()
+    for frame in frames(capture):
+        place, told = Place(), Examined()
+        if not lldpa.lldpa_frame_pdu(frame, len(frame), byref(place)):
+            continue
+        pdu = place.of(frame)
+        if lldpa.lldpa_examine(pdu, len(pdu), byref(told)) == 0 and told.ttl > 0:
+            name = pdu[:told.port.start + told.port.length]
+            if name not in seen:
+                seen.add(name)
+                print(line_of(lldpa, pdu, told))
+    return 0
+
+
+if __name__ == "__main__":
+    sys.exit(main())

@@ -1,0 +1,332 @@
+//! The agent.
+
+use crate::fault::{CommandFault, NoPort, OpenFault};
+use crate::machine::Mark;
+use crate::sys;
+use std::ptr;
+
+/// What a station is.
+#[derive(Clone, Copy, Debug, PartialEq, Eq, Hash)]
+pub enum Role {
+    /// An end station.
+    Station = 0,
+    /// A bridge.
+    Bridge = 1,
+    /// A router.
+    Router = 2,
+}
+
+/// What an agent is opened with.
+#[derive(Clone, Copy, Debug)]
+pub struct Options<'a> {
+    /// The names of the ports in order, 1 to 64: each 1 to 15 letters, digits, `-`, `_`, `/` and `:`.
+    pub ports: &'a [&'a str],
+    /// The hostname, at most 255 octets of printable ASCII.
+    pub hostname: &'a str,
+    /// The source address of every frame.
+    pub mac: [u8; 6],
+    /// The IPv4 address under which the agent can be managed.
+    pub management: Option<[u8; 4]>,
+    /// Whether each port begins with the status rx-only.
+    pub receive_only: bool,
+    /// What the station is.
+    pub role: Role,
+    /// How many neighbors each port may hold, 1 to 128.
+    pub max_neighbors: u8,
+    /// txCreditMax, 1 to 10.
+    pub credit_max: u8,
+    /// txFastInit, 1 to 8.
+    pub fast_init: u8,
+    /// reinitDelay in seconds, 1 to 10.
+    pub reinit: u8,
+}
+
+impl Default for Options<'_> {
+    /// What the program takes without options, and no port.
+    fn default() -> Self {
+        Options {
+            ports: &[],
+            hostname: "localhost",
+            mac: [2, 0, 0, 0, 0, 1],
+            management: None,
+            receive_only: false,
+            role: Role::Station,
+            max_neighbors: 32,
+            credit_max: 5,
+            fast_init: 4,
+            reinit: 2,
+        }
+    }
+}
+
+/// A port that sends, by its number from 0 in the order of the options, and what it sends.
+#[derive(Clone, Copy, Debug, PartialEq, Eq, Hash)]
+pub struct Sent {
+    /// The number of the port.
+    pub port: u8,
+    /// What it sends.
+    pub mark: Mark,
+}
+
+/// What a command shows.
+#[derive(Clone, Copy, Debug, PartialEq, Eq, Hash)]
+pub enum Show {
+    /// The neighbors of each port.
+    Neighbors = 1,
+    /// The counters of each port.
+    Statistics = 2,
+    /// What the agent says of itself.
+    Chassis = 3,
+    /// The numbers in force, and the status of each port.
+    Configuration = 4,
+}
+
+impl Show {
+    /// The show of that number, or None for a command that changed something.
+    fn of(number: u8) -> Option<Show> {
+        match number {
+            1 => Some(Show::Neighbors),
+            2 => Some(Show::Statistics),
+            3 => Some(Show::Chassis),
+            4 => Some(Show::Configuration),
+            _ => None,
+        }
+    }
+}
+
+/// What a command gave: a show that [`Agent::show`] writes, or which ports send.
+#[derive(Clone, Debug, PartialEq, Eq)]
+pub struct Commanded {
+    /// Which show was asked for, or None where something was changed.
+    pub show: Option<Show>,
+    /// Which ports send.
+    pub sent: Vec<Sent>,
+}
+
+/// An open agent. Its memory is taken by [`Agent::open`] alone, and given back where it is dropped.
+///
+/// It stays on the thread that opened it.
+///
+/// ```
+/// use lldpa::{Agent, Options, Show};
+/// let mut agent = Agent::open(&Options { ports: &["eth0"], ..Options::default() })?;
+/// for sent in agent.tick() {
+///     let frame = agent.frame_of(sent.port, sent.mark)?;
+///     assert_eq!(frame.len(), 66);
+/// }
+/// assert!(agent.show(Show::Neighbors).starts_with("lldp.eth0.neighbors=0\n"));
+/// # Ok::<(), Box<dyn std::error::Error>>(())
+/// ```
+pub struct Agent {
+    // It has a place of its own: an open handle is not to be copied.
+    handle: Box<sys::Agent>,
+}
+
+/// The marks that a call wrote.
+fn sent(marks: &sys::Marks) -> Vec<Sent> {
+    marks.items[..usize::from(marks.count)]
+        .iter()
+        .filter_map(|item| {
+            Some(Sent {
+                port: item.port,
+                mark: Mark::of(item.mark)?,
+            })
+        })
+        .collect()
+}
+
+/// No marks.
+fn no_marks() -> sys::Marks {
+    sys::Marks {
+        items: [sys::Mark::default(); 64],
+        count: 0,
+    }
+}
+
+impl Agent {
+    /// Opens an agent. It takes about 1.6 KB for each of `max_neighbors` on each port.
+    ///
+    /// # Errors
+    ///
+    /// The first fault of the options, or want of memory.
+    pub fn open(options: &Options<'_>) -> Result<Agent, OpenFault> {
+        let ports: Vec<sys::Text> = options
+            .ports
+            .iter()
+            .map(|name| sys::Text::of(name))
+            .collect();
+        let given = sys::Options {
+            ports: ports.as_ptr(),
+            port_count: ports.len(),
+            hostname: sys::Text::of(options.hostname),
+            mac: options.mac,
+            management: options.management.unwrap_or_default(),
+            managed: options.management.is_some(),
+            receive_only: options.receive_only,
+            role: options.role as u8,
+            max_neighbors: options.max_neighbors,
+            credit_max: options.credit_max,
+            fast_init: options.fast_init,
+            reinit: options.reinit,
+        };
+        let mut handle = Box::new(sys::Agent {
+            held: ptr::null_mut(),
+            open: false,
+        });
+        // SAFETY: the names live until the call returns, which keeps none of them; the handle is closed.
+        let answer = unsafe { sys::lldpa_open(&given, &mut *handle) };
+        match OpenFault::of(answer) {
+            Some(fault) => Err(fault),
+            None => Ok(Agent { handle }),
+        }
+    }
+
+    /// One second has passed. Tells which ports send, by rising port.
+    pub fn tick(&mut self) -> Vec<Sent> {
+        let mut marks = no_marks();
+        // SAFETY: the handle is open, and the marks are a value of their own.
+        unsafe { sys::lldpa_tick(&mut *self.handle, &mut marks) };
+        sent(&marks)
+    }
+
+    /// A frame came on a port: any octets; what is no LLDP frame changes nothing. Tells which ports send.
+    ///
+    /// # Errors
+    ///
+    /// The agent has no such port.
+    pub fn frame(&mut self, port: u8, octets: &[u8]) -> Result<Vec<Sent>, NoPort> {
+        let mut marks = no_marks();
+        // SAFETY: the handle is open, the octets are as many as are told, and the marks are a value of their own.
+        match unsafe {
+            sys::lldpa_frame(
+                &mut *self.handle,
+                port,
+                octets.as_ptr(),
+                octets.len(),
+                &mut marks,
+            )
+        } {
+            sys::OK => Ok(sent(&marks)),
+            _ => Err(NoPort),
+        }
+    }
+
+    /// The link of a port came up, or went down. Tells which ports send.
+    ///
+    /// # Errors
+    ///
+    /// The agent has no such port.
+    pub fn link(&mut self, port: u8, up: bool) -> Result<Vec<Sent>, NoPort> {
+        let mut marks = no_marks();
+        // SAFETY: the handle is open, and the marks are a value of their own.
+        match unsafe { sys::lldpa_link(&mut *self.handle, port, up, &mut marks) } {
+            sys::OK => Ok(sent(&marks)),
+            _ => Err(NoPort),
+        }
+    }
+
+    /// Takes a command, `configure ..`, `update` or `show ..`, without its line feed. A show is only read:
+    /// [`Agent::show`] writes it.
+    ///
+    /// # Errors
+    ///
+    /// The first fault of the command, and nothing is changed.
+    pub fn command(&mut self, line: impl AsRef<[u8]>) -> Result<Commanded, CommandFault> {
+        let line = line.as_ref();
+        let (mut marks, mut show) = (no_marks(), 0);
+        // SAFETY: the handle is open, the line has as many octets as are told, and the others are values of their own.
+        let answer = unsafe {
+            sys::lldpa_command(
+                &mut *self.handle,
+                line.as_ptr(),
+                line.len(),
+                &mut show,
+                &mut marks,
+            )
+        };
+        match CommandFault::of(answer) {
+            Some(fault) => Err(fault),
+            None => Ok(Commanded {
+                show: Show::of(show),
+                sent: sent(&marks),
+            }),
+        }
+    }
+
+    /// All lines of a show, each with its line feed.
+    pub fn show(&mut self, show: Show) -> String {
+        let mut text = String::new();
+        let mut room = [0u8; sys::LINES_ROOM];
+        let mut lines = sys::Lines::default();
+        while !lines.done {
+            let from = lines.next;
+            // SAFETY: the handle is open, the room has as many octets as are told, and the lines are a value of their own.
+            let answer = unsafe {
+                sys::lldpa_show_lines(
+                    &mut *self.handle,
+                    show as u8,
+                    from,
+                    room.as_mut_ptr(),
+                    room.len(),
+                    &mut lines,
+                )
+            };
+            if answer != sys::OK {
+                break;
+            }
+            text.push_str(&String::from_utf8_lossy(&room[..lines.length]));
+        }
+        text
+    }
+
+    /// One line of a show, from 0, without its line feed. None behind the last.
+    pub fn show_line(&mut self, show: Show, line: u32) -> Option<String> {
+        let mut room = [0u8; sys::LINES_ROOM];
+        let mut length = 0;
+        // SAFETY: the handle is open, the room has as many octets as are told, and the length is a value of its own.
+        let answer = unsafe {
+            sys::lldpa_show_line(
+                &mut *self.handle,
+                show as u8,
+                line,
+                room.as_mut_ptr(),
+                room.len(),
+                &mut length,
+            )
+        };
+        (answer == sys::OK).then(|| String::from_utf8_lossy(&room[..length]).into_owned())
+    }
+
+    /// The frame that a port sends, with the present configuration: at most 1514 octets.
+    ///
+    /// # Errors
+    ///
+    /// The agent has no such port.
+    pub fn frame_of(&mut self, port: u8, mark: Mark) -> Result<Vec<u8>, NoPort> {
+        let mut frame = vec![0u8; sys::FRAME_ROOM];
+        let mut length = 0;
+        // SAFETY: the handle is open, the room has as many octets as are told, and the length is a value of its own.
+        let answer = unsafe {
+            sys::lldpa_frame_of(
+                &mut *self.handle,
+                port,
+                mark as u8,
+                frame.as_mut_ptr(),
+                frame.len(),
+                &mut length,
+            )
+        };
+        if answer != sys::OK {
+            return Err(NoPort);
+        }
+        frame.truncate(length);
+        Ok(frame)
+    }
+}
+
+impl Drop for Agent {
+    fn drop(&mut self) {
+        // SAFETY: the handle is open, and nobody uses it any more.
+        unsafe { sys::lldpa_close(&mut *self.handle) };
+    }
+}

@@ -1,0 +1,106 @@
+//! LLDPDUs that are built.
+
+use crate::fault::{BuildFault, OutOfRange};
+use crate::reading::Tlv;
+use crate::sys;
+
+/// Gathers what an LLDPDU is to have.
+///
+/// ```
+/// let built = lldpa::Builder::new(b"\x04\x02\0\0\0\0\x01", b"\x05eth0", 120)
+///     .put(5, b"sw1")
+///     .finish()?;
+/// assert_eq!(built.faults(), [None]);
+/// assert!(lldpa::examine(built.octets()).is_ok());
+/// # Ok::<(), lldpa::OutOfRange>(())
+/// ```
+#[derive(Clone, Debug)]
+pub struct Builder<'a> {
+    chassis: &'a [u8],
+    port: &'a [u8],
+    ttl: u16,
+    tlvs: Vec<Tlv<'a>>,
+}
+
+impl<'a> Builder<'a> {
+    /// Begins with the bodies of the Chassis ID and the Port ID, their subtypes first, 2 to 256 octets each, and the time
+    /// to live in seconds. One of 0 makes a shutdown LLDPDU, which has no other TLVs.
+    pub fn new(chassis: &'a [u8], port: &'a [u8], ttl: u16) -> Builder<'a> {
+        Builder {
+            chassis,
+            port,
+            ttl,
+            tlvs: Vec::new(),
+        }
+    }
+
+    /// Puts a TLV behind the others. What is wrong with it, [`Built::faults`] tells.
+    pub fn put(mut self, kind: u8, body: &'a [u8]) -> Builder<'a> {
+        self.tlvs.push(Tlv { kind, body });
+        self
+    }
+
+    /// Builds the LLDPDU.
+    ///
+    /// # Errors
+    ///
+    /// An identifier has not 2 to 256 octets.
+    pub fn finish(self) -> Result<Built, OutOfRange> {
+        let tlvs: Vec<sys::Tlv> = self
+            .tlvs
+            .iter()
+            .map(|tlv| sys::Tlv {
+                body: tlv.body.as_ptr(),
+                length: tlv.body.len(),
+                kind: tlv.kind,
+            })
+            .collect();
+        let mut faults = vec![0u8; tlvs.len()];
+        let mut octets = vec![0u8; sys::PDU_ROOM];
+        let mut length = 0;
+        // SAFETY: each pointer is that of a slice whose length stands behind it; the bodies live as long as the builder.
+        let answer = unsafe {
+            sys::lldpa_build(
+                self.chassis.as_ptr(),
+                self.chassis.len(),
+                self.port.as_ptr(),
+                self.port.len(),
+                self.ttl,
+                tlvs.as_ptr(),
+                tlvs.len(),
+                faults.as_mut_ptr(),
+                faults.len(),
+                octets.as_mut_ptr(),
+                octets.len(),
+                &mut length,
+            )
+        };
+        if answer != sys::OK {
+            return Err(OutOfRange);
+        }
+        octets.truncate(length);
+        Ok(Built {
+            octets,
+            faults: faults.into_iter().map(BuildFault::of).collect(),
+        })
+    }
+}
+
+/// An LLDPDU that was built.
+#[derive(Clone, Debug, PartialEq, Eq)]
+pub struct Built {
+    octets: Vec<u8>,
+    faults: Vec<Option<BuildFault>>,
+}
+
+impl Built {
+    /// Its octets, at most 1500, the End Of LLDPDU included.
+    pub fn octets(&self) -> &[u8] {
+        &self.octets
+    }
+
+    /// For each TLV that was put, in their order, why it was left out, or None.
+    pub fn faults(&self) -> &[Option<BuildFault>] {
+        &self.faults
+    }
+}

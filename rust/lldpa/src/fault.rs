@@ -1,0 +1,154 @@
+//! Why a call gives nothing.
+
+use crate::sys;
+use std::error::Error;
+use std::fmt;
+
+/// Declares an enum of faults, each with its number in `lldpa.h` and its text.
+macro_rules! faults {
+    ($(#[$about:meta])* $name:ident { $($(#[$case_about:meta])* $case:ident = $number:literal, $text:literal;)* }) => {
+        $(#[$about])*
+        #[derive(Clone, Copy, Debug, PartialEq, Eq, Hash)]
+        pub enum $name {
+            $($(#[$case_about])* $case = $number,)*
+        }
+
+        impl $name {
+            /// The fault of that number, if there is one.
+            pub(crate) fn of(number: u8) -> Option<$name> {
+                match number {
+                    $($number => Some($name::$case),)*
+                    _ => None,
+                }
+            }
+
+            /// The number of the fault in `lldpa.h`.
+            pub fn number(self) -> u8 {
+                self as u8
+            }
+        }
+
+        impl fmt::Display for $name {
+            fn fmt(&self, out: &mut fmt::Formatter<'_>) -> fmt::Result {
+                out.write_str(match self {
+                    $($name::$case => $text,)*
+                })
+            }
+        }
+
+        impl Error for $name {}
+    };
+}
+
+faults! {
+    /// What is wrong with an LLDPDU, in the order in which it is looked for.
+    PduFault {
+        /// No complete TLV where a mandatory one belongs.
+        Truncated = 1, "no complete TLV where a mandatory one belongs";
+        /// The first TLV is no Chassis ID.
+        NoChassis = 2, "the first TLV is no Chassis ID";
+        /// The Chassis ID has not 2 to 256 octets.
+        ChassisLength = 3, "the Chassis ID has not 2 to 256 octets";
+        /// The second TLV is no Port ID.
+        NoPort = 4, "the second TLV is no Port ID";
+        /// The Port ID has not 2 to 256 octets.
+        PortLength = 5, "the Port ID has not 2 to 256 octets";
+        /// The third TLV is no Time To Live.
+        NoTtl = 6, "the third TLV is no Time To Live";
+        /// The Time To Live has fewer than 2 octets.
+        TtlLength = 7, "the Time To Live has fewer than 2 octets";
+        /// A mandatory TLV stands again behind the third.
+        Repeated = 8, "a mandatory TLV stands again behind the third";
+    }
+}
+
+faults! {
+    /// Why a TLV is left out of an LLDPDU that is built.
+    BuildFault {
+        /// It and the End Of LLDPDU do not fit in 1500 octets.
+        Full = 1, "it does not fit in 1500 octets";
+        /// Its type is not 4 to 127, or one of 4 to 7 that was put before, or the TTL is 0.
+        Kind = 2, "no TLV of its type may be put";
+        /// Its body is over 511 octets, or not well formed for its type.
+        Body = 3, "its body is not well formed for its type";
+    }
+}
+
+faults! {
+    /// Why an agent is not opened, in the order of the checks.
+    OpenFault {
+        /// There was no memory for it.
+        Memory = 1, "there was no memory";
+        /// No port was named.
+        NoPorts = 2, "no port was named";
+        /// More than 64 ports were named.
+        TooManyPorts = 3, "more than 64 ports were named";
+        /// The name of a port is none.
+        PortName = 4, "the name of a port is none";
+        /// Two ports have the same name.
+        SamePort = 5, "two ports have the same name";
+        /// The hostname is over 255 octets, or has one that is not printable ASCII.
+        Text = 6, "the hostname is over 255 octets, or has one that is not printable";
+        /// `max_neighbors`, `credit_max`, `fast_init` or `reinit` is not in its range.
+        OutOfRange = 100, "a number of the options is not in its range";
+    }
+}
+
+faults! {
+    /// Why a command is refused: the first fault in reading order.
+    CommandFault {
+        /// A word is missing, or no form has it there.
+        Unknown = 1, "unknown command";
+        /// No port has that name.
+        NoSuchPort = 2, "no such port";
+        /// A word is not one or more decimal digits.
+        Number = 3, "not a number";
+        /// A number is not in its range.
+        Range = 4, "out of range";
+        /// A text is over 255 octets, or has one that is not printable ASCII.
+        Text = 5, "bad text";
+        /// A word follows a complete command.
+        Extra = 6, "extra word";
+        /// A quote is wrong.
+        Quote = 7, "bad quote";
+        /// Some port holds more neighbors than the limit.
+        InUse = 8, "too many held";
+    }
+}
+
+impl CommandFault {
+    /// The line that the program writes of the fault, as `error: unknown command`.
+    pub fn line(self) -> String {
+        let mut room = [0u8; sys::TEXT_ROOM];
+        let mut length = 0;
+        // SAFETY: the room has as many octets as are told, and nothing else is lent.
+        unsafe {
+            sys::lldpa_command_text(self.number(), room.as_mut_ptr(), room.len(), &mut length)
+        };
+        String::from_utf8_lossy(&room[..length]).into_owned()
+    }
+}
+
+/// A number, or the length of an identifier, is not in its range.
+#[derive(Clone, Copy, Debug, PartialEq, Eq, Hash)]
+pub struct OutOfRange;
+
+impl fmt::Display for OutOfRange {
+    fn fmt(&self, out: &mut fmt::Formatter<'_>) -> fmt::Result {
+        out.write_str("a number or a length is not in its range")
+    }
+}
+
+impl Error for OutOfRange {}
+
+/// The agent has no port of that number.
+#[derive(Clone, Copy, Debug, PartialEq, Eq, Hash)]
+pub struct NoPort;
+
+impl fmt::Display for NoPort {
+    fn fmt(&self, out: &mut fmt::Formatter<'_>) -> fmt::Result {
+        out.write_str("the agent has no port of that number")
+    }
+}
+
+impl Error for NoPort {}

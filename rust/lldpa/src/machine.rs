@@ -1,0 +1,103 @@
+//! The transmit machine of one port (clause 9).
+
+use crate::fault::OutOfRange;
+use crate::sys;
+
+/// What an event is for a port.
+#[derive(Clone, Copy, Debug, PartialEq, Eq, Hash)]
+pub enum Cause {
+    /// One second has passed.
+    Tick = 0,
+    /// Something in the local system has changed.
+    Change = 1,
+    /// A new neighbor was stored.
+    Neighbor = 2,
+    /// The right to transmit was taken away.
+    Stop = 3,
+    /// The right to transmit was given.
+    Allow = 4,
+    /// The link went down.
+    Down = 5,
+    /// The link came up.
+    Up = 6,
+    /// Nothing that concerns transmitting.
+    Nothing = 7,
+}
+
+/// Which frame goes.
+#[derive(Clone, Copy, Debug, PartialEq, Eq, Hash)]
+pub enum Mark {
+    /// One with the whole configuration.
+    Ordinary = 1,
+    /// One with a time to live of 0.
+    Shutdown = 2,
+}
+
+impl Mark {
+    /// The mark of that number, or None for a quiet port.
+    pub(crate) fn of(number: u8) -> Option<Mark> {
+        match number {
+            1 => Some(Mark::Ordinary),
+            2 => Some(Mark::Shutdown),
+            _ => None,
+        }
+    }
+}
+
+/// The machine.
+///
+/// ```
+/// use lldpa::{Cause, Machine, Mark};
+/// let mut machine = Machine::new(5, 4, 2, true)?;
+/// assert_eq!(machine.event(Cause::Tick, 30)?, Some(Mark::Ordinary));
+/// assert_eq!(machine.event(Cause::Tick, 30)?, None);
+/// # Ok::<(), lldpa::OutOfRange>(())
+/// ```
+#[derive(Clone)]
+pub struct Machine {
+    held: sys::Machine,
+}
+
+impl Machine {
+    /// A machine with full credit, on a port whose link is up and that is not active: txCreditMax, 1 to 10;
+    /// txFastInit, 1 to 8; reinitDelay in seconds, 1 to 10; and whether the port may transmit from the start.
+    ///
+    /// # Errors
+    ///
+    /// A number is not in its range.
+    pub fn new(
+        credit_max: u8,
+        fast_init: u8,
+        reinit: u8,
+        allowed: bool,
+    ) -> Result<Machine, OutOfRange> {
+        let mut held = sys::Machine::default();
+        // SAFETY: the struct is a value of its own.
+        match unsafe { sys::lldpa_transmit_new(&mut held, credit_max, fast_init, reinit, allowed) }
+        {
+            sys::OK => Ok(Machine { held }),
+            _ => Err(OutOfRange),
+        }
+    }
+
+    /// Takes one event, with the tx-interval in force after it, 1 to 3600 seconds, and tells which frame goes.
+    ///
+    /// # Errors
+    ///
+    /// The interval is not in its range, and the machine stays as it was.
+    pub fn event(&mut self, cause: Cause, interval: u16) -> Result<Option<Mark>, OutOfRange> {
+        let mut mark = 0;
+        // SAFETY: both are values of their own.
+        match unsafe { sys::lldpa_transmit_event(&mut self.held, cause as u8, interval, &mut mark) }
+        {
+            sys::OK => Ok(Mark::of(mark)),
+            _ => Err(OutOfRange),
+        }
+    }
+
+    /// How many ordinary frames may go before the next tick, 0 to 10.
+    pub fn credit(&self) -> u8 {
+        // SAFETY: the struct is a value of its own.
+        unsafe { sys::lldpa_transmit_credit(&self.held) }
+    }
+}

@@ -1,0 +1,210 @@
+//! Frames, LLDPDUs and TLVs that are read. Nothing is copied: all that is told is part of what was given.
+
+use crate::fault::PduFault;
+use crate::sys;
+
+/// The octets at a place.
+fn at(octets: &[u8], place: sys::Place) -> &[u8] {
+    &octets[place.start..][..place.length]
+}
+
+/// The LLDPDU of an Ethernet frame, which begins with its destination address and has no VLAN tag and no check
+/// sequence. None for what is no LLDP frame: 14 to 1514 octets, to 01-80-C2-00-00-0E, of EtherType 88-CC.
+pub fn frame_pdu(frame: &[u8]) -> Option<&[u8]> {
+    let mut place = sys::Place::default();
+    // SAFETY: the frame has as many octets as are told; the place is a value of its own.
+    let is_one = unsafe { sys::lldpa_frame_pdu(frame.as_ptr(), frame.len(), &mut place) };
+    is_one.then(|| at(frame, place))
+}
+
+/// Who sent an LLDPDU: the bodies of its Chassis ID and its Port ID, each 2 to 256 octets, the subtype first.
+#[derive(Clone, Copy, Debug, PartialEq, Eq, Hash)]
+pub struct Msap<'a> {
+    /// The body of the Chassis ID.
+    pub chassis: &'a [u8],
+    /// The body of the Port ID.
+    pub port: &'a [u8],
+}
+
+/// What a sound LLDPDU tells.
+#[derive(Clone, Copy, Debug, PartialEq, Eq)]
+pub enum Examined<'a> {
+    /// The neighbor is gone: the time to live is 0.
+    Shutdown(Msap<'a>),
+    /// The neighbor lives.
+    Info(Info<'a>),
+}
+
+impl<'a> Examined<'a> {
+    /// Who sent it.
+    pub fn msap(&self) -> Msap<'a> {
+        match self {
+            Examined::Shutdown(msap) => *msap,
+            Examined::Info(info) => info.msap,
+        }
+    }
+}
+
+/// What an LLDPDU tells of a neighbor that lives.
+#[derive(Clone, Copy, Debug, PartialEq, Eq)]
+pub struct Info<'a> {
+    msap: Msap<'a>,
+    octets: &'a [u8],
+    ttl: u16,
+    discarded: usize,
+    unrecognized: usize,
+}
+
+impl<'a> Info<'a> {
+    /// Who sent it.
+    pub fn msap(&self) -> Msap<'a> {
+        self.msap
+    }
+
+    /// The octets that count: those before the End Of LLDPDU.
+    pub fn octets(&self) -> &'a [u8] {
+        self.octets
+    }
+
+    /// The time to live in seconds, 1 to 65535.
+    pub fn ttl(&self) -> u16 {
+        self.ttl
+    }
+
+    /// How many TLVs are discarded, one that is not complete among them.
+    pub fn discarded(&self) -> usize {
+        self.discarded
+    }
+
+    /// How many kept TLVs are of the types 9 to 127.
+    pub fn unrecognized(&self) -> usize {
+        self.unrecognized
+    }
+
+    /// The kept TLVs in their order: well formed, and the first of its type where that is 4 to 7.
+    pub fn kept(&self) -> Kept<'a> {
+        Kept {
+            extent: self.octets,
+            walk: sys::Kept::default(),
+        }
+    }
+}
+
+/// Examines an LLDPDU of any length.
+///
+/// # Errors
+///
+/// The first fault, in the order of [`PduFault`].
+///
+/// ```
+/// let pdu = b"\x02\x07\x04\x00\x11\x22\x33\x44\x55\x04\x05\x05eth0\x06\x02\x00\x78\x0a\x03sw1\0\0";
+/// let Ok(lldpa::Examined::Info(info)) = lldpa::examine(pdu) else { panic!() };
+/// assert_eq!(info.ttl(), 120);
+/// let kept: Vec<_> = info.kept().map(|tlv| (tlv.kind, tlv.body)).collect();
+/// assert_eq!(kept, [(5, &b"sw1"[..])]);
+/// ```
+pub fn examine(pdu: &[u8]) -> Result<Examined<'_>, PduFault> {
+    let mut told = sys::Examined::default();
+    // SAFETY: the LLDPDU has as many octets as are told; the struct is a value of its own.
+    let fault = unsafe { sys::lldpa_examine(pdu.as_ptr(), pdu.len(), &mut told) };
+    if let Some(fault) = PduFault::of(fault) {
+        return Err(fault);
+    }
+    let msap = Msap {
+        chassis: at(pdu, told.chassis),
+        port: at(pdu, told.port),
+    };
+    if told.ttl == 0 {
+        return Ok(Examined::Shutdown(msap));
+    }
+    Ok(Examined::Info(Info {
+        msap,
+        octets: &pdu[..told.extent],
+        ttl: told.ttl,
+        discarded: told.discarded,
+        unrecognized: told.unrecognized,
+    }))
+}
+
+/// A TLV.
+#[derive(Clone, Copy, Debug, PartialEq, Eq, Hash)]
+pub struct Tlv<'a> {
+    /// Its type, 4 to 127 of a kept one.
+    pub kind: u8,
+    /// Its body, 0 to 511 octets.
+    pub body: &'a [u8],
+}
+
+/// The kept TLVs of an LLDPDU.
+#[derive(Clone)]
+pub struct Kept<'a> {
+    extent: &'a [u8],
+    walk: sys::Kept,
+}
+
+impl<'a> Iterator for Kept<'a> {
+    type Item = Tlv<'a>;
+
+    fn next(&mut self) -> Option<Tlv<'a>> {
+        // SAFETY: the extent has as many octets as are told; the walk is a value of its own.
+        let is_one = unsafe {
+            sys::lldpa_next_kept(self.extent.as_ptr(), self.extent.len(), &mut self.walk)
+        };
+        is_one.then(|| Tlv {
+            kind: self.walk.kind,
+            body: at(self.extent, self.walk.body),
+        })
+    }
+}
+
+impl std::iter::FusedIterator for Kept<'_> {}
+
+/// What a System Capabilities TLV (type 7) says, each a sum of the standard's bits.
+#[derive(Clone, Copy, Debug, PartialEq, Eq, Hash)]
+pub struct Capabilities {
+    /// What the system can be.
+    pub available: u16,
+    /// What it is.
+    pub enabled: u16,
+}
+
+/// The fields of the body of a System Capabilities TLV. None where it is not well formed: four octets, and no bit
+/// enabled that is not available.
+pub fn caps(body: &[u8]) -> Option<Capabilities> {
+    let mut told = sys::Capabilities::default();
+    // SAFETY: the body has as many octets as are told; the struct is a value of its own.
+    let is_read = unsafe { sys::lldpa_caps(body.as_ptr(), body.len(), &mut told) };
+    is_read.then_some(Capabilities {
+        available: told.available,
+        enabled: told.enabled,
+    })
+}
+
+/// What a Management Address TLV (type 8) says.
+#[derive(Clone, Copy, Debug, PartialEq, Eq, Hash)]
+pub struct Management<'a> {
+    /// The family of the address: 1 IPv4, 2 IPv6, 6 all 802 media, ..
+    pub family: u8,
+    /// The address, 1 to 31 octets.
+    pub address: &'a [u8],
+    /// The interface numbering subtype.
+    pub numbering: u8,
+    /// The interface number.
+    pub interface: u32,
+    /// The object identifier, 0 to 128 octets.
+    pub oid: &'a [u8],
+}
+
+/// The fields of the body of a Management Address TLV. None where it is not well formed.
+pub fn mgmt(body: &[u8]) -> Option<Management<'_>> {
+    let mut told = sys::Management::default();
+    // SAFETY: the body has as many octets as are told; the struct is a value of its own.
+    let is_read = unsafe { sys::lldpa_mgmt(body.as_ptr(), body.len(), &mut told) };
+    is_read.then(|| Management {
+        family: told.family,
+        address: at(body, told.address),
+        numbering: told.numbering,
+        interface: told.interface,
+        oid: at(body, told.oid),
+    })
+}

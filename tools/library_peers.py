@@ -1,0 +1,159 @@
+"""What the library and other readers tell of frames, and the rules of docs/STANDARD.md by which
+they differ."""
+from __future__ import annotations
+
+import subprocess
+from typing import Callable
+
+import model
+
+OUIS_READ = (b"\x00\x80\xc2", b"\x00\x12\x0f", b"\x00\x12\xbb", b"\x00\x1b\x21")
+TEXTS = {4: "pdescr", 5: "name", 6: "descr"}
+
+
+class Frame:
+    """A frame, and how it is made up."""
+
+    def __init__(self, octets: bytes):
+        self.octets = octets
+        self.pdu = octets[14:]
+        self.tlvs, self.rest = model.cut(self.pdu)
+        kinds = [tlv.kind for tlv in self.tlvs]
+        self.has_end = 0 in kinds
+        self.end = self.tlvs[kinds.index(0)] if self.has_end else None
+        self.inside = self.tlvs[:kinds.index(0)] if self.has_end else self.tlvs
+        self.kinds = [tlv.kind for tlv in self.inside]
+        is_to_bridge = octets[:6] == model.NEAREST_BRIDGE and octets[12:14] == model.ETHERTYPE
+        self.is_ours = is_to_bridge and 14 <= len(octets) <= 1514
+        try:
+            self.told: model.Lldpdu | None = model.Lldpdu(self.pdu) if self.is_ours else None
+        except model.UnsoundLldpdu:
+            self.told = None
+
+    def optional(self, kind: int) -> list[bytes]:
+        """The bodies of the TLVs of a type."""
+        return [tlv.body for tlv in self.inside if tlv.kind == kind]
+
+    def is_shutdown(self) -> bool:
+        """Whether nothing behind the TTL matters."""
+        return self.told is not None and self.told.ttl == 0
+
+
+def has_odd_subtype(frame: Frame) -> bool:
+    """Whether an identifier has a reserved subtype."""
+    return any(not 1 <= tlv.body[0] <= 7 for tlv in frame.inside[:2] if tlv.body)
+
+
+def has_address_that_is_none(frame: Frame) -> bool:
+    """Whether a Management Address has more than 16 octets of an address, or is none of IP."""
+    return any(body[:1] > b"\x11" or body[1:2] not in (b"\1", b"\2") for body in frame.optional(8))
+
+
+def has_read_organization(frame: Frame) -> bool:
+    """Whether a peer reads what is in an organizationally specific TLV."""
+    return any(body[:3] in OUIS_READ for body in frame.optional(127))
+
+
+LLDPD, SD_LLDP, BOTH = {"lldpd"}, {"sd-lldp"}, {"lldpd", "sd-lldp"}
+
+# The words of a rule, the peers that do otherwise, and whether a frame is what the rule is about.
+Reason = tuple[str, set[str], Callable[[Frame], bool]]
+
+# Why the library takes a frame that a peer refuses.
+TAKEN: list[Reason] = [
+    ("an LLDPDU without one is accepted", BOTH, lambda frame: not frame.has_end),
+    ("one with a length above 0 ends the LLDPDU too", BOTH,
+     lambda frame: frame.end is not None and frame.end.body != b""),
+    ("a reserved subtype is accepted", LLDPD, has_odd_subtype),
+    ("of a longer one the first two octets are read", SD_LLDP,
+     lambda frame: len(frame.inside[2].body) > 2),
+    ("A TLV in error is discarded and counted; the others are used", BOTH,
+     lambda frame: frame.told is not None and frame.told.ttl > 0 and frame.told.discarded > 0),
+    ("With a TTL of 0 the sender's entry is deleted, and nothing else in the LLDPDU matters", BOTH,
+     Frame.is_shutdown),
+    ("Their organization defines what they mean", LLDPD, has_read_organization),
+    ("1 to 31 octets of address", LLDPD, has_address_that_is_none),
+]
+
+# Why a peer takes a frame that the library refuses, or that is no LLDP frame for it.
+REFUSED: list[Reason] = [
+    ("A frame goes to one of three group addresses", BOTH,
+     lambda frame: frame.octets[:6] != model.NEAREST_BRIDGE),
+    ("it has 14 to 1,514 octets", BOTH, lambda frame: not 14 <= len(frame.octets) <= 1514),
+    ("An LLDPDU begins with a Chassis ID, a Port ID and a Time To Live, in this order", SD_LLDP,
+     lambda frame: frame.kinds[:3] != [1, 2, 3]),
+]
+
+
+class Told:
+    """What a program tells of a frame."""
+
+    def __init__(self, line: str):
+        words = line.split(" ")
+        self.is_accepted = words[0] == "accept"
+        self.fields = dict(word.split("=", 1) for word in words if "=" in word)
+
+
+def verdicts(command: list[str]) -> list[Told]:
+    """What a program tells of each frame."""
+    ran = subprocess.run(command, capture_output=True, text=True, check=True)
+    return [Told(line) for line in ran.stdout.splitlines()]
+
+
+def identifiers(told: Told, is_ours: bool) -> tuple[bytes, bytes]:
+    """Chassis ID and port ID with their subtypes."""
+    both = [bytes.fromhex(told.fields[name]) for name in ("chassis", "port")]
+    if not is_ours:
+        subtypes = [bytes([int(told.fields[name])]) for name in ("ctype", "ptype")]
+        both = [subtype + body for subtype, body in zip(subtypes, both)]
+    return both[0], both[1]
+
+
+def rule_for(reasons: list[Reason], peer: str, frame: Frame) -> str | None:
+    """The rule that says why there is a difference, or None."""
+    return next((rule for rule, peers, holds in reasons if peer in peers and holds(frame)), None)
+
+
+def plain(body: bytes) -> bool:
+    """Whether a text is one that peers show as it is."""
+    is_plain = all(0x20 <= octet < 0x7f and octet not in b"\"'\\" for octet in body)
+    return is_plain and 0 < len(body) <= 255
+
+
+def fault_of_texts(frame: Frame, told: Told) -> str | None:
+    """What is wrong with a text that a peer tells, where it stands once and is plain."""
+    for kind, name in TEXTS.items():
+        bodies = frame.optional(kind)
+        if len(bodies) == 1 and plain(bodies[0]) and told.fields.get(name) != bodies[0].hex():
+            return f"{name} is {told.fields.get(name)} and not {bodies[0].hex()}"
+    return None
+
+
+def compared(peer: str, frame: Frame, ours: Told, theirs: Told) -> str:
+    """The same, the rule by which they differ, or `?` and how they differ."""
+    if ours.is_accepted != theirs.is_accepted:
+        rule = rule_for(TAKEN if ours.is_accepted else REFUSED, peer, frame)
+        return rule or f"? the library {'takes' if ours.is_accepted else 'refuses'} it"
+    if not ours.is_accepted:
+        return "the same"
+    is_same = identifiers(ours, True) == identifiers(theirs, False)
+    if not is_same or ours.fields["ttl"] != theirs.fields["ttl"]:
+        return "? another sender or another time to live"
+    if frame.is_shutdown():
+        return "the same"
+    fault = fault_of_texts(frame, theirs)
+    return f"? {fault}" if fault else "the same"
+
+
+def fault_of_ours(frame: Frame, ours: Told) -> str | None:
+    """How the library differs from the model, or None."""
+    told = frame.told
+    if ours.is_accepted != (told is not None):
+        return "taken or refused"
+    if told is None:
+        return None
+    if identifiers(ours, True) != told.name or int(ours.fields["ttl"]) != told.ttl:
+        return "the sender or the time to live"
+    wanted = (len(told.extent), told.discarded, told.unrecognized) if told.ttl else (0, 0, 0)
+    found = tuple(int(ours.fields[name]) for name in ("extent", "discarded", "unrecognized"))
+    return None if found == wanted else f"{found} and not {wanted}"
