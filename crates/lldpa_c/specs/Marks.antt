@@ -1,5 +1,5 @@
 -- The ports that send, as C is told them.
-use Rattle.std.specs.Prelude.{ℕ, List, map, take}
+use Rattle.std.specs.Prelude.{ℕ, List, take}
 use Rattle.lldp_transmit.specs.declared.event.Mark.{Mark}
 use Rattle.lldpa_c.specs.declared.marks.LldpaMark.{LldpaMark}
 use Rattle.lldpa_c.specs.declared.marks.LldpaMarks.{LldpaMarks}

@@ -6,7 +6,6 @@ use Rattle.lldp_pdu.specs.Fault.{fault_of}
 use Rattle.lldp_pdu.specs.Lldpdu.{extent, ttl_of}
 use Rattle.lldp_pdu.specs.Code.Seen.{kept_seen}
 use Rattle.lldpa_c.specs.declared.kept.LldpaKept.{LldpaKept}
-use Rattle.lldpa_c.specs.Place.{EndsWith}
 
 -- the octets are the extent of a sound LLDPDU with a TTL above 0
 pub record IsExtent (octets : List ℕ) : Type 0 where

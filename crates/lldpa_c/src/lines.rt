@@ -2,7 +2,7 @@
 ghost use Rattle.std.specs.Prelude.{◌≡◌, ◌+◌, ◌≤◌, ◌<◌, ◌++◌, ◌∷◌, [], true, false, length, take, None, slice_get, IfSome, IfNone};
 ghost use Rattle.lldp_engine.specs.Lines.{lines_of};
 ghost use Rattle.lldpa_c.specs.Frame.{Keeps};
-ghost use Rattle.lldpa_c.specs.Filled.{Fills, Filled};
+ghost use Rattle.lldpa_c.specs.Filled.{Fills, IsFull, Filled};
 
 use crate::answer::{NO_ROOM, NOT_OPEN, OK, OUT_OF_RANGE};
 use crate::holder::LldpaAgent;
@@ -47,6 +47,8 @@ fn fill(agent: &Agent, show: Show, from: u32, room: &mut [u8]) -> LldpaLines
     ensures octets { Fills (lines_of show agent.now) from result.next
         (take result.length room.new) }
     ensures done { result.done ≡ true → slice_get (lines_of show agent.now) result.next ≡ None }
+    ensures full { result.done ≡ false →
+        IsFull (lines_of show agent.now) result.next (length room.new) result.length }
 {
     let mut lines = LldpaLines {
         length: 0,
@@ -74,8 +76,7 @@ pub extern "C" fn lldpa_show_lines(
     room: &mut [u8],
     told: &mut LldpaLines,
 ) -> u8
-    ensures filled { result ≡ 0 → Filled agent.old.held.agent show from told.new
-        (take told.new.length room.new) }
+    ensures filled { result ≡ 0 → Filled agent.old.held.agent show from told.new room.new }
     ensures within { result ≡ 0 → told.new.length ≤ length room.new }
     ensures kept { Keeps agent.old agent.new }
     ensures refused { ¬ (result ≡ 0) → told.new ≡ told.old }

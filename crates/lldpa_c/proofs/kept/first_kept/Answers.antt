@@ -1,6 +1,4 @@
 use Rattle.std.proofs.Common.{◌≡◌, ℕ, List, length, drop, refl, sym, ap, subst, ◌∙◌, arith, ◌-◌, ◌∷◌}
-use Rattle.std.proofs.lemmas.Grind.{common_steps}
-use Rattle.lldp_pdu.specs.Tlv.{TlvUnit}
 use Rattle.lldp_pdu.specs.Cut.{cut}
 use Rattle.lldp_pdu.specs.Code.Seen.{kept_seen}
 use Rattle.lldp_pdu.specs.View.{tlv_view}

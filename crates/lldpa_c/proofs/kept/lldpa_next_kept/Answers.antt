@@ -1,9 +1,8 @@
-use Rattle.std.proofs.Common.{◌≡◌, ℕ, ◌+◌, ◌-◌, ◌<◌, List, ◌∷◌, length, refl, sym, ap, ◌∙◌, arith}
-use Rattle.lldp_pdu.specs.Tlv.{TlvUnit, AreOctets}
-use Rattle.lldp_pdu.specs.Cut.{cut}
+use Rattle.std.proofs.Common.{◌≡◌, ℕ, ◌-◌, ◌<◌, List, ◌∷◌, length, sym, ap, ◌∙◌, arith}
+use Rattle.lldp_pdu.specs.Tlv.{TlvUnit}
 use Rattle.lldp_pdu.specs.Code.Seen.{kept_seen}
 use Rattle.lldp_pdu.proofs.Cuts.{AreOctets-from_index}
-use Rattle.lldpa_c.specs.Walk.{GivesKept, tlvs_from, left_of}
+use Rattle.lldpa_c.specs.Walk.{GivesKept}
 use Rattle.lldpa_c.proofs.Walking.{gives_within, from_place, begins_whole}
 use Rattle.lldpa_c.proofs.kept.lldpa_next_kept.Goals as goal
 

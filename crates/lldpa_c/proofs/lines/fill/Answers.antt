@@ -1,4 +1,4 @@
-use Rattle.std.proofs.Common.{◌≡◌, ℕ, zero, suc, ◌+◌, ◌-◌, ◌<◌, ◌≤◌, List, [], ◌∷◌, ◌++◌, length, take, drop, Some, refl, sym, ap, subst, ◌∙◌, append-nil, arith}
+use Rattle.std.proofs.Common.{◌≡◌, ℕ, zero, suc, ◌+◌, ◌-◌, List, [], ◌∷◌, ◌++◌, length, take, drop, Option, Some, None, refl, sym, ap, ◌∙◌, append-nil, arith}
 use Rattle.std.specs.Prelude.{slice_get}
 use Rattle.std.specs.List.{flat_map}
 use Rattle.std.proofs.lemmas.List.{drop-drop}
@@ -48,3 +48,15 @@ loop-line-preserved c =
 
 pub returns-in_default-append-clause-done : goal.returns-in_default-append-clause-done
 returns-in_default-append-clause-done c h = let inv = c.loop-line.invariant in absurd cc
+
+abbrev length_of : Option (List ℕ) → ℕ
+length_of None = 0
+length_of (Some x) = length x
+
+same_length : (a b : List ℕ) (o : Option (List ℕ)) → Some a ≡ o → o ≡ Some b → length a ≡ length b
+same_length a b o e h = ap length_of (e ∙ h)
+
+pub returns-in_default-append-clause-full : goal.returns-in_default-append-clause-full
+returns-in_default-append-clause-full c _ line h =
+    let same = same_length c.in-Some.line.items line _ c.in-Some.ensures.line h in
+    omega (arith, c.in_default-append.ensures.none, ap length c.as_slice.ensures.value, same)

@@ -1,4 +1,4 @@
-use Rattle.std.proofs.Common.{◌≡◌, sym, subst, ◌∙◌}
+use Rattle.std.proofs.Common.{sym, subst, ◌∙◌}
 use Rattle.lldp_transmit.specs.Code.Machine.{Machine}
 use Rattle.lldp_transmit.specs.Code.Parts.{machine_of_parts}
 use Rattle.lldpa_c.specs.Machine.{Takes}

@@ -1,5 +1,5 @@
 use Rattle.std.proofs.Common.{◌≡◌, ℕ, ◌+◌, ◌<◌, List, [], ◌∷◌, ◌++◌, length, map, take, get_or, set, refl, sym, ap, ◌∙◌, arith}
-use Rattle.std.proofs.lemmas.Grind.{common_steps, take-set_at, take_at_read}
+use Rattle.std.proofs.lemmas.Grind.{take-set_at, take_at_read}
 use Rattle.std.proofs.lemmas.List.{map-append, length-set}
 use Rattle.lldp_transmit.specs.declared.event.Mark.{Mark}
 use Rattle.lldpa_c.specs.declared.marks.LldpaMark.{LldpaMark}

@@ -1,25 +1,24 @@
 -- `closed` moves a pointer and a handle, and owns nothing behind the pointer.
-use mathlib.Core.Path.{◌≡◌, refl, sym, ap, subst, ◌∙◌}
+use mathlib.Core.Path.{refl, sym, subst}
 use mathlib.Core.Bool.{false}
-use Prim.Native.Nat.{ℕ}
 use mathlib.Core.List.{List, [], ◌∷◌, ◌++◌}
 use seplogic.Ra.Ura.{Ura}
 use lib.Dec.{T}
 use denote.Memory.{lone}
-use mir.Val.{Val, has_ty, WT, vptr, vstruct, vcons, vnil}
+use mir.Val.{Val, has_ty, WT, vstruct, vcons, vnil}
 use base.Logic.{SProp, ent, emp, id⊢}
-use base.Fml.{ftrue, fsep}
+use base.Fml.{ftrue}
 use prog.Memory.{Memory}
 use prog.Routine.{Routine}
 use prog.Wp.{WpFn, Tables}
 use types.Logic.{Logic}
-use contract.Monad.{Fun, fact}
+use contract.Monad.{Fun}
 use contract.Running.{tables, tables_of}
 use sound.WpLaws.{WpFn-mono}
 use types.Kit.{Item, ‵, raw, ◌⊛◌, ◌$◌, ◌∵◌, !, qed, by, move, drop, use1, join, split, fsplit, fjoin, fpack, feq_l, feq_i, suffices, done}
-use types.Part.{whole, sub, agg}
-use types.Run.{stop, fld, no_more, and_then, of_opd, returns, enter}
-use types.ByLocal.{alloc_all, pass_all, free_all, look_at, get, get_in, sets}
+use types.Part.{agg}
+use types.Run.{no_more, and_then, returns, enter}
+use types.ByLocal.{alloc_all, pass_all, free_all, look_at, get, sets}
 use denote.Exit.{yes}
 use denote.RattleType.{owns, Valss}
 use denote.Struct.Struct.{within}
@@ -34,7 +33,7 @@ use Rattle.std.proofs.Common.{Fits-lit}
 use Rattle.std.proofs.alloc.Calls.{handle_tells, Fits, α}
 use Rattle.std_alloc.proofs.ResultValues.{and_tt}
 use Rattle.std_heap.specs.contracts.Global as Heap
-use Rattle.std_alloc.proofs.BoxSteps.Form.{D, B, word, box_ty, box_typed}
+use Rattle.std_alloc.proofs.BoxSteps.Form.{box_ty, box_typed}
 use Rattle.lldpa_c.proofs.AsBox.{E}
 use Rattle.std.proofs.Common.{None}
 use Rattle.lldp_engine.specs.AgentState.{AgentState}
