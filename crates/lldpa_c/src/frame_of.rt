@@ -24,6 +24,9 @@ fn mark_numbered(number: u8) -> Option<Mark>
 }
 
 /// Writes the frame of a port into the caller's room.
+// Its frame is over a page. Inlined, LLVM has moved a branch of the export before the loop that
+// probes the pages, which overwrote the register that it needed.
+#[inline(never)]
 fn write(agent: &Agent, port: u8, mark: Mark, room: &mut [u8], written: &mut usize) -> u8
     requires { IsSent mark }
     ensures written { result ≡ 0 → Writes agent.now port mark (take written.new room.new) }

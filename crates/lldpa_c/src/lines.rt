@@ -42,6 +42,9 @@ fn append(line: &[u8], room: &mut [u8], used: usize) -> Option<usize>
 }
 
 /// Writes lines of a show from one of them on, as many whole ones as fit.
+// Its frame is over a page. Inlined, LLVM has moved a branch of the export before the loop that
+// probes the pages, which overwrote the register that it needed.
+#[inline(never)]
 fn fill(agent: &Agent, show: Show, from: u32, room: &mut [u8]) -> LldpaLines
     ensures within { result.length ≤ length room.new }
     ensures octets { Fills (lines_of show agent.now) from result.next

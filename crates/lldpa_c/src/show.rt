@@ -24,6 +24,9 @@ pub(crate) fn show_numbered(number: u8) -> Option<Show>
 }
 
 /// Writes a line of a show into the caller's room.
+// Its frame is over a page. Inlined, LLVM has moved a branch of the export before the loop that
+// probes the pages, which overwrote the register that it needed.
+#[inline(never)]
 fn write(agent: &Agent, show: Show, line: u32, room: &mut [u8], written: &mut usize) -> u8
     ensures given { result ≡ 0 → IsLine agent.now show line (take written.new room.new) }
     ensures within { result ≡ 0 → written.new ≤ length room.new }
