@@ -71,7 +71,7 @@ files() {
     fi
     echo "program $program $prefix/bin/lldpa"
     for file in bin/*; do
-        [ -L "$file" ] || echo "script $file $prefix/lib/lldpa/$file"
+        echo "script $file $prefix/lib/lldpa/$file"
     done
     find python/lldpa -name '*.py' -o -name py.typed | while read -r file; do
         echo "plain $file $prefix/lib/lldpa/$file"
@@ -111,7 +111,6 @@ links() {
     for file in bin/lldpa-*; do
         echo "../lib/lldpa/$file $prefix/$file"
     done
-    echo "lldpctl $prefix/lib/lldpa/bin/lldpcli"
     [ -z "$looks" ] || echo "$(realpath -m --relative-to="$looks" "$package") $looks/lldpa"
 }
 
