@@ -104,8 +104,8 @@ files() {
     done
 }
 
-# Each link: where it leads, and where it stands. lldpctl is beside its package alone, since lldpd has one of that name;
-# lldpcli is another name of it.
+# Each link: where it leads, and where it stands. lldpctl and lldpcli are beside their package alone, since lldpd has
+# programs of those names.
 links() {
     [ -z "$library" ] || return 0
     for file in bin/lldpa-*; do
