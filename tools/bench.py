@@ -1,5 +1,5 @@
 #!/usr/bin/env python3
-"""Measures lldpa beside plain C that does the same work (tools/limit.c), all in one run.
+"""Measures lldpa beside plain C that does the same work (tools/yardstick.c), all in one run.
 
 Each row is run by each program by turns, several times; the least processor time counts, less that of an empty
 trace. C by vectors, which checks nothing of the TLVs, is the limit. Instructions are counted by valgrind's callgrind
@@ -80,8 +80,8 @@ def machine() -> str:
 
 def compiled(room: Path) -> str:
     """Takes a folder, gives the path of the yardstick, which it compiles there."""
-    yardstick = str(room / "limit")
-    subprocess.run(["cc", "-O2", "-o", yardstick, str(TOP / "tools/limit.c")], check=True)
+    yardstick = str(room / "yardstick")
+    subprocess.run(["cc", "-O2", "-o", yardstick, str(TOP / "tools/yardstick.c")], check=True)
     return yardstick
 
 

@@ -1,8 +1,8 @@
 #!/usr/bin/env python3
 """Checks the library for C: runs vectors and rows (tools/c/vectors.c), the transcripts of
-examples/ (tools/c/transcript.c) and refused memory (tools/c/refused.c) over it, plain, under
-valgrind and with the compiler's sanitizers; the crate rust/lldpa with its tests; and the examples
-of docs/LIBRARY.md and of examples/.
+examples/ (tools/c/transcript.c), NULL for each pointer (tools/c/nulls.c) and refused memory
+(tools/c/refused.c) over it, plain, under valgrind and with the compiler's sanitizers; the crate
+rust/lldpa with its tests; and the examples of docs/LIBRARY.md and of examples/.
 
     python3 tools/check-library.py [FOLDER]
 
@@ -24,6 +24,7 @@ from typing import Any, Iterator
 sys.dont_write_bytecode = True
 import examples  # noqa: E402
 from library_examples import check_page, check_receive, check_who  # noqa: E402
+from library_front import check_front  # noqa: E402
 from library_parts import (TOP, WARNINGS, Counts, Library, count_of, fault_of, ran,  # noqa: E402
                            skip)
 
@@ -96,9 +97,10 @@ def ways(room: pathlib.Path) -> Iterator[tuple[str, list[str], list[str]]]:
 
 
 def check_programs(library: Library, counts: Counts) -> None:
-    """The three programs in C, in each way."""
+    """The programs in C, in each way."""
     for way, wrapper, flags in ways(library.room):
-        for name, words in (("vectors", [str(ROWS)]), ("transcript", []), ("refused", [])):
+        for name, words in (("vectors", [str(ROWS)]), ("transcript", []), ("nulls", []),
+                            ("refused", [])):
             if name == "refused" and flags:
                 continue  # AddressSanitizer has a malloc of its own
             more = WRAPPED if name == "refused" else []
@@ -130,8 +132,8 @@ def check_rust(library: Library, counts: Counts) -> None:
     counts.judge(None if is_said else missing.stderr, "the crate for Rust without an archive")
 
 
-CHECKS = (check_rows, check_header, check_functions, check_programs, check_rust, check_page,
-          check_who, check_receive)
+CHECKS = (check_rows, check_header, check_functions, check_programs, check_front, check_rust,
+          check_page, check_who, check_receive)
 
 
 def made(room: pathlib.Path) -> pathlib.Path | None:

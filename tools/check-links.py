@@ -1,10 +1,12 @@
 #!/usr/bin/env python3
 """Looks up what the pages name, without a network: links and their anchors, files in backticks, calls in backticks, options,
 lines of sources in blocks that say `rust` or `antt`, which stand in one file one behind another, on pages about proofs
-each clause, definition, lemma and large number, in rows and lists of docs/CLAIMS.md that a clause is one of their calls,
-that each module of a crate says in its first line what it is, and that no file of definitions lacks its row in
-docs/DEFINITIONS.md, and no transcript its row in examples/README.md. Each row of SECURITY.md that says what it is shown by
-names a law or call of the crates, a test of python/tests or a script, and all of these are there. No line of text is over
+each clause, definition, lemma and large number, in rows of docs/REFERENCE.md that a clause is one of their call, and
+that a large number stands in the code and not in its comments alone, that each module of a crate and each file of lemmas
+says in its first line what it is, and that no file of definitions lacks its row in docs/REFERENCE.md, and no transcript
+its row in examples/README.md. Each row of SECURITY.md that says what it is shown by
+names a law or call of the crates, a test of python/tests or a script, and all of these are there. No page says
+"the bridge" of lldpa-live, and no line of text is over
 120 columns long.
 
     tools/check-links.py [--installed FOLDER]
@@ -17,7 +19,7 @@ import re
 import sys
 
 TOP = pathlib.Path(__file__).resolve().parent.parent
-CRATES = [line.split(":")[0] for line in (TOP / "crates.txt").read_text().splitlines()]
+CRATES = [line.split(":")[0].split()[0] for line in (TOP / "crates.txt").read_text().splitlines()]
 PAGES = [path for folder in (".", "docs", "examples") for path in sorted((TOP / folder).glob("*.md"))]
 SOURCE = "\n".join(path.read_text() for path in TOP.glob("crates/*/src/**/*.rt"))
 DEFINITIONS = "\n".join(path.read_text() for path in TOP.glob("crates/*/specs/**/*.antt"))
@@ -26,9 +28,11 @@ FUNCTIONS |= set(re.findall(r"^    (\w+)(?:\(|,| \{)", SOURCE, re.M))  # the cas
 PROOFS = "\n".join(path.read_text() for path in TOP.glob("crates/*/proofs/**/*.antt"))
 FILES = {name for path in TOP.rglob("*") if not {"out", ".git"} & set(path.relative_to(TOP).parts) for name in (path.stem, path.name)}
 NAMES = FILES | {name for text in (SOURCE, DEFINITIONS, PROOFS) for name in re.findall(r"\w+(?:-\w+)*", text)} | set(CRATES)
-ABOUT_PROOFS = ("CLAIMS.md", "DEFINITIONS.md", "PROOFS.md", "ARCHITECTURE.md", "STANDARD.md")
+ABOUT_PROOFS = ("CLAIMS.md", "REFERENCE.md", "DEFINITIONS.md", "PROOFS.md", "ARCHITECTURE.md", "STANDARD.md")
 SCRIPTS = "\n".join(path.read_text() for path in (TOP / "tools").glob("*.*") if path.suffix in (".py", ".sh"))
 NUMBERS_OF_CODE = set(re.findall(r"\d+", (SOURCE + DEFINITIONS).replace("_", "")))
+WITHOUT_COMMENTS = re.sub(r"^\s*(?://|--).*$", "", SOURCE + DEFINITIONS, flags=re.M)
+NUMBERS_WITHOUT_COMMENTS = set(re.findall(r"\d+", WITHOUT_COMMENTS.replace("_", "")))
 NUMBERS_OF_SOURCES = NUMBERS_OF_CODE | set(re.findall(r"\d+", SCRIPTS.replace("_", "")))
 
 # what people run, and what its options stand in
@@ -159,23 +163,22 @@ def clauses_of_crate(crate):
     return found
 
 
+def parameters_of_crate(crate):
+    """The names of the parameters of each function of a crate."""
+    found = {}
+    for path in (TOP / "crates" / crate / "src").rglob("*.rt"):
+        for name, head in re.findall(r"\bfn (\w+)(?:<[^(]*>)?\(([^{;]*?)\n?\)", path.read_text()):
+            found.setdefault(name, set()).update(re.findall(r"\b(\w+): ", head))
+    return found
+
+
 def rows_about_clauses(section):
-    """The rows of a section of docs/CLAIMS.md: what each is about, the calls whose clauses it may name, the words that have
-    to be such clauses, and its other words. A table whose first row says `Clause of` a call has its clauses in the first
-    column; a list of them follows a line `The clauses of` a call."""
-    of_table = None
+    """The rows of a section of docs/REFERENCE.md that are about a call or a law: its name, what is said of it, and the words
+    that have to be its clauses."""
     for line in section.splitlines():
-        named = re.match(r"\| Clauses? of `(?:\w+::)?(\w+)`", line)
-        of_table = named[1] if named else of_table if line.startswith("|") else None
-        cells = line.split("|")[1:3]
-        if line.startswith("| `") and of_table is not None:
-            yield cells[0].strip(), {of_table}, *cells
-        elif line.startswith("| `"):
-            calls_of_row = set(re.findall(r"(\w+)`", cells[0]))
-            yield cells[0].strip(), calls_of_row, "", cells[1]
-    for call, items in re.findall(r"^The clauses of `(\w+)`[^-]*?:\n\n?((?:- .*\n(?:  .*\n)*)+)", section, re.M):
-        for front in re.findall(r"^- ((?:`\w+`(?:[^:`]*)?)+):|(?<=[;.] )(`\w+`):", items, re.M):
-            yield call, {call}, re.sub(r"\(.*?\)", "", " ".join(front)), ""
+        cells = [cell.strip() for cell in re.split(r"(?<!\\)\|", line)[1:-1]]
+        if line.startswith("| `") and len(cells) > 3:
+            yield re.findall(r"(\w+)`", cells[0])[0], cells[1], cells[2]
 
 
 class Checks:
@@ -194,6 +197,8 @@ def check_page(checks, page):
     for line in text.splitlines():
         if len(line) > 120 and not line.startswith("|"):
             checks.see(name, line[:50], "a line of more than 120 columns")
+    for words in re.findall(r"\b(?:the|another) bridge\b", text, re.I):
+        checks.see(name, words, "lldpa-live has a name")
     for target in links(text):
         checks.see(name, target, fault_of_link(page, target))
     for file in file_names(text):
@@ -214,19 +219,20 @@ def check_page(checks, page):
 
 
 def check_claims(checks):
-    """A clause that a row of docs/CLAIMS.md names is one of the calls of that row, and a large number in the section of a
-    crate stands in the code or the definitions."""
-    page = "docs/CLAIMS.md"
-    for crate, section in re.findall(r"^## `(\w+)`.*?\n(.*?)(?=^## )", (TOP / page).read_text(), re.M | re.S):
-        clauses = clauses_of_crate(crate)
+    """A clause that a row of docs/REFERENCE.md names is one of the call of that row, or a parameter in what is said of it,
+    and a large number in the section of a crate stands in the code or the definitions."""
+    page = "docs/REFERENCE.md"
+    for crate, section in re.findall(r"^## `(\w+)`.*?\n(.*?)(?=^## |\Z)", (TOP / page).read_text(), re.M | re.S):
+        clauses, parameters = clauses_of_crate(crate), parameters_of_crate(crate)
         named = set().union(*clauses.values())
         for number in large_numbers(section):
-            checks.see(page, f"{crate}: {number}", None if number in NUMBERS_OF_CODE else "no such number in the code")
-        for about, calls_of_row, front, says in rows_about_clauses(section):
-            own = set().union(*(clauses.get(call, set()) for call in calls_of_row))
+            is_known = number in NUMBERS_WITHOUT_COMMENTS
+            checks.see(page, f"{crate}: {number}", None if is_known else "no such number in the code")
+        for call, says, front in rows_about_clauses(section):
+            own = clauses.get(call, set())
             fronts, others = (set(re.findall(r"`(\w+)`", text)) for text in (front, says))
-            for word in sorted(fronts | others & named - calls_of_row):
-                checks.see(page, f"{about}: {word}", None if word in own else "no clause of these calls")
+            for word in sorted(fronts | others & named - {call} - parameters.get(call, set())):
+                checks.see(page, f"{call}: {word}", None if word in own else "no clause of this call")
 
 
 def check_modules(checks):
@@ -239,17 +245,19 @@ def check_modules(checks):
 
 
 def check_definitions(checks):
-    """Each file of definitions is told in the section of its crate."""
-    page = "docs/DEFINITIONS.md"
+    """Each file of definitions is told in the section of its crate, and each of lemmas says in its first line what it is."""
+    page = "docs/REFERENCE.md"
     for crate in CRATES:
-        specs = TOP / "crates" / crate / "specs"
-        files = sorted([*specs.glob("*.antt"), *specs.glob("Laws/*.antt")])
-        if not files:
-            continue
-        section = (TOP / page).read_text().split(f"## `crates/{crate}/specs`")[1].split("\n## ")[0]
-        for name in (str(path.relative_to(specs).with_suffix("")) for path in files):
-            if name not in ("Lib", "Code", "Laws"):
-                checks.see(page, f"{crate}, {name}", None if re.search(rf"`{name}\b", section) else "is not told")
+        specs, proofs = TOP / "crates" / crate / "specs", TOP / "crates" / crate / "proofs"
+        told = re.search(rf"^## `{crate}`$.*?(?=^## `|\Z)", (TOP / page).read_text(), re.M | re.S)
+        for path in sorted(specs.rglob("*.antt")):
+            name = path.relative_to(specs).with_suffix("").as_posix()
+            if name not in ("Lib", "Code", "Laws", "Port"):
+                is_told = told is not None and f"| [{name}](" in told[0]
+                checks.see(page, f"{crate}, {name}", None if is_told else "is not told")
+        for path in sorted(proofs.glob("*.antt")):
+            says = path.stem == "Lib" or re.match(r"-- \w", path.read_text())
+            checks.see(path.relative_to(TOP), "its first line", None if says else "does not say what the file proves")
 
 
 def is_shown_by(name):

@@ -310,8 +310,9 @@ part "transcripts, and examples of the pages" python3 tools/examples.py "$progra
 echo "== transcripts as theorems"
 python3 tools/transcripts.py --check
 judge $? "crates/lldpa/proofs/Transcripts.antt is not what tools/transcripts.py writes of examples/"
+part "reference of the crates" python3 tools/reference.py --check
 part "links of the pages" python3 tools/check-links.py
-part "numbers of the README" python3 tools/numbers.py --check
+part "numbers of the README" python3 tools/readme-numbers.py --check
 part "memory and accesses, by the sources" python3 tools/check-memory.py
 part "what is tried by name" python3 tools/check-named.py
 part "wrong bodies that the gate does not try" python3 tools/wrong-bodies.py --check

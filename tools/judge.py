@@ -2,7 +2,7 @@
 """A second judge of when ports send, beside tools/model.py, with which it shares no state.
 
 It is handed words, a trace and the frames that the program sent at each event, and asks of each event, by whole lists
-alone, what docs/DEFINITIONS.md says: whether a port stops there, whether a frame is due there, and whether no run of
+alone, what docs/REFERENCE.md says: whether a port stops there, whether a frame is due there, and whether no run of
 events that ends there would hold more frames than the greatest credit and one for each second after its first event.
 A frame has to go exactly where both hold, so none goes late. There is no timer, no credit and no table here: each
 question goes back over the events.

@@ -103,7 +103,7 @@ stop_agent
 check "an agent that hangs is noticed, and the service starts anew" starts_anew
 old=$(process)
 kill -STOP "$old"
-check "a bridge that stands still is noticed, and the service starts anew" starts_anew
+check "an lldpa-live that stands still is noticed, and the service starts anew" starts_anew
 mkdir -p /etc/lldpa.d && echo 'configure system description "of the folder"' > /etc/lldpa.d/a.conf
 check "it reloads" systemctl reload lldpa
 check "its settings are those of the folder" shows 'descr=of the folder'

@@ -18,10 +18,10 @@ import (
 	"unsafe"
 )
 
-// first is where octets stand. The library wants an address also where there are none.
+// first is where octets stand, or nil where there are none.
 func first(octets []byte) *C.uint8_t {
 	if len(octets) == 0 {
-		octets = make([]byte, 1)
+		return nil
 	}
 	return (*C.uint8_t)(unsafe.Pointer(&octets[0]))
 }

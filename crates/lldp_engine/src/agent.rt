@@ -56,8 +56,13 @@ impl<A: Allocator> Model for Agent<A> {
 }
 
 impl<A: Allocator> Agent<A> {
-    /// Opens an agent. The options are checked first, in the order of the faults' numbers from 2
-    /// on; then memory is taken for the room of every neighbor, and none after that.
+    /// Opens an agent, which stands for the options and no events. The four numbers are in their
+    /// ranges, as `Options::in_range` tells.
+    ///
+    /// The options are checked first, each check over the whole list of ports: NoPorts,
+    /// TooManyPorts, PortName, SamePort or Text says exactly that this check is the first that
+    /// fails. Then memory is taken for the room of every neighbor, and none after that; Memory is
+    /// answered only if no check failed.
     pub fn open(alloc: A, options: &Options<'_>) -> Result<Self, OpenFault>
     where
         A: Clone,
@@ -91,7 +96,7 @@ impl<A: Allocator> Agent<A> {
         self.ports.as_slice()
     }
 
-    /// How many ports it has, at most 64.
+    /// How many ports it has, at most 64: as many as the options named.
     pub fn ports(&self) -> u8
         ensures value { result ≡ length self.now.ports }
         ensures few { result ≤ 64 }
@@ -100,7 +105,7 @@ impl<A: Allocator> Agent<A> {
         self.ports.len() as u8
     }
 
-    /// The name of a port.
+    /// The name of a port, 1 to 15 octets, as the options gave it.
     pub fn port_name(&self, port: u8) -> &[u8]
         requires { IsPort self.now port }
         ensures value { slice_get (names_of self.now) port ≡ Some result.now }
@@ -113,7 +118,7 @@ impl<A: Allocator> Agent<A> {
         self.ports.at(port as usize).name()
     }
 
-    /// The place of the port of that name, from 0.
+    /// The place of the port of that name, from 0. None if there is none.
     pub fn find_port(&self, name: &[u8]) -> Option<u8>
         ensures place { result ≡ place_of (names_of self.now) name.now }
         ensures exists { IfSome result (λ port. IsPort self.now port) }
@@ -123,7 +128,7 @@ impl<A: Allocator> Agent<A> {
         find_place(self.ports.as_slice(), name)
     }
 
-    /// The status of a port.
+    /// The status of a port, by its last status command, else as it was opened.
     pub fn status(&self, port: u8) -> Status
         requires { IsPort self.now port }
         ensures value { option_map (λ p. p.status) (slice_get self.now.ports port) ≡ Some result }
@@ -133,7 +138,7 @@ impl<A: Allocator> Agent<A> {
         self.ports.at(port as usize).status()
     }
 
-    /// Whether the link of a port is up.
+    /// Whether the link of a port is up, by its last link event, else it is.
     pub fn is_up(&self, port: u8) -> bool
         requires { IsPort self.now port }
         ensures value { option_map (λ p. p.machine.up) (slice_get self.now.ports port)
@@ -144,7 +149,7 @@ impl<A: Allocator> Agent<A> {
         self.ports.at(port as usize).is_up()
     }
 
-    /// The neighbors of a port.
+    /// The neighbors of a port: a table that stands for the calls that the past gives the port.
     pub fn table(&self, port: u8) -> &Table<A>
         requires { IsPort self.now port }
         ensures value { option_map (λ p. p.table) (slice_get self.now.ports port)
@@ -156,7 +161,7 @@ impl<A: Allocator> Agent<A> {
         self.ports.at(port as usize).table()
     }
 
-    /// The counters of a port.
+    /// The counters of a port: the definitions' numbers over its whole past, modulo 2^32.
     pub fn counters(&self, port: u8) -> &Counters
         requires { IsPort self.now port }
         ensures value { option_map (λ p. p.counters) (slice_get self.now.ports port)
@@ -197,7 +202,12 @@ impl<A: Allocator> Agent<A> {
             && all_fit(self.ports.as_slice(), neighbors)
     }
 
-    /// Takes an event, and tells which ports send, rising, each with what it sends.
+    /// Takes an event that it allows, and tells which ports send, rising, each with what it sends.
+    /// It never refuses and takes no memory.
+    ///
+    /// For every past that it stood for it then stands for that past with the event, and the ports
+    /// told are exactly those that send by the definitions; the headline holds of it
+    /// (`PromisedStep`).
     pub fn step(&mut self, event: Event<'_>) -> Marks
         requires { Allows self.old (event_of event) }
         // What the agent is after the event, and which ports send, computed from what it was.
@@ -211,8 +221,8 @@ impl<A: Allocator> Agent<A> {
         ensures marks_past { (past : Past) → Stands past self.old →
             result.items ≡ marks_of (with_event past (event_of event.entry)) }
         // Each table holds the last stored frames that have not expired, and each port sends, as is
-        // answered, exactly what is due while its credit window is open, which no other choice does
-        // sooner.
+        // answered, exactly what is due while its credit window is open, and no other choice
+        // has sent more up to any event.
         ensures headline { (past : Past) → Stands past self.old →
             PromisedStep past (event_of event.entry) result.items self.new }
     {

@@ -37,7 +37,7 @@ pub fn steps_carry_standing()
 
 /// Each port's table holds the last stored frames that have not expired, and nothing else; and each
 /// port has sent exactly what was due while its credit window was open, by the right of its status,
-/// and no other choice has sent more sooner.
+/// and no other choice has sent more up to any event.
 pub fn standing_agents_are_promised()
     ensures { (past : Past) (agent : AgentState) → Stands past agent → Promised past agent }
 {}

@@ -3,7 +3,7 @@ ghost use Rattle.std.specs.Prelude.{◌≡◌, ◌≤◌, length, IfOk};
 ghost use Rattle.lldp_engine.specs.Options.{options_of, InRange};
 ghost use Rattle.lldp_engine.specs.Port.Event.{tick, status};
 ghost use Rattle.lldp_engine.specs.Port.EventView.{port_event_of};
-ghost use Rattle.lldp_engine.specs.Code.PortStep.{opened_port, port_told, port_cause, port_mark, port_step};
+ghost use Rattle.lldp_engine.specs.Code.PortStep.{opened_port, port_after_event, port_cause, port_mark, port_step};
 ghost use Rattle.lldp_engine.specs.Code.Taking.{FitsLimit};
 
 mod causes;
@@ -117,7 +117,7 @@ impl<A: Allocator> Port<A> {
         ensures after { self.new ≡ port_step (port_event_of event.now) interval self.old }
         ensures mark { result ≡ port_mark (port_event_of event.now) interval self.old }
     {
-        let cause = self.cause_of(event);
+        let cause = self.apply(event);
         let mark = self.transmit.event(cause, interval);
         self.counters.count_mark(mark);
         mark
@@ -126,7 +126,7 @@ impl<A: Allocator> Port<A> {
     /// A second has passed for its neighbors.
     #[inline(always)]
     fn age(&mut self)
-        ensures { self.new ≡ port_told tick self.old }
+        ensures { self.new ≡ port_after_event tick self.old }
     {
         let aged_out = self.table.tick();
         self.counters.count_aged_out(aged_out);
@@ -134,9 +134,9 @@ impl<A: Allocator> Port<A> {
 
     /// Takes an event but for its transmitting, and tells what it is for that.
     #[inline(always)]
-    fn cause_of(&mut self, event: &PortEvent<'_>) -> Cause
+    fn apply(&mut self, event: &PortEvent<'_>) -> Cause
         requires { FitsLimit (port_event_of event.now) self.old.table }
-        ensures after { self.new ≡ port_told (port_event_of event.now) self.old }
+        ensures after { self.new ≡ port_after_event (port_event_of event.now) self.old }
         ensures cause { result ≡ port_cause (port_event_of event.now) self.old }
     {
         match event {
@@ -157,7 +157,7 @@ impl<A: Allocator> Port<A> {
 
     /// Another status: where it takes receiving away, the table is emptied.
     fn set_status(&mut self, given: Status) -> Cause
-        ensures after { self.new ≡ port_told (status given) self.old }
+        ensures after { self.new ≡ port_after_event (status given) self.old }
         ensures cause { result ≡ port_cause (status given) self.old }
     {
         let cause = cause_of_status(self.status.transmits(), given.transmits());

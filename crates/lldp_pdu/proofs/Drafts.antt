@@ -202,7 +202,7 @@ finished d octets h e =
           ∙ rw (later, no_mandatory d.tlvs h.tlvs) (ap (λ (b : Bool). cond b (Some Repeated) None) (and_right (ltb 0 d.ttl) false refl));
       msap = m;
       ttl = t;
-      told = same m t extent_is kept lost (ap count_unrecognized kept);
+      info = same m t extent_is kept lost (ap count_unrecognized kept);
     }
   where
     front : before_end (d.tlvs ++ end_of_lldpdu ∷ []) ≡ d.tlvs → spellings (before_end (all_tlvs d ++ end_of_lldpdu ∷ [])) ≡ spellings (all_tlvs d)

@@ -84,8 +84,8 @@ pub record CanBuild (d : Draft) : Type 0 where
   pub puts : CanPutEach (record { msap = d.msap; ttl = d.ttl; tlvs = [] }) d.tlvs
 
 -- what the finished LLDPDU tells
-abbrev pub told_by : Draft → LldpInfo
-told_by d =
+abbrev pub info_of_draft : Draft → LldpInfo
+info_of_draft d =
     record {
       msap = d.msap;
       ttl = d.ttl;
@@ -100,4 +100,4 @@ pub record IsReadBack (d : Draft) (lldpdu : List ℕ) : Type 0 where
   pub sound : fault_of lldpdu ≡ None
   pub msap : msap_of lldpdu ≡ d.msap
   pub ttl : ttl_of lldpdu ≡ d.ttl
-  pub told : info_of lldpdu ≡ told_by d
+  pub info : info_of lldpdu ≡ info_of_draft d

@@ -9,7 +9,7 @@ ghost use Rattle.lldp_pdu.specs.Fault.{fault_of};
 ghost use Rattle.lldp_pdu.specs.Lldpdu.{msap_of, ttl_of};
 ghost use Rattle.lldp_pdu.specs.Info.{info_of};
 ghost use Rattle.lldp_pdu.specs.View.{tlv_view};
-ghost use Rattle.lldp_pdu.specs.Draft.{end_of_lldpdu, with_tlv, put_fault, lldpdu_octets, told_by};
+ghost use Rattle.lldp_pdu.specs.Draft.{end_of_lldpdu, with_tlv, put_fault, lldpdu_octets, info_of_draft};
 
 use crate::bodies::body_is_well_formed;
 use crate::fault::BuildFault;
@@ -140,13 +140,14 @@ impl Builder {
         Ok(())
     }
 
-    /// The LLDPDU, with its End Of LLDPDU. Examining it gives back what was begun and put.
+    /// The LLDPDU, with its End Of LLDPDU: the spelling of what was begun and put. Examining it
+    /// gives back exactly that: it is sound, every TLV put is kept, and none is discarded.
     pub fn finish(self) -> ArrayVec<u8, MOST_OCTETS>
         ensures octets { result.items ≡ lldpdu_octets self }
         ensures sound { fault_of result.items ≡ None }
         ensures msap { msap_of result.items ≡ self.msap }
         ensures ttl { ttl_of result.items ≡ self.ttl }
-        ensures told { info_of result.items ≡ told_by self }
+        ensures info { info_of result.items ≡ info_of_draft self }
     {
         let mut octets = self.octets;
         append_end(&mut octets);

@@ -127,8 +127,9 @@ fn optional_tlvs(after: &[u8]) -> Result<Optional<'_>, PduFault>
     })
 }
 
-/// Examines an LLDPDU of any length. The answer borrows from it, and the octets of an Info are a
-/// front of it.
+/// Examines an LLDPDU of any length. Ok is Shutdown with the neighbor's name if the TTL is 0, else
+/// an Info of exactly what the definition tells. The answer borrows from the LLDPDU, and the octets
+/// of an Info are a front of it.
 ///
 /// Err is the first check that fails, in the order of `PduFault`, Truncated being checked at each
 /// of the three places. With a TTL of 0 nothing behind the third TLV is read (IEEE 802.1AB-2009,

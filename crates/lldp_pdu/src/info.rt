@@ -51,9 +51,10 @@ impl<'a> Info<'a> {
         self.ttl
     }
 
-    /// The kept TLVs, in order: of type 4 to 127, well formed, and at most one of each of the types
-    /// 4 to 7. They are read again from the octets, so a walk costs time linear in them and nothing
-    /// is stored.
+    /// The kept TLVs, in order: of type 4 to 127, below 512 octets, well formed, at most one of
+    /// each of the types 4 to 7, and at most one for every two octets of the extent past the first
+    /// 12. They are read again from the octets, so a walk costs time linear in them and nothing is
+    /// stored.
     pub fn kept(&self) -> Kept<'a>
         ensures value { result ≡ self.now.kept }
         ensures each { AllByRecursion IsKeptTlv self.now.kept }
@@ -63,7 +64,7 @@ impl<'a> Info<'a> {
     }
 
     /// The extent: the octets before the End Of LLDPDU, or before a TLV that is not complete. They
-    /// tell the same again.
+    /// alone are a sound LLDPDU that tells the same, with no more discarded TLVs.
     pub fn octets(&self) -> &'a [u8]
         ensures value { result.now ≡ self.now.octets }
         ensures again { TellsItself self.now }
@@ -71,7 +72,8 @@ impl<'a> Info<'a> {
         self.octets
     }
 
-    /// How many TLVs were discarded, one that is not complete among them.
+    /// How many TLVs were discarded, one that is not complete among them: at most one for every two
+    /// octets of the extent past the first 10.
     pub fn discarded(&self) -> usize
         ensures value { result ≡ self.now.discarded }
         ensures few { 10 + 2 * result ≤ length self.now.octets }

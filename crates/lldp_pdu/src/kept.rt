@@ -44,7 +44,9 @@ fn behind_first(octets: &[u8]) -> &[u8]
 }
 
 impl<'a> Kept<'a> {
-    /// Those of an extent, as `Info::octets` gives it.
+    /// Those of an extent, as `Info::octets` gives it: octets that are, alone, a sound LLDPDU with
+    /// a TTL above 0 and whole its extent. They are of the types, lengths and number that
+    /// `Info::kept` says.
     pub fn of_extent(octets: &'a [u8]) -> Kept<'a>
         requires sound { fault_of octets.now ≡ None }
         requires lives { 0 < ttl_of octets.now }

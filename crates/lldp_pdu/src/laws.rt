@@ -32,7 +32,8 @@ pub fn tlvs_give_the_cut()
         YieldsThen GivesFirstTlv octets given None left → left ≡ (cut octets).rest }
 {}
 
-/// The extent of a sound LLDPDU with a TTL above 0 tells the same as the LLDPDU.
+/// The extent of a sound LLDPDU with a TTL above 0 tells the same as the LLDPDU, with no more
+/// discarded TLVs.
 pub fn extents_tell_the_same()
     ensures info { (octets : List ℕ) → AreOctets octets → fault_of octets ≡ None →
         0 < ttl_of octets → IsInfo (info_of octets) }
@@ -52,12 +53,13 @@ pub fn frames_hold_lldpdus()
         lldpdu_of (nearest_bridge ++ source ++ lldp_ethertype ++ lldpdu) ≡ Some lldpdu }
 {}
 
-/// A frame has an LLDPDU exactly where it has the form of an LLDP frame, and then that of the form.
+/// A frame has an LLDPDU exactly if it is 01-80-C2-00-00-0E, six octets, 88-CC and that LLDPDU, of
+/// at most 1,500 octets.
 pub fn lldp_frames_have_their_form()
     ensures { (frame lldpdu : List ℕ) → (lldpdu_of frame ≡ Some lldpdu) ↔ HasForm frame lldpdu }
 {}
 
-/// A TLV is put exactly where it passes each check.
+/// A TLV is put exactly where it passes each check of `Builder::put`.
 pub fn checked_tlvs_are_put()
     ensures { (draft : Draft) (tlv : TlvUnit) → CanPut draft tlv ↔ (put_fault draft tlv ≡ None) }
 {}
@@ -66,7 +68,7 @@ pub fn checked_tlvs_are_put()
 /// put, however its octets were written.
 pub fn drafts_are_read_back()
     ensures short { (draft : Draft) → CanBuild draft → length (lldpdu_octets draft) ≤ 1500 }
-    ensures told { (draft : Draft) → CanBuild draft → IsReadBack draft (lldpdu_octets draft) }
+    ensures read_back { (draft : Draft) → CanBuild draft → IsReadBack draft (lldpdu_octets draft) }
 {}
 
 /// A body is a well-formed Management Address with these fields exactly where it is their spelling.
@@ -75,7 +77,8 @@ pub fn management_addresses_are_spelled()
         (address_of body ≡ Some address) ↔ IsSpelled body address }
 {}
 
-/// The constants of `tlv_type` are the types of the standard's table.
+/// The constants of `tlv_type` are the types of the standard's table, as the definitions write them
+/// out.
 pub fn tlv_types_are_the_standards()
     ensures end { code.END_OF_LLDPDU ≡ standard.end_of_lldpdu_type }
     ensures chassis_id { code.CHASSIS_ID ≡ standard.chassis_id_type }
@@ -99,7 +102,7 @@ pub fn reserved_bodies_are_well_formed()
         is_well_formed (record { kind = kind; body = body }) ≡ true }
 {}
 
-/// An LLDPDU that is built has at most 1,500 octets.
+/// An LLDPDU that is built has at most 1,500 octets: this is the room of a `Builder`.
 pub fn lldpdus_have_at_most_1500_octets()
     ensures { MOST_OCTETS ≡ 1500 }
 {}

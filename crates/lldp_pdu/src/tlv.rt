@@ -17,7 +17,8 @@ pub struct Tlv<'a> {
 }
 
 /// The complete TLVs of some octets, from the front. An End Of LLDPDU is a TLV like any other, and
-/// does not end them.
+/// does not end them. Each `next` gives the first TLV of the cut of the octets left, and leaves
+/// those behind it; if no complete TLV is left it gives None and leaves the rest as it is.
 #[derive(Debug, Drop)]
 pub struct Tlvs<'a> {
     rest: &'a [u8],

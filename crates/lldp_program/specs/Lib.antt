@@ -9,7 +9,7 @@ pub mod Work
 pub mod Items
 pub mod Runs
 pub mod Code
-pub mod Doors
+pub mod Acceptors
 pub mod Serving
 pub mod Program
 pub mod Addresses

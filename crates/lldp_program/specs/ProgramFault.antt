@@ -45,12 +45,13 @@ abbrev pub status_after : Result (Unit {0}) ProgramFault → ℕ
 status_after (Ok done) = 0
 status_after (Err fault) = status_of fault
 
--- the fault of a run, of an opening and of an address
+-- the fault of a run
 abbrev pub fault_of_run : RunFault → ProgramFault
 fault_of_run run.Read = Read
 fault_of_run run.Write = Write
 fault_of_run run.InputTooLong = InputTooLong
 
+-- the fault of an opening
 abbrev pub fault_of_opening : OpenFault → ProgramFault
 fault_of_opening opening.Memory = Memory
 fault_of_opening opening.NoPorts = NoPorts
@@ -59,6 +60,7 @@ fault_of_opening opening.PortName = PortName
 fault_of_opening opening.SamePort = SamePort
 fault_of_opening opening.Text = Text
 
+-- the fault of an address
 abbrev pub fault_of_address : AddressFault → ProgramFault
 fault_of_address address.Mac = Mac
 fault_of_address address.Management = Management

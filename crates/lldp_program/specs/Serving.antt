@@ -1,6 +1,6 @@
 -- What serving connections leaves.
 use Rattle.std.specs.Prelude.{◌≡◌, ◌<◌, ◌⊎◌, ℕ, ◌+◌, ◌==◌, if◌then◌else◌, List, [], ◌∷◌, length, Option, Result, Ok, Err}
-use Rattle.lldp_program.specs.Doors.{Call, accepted, bound, refused, ran, unbound, Visit, logged}
+use Rattle.lldp_program.specs.Acceptors.{Call, accepted, bound, refused, ran, unbound, Visit, logged}
 use Rattle.lldp_engine.specs.AgentState.{AgentState}
 use Rattle.lldp_program.specs.Runs.{HasRun}
 use Rattle.lldp_program.specs.declared.arguments.Listening.{Listening}
@@ -47,7 +47,7 @@ AreRun to_come taken (visit ∷ earlier) before after =
     (between : AgentState) × AreRun to_come taken earlier before between
     × HasRun (to_come visit.connection) visit.left (taken visit.connection) visit.new between after visit.result
 
--- What a door was asked, where it tells that: so many connections were accepted and each was run over once, and the
+-- What an acceptor was asked, where it tells that: so many connections were accepted and each was run over once, and the
 -- answer tells how many of the runs ended with a fault; or fewer were, and then accepting was refused.
 pub record HasAsked {C : Type 0} (to_come taken : C → Option (List ℕ)) (old new : Option (List (Call C)))
     (connections : ℕ) (before after : AgentState) (result : Result ℕ ServeFault) : Type 0 where

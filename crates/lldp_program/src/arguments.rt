@@ -153,8 +153,9 @@ fn ports<'a>(alloc: Global) -> Arg<'a>
     Arg::new(alloc, PORT).num_args(0..).hide(true)
 }
 
-/// Reads the words, of which the first is the program's name. Fails also where they ask for help or
-/// the version.
+/// Reads the words, of which the first is the program's name, by `clap`'s own specification. Fails
+/// with an error of a kind that it names, or of memory; also where they ask for help or the
+/// version.
 pub fn parse<'a, S: AsStr>(alloc: Global, words: &'a [S]) -> Result<ArgMatches<'a>, Error>
     ensures options { IfOk result IsProgramParse }
     ensures words { IfOk result (λ m. IsParse (map S.text words.entry.now) (rows_of (found_of m))) }
@@ -213,7 +214,8 @@ fn command<'a>(alloc: Global) -> Result<Command<'a>, AllocError>
         .arg(ports(alloc))
 }
 
-/// The options that the words gave. The MAC is read before the management address.
+/// The options that the words gave, each number in its range. Mac exactly if the MAC cannot be
+/// read; Management exactly if it can and the management address cannot.
 pub fn read_options<'m>(matches: &'m ArgMatches<'_>) -> Result<Options<'m>, AddressFault>
     requires parse { IsProgramParse matches.now }
     ensures range { IfOk result (λ options. InRange (options_of options)) }
@@ -238,7 +240,8 @@ pub fn read_options<'m>(matches: &'m ArgMatches<'_>) -> Result<Options<'m>, Addr
     })
 }
 
-/// Where the words ask to listen, and for how many connections. None where they do not.
+/// The port and the number of connections that the words write, where they ask to listen. None
+/// where they do not.
 pub fn listening_of(matches: &ArgMatches<'_>) -> Option<Listening>
     requires parse { IsProgramParse matches.now }
     ensures { AsksListening (one_text (found_of matches.now) (codes "listen"))

@@ -13,7 +13,8 @@ pub enum DeviceFault {
     Failed,
 }
 
-/// What octets come from. Its counts stop at the greatest u64.
+/// What octets come from. Its counts stop at the greatest u64. A device may tell no octets; a
+/// clause then says nothing of them.
 pub trait Source {
     /// The octets still to come, or None where the device tells none.
     ghost to_come: { Self → Option (List ℕ) };
@@ -38,7 +39,8 @@ pub trait Source {
         ensures place { place self.new ≡ place self.old };
 }
 
-/// What takes octets. Its count stops at the greatest u64.
+/// What takes octets. Its count stops at the greatest u64. A device may tell no octets; a clause
+/// then says nothing of them.
 pub trait Sink {
     /// The octets taken, or None where the device tells none.
     ghost taken: { Self → Option (List ℕ) };

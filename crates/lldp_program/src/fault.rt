@@ -69,7 +69,7 @@ impl ProgramFault {
         }
     }
 
-    /// The fault of a run.
+    /// The fault of a run; its status is 1.
     pub fn of_run(fault: RunFault) -> ProgramFault
         ensures fault { result ≡ fault_of_run fault }
         ensures status { status_of result ≡ 1 }
@@ -81,7 +81,7 @@ impl ProgramFault {
         }
     }
 
-    /// The refusal of an opening.
+    /// The refusal of an opening; its status is 2.
     pub fn of_opening(fault: OpenFault) -> ProgramFault
         ensures fault { result ≡ fault_of_opening fault }
         ensures status { status_of result ≡ 2 }
@@ -96,7 +96,7 @@ impl ProgramFault {
         }
     }
 
-    /// The fault of an address among the words.
+    /// The fault of an address among the words; its status is 2.
     pub fn of_address(fault: AddressFault) -> ProgramFault
         ensures fault { result ≡ fault_of_address fault }
         ensures status { status_of result ≡ 2 }

@@ -1,11 +1,11 @@
 //! The program but for its `main`: words and streams in, the lines of a trace, frames and shows out.
 #![tactic(auto)]
 
+pub mod acceptor;
 mod addresses;
 pub mod arguments;
 mod buffer;
 pub mod device;
-pub mod door;
 pub mod fault;
 pub mod fixed;
 mod help;

@@ -185,8 +185,8 @@ fn plain_frame<'l>(agent: &Agent, line: &'l [u8]) -> Option<(u8, &'l [u8])>
     }
 }
 
-/// What a line, without its LF, asks of the agent, or its first fault. The octets of a frame stand
-/// in the room; else nothing is promised of the room.
+/// What a line, without its LF, asks of the agent, or its first fault. The agent accepts the events
+/// of what was read. The octets of a frame stand in the room; else nothing is promised of the room.
 #[tactic(auto, unfolding(crate::specs::Forms::work_given, crate::specs::Forms::form_of))]
 pub fn read_line<'l>(
     agent: &Agent,

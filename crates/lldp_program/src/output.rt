@@ -9,7 +9,7 @@ ghost use Rattle.lldp_program.specs.Devices.{failures_after};
 ghost use Rattle.lldp_program.specs.Lines.{ended};
 ghost use Rattle.lldp_program.specs.Code.Output.{WrittenBy, Puts, Flushes, Writes, begun};
 ghost use Rattle.lldp_program.specs.Sent.{sent_line, mark_line};
-ghost use Rattle.lldp_program.specs.Code.Told.{told, Between};
+ghost use Rattle.lldp_program.specs.Code.Parts.{output_state, Between};
 
 use crate::device::{DeviceFault, Sink};
 use lldp_engine::{Agent, Frame, LINE_ROOM, LineSink, Marks, Show, Writer};
@@ -54,8 +54,8 @@ impl<'w, W: Sink> Output<'w, W> {
 impl<W: Sink> Output<'_, W> {
     /// Begins a text. What a write that failed left is forgotten.
     fn begin(&mut self)
-        ensures { told W.taken W.failures W.place self.new
-            ≡ begun (told W.taken W.failures W.place self.old) }
+        ensures { output_state W.taken W.failures W.place self.new
+            ≡ begun (output_state W.taken W.failures W.place self.old) }
     {
         self.waiting.clear();
         self.answer = Ok(());
@@ -92,7 +92,7 @@ impl<W: Sink> Output<'_, W> {
     }
 
     /// Puts the line that tells which port sent a frame behind what waits.
-    fn sent(&mut self, name: &[u8], frame: &[u8])
+    fn put_frame(&mut self, name: &[u8], frame: &[u8])
         requires name { length name.now ≤ 15 }
         requires frame { length frame.now ≤ 1514 }
         ensures { Between W.taken W.failures W.place self.old self.new
@@ -109,7 +109,7 @@ impl<W: Sink> Output<'_, W> {
     }
 
     /// Puts the lines of what ports send behind what waits.
-    fn marks(&mut self, agent: &Agent, marks: &Marks)
+    fn put_frames(&mut self, agent: &Agent, marks: &Marks)
         requires { AllByRecursion (λ mark. IsPort agent.now mark.0
             × IsSent mark.1) marks.now.items }
         ensures { Between W.taken W.failures W.place self.old self.new
@@ -119,12 +119,12 @@ impl<W: Sink> Output<'_, W> {
         let mut frame = Frame::new();
         for (port, mark) in marks.as_slice() {
             agent.write_frame(*port, *mark, &mut frame);
-            self.sent(agent.port_name(*port), frame.as_slice());
+            self.put_frame(agent.port_name(*port), frame.as_slice());
         }
     }
 
     /// Puts a line and its LF behind what waits.
-    fn line(&mut self, line: &[u8])
+    fn put_line(&mut self, line: &[u8])
         requires { length line.now ≤ 2048 }
         ensures { Between W.taken W.failures W.place self.old self.new (Puts (ended line.now)) }
     {
@@ -142,7 +142,7 @@ impl<W: Sink> Output<'_, W> {
             (Writes (ended line.now) result) }
     {
         self.begin();
-        self.line(line);
+        self.put_line(line);
         self.end()
     }
 
@@ -169,7 +169,7 @@ impl<W: Sink> Output<'_, W> {
             return Ok(());
         }
         self.begin();
-        self.marks(agent, marks);
+        self.put_frames(agent, marks);
         self.end()
     }
 }

@@ -11,9 +11,9 @@ ghost use Rattle.lldp_program.specs.ProgramFault.{line_of, status_of};
 ghost use Rattle.lldp_program.specs.Program.{FailedBy, HasAnswered, RanAs, RanStreams};
 ghost use Rattle.lldp_program.specs.Usage.{Asks};
 
+use crate::acceptor::AtPort;
 use crate::arguments::{Listening, listening_of, parse, read_options};
 use crate::device::{DeviceFault, Flush, FromReader, Sink, Source, ToWriter};
-use crate::door::AtPort;
 use crate::fault::ProgramFault;
 use crate::output::send;
 use crate::serve::listen;
@@ -33,14 +33,22 @@ const DONE: u8 = 0;
 const REFUSED: u8 = 2;
 
 /// Runs the program on its arguments, of which the first is its name, and answers its status, 0, 1
-/// or 2. It takes memory for its arguments and for opening.
+/// or 2. It is the only call of this crate that takes memory: for its arguments
+/// (`arguments::parse`) and for opening.
 ///
-/// The clauses say: with status 2 nothing was read and nothing written. With another one the
-/// arguments ask for help or the version, or they have no fault, and the trace of the reader was
-/// run, all of it where the status is 0; where they ask to listen, reader and writer were left
-/// alone. What is meant besides, and seen by tests: 1 is a stream or a socket that failed, or a
-/// trace that was too long; 2 is a wrong argument, a refused opening, or no memory; each is told by
-/// a line on `faults`, and the traces of those who listen come over connections to 127.0.0.1.
+/// The clauses say: with status 2 nothing was read and nothing written, so for wrong arguments, an
+/// address that cannot be read and options that opening refuses. With another status the arguments
+/// ask for help or the version, by `clap`'s own specification of the command line, and nothing was
+/// read; or they have no fault by it, each option, the MAC and the management address included, is
+/// the value of its argument or its default and in its range, and opening finds no fault in them.
+/// Without `--listen` the trace of the reader was then run over an agent so opened, as `run_trace`
+/// says, all of it where the status is 0. With `--listen` nothing was read and nothing written;
+/// what is listened to is the port given by it, and the number of connections given by
+/// `--connections`, or its default 1.
+///
+/// What is meant besides, and seen by tests: 1 is a stream or a socket that failed, or a trace that
+/// was too long; 2 is a wrong argument, a refused opening, or no memory; each is told by a line on
+/// `faults`, and the traces of those who listen come over connections to 127.0.0.1.
 pub fn run_program<S: AsStr, R: Read, W: Write, E: Write>(
     rt: &impl Net<Listener = TcpListener, Stream = TcpStream>,
     alloc: Global,
@@ -137,7 +145,9 @@ fn run_streams<R: Read, W: Write, E: Write>(
     run_devices(agent, &mut source, &mut sink, faults)
 }
 
-/// Runs the trace that comes from a source, and flushes the sink also where the run failed.
+/// Runs the trace that comes from a source, and flushes the sink behind the last write, also where
+/// the run failed. Status 0 says that no read, write or flush failed, status 1 that one did or that
+/// the trace was too long.
 fn run_devices<S: Source, W: Flush, E: Write>(
     agent: &mut Agent,
     source: &mut S,
@@ -176,11 +186,11 @@ fn run_sockets<E: Write>(
 ) -> u8
     ensures status { result ≤ 1 }
 {
-    let mut door = AtPort {
+    let mut acceptor = AtPort {
         network: rt,
         listener: None,
     };
-    match listen(agent, &mut door, listening) {
+    match listen(agent, &mut acceptor, listening) {
         Ok(()) => DONE,
         Err(_) => tell(ProgramFault::Socket, faults),
     }
@@ -196,7 +206,7 @@ fn finish<E: Write>(flushed: bool, faults: &mut E) -> u8
     tell(ProgramFault::Write, faults)
 }
 
-/// Tells that there was no memory.
+/// Tells that there was no memory, and answers the status 2.
 pub fn no_memory<E: Write>(faults: &mut E) -> u8
     ensures { result ≡ 2 }
 {

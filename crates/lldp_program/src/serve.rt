@@ -6,9 +6,9 @@ ghost use Rattle.lldp_program.specs.FaultNumber.{number_of_serve_fault};
 ghost use Rattle.lldp_program.specs.Runs.{KeepsOn};
 ghost use Rattle.lldp_program.specs.Serving.{HasAsked, HasListened, faults_in};
 
+use crate::acceptor::{Acceptor, AtListener, Bind};
 use crate::arguments::Listening;
 use crate::device::DeviceFault;
-use crate::door::{AtListener, Bind, Door};
 use crate::trace::RunFault;
 use lldp_engine::Agent;
 use std::net::TcpListener;
@@ -41,16 +41,19 @@ fn count_fault(ran: Result<(), RunFault>) -> u16
     }
 }
 
-/// Runs a trace on so many connections of a door, one after the other and the next one also after
-/// a fault, and answers how many ended with a fault. The agent goes from one connection to the next
-/// as it is. Where accepting failed it stands for the connections served so far.
-pub fn serve_connections<D: Door>(
+/// Runs a trace on so many connections of an acceptor, each accepted and then run over once before the
+/// next, and the next one also after a fault; answers how many ended with a fault, at most that
+/// many. The agent goes from one connection to the next as it is. If accepting is refused it fails,
+/// and the agent stands for the fewer connections served so far. Nothing else is asked of the acceptor,
+/// if the acceptor tells what it was asked. Either way the agent is promised for its past and some more
+/// allowed events.
+pub fn serve_connections<D: Acceptor>(
     agent: &mut Agent,
-    door: &mut D,
+    acceptor: &mut D,
     connections: u16,
 ) -> Result<u16, ServeFault>
-    // All that the door was asked: so many connections, each run over once, or fewer and a refusal.
-    ensures asked { HasAsked D.to_come D.taken (D.asked door.old) (D.asked door.new) connections
+    // All that the acceptor was asked: so many connections, each run over once, or fewer and a refusal.
+    ensures asked { HasAsked D.to_come D.taken (D.asked acceptor.old) (D.asked acceptor.new) connections
         agent.old agent.new result }
     ensures few { IfOk result (λ faulty. faulty ≤ connections) }
     // Whatever came over the connections, and also where accepting failed.
@@ -58,35 +61,39 @@ pub fn serve_connections<D: Door>(
 {
     let mut faulty = 0;
     for _served in 0..connections {
-        let Ok(connection) = door.accept() else {
+        let Ok(connection) = acceptor.accept() else {
             return Err(ServeFault::Accept);
         };
-        faulty += count_fault(door.run(connection, agent));
+        faulty += count_fault(acceptor.run(connection, agent));
     }
     Ok(faulty)
 }
 
-/// Binds a port of this host, and serves so many connections there. Fails where it is not bound,
-/// where accepting failed, and where a connection ended with a fault.
+/// Binds a port of this host, 127.0.0.1, before anything else, and serves so many connections
+/// there. Ok exactly if all were served and none ended with a fault. Fails where it is not bound,
+/// and then nothing else is asked; where accepting failed; and where a connection ended with a
+/// fault. The agent is promised either way.
 pub fn listen<D: Bind>(
     agent: &mut Agent,
-    door: &mut D,
+    acceptor: &mut D,
     listening: Listening,
 ) -> Result<(), DeviceFault>
-    ensures asked { HasListened D.to_come D.taken (D.asked door.old) (D.asked door.new)
+    ensures asked { HasListened D.to_come D.taken (D.asked acceptor.old) (D.asked acceptor.new)
         listening agent.old agent.new result }
     ensures headline { (past : Past) → Stands past agent.old → KeepsOn past agent.new }
 {
-    let Ok(()) = door.bind([127, 0, 0, 1], listening.port) else {
+    let Ok(()) = acceptor.bind([127, 0, 0, 1], listening.port) else {
         return Err(DeviceFault::Failed);
     };
-    match serve_connections(agent, door, listening.connections) {
+    match serve_connections(agent, acceptor, listening.connections) {
         Ok(0) => Ok(()),
         _ => Err(DeviceFault::Failed),
     }
 }
 
-/// Serves so many connections to a listener, as `serve_connections` does at a door.
+/// Serves so many connections to a listener, as `serve_connections` does at an acceptor, and answers how
+/// many ended with a fault, at most that many. The toolchain's sockets do not tell their octets,
+/// and a listener does not tell what it was asked, so no clause says that anybody is served.
 pub fn serve(agent: &mut Agent, listener: &TcpListener, connections: u16) -> Result<u16, ServeFault>
     ensures few { IfOk result (λ faulty. faulty ≤ connections) }
     // Whatever came over the connections, and also where accepting failed.

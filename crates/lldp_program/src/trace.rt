@@ -9,7 +9,7 @@ ghost use Rattle.lldp_program.specs.FaultNumber.{number_of_run_fault};
 ghost use Rattle.lldp_program.specs.Lines.{ended_lines, unfinished, if_any};
 ghost use Rattle.lldp_program.specs.Work.{work_of, AllowsWork};
 ghost use Rattle.lldp_program.specs.Items.{happens, items_of_work, items_of, items_of_lines};
-ghost use Rattle.lldp_program.specs.Code.Told.{RunsItems, Between};
+ghost use Rattle.lldp_program.specs.Code.Parts.{RunsItems, Between};
 ghost use Rattle.lldp_program.specs.Runs.{EndsTold, HasRun, KeepsOn, read_failures_after, write_failures_after};
 
 use crate::buffer::{hold, read_more};
@@ -112,7 +112,7 @@ struct Run<'a, 'w, W> {
 }
 
 impl<W: Sink> Run<'_, '_, W> {
-    ghost use Rattle.lldp_program.specs.Code.Told.{Performs};
+    ghost use Rattle.lldp_program.specs.Code.Parts.{Performs};
 
     /// What one line asks for.
     fn line(&mut self, line: &[u8]) -> Result<(), DeviceFault>
@@ -157,9 +157,28 @@ impl<W: Sink> Run<'_, '_, W> {
 }
 
 /// Runs a trace over the agent: reads it to its end, works on each line as soon as its LF was read,
-/// and writes what the lines ask to see. It reads at most 4,294,967,295 times, into a buffer of
-/// fixed size, and does not flush. Every failed read or write ends it. A last line without LF is a
-/// line too; one over 4,096 octets is passed over and refused.
+/// and writes what the lines ask to see, however the octets were split over reads. It does not
+/// flush. Every failed read or write ends it. A last line without LF is a line too; one over 4,096
+/// octets is passed over and refused.
+///
+/// For every past that the agent stood for. Ok: the end was reached, what was written is the text
+/// of the trace, and the agent stands for the past plus the events of the input. Read and
+/// InputTooLong: each line whose LF was read was done, and nothing else was written. Write: the
+/// agent stands for the events up to and including the item whose output failed; the text of the
+/// items before it was written, and of its own text a part, but not all. Each time the agent is
+/// promised for what it stands for. What was read, that the end was reached, and how many octets
+/// there were is said without any past. `headline` holds over any devices, even those that tell
+/// nothing.
+///
+/// It reads at most 4,294,967,295 times, and exactly so often if it answers InputTooLong, of a
+/// source that was read fewer than 2^63 times before; at least as many octets were then read.
+/// Failed reads rise by one exactly if the answer is Read, failed writes exactly if it is Write; a
+/// count stops at 2^64 - 1. At Ok the end was answered once, at Read and InputTooLong by none of
+/// the reads. The devices are still those that were lent.
+///
+/// It takes no memory: it and all that it calls are handed no allocator, and its buffers have fixed
+/// sizes: 16,384 octets read, 8,192 to be written, 2,048 for a received frame, 1,514 for a sent
+/// one.
 pub fn run_trace<S: Source, W: Sink>(
     agent: &mut Agent,
     reader: &mut S,

@@ -39,7 +39,7 @@ pub record IsExtent (msap : MsapId) (ttl : ℕ) (octets : List ℕ) : Type 0 whe
 
 -- a neighbor as a table holds it: so many ticks are left as its TTL at most, and at least one
 pub record IsHeld (neighbor : Neighbor) : Type 0 where
-  pub told : IsExtent neighbor.msap neighbor.ttl neighbor.octets
+  pub extent : IsExtent neighbor.msap neighbor.ttl neighbor.octets
   pub lives : 0 < neighbor.left
   pub left : neighbor.left ≤ neighbor.ttl
 

@@ -65,7 +65,7 @@ decides_on name _ = false
 
 -- ## Who is live
 
--- what is live of a name whose last deciding event is this one, n ticks ago
+-- what is live of a name whose last deciding event is this one, n ticks ago: its TTL less n is left
 abbrev pub live_after : ℕ → TableEvent → Option Neighbor
 live_after n (learned msap ttl octets answer) =
     if nat_lt n ttl then Some (record { msap = msap; octets = octets; ttl = ttl; left = ttl - n }) else None

@@ -9,7 +9,7 @@ use Rattle.lldp_table.specs.declared.learned.Learned.TheVariants.{New, Dropped}
 use Rattle.lldp_table.specs.Events.{TableEvent, learned, Neighbor, neighbors, limit_after, is_purge, is_stored, decides_on, ticks}
 
 -- The neighbor is its name's last stored frame that hasn't expired: since that frame was stored nothing stored another
--- of the name, forgot the name or purged the table, and so many ticks came as are gone of its TTL, which leaves some.
+-- of the name, forgot the name or purged the table, and the ticks since with those left, one at least, are its TTL.
 pub record IsLastStored (events : List TableEvent) (neighbor : Neighbor) : Type 0 where
   pub later : List TableEvent
   pub answer : Learned

@@ -3,7 +3,8 @@ use Rattle.std.specs.Prelude.{◌≡◌, ℕ, ◌<◌, ◌≤◌, List, [], ◌�
 use Rattle.lldp_table.specs.Events.{Call, learn, forget, purge, tick, set_limit, events_of, neighbors, too_many_left, limit_after}
 use Rattle.lldp_table.specs.Contents.{Contents, IsExtent}
 
--- the table that these calls leave, by the definitions alone
+-- the table that these calls leave, by the definitions alone: the limits, the live names, each with the octets, the TTL
+-- and the ticks left of its last stored frame, in the order in which they were last new, and the too-many timer
 abbrev pub table_of : ℕ → List Call → Contents
 table_of opened calls =
     let past = events_of opened calls in
@@ -20,25 +21,25 @@ pub record IsNewLimit (table : Contents) (limit : ℕ) : Type 0 where
   pub most : limit ≤ table.capacity
   pub held : length table.neighbors ≤ limit
 
--- a call that such a table can be given
-abbrev pub IsTold : Contents → Call → Type 0
-IsTold table (learn msap ttl octets) = IsExtent msap ttl octets
-IsTold table (forget msap) = Unit {0}
-IsTold table purge = Unit {0}
-IsTold table tick = Unit {0}
-IsTold table (set_limit limit) = IsNewLimit table limit
+-- a call that such a table can be given: a learn of an extent, a set_limit to a new limit, all others always
+abbrev pub IsPossible : Contents → Call → Type 0
+IsPossible table (learn msap ttl octets) = IsExtent msap ttl octets
+IsPossible table (forget msap) = Unit {0}
+IsPossible table purge = Unit {0}
+IsPossible table tick = Unit {0}
+IsPossible table (set_limit limit) = IsNewLimit table limit
 
 -- each call of the list, after those before it
-abbrev pub AreTold : ℕ → List Call → Type 0
-AreTold opened [] = Unit {0}
-AreTold opened (call ∷ calls) = IsTold (table_of opened calls) call × AreTold opened calls
+abbrev pub ArePossible : ℕ → List Call → Type 0
+ArePossible opened [] = Unit {0}
+ArePossible opened (call ∷ calls) = IsPossible (table_of opened calls) call × ArePossible opened calls
 
 -- The table stands for a limit of opening, from 1 to 128, and a list of calls, each of which could be given, the newest
 -- first: it is the one that they leave.
 pub record Stands (opened : ℕ) (calls : List Call) (table : Contents) : Type 0 where
   pub least : 0 < opened
   pub most : opened ≤ 128
-  pub told : AreTold opened calls
+  pub allowed : ArePossible opened calls
   pub is : table ≡ table_of opened calls
 
 -- for each limit of opening and list of calls that the table stands for

@@ -31,7 +31,7 @@ impl<'a> Model for Entry<'a> {
 }
 
 impl<'a> Entry<'a> {
-    /// Its name.
+    /// Its name: both bodies have 2 to 256 octets.
     pub fn msap(&self) -> Msap<'a>
         ensures value { msap_view result ≡ self.now.msap }
         ensures chassis { IsIdentifier self.now.msap.chassis }
@@ -48,7 +48,7 @@ impl<'a> Entry<'a> {
         self.slot.ttl()
     }
 
-    /// The ticks that are left of it, at least 1.
+    /// The ticks that are left of it, at least 1 and no more than its TTL.
     pub fn left(&self) -> u16
         ensures value { result ≡ self.now.left }
         ensures lives { 0 < result }
@@ -57,7 +57,8 @@ impl<'a> Entry<'a> {
         self.left
     }
 
-    /// The kept TLVs of its frame, in order, read again from the stored octets.
+    /// The kept TLVs of its frame, in order, each well formed, read again from the stored octets:
+    /// exactly theirs, at most one for every two octets past the first 12.
     pub fn kept(&self) -> Kept<'a>
         ensures value { result ≡ kept_of self.now.octets }
         ensures each { AllByRecursion IsKeptTlv (kept_of self.now.octets) }
@@ -69,7 +70,7 @@ impl<'a> Entry<'a> {
     /// The stored octets, the extent of its last stored LLDPDU: at most 1,500.
     pub fn octets(&self) -> &'a [u8]
         ensures value { result.now ≡ self.now.octets }
-        ensures told { IsExtent self.now.msap self.now.ttl self.now.octets }
+        ensures extent { IsExtent self.now.msap self.now.ttl self.now.octets }
     {
         self.slot.octets()
     }

@@ -7,18 +7,18 @@ ghost use Rattle.lldp_pdu.specs.Lldpdu.{extent, ttl_of, msap_of};
 ghost use Rattle.lldp_pdu.specs.Fault.{fault_of};
 ghost use Rattle.lldp_pdu.specs.Kept.{kept_of};
 ghost use Rattle.lldp_table.specs.declared.learned.Learned.TheVariants.{New, Refreshed, Dropped};
-ghost use Rattle.lldp_table.specs.Laws.Changes.{a_tick_before, told_by, sets_limit};
+ghost use Rattle.lldp_table.specs.Laws.Changes.{a_tick_before, just_stored, sets_limit};
 ghost use Rattle.lldp_table.specs.Events.{Call, learn, forget, purge, tick, set_limit, Neighbor, TableEvent, ticked, aged_out, answer, event_of, events_of, neighbors, too_many_left};
 ghost use Rattle.lldp_table.specs.Contents.{Contents, IsExtent, IsHeld, IsSound};
 ghost use Rattle.lldp_table.specs.Code.Stored.{tag_of};
 ghost use Rattle.lldp_table.specs.Code.Steps.{learn_answer, newly_opened, table_after};
-ghost use Rattle.lldp_table.specs.Standing.{Stands, ForEachCalls, IsTold, AreTold, table_of};
+ghost use Rattle.lldp_table.specs.Standing.{Stands, ForEachCalls, IsPossible, ArePossible, table_of};
 ghost use Rattle.lldp_table.specs.Positions.{IsLastStored, IsLive, HasRoom, IsNewBefore, WasDropped};
 ghost use Rattle.lldp_table.specs.declared.limits.TheConstants.{MOST_NEIGHBORS};
 
 /// What a table that stands for a list of calls makes of one more stands for the list with it.
 pub fn calls_carry_standing()
-    ensures { (table : Contents) (call : Call) → IsTold table call →
+    ensures { (table : Contents) (call : Call) → IsPossible table call →
         ForEachCalls table (λ opened calls. Stands opened (call ∷ calls) (table_after table call)) }
 {}
 
@@ -41,12 +41,12 @@ pub fn calls_tell_standing_tables()
 pub fn calls_leave_sound_tables()
     ensures opened { (limit : ℕ) → 0 < limit → limit ≤ 128 →
         IsSound (newly_opened limit) }
-    ensures after { (table : Contents) (call : Call) → IsSound table → IsTold table call →
+    ensures after { (table : Contents) (call : Call) → IsSound table → IsPossible table call →
         IsSound (table_after table call) }
 {}
 
-/// The extent of a sound LLDPDU of at most 1,500 octets can be stored, and a stored one has few
-/// kept TLVs.
+/// The extent of a sound LLDPDU with a TTL above 0 and at most 1,500 octets can be stored, and a
+/// stored one has few kept TLVs.
 pub fn extents_can_be_stored()
     ensures stored { (pdu : List ℕ) → AreOctets pdu → fault_of pdu ≡ None → 0 < ttl_of pdu →
         length pdu ≤ 1500 →
@@ -56,8 +56,9 @@ pub fn extents_can_be_stored()
 {}
 
 /// A table that stands for a list of calls holds for each name its last stored frame that has not
-/// expired, and nothing else, in the order in which the names were last new, and never more
-/// neighbors than the limit, nor 1,500 octets for each.
+/// expired, and nothing else: a frame since which nothing stored another of its name, forgot it or
+/// purged the table, and fewer ticks than its TTL came. They stand in the order in which the names
+/// were last new, never more than the limit, nor more than 1,500 octets for each.
 pub fn tables_hold_last_stored_frames()
     ensures held { (table : Contents) (neighbor : Neighbor) → ForEachCalls table (λ opened calls.
         Contains table.neighbors neighbor ↔ IsLastStored (events_of opened calls) neighbor) }
@@ -75,9 +76,9 @@ pub fn calls_leave_last_stored_frames()
     ensures order { (opened : ℕ) (calls : List Call) →
         AllPairs (IsNewBefore (events_of opened calls)) (neighbors (events_of opened calls)) }
     ensures sound { (opened : ℕ) (calls : List Call) → 0 < opened → opened ≤ 128 →
-        AreTold opened calls → IsSound (table_of opened calls) }
+        ArePossible opened calls → IsSound (table_of opened calls) }
     ensures stands { (opened : ℕ) (calls : List Call) → 0 < opened → opened ≤ 128 →
-        AreTold opened calls → Stands opened calls (table_of opened calls) }
+        ArePossible opened calls → Stands opened calls (table_of opened calls) }
 {}
 
 /// A frame is a refresh exactly where a neighbor of its name is live, new exactly where none is and
@@ -138,7 +139,7 @@ pub fn stored_frames_replace_their_name_alone()
     ensures held { (opened : ℕ) (calls : List Call) (name : MsapId) (ttl : ℕ) (octets : List ℕ)
         (neighbor : Neighbor) → 0 < ttl → ¬ (answer opened name (events_of opened calls) ≡ Dropped) →
         Contains (table_of opened (learn name ttl octets ∷ calls)).neighbors neighbor
-        ↔ ((neighbor ≡ told_by name ttl octets)
+        ↔ ((neighbor ≡ just_stored name ttl octets)
         ⊎ (Contains (table_of opened calls).neighbors neighbor × (¬ (neighbor.msap ≡ name)))) }
     ensures others { (opened : ℕ) (calls : List Call) (name : MsapId) (ttl : ℕ) (octets : List ℕ) →
         ¬ (answer opened name (events_of opened calls) ≡ Dropped) →
@@ -179,14 +180,14 @@ pub fn limits_last_until_the_next()
 {}
 
 /// Two names whose octets, those of the chassis ID before those of the port ID, differ in one place
-/// have different tags.
+/// have different tags. Only speed depends on the tag.
 pub fn names_one_octet_apart_have_tags_apart()
     ensures { (one other : MsapId) (front back : List ℕ) (a b : ℕ) →
         one.chassis ++ one.port ≡ front ++ a ∷ back → other.chassis ++ other.port ≡ front ++ b ∷ back →
         a < 2 ^ 8 → b < 2 ^ 8 → tag_of one ≡ tag_of other → a ≡ b }
 {}
 
-/// A table has room for at most 128 neighbors.
+/// A table has room for at most 128 neighbors, the number that definitions and clauses write out.
 pub fn tables_have_room_for_128()
     ensures { MOST_NEIGHBORS ≡ 128 }
 {}

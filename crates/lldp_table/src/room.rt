@@ -63,7 +63,7 @@ impl<T, A: Allocator> Room<T, A> {
         &self.items[i]
     }
 
-    /// The item at this index, from 0, to be changed.
+    /// The item at this index, from 0, to be changed; nothing else of the room changes meanwhile.
     pub fn at_mut(&mut self, i: usize) -> &mut T
         requires { i < length self.old.items }
         ensures* lent { sem 𝓛 (LendsItem T.row A.row A.Allocator self.entry i result) }
@@ -72,7 +72,7 @@ impl<T, A: Allocator> Room<T, A> {
         &mut self.items[i]
     }
 
-    /// The items, to be changed.
+    /// The items, to be changed; nothing else of the room changes meanwhile.
     pub fn as_mut_slice(&mut self) -> &mut [T]
         ensures* lent { sem 𝓛 (LendsItems T.row A.row A.Allocator self.entry result) }
         ensures value { result.now ≡ self.old.items }

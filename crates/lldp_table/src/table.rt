@@ -19,7 +19,12 @@ use lldp_pdu::{Info, Msap};
 use std::alloc::{AllocError, Allocator};
 use std::marker::Model;
 
-/// The neighbors of one port. Only `open` takes memory, and no other call is ever refused.
+/// The neighbors of one port. Only `open` is handed an allocator, and no other call is ever
+/// refused. The others keep the capacity, which is that of the room itself, and cannot reach an
+/// allocator: `Room` hands out none, and no other field has one.
+///
+/// What a call says of a list of calls holds for every list on a table that was opened with a limit
+/// from 1 to 128, each call made within its condition.
 #[derive(Drop)]
 pub struct Table<A: Allocator> {
     /// The slots that were ever used. The room for all that may be held is taken at opening, and no
@@ -57,8 +62,8 @@ impl<A: Allocator> Model for Table<A> {
 }
 
 impl<A: Allocator> Table<A> {
-    /// An empty table. Takes the memory for `limit` neighbors of 1,500 octets each, at once; an
-    /// error says that there was none.
+    /// An empty table, which stands for the limit and no calls. Takes the memory for `limit`
+    /// neighbors, 1 to 128, of 1,500 octets each, at once; an error says that there was none.
     pub fn open(alloc: A, limit: u8) -> Result<Table<A>, AllocError>
         requires least { 0 < limit }
         requires most { limit ≤ 128 }
@@ -75,13 +80,15 @@ impl<A: Allocator> Table<A> {
         })
     }
 
-    /// Stores a frame where its neighbor is held, or where there is room for it; a frame that finds
-    /// none is dropped.
+    /// Stores a frame, whose extent has at most 1,500 octets, if its neighbor is held or if there
+    /// is room for it. A frame of a live name is Refreshed, even if the table is full; of another
+    /// name it is New if fewer names than the limit in force are live, else Dropped. The stored
+    /// octets have the kept TLVs of the frame. The table then stands for the list with that call.
     pub fn learn(&mut self, info: &Info<'_>) -> Learned
         requires { length info.now.octets ≤ 1500 }
         ensures answer { result ≡ learn_answer self.old.shown info.now.msap }
         ensures after { self.new.shown ≡ after_learn self.old.shown info.now.msap info.now.ttl info.now.octets }
-        ensures told { IsExtent info.now.msap info.now.ttl info.now.octets }
+        ensures extent { IsExtent info.now.msap info.now.ttl info.now.octets }
         ensures kept { kept_of info.now.octets ≡ info.now.kept }
         ensures answers { ForEachCalls self.old.shown (λ opened calls.
             result ≡ answer opened info.now.msap (events_of opened calls)) }
@@ -119,7 +126,8 @@ impl<A: Allocator> Table<A> {
         self.used < self.limit
     }
 
-    /// Gives up the neighbor of this name, and tells whether it was held.
+    /// Gives up the neighbor of this name, and tells whether it was held, which is whether the name
+    /// was live.
     pub fn forget(&mut self, msap: &Msap<'_>) -> bool
         ensures answer { result ≡ holds_name self.old.shown (msap_view msap.now) }
         ensures after { self.new.shown ≡ after_forget self.old.shown (msap_view msap.now) }
@@ -158,8 +166,9 @@ impl<A: Allocator> Table<A> {
     }
 
     /// A second has passed: one tick less is left of each neighbor and of the too-many timer. Tells
-    /// how many neighbors aged out. It stands with what it calls in the caller's loop, since most
-    /// ticks look at the first neighbor alone.
+    /// how many neighbors aged out: names that were live before and are not after. It gets and sets
+    /// stored times at most twice for each of them, and twice more. It stands with what it calls in
+    /// the caller's loop, since most ticks look at the first neighbor alone.
     #[inline(always)]
     pub fn tick(&mut self) -> u8
         ensures answer { result + length self.new.shown.neighbors ≡ length self.old.shown.neighbors }
@@ -180,7 +189,7 @@ impl<A: Allocator> Table<A> {
     }
 
     /// Changes the limit in force, to one from 1 to that of opening and to no less than the number
-    /// of neighbors held.
+    /// of neighbors held, so it removes nobody.
     pub fn set_limit(&mut self, limit: u8)
         requires least { 0 < limit }
         requires most { limit ≤ self.old.shown.capacity }
@@ -192,7 +201,7 @@ impl<A: Allocator> Table<A> {
         self.limit = limit;
     }
 
-    /// How many neighbors are held.
+    /// How many neighbors are held: no more than the limit in force, and no two of one name.
     pub fn len(&self) -> u8
         ensures value { result ≡ length self.now.shown.neighbors }
         ensures sound { IsSound self.now.shown }
@@ -216,7 +225,7 @@ impl<A: Allocator> Table<A> {
         self.slots.capacity() as u8
     }
 
-    /// How many octets are stored, for all neighbors together.
+    /// How many octets are stored, for all neighbors together: at most 1,500 for each.
     pub fn octets(&self) -> u32
         ensures sum { result ≡ sum_by (λ neighbor. length neighbor.octets) self.now.shown.neighbors }
         ensures most { result ≤ 1500 * length self.now.shown.neighbors }

@@ -1,5 +1,6 @@
 //! The stored times. A time is reached by a get or a set, which are counted; or all at once, to be
-//! shown, which through a shared reference cannot be counted.
+//! shown, which through a shared reference cannot be counted. The sum of all differences, which the
+//! queue keeps, is no stored time.
 ghost use Rattle.std.specs.Prelude.{◌≡◌, ℕ, ◌+◌, ◌<◌, length, slice_index, slice_set};
 ghost use Rattle.std.specs.List.{AllByRecursion};
 ghost use Rattle.lldp_table.specs.Code.Queue.{dues, ticks_left, IsQueue};

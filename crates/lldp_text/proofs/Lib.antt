@@ -2,8 +2,8 @@ pub mod NumberDigits
 pub mod WordsBounds
 pub mod WordsGrammar
 pub mod WordsReading
-pub mod DigitLemmas
-pub mod LaneLemmas
+pub mod DigitBlocks
+pub mod Lanes
 pub mod TextJoined
 pub mod PlainText
 pub mod AddressesPairs

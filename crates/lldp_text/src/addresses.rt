@@ -31,7 +31,7 @@ pub(crate) fn kind_of_address(family: u8, len: usize) -> AddressKind
     }
 }
 
-/// Writes a MAC address of six octets.
+/// Writes a MAC address of six octets, in at most 18 octets.
 pub fn write_mac(line: &mut Writer, octets: &[u8])
     requires room { length line.old + 18 ≤ ROOM }
     requires six { length octets.now ≡ 6 }
@@ -44,7 +44,7 @@ pub fn write_mac(line: &mut Writer, octets: &[u8])
     }
 }
 
-/// Writes an IPv4 address of four octets.
+/// Writes an IPv4 address of four octets, in at most 44 octets.
 pub fn write_ipv4(line: &mut Writer, octets: &[u8])
     requires room { length line.old + 44 ≤ ROOM }
     requires four { length octets.now ≡ 4 }

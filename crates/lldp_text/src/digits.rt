@@ -101,8 +101,9 @@ fn decode_block(digits: &[u8], octets: &mut [u8], at: usize) -> u8x32
     values
 }
 
-/// Reads pairs of digits, and answers whether it did: exactly where there are sixteen octets or
-/// more and each digit is one. Where it answers no, nothing is promised of the octets.
+/// Reads pairs of digits into the octets, as `hex` reads them, and answers whether it did: exactly
+/// where there are sixteen octets or more and each digit is one. Where it answers no, nothing is
+/// promised of the octets.
 pub fn decode_digits(digits: &[u8], octets: &mut [u8]) -> bool
     requires { length digits.now ≡ 2 * length octets.old }
     ensures octets { result ≡ true → decode_pairs 0 digits.now ≡ Ok octets.new }
@@ -164,7 +165,7 @@ fn encode_block(octets: &[u8], digits: &mut [u8], at: usize)
     by_turns(high, low).copy_to_slice(&mut digits[2 * at..]);
 }
 
-/// Writes each octet as two digits.
+/// Writes each octet as the two lower-case digits that `hex` writes.
 pub fn encode_digits(octets: &[u8], digits: &mut [u8])
     requires { length digits.old ≡ 2 * length octets.now }
     ensures { digits.new ≡ encode_lower octets.now }

@@ -114,7 +114,7 @@ fn write_identifier(line: &mut Writer, kind: IdentifierKind, body: &[u8])
     }
 }
 
-/// Writes a chassis ID.
+/// Writes a chassis ID, of 2 to 256 octets, as key and value, in at most 1,050 octets.
 pub fn write_chassis(line: &mut Writer, body: &[u8])
     requires fits { IsIdentifier body.now }
     requires room { length line.old + VALUE_ROOM ≤ ROOM }
@@ -124,7 +124,7 @@ pub fn write_chassis(line: &mut Writer, body: &[u8])
     write_identifier(line, kind_of_chassis(body[0]), body);
 }
 
-/// Writes a port ID.
+/// Writes a port ID, of 2 to 256 octets, as key and value, in at most 1,050 octets.
 pub fn write_port(line: &mut Writer, body: &[u8])
     requires fits { IsIdentifier body.now }
     requires room { length line.old + VALUE_ROOM ≤ ROOM }

@@ -35,7 +35,8 @@ fn value_of(digits: &[u8]) -> u32
     value
 }
 
-/// The number that a word writes, if it lies in the range.
+/// The number that a word of one or more decimal digits writes, however many they are, if it lies
+/// in the range; else the fault Range, and of any other word the fault Number.
 pub fn number(word: &[u8], least: u16, greatest: u16) -> Result<u16, CommandFault>
     ensures value { result ≡ number_of word.now least greatest }
     ensures in_range { IfOk result (λ n. (least ≤ n) × (n ≤ greatest)) }

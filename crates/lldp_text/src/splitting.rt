@@ -147,7 +147,7 @@ fn check_quotes(line: &[u8]) -> Result<(), CommandFault>
 /// Spaces and tabs separate words. A word is a longest run of octets other than space, tab and `"`,
 /// or the octets between two `"`; there are no escapes. A `"` inside an unquoted word, one that is
 /// not closed, and a closing one that neither a separator nor the end of the line follows are the
-/// fault `Quote`.
+/// fault `Quote`. No word is longer than its line.
 pub fn split(line: &[u8]) -> Result<Words<'_>, CommandFault>
     ensures words { result ≡ or_fault (words_of line.now) CommandFault.Quote }
     ensures short { IfOk result (λ words.

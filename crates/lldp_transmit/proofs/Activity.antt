@@ -1,13 +1,14 @@
 -- Active, rested, start and stop, read by positions.
 use Rattle.std.specs.Prelude.{◌≡◌, ℕ, ◌+◌, ◌≤◌, ◌↔◌, Bool, true, false, cond, not, ◌&&◌, ◌||◌, IsTrue, List, [], ◌∷◌, ◌++◌}
 use Rattle.std.specs.List.{list_any}
-use Rattle.std.proofs.Common.{refl, ap, ap₂, arith}
+use Rattle.std.proofs.Common.{refl, ap, ap₂, ◌∙◌, arith}
 use Rattle.std.proofs.lemmas.Bool.{or_right, and_parts, and_from, leb-true, le-leb, not-true, not_from_false, false_from_ne_true, false≢true}
 use Rattle.lldp_transmit.specs.declared.event.Cause.{Cause}
 use Rattle.lldp_transmit.specs.declared.event.Cause.TheVariants.{Tick, Down, Up}
 use Rattle.lldp_transmit.specs.Fronts.{Position, count, since}
 use Rattle.lldp_transmit.specs.History.{Settings, Event, History, is_tick, is_down}
 use Rattle.lldp_transmit.specs.Moments.{moment, Moment, moments, ticks, ends, up_after, is_active, is_up, rested}
+use Rattle.lldp_transmit.specs.Windows.{AreTimely, with_marks}
 use Rattle.lldp_transmit.specs.Positions.{HasStarted, HasRested, StaysUp, IsStart, IsStop, stops_in}
 use Rattle.lldp_transmit.proofs.Windows.{one_if}
 use Rattle.lldp_transmit.proofs.Splits.{newest, older, count-append, count_never, Lasts, lasts_reads, find_last, at_last}
@@ -70,15 +71,15 @@ no_end (m ∷ run) before c u =
     neither m.cause m.stop (is_up (run ++ before)) (stops_in run) (count ends run) c (u (newest m run))
     (no_end run before (omega arith) (λ p. u (older m p)))
 
-pub active_reads : (s : Settings) (h : History) → IsTrue (is_active (moments s h)) ↔ HasStarted (moments s h)
-active_reads s h = (forth, back)
+pub apart_reads : (ms : List Moment) → AreApart ms → IsTrue (is_active ms) ↔ HasStarted ms
+apart_reads ms are_apart = (forth, back)
   where
-    apart : (p : Position (moments s h)) → AreApart (p.there ∷ p.before)
-    apart p = apart_rest p.after (p.there ∷ p.before) (rw p.is at (apart_moments s h))
+    apart : (p : Position ms) → AreApart (p.there ∷ p.before)
+    apart p = apart_rest p.after (p.there ∷ p.before) (rw p.is at are_apart)
 
-    forth : IsTrue (is_active (moments s h)) → HasStarted (moments s h)
+    forth : IsTrue (is_active ms) → HasStarted ms
     forth a =
-        let (p, start, _, none) = (active_lasts (moments s h)).0 a in
+        let (p, start, _, none) = (active_lasts ms).0 a in
         let none_after : count ends p.after ≡ 0 = omega (arith, none) in (
           p,
           start,
@@ -86,9 +87,34 @@ active_reads s h = (forth, back)
           λ q. up_on (q.there ∷ q.before) (p.there ∷ p.before) ((apart p).0 start).1 (omega (arith, none_after, ap (count ends) q.is, count-append ends q.after (q.there ∷ q.before))),
         )
 
-    back : HasStarted (moments s h) → IsTrue (is_active (moments s h))
+    back : HasStarted ms → IsTrue (is_active ms)
     back (p, start, c, u) =
-        (active_lasts (moments s h)).1 (p, start, count_never p.after, ap₂ (λ b n. one_if b + n) ((apart p).0 start).0 (no_end p.after (p.there ∷ p.before) c u))
+        (active_lasts ms).1 (p, start, count_never p.after, ap₂ (λ b n. one_if b + n) ((apart p).0 start).0 (no_end p.after (p.there ∷ p.before) c u))
+
+pub active_reads : (s : Settings) (h : History) → IsTrue (is_active (moments s h)) ↔ HasStarted (moments s h)
+active_reads s h = apart_reads (moments s h) (apart_moments s h)
+
+-- ---- a choice of marks, which changes neither starts nor links
+
+same_up : (s : Settings) (bs : List Bool) (ms : List Moment) → AreTimely s bs ms → is_up (with_marks bs ms) ≡ is_up ms
+same_up s [] [] t = refl
+same_up s [] (m ∷ ms) t = elim t [ ]
+same_up s (b ∷ bs) [] t = elim t [ ]
+same_up s (b ∷ bs) (m ∷ ms) t = ap (up_after m.cause) (same_up s bs ms t.1)
+
+apart_marked : (s : Settings) (bs : List Bool) (ms : List Moment) → AreTimely s bs ms → AreApart ms → AreApart (with_marks bs ms)
+apart_marked s [] [] t a = tt
+apart_marked s [] (m ∷ ms) t a = elim t [ ]
+apart_marked s (b ∷ bs) [] t a = elim t [ ]
+apart_marked s (b ∷ bs) (m ∷ ms) t a =
+    (λ start. ((a.0 start).0, same_up s (b ∷ bs) (m ∷ ms) t ∙ (a.0 start).1), apart_marked s bs ms t.1 a.1)
+
+pub chosen_reads : (s : Settings) (h : History) (e : Event) (bs : List Bool) → AreTimely s bs (moments s h) →
+    IsTrue (is_active (moment s (moments s h) e ∷ with_marks bs (moments s h))) ↔ HasStarted (moment s (moments s h) e ∷ with_marks bs (moments s h))
+chosen_reads s h e bs t =
+    let a = apart_moments s (e ∷ h) in
+    apart_reads (moment s (moments s h) e ∷ with_marks bs (moments s h))
+    (λ start. ((a.0 start).0, ap (up_after (moment s (moments s h) e).cause) (same_up s bs (moments s h) t) ∙ (a.0 start).1), apart_marked s bs (moments s h) t a.1)
 
 -- ---- a wait
 

@@ -41,9 +41,9 @@ change_inside_a_burst : marks usual (at 30 (Tick ∷ Neighbor ∷ Change ∷ rep
 unfolding moment
 change_inside_a_burst = refl
 
-burst_of_two_neighbours : marks usual (at 30 (Tick ∷ Neighbor ∷ Neighbor ∷ Tick ∷ Tick ∷ replicate 29 Tick ++ Tick ∷ [])) ≡ O ∷ O ∷ O ∷ O ∷ O ∷ replicate 29 Q ++ O ∷ []
+burst_of_two_neighbors : marks usual (at 30 (Tick ∷ Neighbor ∷ Neighbor ∷ Tick ∷ Tick ∷ replicate 29 Tick ++ Tick ∷ [])) ≡ O ∷ O ∷ O ∷ O ∷ O ∷ replicate 29 Q ++ O ∷ []
 unfolding moment
-burst_of_two_neighbours = refl
+burst_of_two_neighbors = refl
 
 stop_and_allow : marks usual (at 30 (Tick ∷ Stop ∷ Stop ∷ Allow ∷ Tick ∷ Tick ∷ [])) ≡ O ∷ X ∷ Q ∷ Q ∷ Q ∷ O ∷ []
 unfolding moment

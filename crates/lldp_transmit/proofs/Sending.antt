@@ -7,9 +7,10 @@ use Rattle.lldp_transmit.specs.Fronts.{runs, after_first}
 use Rattle.lldp_transmit.specs.History.{Settings, Event, History, is_tick}
 use Rattle.lldp_transmit.specs.Moments.{moment, Moment, moments, ticks, frames, is_active, is_waiting, within, open_at, due}
 use Rattle.lldp_transmit.specs.Remaining.{credit_left}
+use Rattle.lldp_transmit.specs.Windows.{AreTimely, with_marks}
 use Rattle.lldp_transmit.specs.Positions.{HasStarted, HasWanted, IsDue, IsOpen, IsLeastRoom}
 use Rattle.lldp_transmit.proofs.Windows.{one_if, list_all-map, all_fit, fits_enough, bounded, bucket, IsPaid, run_holds, credit_is, bucket_le, paid_moments}
-use Rattle.lldp_transmit.proofs.Activity.{active_reads, and_reads}
+use Rattle.lldp_transmit.proofs.Activity.{active_reads, and_reads, chosen_reads}
 use Rattle.lldp_transmit.proofs.Counters.{same_active, is_waiting-cons}
 use Rattle.lldp_transmit.proofs.Splits.{lasts_reads}
 use Rattle.std.proofs.lemmas.Grind.{common_steps}
@@ -94,6 +95,15 @@ due_reads s h e =
     let m = moment s (moments s h) e in
     let active : IsTrue (is_active (record m { sent = false } ∷ moments s h)) ↔ HasStarted (m ∷ moments s h) = rw (same_active (moments s h) m m.signal m.opening false) (active_reads s (e ∷ h)) in
     and_reads _ _ _ _ active (waiting_reads (record m { sent = false } ∷ moments s h))
+
+-- and so it is with the marks of a choice in place of the frames
+pub chosen_due_reads : (s : Settings) (h : History) (e : Event) (bs : List Bool) → AreTimely s bs (moments s h) →
+    IsTrue (due (with_marks bs (moments s h)) (moment s (moments s h) e)) ↔ IsDue (with_marks bs (moments s h)) (moment s (moments s h) e)
+chosen_due_reads s h e bs t =
+    let m = moment s (moments s h) e in
+    let past = with_marks bs (moments s h) in
+    let active : IsTrue (is_active (record m { sent = false } ∷ past)) ↔ HasStarted (m ∷ past) = rw (same_active past m m.signal m.opening false) (chosen_reads s h e bs t) in
+    and_reads _ _ _ _ active (waiting_reads (record m { sent = false } ∷ past))
 
 -- An ordinary frame goes exactly where one is due and the window open.
 pub sent_reads : (s : Settings) (h : History) (e : Event) → 1 ≤ s.credit_max →

@@ -26,7 +26,7 @@ abbrev pub HasStarted : List Moment → Type 0
 HasStarted ms =
     (p : Position ms) × IsTrue p.there.start × (stops_in p.after ≡ 0) × StaysUp p.after (p.there ∷ p.before)
 
--- Rested: each stop was at least reinitDelay ticks ago, one more tick counted.
+-- Rested: with the tick that comes now, at least reinitDelay ticks came since each stop.
 abbrev pub HasRested : Settings → List Moment → Type 0
 HasRested s past = (p : Position past) → IsTrue p.there.stop → s.reinit ≤ 1 + ticks p.after
 

@@ -8,7 +8,7 @@ use Rattle.lldp_transmit.specs.Moments.{Moment, moment, moments, ticks, frames, 
 
 -- ---- choices of marks
 
--- the moments with these marks in place of the ordinary frames
+-- the moments with these marks in place of the ordinary frames; no other label depends on the frames
 abbrev pub with_marks : List Bool → List Moment → List Moment
 with_marks (b ∷ bs) (m ∷ ms) = record m { sent = b } ∷ with_marks bs ms
 with_marks _ _ = []

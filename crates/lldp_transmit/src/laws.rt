@@ -10,7 +10,7 @@ ghost use Rattle.lldp_transmit.specs.Laws.Causes.{MayTransmit, IsLinked, CanSend
 ghost use Rattle.lldp_transmit.specs.declared.limits.TheConstants.{MOST_CREDIT, MOST_FAST, MOST_REINIT};
 ghost use Rattle.lldp_transmit.specs.Code.Machine.{Machine, opened, stepped};
 ghost use Rattle.lldp_transmit.specs.Standing.{AreSettings, Stands};
-ghost use Rattle.lldp_transmit.specs.Windows.{AreTimely, WindowsHold};
+ghost use Rattle.lldp_transmit.specs.Windows.{AreTimely, with_marks, WindowsHold};
 ghost use Rattle.lldp_transmit.specs.declared.event.Cause.{Cause};
 ghost use Rattle.lldp_transmit.specs.declared.event.Mark.{Mark};
 
@@ -83,14 +83,18 @@ pub fn positions_tell_signals()
 {}
 
 /// Waiting, due, open, sent and the credit, said of positions: a frame waits where a signal since
-/// the start has had none, and is due where the port is active too; a window is open where, with
-/// one frame more, each run that ends now is within its bound; the credit is the least that any run
-/// leaves of its bound, and no other number is.
+/// the start has had none, and is due where the port is active too, also by the frames of another
+/// choice (`chosen`); a window is open where, with one frame more, each run that ends now is within
+/// its bound; the credit is the least that any run leaves of its bound, and no other number is.
 pub fn positions_tell_sending()
     ensures waiting { (ms : List Moment) → IsTrue (is_waiting ms) ↔ HasWanted ms }
     ensures due { (s : Settings) (h : History) (e : Event) →
         IsTrue (due (moments s h) (moment s (moments s h) e))
         ↔ IsDue (moments s h) (moment s (moments s h) e) }
+    ensures chosen { (s : Settings) (h : History) (e : Event) (marks : List Bool) →
+        AreTimely s marks (moments s h) →
+        IsTrue (due (with_marks marks (moments s h)) (moment s (moments s h) e))
+        ↔ IsDue (with_marks marks (moments s h)) (moment s (moments s h) e) }
     ensures open { (s : Settings) (past : List Moment) (m : Moment) →
         AreSettings s → IsTrue (open_at s past m) ↔ IsOpen s past m }
     ensures credit { (s : Settings) (h : History) →
@@ -104,7 +108,8 @@ pub fn positions_tell_sending()
 {}
 
 /// Whether a port may transmit, and whether its link is up, by the causes in its history: each
-/// `Stop` has an `Allow` after it, each `Down` an `Up`.
+/// `Stop` has an `Allow` after it and, if the port was opened without the right, some `Allow` came;
+/// each `Down` has an `Up` after it.
 pub fn causes_tell_allowed_and_up()
     ensures allowed { (s : Settings) (h : History) →
         IsTrue (is_allowed s (moments s h)) ↔ MayTransmit s h }
@@ -130,7 +135,8 @@ pub fn moments_keep_their_events()
         map (λ m. event m.cause m.interval) (moments s h) ≡ h }
 {}
 
-/// The constants are the greatest numbers that a port can be opened with.
+/// The constants are the greatest numbers that a port can be opened with, as the definitions write
+/// them out.
 pub fn constants_are_the_greatest_settings()
     ensures allowed { (allowed : Bool) →
         AreSettings (settings MOST_CREDIT MOST_FAST MOST_REINIT allowed) }

@@ -1,4 +1,5 @@
-//! When a port sends: the transmit machine of one port (IEEE 802.1AB-2009, clause 9).
+//! When a port sends: the transmit machine of one port (IEEE 802.1AB-2009, clause 9). No call takes
+//! memory or refuses.
 //!
 //! A port is told its events one by one and answers the frame that goes. What it answers is said by
 //! the whole list of events, without a counter: an ordinary frame goes exactly where one is due and

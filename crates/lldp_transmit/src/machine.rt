@@ -73,7 +73,8 @@ impl Model for Transmit {
 }
 
 impl Transmit {
-    /// A machine with full credit, on a port whose link is up and that is not active.
+    /// A machine with full credit, on a port whose link is up and that is not active: it stands for
+    /// no events.
     ///
     /// `credit_max` is txCreditMax, 1 to 10; `fast_init` is txFastInit, 1 to 8; `reinit` is
     /// reinitDelay in seconds, 1 to 10; `allowed` tells whether the port may transmit from the
@@ -142,7 +143,15 @@ impl Transmit {
     }
 
     /// Takes one event, with the tx-interval in force after it (1 to 3600 seconds), and tells which
-    /// frame goes.
+    /// frame goes. The machine then stands for its history with the event.
+    ///
+    /// Ordinary exactly if a frame is due and the window open: the port is active, some signal
+    /// since its start has had no frame yet, and no run of events that ends here would hold more
+    /// ordinary frames than txCreditMax plus the ticks after its first event. Shutdown exactly if
+    /// an active port loses the right to transmit. Quiet if neither goes. With this answer no run
+    /// that ends here has more ordinary frames than that bound, nor more stops than one plus one
+    /// for each reinitDelay ticks in it; and no other choice of due events with open windows has
+    /// had more frames up to here.
     ///
     /// On a port that is not active only a tick can send. An `Allow`, a `Down`, an `Up` and
     /// `Nothing` never do.
@@ -289,7 +298,8 @@ impl Transmit {
         Mark::Ordinary
     }
 
-    /// How many ordinary frames may go before the next tick: at most txCreditMax.
+    /// How many ordinary frames may go before the next tick: the least of txCreditMax and of what
+    /// each run that ends now leaves of its bound.
     pub fn credit(&self) -> u8
         ensures value { result ≡ self.now.credit }
         ensures most { self.now.credit ≤ self.now.credit_max }

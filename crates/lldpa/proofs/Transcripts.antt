@@ -28,7 +28,7 @@ use Rattle.lldp_program.specs.Forms.{tick_form, frame_form, link_form, form_of, 
 use Rattle.lldp_program.specs.Lines.{lines_of, ended_lines, ended}
 use Rattle.lldp_program.specs.Items.{items_of, items_of_lines, after_all, text_of_all, text}
 use Rattle.lldp_program.specs.Usage.{Asks, program}
-use Rattle.lldp_program.proofs.ItemLemmas.{text_of_all-append}
+use Rattle.lldp_program.proofs.Runs.Items.{text_of_all-append}
 
 -- the text of each line, each read after all before it
 abbrev texts_of : Past → List (List ℕ) → List (List ℕ)

@@ -5,12 +5,15 @@
  * C99.
  *
  * What the caller must keep, everywhere:
- *  - A pointer points to memory of its type that is there, aligned and initialized, and it is never NULL, also where
- *    the length beside it is 0. A pointer and the length behind it are one thing: so many elements stand there. No
- *    length is over SIZE_MAX / 2.
+ *  - A pointer that is not NULL points to memory of its type that is there, aligned and initialized. A pointer and the
+ *    length behind it are one thing: so many elements stand there. No length is over SIZE_MAX / 2.
  *  - What a call writes to overlaps nothing else that it is given, and nobody else reads or writes it meanwhile.
  *  - A bool is 0 or 1.
  * A number or a place out of its range is the caller's to give: the answer says so, and nothing is done.
+ *
+ * NULL is the caller's to give, too. With a length of 0 it stands for no elements, also in a struct. Elsewhere the answer
+ * is LLDPA_NULL, or false or 0 where a function answers a bool or a number of frames, whatever else is given; nothing is
+ * written, and lldpa_close does nothing.
  *
  * Memory: no function takes any but lldpa_open, and only lldpa_close gives it back. Nothing that a call was given is
  * kept once it has returned. Places are offsets in the octets that the caller gave.
@@ -37,6 +40,7 @@ extern "C" {
 #define LLDPA_NOT_OPEN 102     /* the agent is not open */
 #define LLDPA_NO_PORT 103      /* the agent has no port of that number */
 #define LLDPA_IS_OPEN 104      /* the agent is open already */
+#define LLDPA_NULL 105         /* a pointer is NULL that must not be */
 
 /* ---- Reading ---------------------------------------------------------------------------------------------------- */
 
@@ -344,8 +348,8 @@ typedef struct lldpa_lines {
  *   room  of 2049 octets each line fits
  *   told  written where the answer is 0
  * Answers 0, LLDPA_NOT_OPEN, LLDPA_OUT_OF_RANGE for the show, or LLDPA_NO_ROOM where not even the first line fits.
- * Whoever goes on with `next` gets all lines, as long as the agent is told nothing meanwhile. A line costs those before
- * it too.
+ * Whoever goes on with `next` gets all lines, as long as the agent is told nothing meanwhile. A call goes through the
+ * lines before `from` too, so a room for the whole show costs least.
  */
 uint8_t lldpa_show_lines(lldpa_agent *agent, uint8_t show, uint32_t from, uint8_t *room, size_t room_length,
                          lldpa_lines *told);

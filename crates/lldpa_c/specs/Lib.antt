@@ -12,4 +12,5 @@ pub mod Opening
 pub mod Command
 pub mod Show
 pub mod Filled
+pub mod Filling
 pub mod Texts

@@ -1,13 +1,14 @@
 //! Lines of a show, as many as fit into the caller's room.
-ghost use Rattle.std.specs.Prelude.{◌≡◌, ◌+◌, ◌≤◌, ◌<◌, ◌++◌, ◌∷◌, [], true, false, length, take, None, slice_get, IfSome, IfNone};
+ghost use Rattle.std.specs.Prelude.{◌≡◌, ◌+◌, ◌≤◌, ◌<◌, ◌++◌, true, false, length, take, None, slice_get, IfSome, IfNone};
 ghost use Rattle.lldp_engine.specs.Lines.{lines_of};
 ghost use Rattle.lldpa_c.specs.Frame.{Keeps};
 ghost use Rattle.lldpa_c.specs.Filled.{Fills, IsFull, Filled};
+ghost use Rattle.lldpa_c.specs.Filling.{view, settled, begun, come_all, TakesLine};
 
 use crate::answer::{NO_ROOM, NOT_OPEN, OK, OUT_OF_RANGE};
 use crate::holder::LldpaAgent;
 use crate::show::show_numbered;
-use lldp_engine::{Agent, Show};
+use lldp_engine::{Agent, LineSink, Show, Writer};
 use std::alloc::Global;
 
 /// What was written of a show.
@@ -22,23 +23,108 @@ pub struct LldpaLines {
     pub done: bool,
 }
 
-/// Writes a line with its line feed behind what is used of the room, where it fits.
-fn append(line: &[u8], room: &mut [u8], used: usize) -> Option<usize>
-    requires { used ≤ length room.old }
-    ensures end { IfSome result (λ end. end ≡ used + length line.now + 1) }
+/// Writes a text behind what is used of the room, where it fits.
+fn append(room: &mut [u8], used: usize, text: &[u8]) -> Option<usize>
+    ensures end { IfSome result (λ end. end ≡ used + length text.now) }
     ensures within { IfSome result (λ end. end ≤ length room.new) }
-    ensures octets { IfSome result (λ end.
-        take end room.new ≡ take used room.old ++ (line.now ++ 10 ∷ [])) }
-    ensures none { IfNone result (length room.new < used + length line.now + 1) }
+    ensures octets { IfSome result (λ end. take end room.new ≡ take used room.old ++ text.now) }
+    ensures none { IfNone result (length room.new < used + length text.now) }
     ensures kept { IfNone result (room.new ≡ room.old) }
+    ensures size { length room.new ≡ length room.old }
 {
-    if line.len() >= room.len() - used {
+    if used > room.len() || text.len() > room.len() - used {
         return None;
     }
-    let end = used + line.len();
-    room[used..end].copy_from_slice(line);
-    room[end] = b'\n';
-    Some(end + 1)
+    let end = used + text.len();
+    room[used..end].copy_from_slice(text);
+    Some(end)
+}
+
+/// Lines of a show on their way into the caller's room. The line that was written last waits, and
+/// goes there if it is wanted and fits.
+#[derive(Drop)]
+struct Filling<'a> {
+    room: &'a mut [u8],
+    used: usize,
+    next: u32,
+    before: u32,
+    is_full: bool,
+    is_wanted: bool,
+    line: Writer,
+}
+
+impl<'a> Filling<'a> {
+    /// Nothing is written yet. So many lines are not wanted.
+    fn new(room: &'a mut [u8], from: u32) -> Filling<'a>
+        ensures room { result.room.now ≡ room.old }
+        ensures same { result.room.ghost_name ≡ room.entry.ghost_name }
+        ensures view { view result ≡ begun from }
+    {
+        Filling {
+            room,
+            used: 0,
+            next: from,
+            before: from,
+            is_full: false,
+            is_wanted: false,
+            line: Writer::new(),
+        }
+    }
+
+    /// Writes the line that waits into the room, if it is wanted and fits.
+    fn settle(&mut self)
+        ensures moved { settled self.new ≡ view self.old }
+        ensures unwanted { self.new.is_wanted ≡ false }
+        ensures size { length self.new.room.now ≡ length self.old.room.now }
+        ensures same { self.new.room.ghost_name ≡ self.old.room.ghost_name }
+    {
+        let used = self.used;
+        if self.is_wanted && !self.is_full {
+            match append(self.room, used, self.line.as_slice()) {
+                Some(end) => {
+                    self.used = end;
+                    // No show has so many lines that it wraps.
+                    self.next = self.next.wrapping_add(1);
+                }
+                None => self.is_full = true,
+            }
+        }
+        self.is_wanted = false;
+    }
+
+    /// Takes all lines of a show.
+    fn take(&mut self, agent: &Agent, show: Show)
+        ensures lines { settled self.new
+            ≡ come_all (length self.old.room.now) (view self.old) (lines_of show agent.now) }
+        ensures few { length (lines_of show agent.now) ≤ 6127808 }
+        ensures size { length self.new.room.now ≡ length self.old.room.now }
+        ensures same { self.new.room.ghost_name ≡ self.old.room.ghost_name }
+    {
+        agent.show_lines(&show, self);
+        self.settle();
+    }
+}
+
+impl LineSink for Filling<'_> {
+    ghost takes = { TakesLine };
+
+    fn begin_line(&mut self) -> Option<&mut Writer> {
+        self.settle();
+        if self.is_full {
+            return None;
+        }
+        if self.before > 0 {
+            self.before -= 1;
+        } else {
+            self.is_wanted = true;
+        }
+        self.line.clear();
+        Some(&mut self.line)
+    }
+
+    fn is_done(&self) -> bool {
+        self.is_full
+    }
 }
 
 /// Writes lines of a show from one of them on, as many whole ones as fit.
@@ -53,20 +139,13 @@ fn fill(agent: &Agent, show: Show, from: u32, room: &mut [u8]) -> LldpaLines
     ensures full { result.done ≡ false →
         IsFull (lines_of show agent.now) result.next (length room.new) result.length }
 {
-    let mut lines = LldpaLines {
-        length: 0,
-        next: from,
-        done: false,
-    };
-    while let Some(line) = agent.show_line(&show, lines.next) {
-        let Some(end) = append(line.as_slice(), room, lines.length) else {
-            return lines;
-        };
-        lines.length = end;
-        lines.next += 1;
+    let mut filling = Filling::new(room, from);
+    filling.take(agent, show);
+    LldpaLines {
+        length: filling.used,
+        next: filling.next,
+        done: !filling.is_full,
     }
-    lines.done = true;
-    lines
 }
 
 /// Lines of a show from one of them on: as many whole ones as fit into the caller's room.

@@ -26,16 +26,16 @@ opened_port o name =
       counters = none_counted;
     }
 
--- a table that was told this
-abbrev pub told : Contents → Option Call → Contents
-told table None = table
-told table (Some call) = table_after table call
+-- a table after this call, if any
+abbrev pub with_call : Contents → Option Call → Contents
+with_call table None = table
+with_call table (Some call) = table_after table call
 
 -- a port after what it heard
 abbrev pub hears_if : PortState → Option Heard → PortState
 hears_if p heard =
     record p {
-      table = told p.table (option_and_then call_of heard);
+      table = with_call p.table (option_and_then call_of heard);
       counters = with_heard (learn_answer p.table) p.counters heard;
     }
 
@@ -44,11 +44,11 @@ abbrev pub port_cause : PortEvent → PortState → Cause
 port_cause event p = cause_at event p.status p.machine.up (learn_answer p.table)
 
 -- a port after an event, but for its transmitting
-abbrev pub port_told : PortEvent → PortState → PortState
-port_told event p =
+abbrev pub port_after_event : PortEvent → PortState → PortState
+port_after_event event p =
     record p {
       status = status_then event p.status;
-      table = told p.table (call_at event p.status p.machine.up);
+      table = with_call p.table (call_at event p.status p.machine.up);
       counters = with_event_counted event p.status p.machine.up p.table p.counters;
     }
 
@@ -66,4 +66,4 @@ port_mark event n p = (stepped p.machine (port_cause event p) n).1
 
 -- a port after an event
 abbrev pub port_step : PortEvent → ℕ → PortState → PortState
-port_step event n p = transmitted (port_cause event p) n (port_told event p)
+port_step event n p = transmitted (port_cause event p) n (port_after_event event p)

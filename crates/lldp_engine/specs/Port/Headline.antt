@@ -11,16 +11,16 @@ use Rattle.lldp_transmit.specs.Moments.{moments, is_allowed, is_up}
 use Rattle.lldp_transmit.specs.Windows.{IsBounded, StopsRarely, IsEarliest}
 use Rattle.lldp_engine.specs.Options.{Options}
 use Rattle.lldp_engine.specs.Status.{transmits}
-use Rattle.lldp_engine.specs.Port.Past.{Happened, status_after, up_after, told_after, settings_of, caused_at, causes_after, mark_after}
+use Rattle.lldp_engine.specs.Port.Past.{Happened, status_after, up_after, table_events_after, settings_of, caused_at, causes_after, mark_after}
 
 -- The table of a port holds, for each name, its last stored frame that has not expired, and nothing else; each name
 -- once, in the order in which the names were last new; no more neighbors than the limit in force, and no more than
 -- 1,500 octets for each.
 pub record HoldsLastStored (o : Options) (past : List Happened) (table : Contents) : Type 0 where
-  pub exactly : (neighbor : Neighbor) → Contains table.neighbors neighbor ↔ IsLastStored (told_after o past) neighbor
+  pub exactly : (neighbor : Neighbor) → Contains table.neighbors neighbor ↔ IsLastStored (table_events_after o past) neighbor
   pub once : IsDistinct same_msap (names_of table.neighbors)
-  pub in_order : AllPairs (IsNewBefore (told_after o past)) table.neighbors
-  pub limit : table.limit ≡ limit_after o.max_neighbors (told_after o past)
+  pub in_order : AllPairs (IsNewBefore (table_events_after o past)) table.neighbors
+  pub limit : table.limit ≡ limit_after o.max_neighbors (table_events_after o past)
   pub few : length table.neighbors ≤ table.limit
   pub short : AllByRecursion (λ neighbor. length neighbor.octets ≤ 1500) table.neighbors
 

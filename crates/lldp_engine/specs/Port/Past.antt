@@ -43,9 +43,9 @@ abbrev pub calls_after : Options → List Happened → List Call
 calls_after o [] = []
 calls_after o (now ∷ past) = cons_option (call_at now.event (status_after o past) (up_after past)) (calls_after o past)
 
--- the same with what each answered
-abbrev pub told_after : Options → List Happened → List TableEvent
-told_after o past = events_of o.max_neighbors (calls_after o past)
+-- what its table was told, with what each call answered
+abbrev pub table_events_after : Options → List Happened → List TableEvent
+table_events_after o past = events_of o.max_neighbors (calls_after o past)
 
 -- what its transmit machine was opened with
 abbrev pub settings_of : Options → Settings
@@ -55,7 +55,7 @@ settings_of o = settings o.credit_max o.fast_init o.reinit (transmits (status_at
 abbrev pub caused_at : Options → Happened → List Happened → Caused
 caused_at o now past =
     caused (cause_at now.event (status_after o past) (up_after past)
-    (λ name. answer o.max_neighbors name (told_after o past))) now.interval
+    (λ name. answer o.max_neighbors name (table_events_after o past))) now.interval
 
 -- what each event was for its transmitting
 abbrev pub causes_after : Options → List Happened → History
@@ -73,7 +73,7 @@ marks_after o (now ∷ past) = mark_after o (now ∷ past) ∷ marks_after o pas
 
 -- its counters
 abbrev pub counters_after : Options → List Happened → Counters
-counters_after o past = counters_of (heard_after o past) (told_after o past) (marks_after o past)
+counters_after o past = counters_of (heard_after o past) (table_events_after o past) (marks_after o past)
 
 -- the port with this past, whose name is given, by the definitions alone
 unfoldable pub port_after : Options → List Happened → List ℕ → PortState

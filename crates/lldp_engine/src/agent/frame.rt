@@ -157,6 +157,9 @@ fn write_frame(frame: &mut Frame, configuration: &Configuration, name: &[u8], ma
 
 impl<A: Allocator> Agent<A> {
     /// Writes the frame that a port sends, with the present configuration, over what the room held.
+    /// It is an LLDP frame whose LLDPDU is examined back to what was to be said: an ordinary one to
+    /// the name, the TTL and the TLVs of the configuration, a shutdown one to the name and a TTL of
+    /// 0.
     pub fn write_frame(&self, port: u8, mark: Mark, frame: &mut Frame)
         requires port { IsPort self.now port }
         requires sent { IsSent mark }
@@ -171,7 +174,7 @@ impl<A: Allocator> Agent<A> {
         write_frame(frame, self.configuration(), self.port_name(port), mark);
     }
 
-    /// The frame that a port sends, with the present configuration. Who sends many has each written
+    /// The frame that a port sends, as `write_frame` writes it. Who sends many has each written
     /// into one room.
     pub fn frame(&self, port: u8, mark: Mark) -> Frame
         requires port { IsPort self.now port }

@@ -43,7 +43,7 @@ pub struct Options<'a> {
 }
 
 impl<'a> Options<'a> {
-    /// Whether the four numbers are in their ranges.
+    /// Whether the four numbers are in their ranges, as `Agent::open` asks.
     pub fn in_range(&self) -> bool
         ensures { IsTrue result ↔ InRange (options_of self.now) }
     {

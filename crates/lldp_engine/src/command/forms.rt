@@ -79,8 +79,8 @@ pub(crate) fn next_number(
     lldp_text::number(word, least, greatest)
 }
 
-/// The number of the port that the next word names. A word that is missing is `Unknown`, one that
-/// names no port is `NoSuchPort`.
+/// The number of the port that the next word names, which exists. A word that is missing is
+/// `Unknown`, one that names no port is `NoSuchPort`.
 pub fn next_port<A: Allocator>(agent: &Agent<A>, words: &mut Words<'_>) -> Result<u8, CommandFault>
     ensures said { on_ok (λ p. (p, words.new)) result
         ≡ port_said (names_of agent.now) words.old }

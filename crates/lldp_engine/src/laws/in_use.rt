@@ -10,7 +10,7 @@ ghost use Rattle.lldp_engine.specs.Laws.InUse.{WouldLimitBelow, HoldAtMost};
 /// more neighbors; and a limit may be set exactly where it is 1 to that of opening and every port
 /// holds at most so many.
 pub fn limits_below_what_ports_hold_are_in_use()
-    ensures told { (agent : AgentState) (line : List ℕ) →
+    ensures refused { (agent : AgentState) (line : List ℕ) →
         (command_given agent line ≡ Err InUse) ↔ WouldLimitBelow agent line }
     ensures allowed { (agent : AgentState) (most : ℕ) → AllowsSetting agent (limit most)
         ↔ ((1 ≤ most) × (most ≤ agent.configuration.capacity) × HoldAtMost agent most) }

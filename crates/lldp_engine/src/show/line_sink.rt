@@ -5,8 +5,8 @@ ghost use Rattle.lldp_engine.specs.LineRoom.{LendsRoom};
 
 use lldp_text::Writer;
 
-/// What takes the lines of a show, one after another. A sink that can fail may keep its fault, and
-/// be done from then on.
+/// What takes the lines of a show, one after another: it lends the room of a line and takes what is
+/// written there. A sink that can fail may keep its fault, and be done from then on.
 pub trait LineSink {
     /// How it is after it took a line.
     ghost takes: { Self → Self → List ℕ → Type 0 };

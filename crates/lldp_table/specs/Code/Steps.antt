@@ -1,4 +1,5 @@
--- What each call makes of what a table shows, and what it answers.
+-- What each call makes of what a table shows, and what it answers. Callers compute with it; `Standing` says what it
+-- means.
 use Rattle.std.specs.Prelude.{ℕ, ◌-◌, not, if◌then◌else◌, nat_lt, max, List, [], ◌∷◌, ◌++◌, length, filter, map, filter_map, Option, Some, None}
 use Rattle.lldp_pdu.specs.Msap.{MsapId}
 use Rattle.lldp_table.specs.Events.{Neighbor, Call, learn, forget, purge, tick, set_limit}

@@ -8,8 +8,8 @@ abbrev pub a_tick_before : Neighbor → Neighbor
 a_tick_before neighbor = record neighbor { left = neighbor.left + 1 }
 
 -- what a frame tells of its neighbor, all of whose TTL is left
-abbrev pub told_by : MsapId → ℕ → List ℕ → Neighbor
-told_by name ttl octets = record { msap = name; octets = octets; ttl = ttl; left = ttl }
+abbrev pub just_stored : MsapId → ℕ → List ℕ → Neighbor
+just_stored name ttl octets = record { msap = name; octets = octets; ttl = ttl; left = ttl }
 
 -- the call sets a limit
 abbrev pub sets_limit : Call → Bool

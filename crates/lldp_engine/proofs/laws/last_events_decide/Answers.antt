@@ -1,6 +1,6 @@
 use Rattle.std.proofs.Common.{subst, sym}
 use Rattle.lldp_engine.specs.Laws.LastSet.{IsLastStatus, IsLastLink}
-use Rattle.lldp_engine.proofs.LastSetLemmas.{status_is_last, last_is_status, link_is_last, last_is_link, configuration_is_last}
+use Rattle.lldp_engine.proofs.ForLaws.LastSet.{status_is_last, last_is_status, link_is_last, last_is_link, configuration_is_last}
 use Rattle.lldp_engine.proofs.laws.last_events_decide.Goals as goal
 
 pub returns-clause-status : goal.returns-clause-status

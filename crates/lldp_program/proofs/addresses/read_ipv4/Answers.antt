@@ -1,5 +1,5 @@
 use Rattle.std.proofs.Common.{rules}
-use Rattle.lldp_program.proofs.AddressLemmas.{not_address}
+use Rattle.lldp_program.proofs.Words.Addresses.{not_address}
 use Rattle.lldp_program.proofs.addresses.read_ipv4.Goals as goal
 
 pub returns-in_err-address : goal.returns-in_err-address

@@ -1,5 +1,5 @@
 use Rattle.std.proofs.Common.{rules, ◌≡◌, refl, slice_index_or, arith}
-use Rattle.lldp_program.proofs.AddressLemmas.{decoded, not_decoded}
+use Rattle.lldp_program.proofs.Words.Addresses.{decoded, not_decoded}
 use Rattle.lldp_program.proofs.addresses.read_mac.Goals as goal
 
 pub returns-in_err-ok : goal.returns-in_err-ok

@@ -2,7 +2,7 @@ use Rattle.std.proofs.Common.{arith, refl}
 use Rattle.clap.specs.Words.{without_minus}
 use Rattle.clap.proofs.CallerReads.{signed_reads}
 use Rattle.std.specs.Str.Parse.{ParsesUnsigned, ExplainsUnsignedError, HasUnsignedDigitsIfOk}
-use Rattle.lldp_program.proofs.UsageLemmas.{number_written}
+use Rattle.lldp_program.proofs.Words.Usage.{number_written}
 use Rattle.lldp_program.proofs.arguments.connections_of.Goals as goal
 
 pub unwrap-requires : goal.unwrap-requires

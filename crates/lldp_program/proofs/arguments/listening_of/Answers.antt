@@ -1,7 +1,7 @@
 use Rattle.std.specs.Str.Parse.{ParsesUnsigned, ExplainsUnsignedError, HasUnsignedDigitsIfOk}
 use Rattle.std.proofs.Common.{codes, refl}
-use Rattle.lldp_program.proofs.ArgumentLemmas.{gives_number, may_give_number}
-use Rattle.lldp_program.proofs.UsageLemmas.{listens, listens_not}
+use Rattle.lldp_program.proofs.Words.Parsed.{gives_number, may_give_number}
+use Rattle.lldp_program.proofs.Words.Usage.{listens, listens_not}
 use Rattle.lldp_program.proofs.arguments.listening_of.Goals as goal
 
 pub returns-in-None : goal.returns-in-None

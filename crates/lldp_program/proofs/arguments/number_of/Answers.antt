@@ -1,6 +1,6 @@
 use Rattle.std.proofs.Common.{◌≡◌, ◌∙◌, sym, ap, arith, refl, Some}
 use Rattle.clap.specs.Lexer.{without_minus}
-use Rattle.lldp_program.proofs.UsageLemmas.{reads_byte}
+use Rattle.lldp_program.proofs.Words.Usage.{reads_byte}
 use Rattle.std.specs.Prelude.{unwrap_or}
 use Rattle.clap.proofs.CallerReads.{signed_reads}
 use Rattle.std.specs.Str.Parse.{ParsesUnsigned, ExplainsUnsignedError, HasUnsignedDigitsIfOk}

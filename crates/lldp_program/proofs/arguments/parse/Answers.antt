@@ -1,5 +1,5 @@
 use Rattle.std.proofs.lemmas.Result.{IfOk-weaker}
-use Rattle.lldp_program.proofs.UsageLemmas.{parse_rows, parse_kinds}
+use Rattle.lldp_program.proofs.Words.Usage.{parse_rows, parse_kinds}
 use Rattle.lldp_program.proofs.arguments.parse.Goals as goal
 
 pub returns : goal.returns

@@ -6,8 +6,8 @@ use Rattle.clap.specs.Matches.{found_of}
 use Rattle.clap.proofs.WalkLemmas.{first_value-rows, one_text-rows, raw_values-rows}
 use Rattle.lldp_program.specs.Usage.{role_named, AsksMac, AsksManagement, HasBadAddress, WritesNoIpv4, WritesNoMac}
 use Rattle.lldp_program.specs.declared.arguments.AddressFault.TheVariants.{Management}
-use Rattle.lldp_program.proofs.ArgumentLemmas.{gives_number, gives_text}
-use Rattle.lldp_program.proofs.UsageLemmas.{ports_named}
+use Rattle.lldp_program.proofs.Words.Parsed.{gives_number, gives_text}
+use Rattle.lldp_program.proofs.Words.Usage.{ports_named}
 use Rattle.lldp_program.proofs.arguments.read_options.Goals as goal
 
 pub given-requires : goal.given-requires

@@ -1,7 +1,7 @@
 use Rattle.std.proofs.Common.{◌∙◌, ap, refl, Some}
 use Rattle.clap.specs.Walk.{Rule, rule_of}
 use Rattle.clap.specs.declared.builder.arg.Arg.{Arg}
-use Rattle.lldp_program.proofs.UsageLemmas.{role_ruled}
+use Rattle.lldp_program.proofs.Words.Usage.{role_ruled}
 use Rattle.lldp_program.proofs.arguments.role.Goals as goal
 
 pub returns : goal.returns

@@ -1,5 +1,5 @@
 use Rattle.std.proofs.Common.{arith}
-use Rattle.lldp_program.proofs.BufferLemmas.{held_moved, held_there}
+use Rattle.lldp_program.proofs.Lines.Held.{held_moved, held_there}
 use Rattle.lldp_program.proofs.buffer.hold.Goals as goal
 
 pub returns-then-start-gt0-clause-held : goal.returns-then-start-gt0-clause-held

@@ -1,7 +1,7 @@
 use Rattle.std.proofs.Common.{refl}
 use Rattle.lldp_text.specs.Number.{number_of}
 use Rattle.lldp_program.specs.Forms.{of_command, tick_form, form_of}
-use Rattle.lldp_program.proofs.SayingLemmas.{command_begins, counted, skips}
+use Rattle.lldp_program.proofs.Sayings.{command_begins, counted, skips}
 use Rattle.lldp_program.proofs.fixed.first_words_decide_forms.Goals as goal
 
 pub returns-clause-words : goal.returns-clause-words

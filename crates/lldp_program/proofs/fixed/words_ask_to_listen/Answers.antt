@@ -1,5 +1,5 @@
-use Rattle.lldp_program.proofs.ListeningLemmas.{asked_by_words}
-use Rattle.lldp_program.proofs.ServeLemmas.{faults_counted}
+use Rattle.lldp_program.proofs.Words.Listening.{asked_by_words}
+use Rattle.lldp_program.proofs.Serving.{faults_counted}
 use Rattle.lldp_program.proofs.fixed.words_ask_to_listen.Goals as goal
 
 pub returns-clause-words : goal.returns-clause-words

@@ -1,5 +1,5 @@
 use Rattle.std.proofs.Common.{arith, sym, ap, ◌∙◌, ◌≡◌, ◌∷◌, ◌++◌, List, ℕ, length, ◌<◌}
-use Rattle.lldp_program.proofs.PlainLemmas.{plain_reading}
+use Rattle.lldp_program.proofs.Lines.Plain.{plain_reading}
 use Rattle.lldp_program.proofs.line.plain_frame.Goals as goal
 
 pub returns-in-Some-find_port-clause-reads : goal.returns-in-Some-find_port-clause-reads

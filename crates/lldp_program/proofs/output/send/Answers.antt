@@ -1,7 +1,7 @@
 use Rattle.std.proofs.Common.{arith, rules}
 use Rattle.std.proofs.lemmas.List.{take_rest}
 use Rattle.std.proofs.lemmas.Result.{err_from_is_err_and}
-use Rattle.lldp_program.proofs.Written.{next_written, cut_off_at}
+use Rattle.lldp_program.proofs.Texts.Written.{next_written, cut_off_at}
 use Rattle.lldp_program.proofs.output.send.Goals as goal
 
 pub loop-sent-preserved : goal.loop-sent-preserved

@@ -1,5 +1,5 @@
 use Rattle.std.proofs.Common.{rules, arith}
-use Rattle.lldp_program.proofs.ProgramLemmas.{run_kept}
+use Rattle.lldp_program.proofs.Statuses.{run_kept}
 use Rattle.lldp_program.proofs.program.run_devices.Goals as goal
 
 pub returns-in-Err-clause-ran : goal.returns-in-Err-clause-ran

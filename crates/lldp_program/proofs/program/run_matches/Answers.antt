@@ -2,8 +2,8 @@ use Rattle.std.proofs.Common.{◌∙◌, sym, codes, rules}
 use Rattle.clap.specs.Matches.{found_of}
 use Rattle.clap.proofs.WalkLemmas.{one_text-rows}
 use Rattle.lldp_engine.specs.Options.{options_of}
-use Rattle.lldp_program.proofs.ProgramLemmas.{opened_ran}
-use Rattle.lldp_program.proofs.UsageLemmas.{not_asked, was_asked}
+use Rattle.lldp_program.proofs.Statuses.{opened_ran}
+use Rattle.lldp_program.proofs.Words.Usage.{not_asked, was_asked}
 use Rattle.lldp_program.proofs.program.run_matches.Goals as goal
 
 pub returns-in-Ok-open-clause-ran : goal.returns-in-Ok-open-clause-ran

@@ -1,5 +1,5 @@
 use Rattle.std.proofs.Common.{[]}
-use Rattle.lldp_engine.proofs.HeadlineLemmas.{promised}
+use Rattle.lldp_engine.proofs.Headline.{promised}
 use Rattle.lldp_program.proofs.serve.listen.Goals as goal
 
 pub returns-in_default-clause-headline : goal.returns-in_default-clause-headline

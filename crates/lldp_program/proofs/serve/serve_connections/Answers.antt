@@ -1,8 +1,8 @@
 use Rattle.std.proofs.Common.{arith, refl, sym, ap, ◌∙◌, ◌∷◌, []}
-use Rattle.lldp_engine.proofs.HeadlineLemmas.{promised}
-use Rattle.lldp_program.specs.Doors.{Visit, logged, refused}
+use Rattle.lldp_engine.proofs.Headline.{promised}
+use Rattle.lldp_program.specs.Acceptors.{Visit, logged, refused}
 use Rattle.lldp_program.specs.Serving.{calls_of}
-use Rattle.lldp_program.proofs.ServeLemmas.{keeps_on_then, at_most_one, logged_none, logged_then, logged_visit}
+use Rattle.lldp_program.proofs.Serving.{keeps_on_then, at_most_one, logged_none, logged_then, logged_visit}
 use Rattle.lldp_program.proofs.serve.serve_connections.Goals as goal
 
 pub overflow_add-faulty : goal.overflow_add-faulty
@@ -24,7 +24,7 @@ loop-served-preserved g c =
         (c.loop-served.agent, inv.runs.1, ran.run),
         omega (arith, inv.runs.2),
         omega (arith, inv.runs.3, c.count_fault-faulty.ensures),
-        logged_visit inv.runs.0 visit _ _ _ _ inv.runs.4 c.in-Ok.ensures.asked ran.told_it,
+        logged_visit inv.runs.0 visit _ _ _ _ inv.runs.4 c.in-Ok.ensures.asked ran.recorded,
       );
       keeps = λ past stands. keeps_on_then past _ _ (inv.keeps past stands) c.run.ensures.headline;
     }

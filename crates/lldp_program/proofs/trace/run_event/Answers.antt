@@ -1,6 +1,6 @@
 use Rattle.std.proofs.Common.{refl}
 use Rattle.lldp_engine.specs.Event.{event_of}
-use Rattle.lldp_program.proofs.SentLemmas.{event_runs}
+use Rattle.lldp_program.proofs.Texts.Sent.{event_runs}
 use Rattle.lldp_program.proofs.trace.run_event.Goals as goal
 
 pub returns : goal.returns

@@ -1,5 +1,5 @@
 use Rattle.std.proofs.Common.{◌≡◌, ◌≤◌, ◌<◌, ◌+◌, ◌^◌, take}
-use Rattle.lldp_program.proofs.Progress.{Progress}
+use Rattle.lldp_program.proofs.Runs.Progress.{Progress}
 use Rattle.lldp_program.proofs.trace.run_trace.Given as goal
 
 abbrev pub invariant-loop-reads : goal.invariant-loop-reads

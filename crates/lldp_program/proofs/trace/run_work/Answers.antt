@@ -1,5 +1,5 @@
 use Rattle.std.proofs.Common.{rules}
-use Rattle.lldp_program.proofs.RunLemmas.{nothing_runs, show_runs, fault_runs}
+use Rattle.lldp_program.proofs.Runs.Joined.{nothing_runs, show_runs, fault_runs}
 use Rattle.lldp_program.proofs.trace.run_work.Goals as goal
 
 pub returns-in-Ok-Skip : goal.returns-in-Ok-Skip

@@ -1,4 +1,4 @@
-use Rattle.lldp_table.proofs.StandingLemmas.{carries}
+use Rattle.lldp_table.proofs.Standing.Calls.{carries}
 use Rattle.lldp_table.proofs.laws.calls_carry_standing.Goals as goal
 
 pub returns : goal.returns

@@ -1,7 +1,7 @@
 use Rattle.lldp_table.specs.Events.{events_of}
-use Rattle.lldp_table.proofs.LiveLemmas.{last_stored_from_held, held_from_last_stored}
-use Rattle.lldp_table.proofs.ListLemmas.{sound_left, stands_left}
-use Rattle.lldp_table.proofs.OrderLemmas.{neighbors_in_order}
+use Rattle.lldp_table.proofs.Live.LastStored.{last_stored_from_held, held_from_last_stored}
+use Rattle.lldp_table.proofs.Standing.Lists.{sound_left, stands_left}
+use Rattle.lldp_table.proofs.Live.Order.{neighbors_in_order}
 use Rattle.lldp_table.proofs.laws.calls_leave_last_stored_frames.Goals as goal
 
 pub returns-clause-held : goal.returns-clause-held

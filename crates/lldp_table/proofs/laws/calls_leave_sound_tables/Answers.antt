@@ -1,4 +1,4 @@
-use Rattle.lldp_table.proofs.SoundLemmas.{sound_open, sound_after}
+use Rattle.lldp_table.proofs.Standing.Sound.{sound_open, sound_after}
 use Rattle.lldp_table.proofs.laws.calls_leave_sound_tables.Goals as goal
 
 pub returns-clause-opened : goal.returns-clause-opened

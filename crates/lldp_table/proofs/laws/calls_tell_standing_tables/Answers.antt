@@ -1,5 +1,5 @@
-use Rattle.lldp_table.proofs.StandingLemmas.{stands_open, learn_answers, events-more}
-use Rattle.lldp_table.proofs.LiveLemmas.{aged_out-count}
+use Rattle.lldp_table.proofs.Standing.Calls.{stands_open, learn_answers, events-more}
+use Rattle.lldp_table.proofs.Live.LastStored.{aged_out-count}
 use Rattle.lldp_table.proofs.laws.calls_tell_standing_tables.Goals as goal
 
 pub returns-clause-opened : goal.returns-clause-opened

@@ -1,4 +1,4 @@
-use Rattle.lldp_table.proofs.CallLemmas.{learn_dropped}
+use Rattle.lldp_table.proofs.Live.Calls.{learn_dropped}
 use Rattle.lldp_table.proofs.laws.dropped_frames_change_the_timer_alone.Goals as goal
 
 pub returns : goal.returns

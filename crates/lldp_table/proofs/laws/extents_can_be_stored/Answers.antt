@@ -1,4 +1,4 @@
-use Rattle.lldp_table.proofs.ExtentLemmas.{lldpdu_is_extent, kept_is_short}
+use Rattle.lldp_table.proofs.Extents.{lldpdu_is_extent, kept_is_short}
 use Rattle.lldp_table.proofs.laws.extents_can_be_stored.Goals as goal
 
 pub returns-clause-stored : goal.returns-clause-stored

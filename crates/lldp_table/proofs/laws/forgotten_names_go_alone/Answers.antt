@@ -1,4 +1,4 @@
-use Rattle.lldp_table.proofs.CallLemmas.{forget_held, forget_others}
+use Rattle.lldp_table.proofs.Live.Calls.{forget_held, forget_others}
 use Rattle.lldp_table.proofs.laws.forgotten_names_go_alone.Goals as goal
 
 pub returns-clause-held : goal.returns-clause-held

@@ -1,5 +1,5 @@
-use Rattle.lldp_table.proofs.CallLemmas.{limit_is_set, limit_is_opened, set_limit_leaves}
-use Rattle.lldp_table.proofs.ListLemmas.{dropped_where_full}
+use Rattle.lldp_table.proofs.Live.Calls.{limit_is_set, limit_is_opened, set_limit_leaves}
+use Rattle.lldp_table.proofs.Standing.Lists.{dropped_where_full}
 use Rattle.lldp_table.proofs.laws.limits_last_until_the_next.Goals as goal
 
 pub returns-clause-set : goal.returns-clause-set

@@ -1,4 +1,4 @@
-use Rattle.lldp_table.proofs.ListLemmas.{refreshed_is, new_is, dropped_is}
+use Rattle.lldp_table.proofs.Standing.Lists.{refreshed_is, new_is, dropped_is}
 use Rattle.lldp_table.proofs.laws.live_neighbors_decide_answers.Goals as goal
 
 pub returns-clause-refreshed : goal.returns-clause-refreshed

@@ -1,4 +1,4 @@
-use Rattle.lldp_table.proofs.CallLemmas.{purge_leaves}
+use Rattle.lldp_table.proofs.Live.Calls.{purge_leaves}
 use Rattle.lldp_table.proofs.laws.purges_end_timers_too.Goals as goal
 
 pub returns : goal.returns

@@ -1,4 +1,4 @@
-use Rattle.lldp_table.proofs.CallLemmas.{learn_held, learn_others}
+use Rattle.lldp_table.proofs.Live.Calls.{learn_held, learn_others}
 use Rattle.lldp_table.proofs.laws.stored_frames_replace_their_name_alone.Goals as goal
 
 pub returns-clause-held : goal.returns-clause-held

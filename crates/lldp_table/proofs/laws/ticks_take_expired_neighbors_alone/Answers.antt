@@ -1,4 +1,4 @@
-use Rattle.lldp_table.proofs.CallLemmas.{tick_held, tick_timer, tick_limit}
+use Rattle.lldp_table.proofs.Live.Calls.{tick_held, tick_timer, tick_limit}
 use Rattle.lldp_table.proofs.laws.ticks_take_expired_neighbors_alone.Goals as goal
 
 pub returns-clause-held : goal.returns-clause-held

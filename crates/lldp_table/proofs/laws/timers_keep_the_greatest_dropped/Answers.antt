@@ -1,5 +1,5 @@
 use Rattle.lldp_table.specs.Events.{events_of}
-use Rattle.lldp_table.proofs.OrderLemmas.{greatest_dropped, none_dropped_above}
+use Rattle.lldp_table.proofs.Live.Order.{greatest_dropped, none_dropped_above}
 use Rattle.lldp_table.proofs.laws.timers_keep_the_greatest_dropped.Goals as goal
 
 pub returns-clause-one : goal.returns-clause-one

@@ -1,6 +1,6 @@
 use Rattle.std.proofs.Common.{sym, arith, length-take-le}
 use Rattle.std.proofs.lemmas.List.Sorted.{length_permutation}
-use Rattle.lldp_table.proofs.AgeLemmas.{aging_begins, aging_goes_on, aging_ends, kept_some}
+use Rattle.lldp_table.proofs.Ageing.Ticks.{aging_begins, aging_goes_on, aging_ends, kept_some}
 use Rattle.lldp_table.proofs.order.age_out.Goals as goal
 
 pub loop-spent-init : goal.loop-spent-init

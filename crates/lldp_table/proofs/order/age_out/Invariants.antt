@@ -1,6 +1,6 @@
 -- The slots taken out so far are those that expired first.
 use Rattle.std.proofs.Common.{◌≤◌, ◌+◌}
-use Rattle.lldp_table.proofs.AgeLemmas.{IsAging}
+use Rattle.lldp_table.proofs.Ageing.Ticks.{IsAging}
 use Rattle.lldp_table.proofs.order.age_out.Given as goal
 
 abbrev pub invariant-loop-spent : goal.invariant-loop-spent

@@ -1,6 +1,6 @@
 use Rattle.std.proofs.Common.{◌≡◌, false, sym, ◌∙◌, ap, length, length-set, nat_eq}
 use Rattle.std.specs.List.{list_any}
-use Rattle.lldp_table.proofs.DueLemmas.{entered, holds-dues, queue_entered}
+use Rattle.lldp_table.proofs.Ageing.Due.{entered, holds-dues, queue_entered}
 use Rattle.lldp_table.proofs.queue.enter_into.Goals as goal
 
 pub returns-clause-after : goal.returns-clause-after

@@ -1,7 +1,7 @@
 use Rattle.std.proofs.Common.{◌≡◌, ◌+◌, false, sym, ◌∙◌, ap, length, length-set, nat_eq, arith}
 use Rattle.std.specs.List.{list_any}
 use Rattle.lldp_table.specs.Code.Queue.{dues, total}
-use Rattle.lldp_table.proofs.DueLemmas.{entered_last, holds-dues, queue_entered}
+use Rattle.lldp_table.proofs.Ageing.Due.{entered_last, holds-dues, queue_entered}
 use Rattle.lldp_table.proofs.queue.enter_last.Goals as goal
 
 pub returns-clause-after : goal.returns-clause-after

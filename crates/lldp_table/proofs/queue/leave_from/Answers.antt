@@ -1,5 +1,5 @@
 use Rattle.std.proofs.Common.{arith, sym, ◌∙◌}
-use Rattle.lldp_table.proofs.DueLemmas.{left_at, holds-dues, queue_left, two_fit, total_left_behind, total_left_last}
+use Rattle.lldp_table.proofs.Ageing.Due.{left_at, holds-dues, queue_left, two_fit, total_left_behind, total_left_last}
 use Rattle.lldp_table.proofs.queue.leave_from.Goals as goal
 use Rattle.std.proofs.lemmas.Grind.{common_steps}
 

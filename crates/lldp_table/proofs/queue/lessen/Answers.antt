@@ -1,5 +1,5 @@
 use Rattle.std.proofs.Common.{arith}
-use Rattle.lldp_table.proofs.DueLemmas.{lessened, within_times}
+use Rattle.lldp_table.proofs.Ageing.Due.{lessened, within_times}
 use Rattle.lldp_table.proofs.queue.lessen.Goals as goal
 
 pub returns-clause-after : goal.returns-clause-after

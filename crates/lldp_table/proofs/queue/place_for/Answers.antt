@@ -1,5 +1,5 @@
 use Rattle.std.proofs.Common.{◌∙◌, arith}
-use Rattle.lldp_table.proofs.DueLemmas.{enters_here, enters_behind}
+use Rattle.lldp_table.proofs.Ageing.Due.{enters_here, enters_behind}
 use Rattle.lldp_table.proofs.queue.place_for.Goals as goal
 
 pub returns-then-gap-rest-clause-place : goal.returns-then-gap-rest-clause-place

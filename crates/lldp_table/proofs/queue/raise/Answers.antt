@@ -1,5 +1,5 @@
 use Rattle.std.proofs.Common.{arith}
-use Rattle.lldp_table.proofs.DueLemmas.{raised, within_times}
+use Rattle.lldp_table.proofs.Ageing.Due.{raised, within_times}
 use Rattle.lldp_table.proofs.queue.raise.Goals as goal
 
 pub returns-clause-after : goal.returns-clause-after

@@ -3,7 +3,7 @@ use Rattle.lldp_pdu.specs.Tlv.{TlvUnit}
 use Rattle.lldp_pdu.specs.Msap.{MsapId}
 use Rattle.lldp_pdu.specs.Cut.{cut}
 use Rattle.lldp_pdu.specs.Lldpdu.{msap_of, tlv_at}
-use Rattle.lldp_table.proofs.MsapLemmas.{same_parts}
+use Rattle.lldp_table.proofs.Msap.{same_parts}
 use Rattle.lldp_table.proofs.slot.msap_in.Goals as goal
 
 -- the bodies of the first two TLVs, one after the other

@@ -1,5 +1,5 @@
 use Rattle.std.proofs.Common.{length-set, ◌∙◌, arith}
-use Rattle.lldp_table.proofs.DueLemmas.{sum_step, done_step, here_step, rest_step}
+use Rattle.lldp_table.proofs.Ageing.Due.{sum_step, done_step, here_step, rest_step}
 use Rattle.lldp_table.proofs.times.lefts_in.Goals as goal
 
 pub loop-slot-preserved : goal.loop-slot-preserved

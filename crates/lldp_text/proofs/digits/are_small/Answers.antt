@@ -1,5 +1,5 @@
 use Rattle.std.proofs.Common.{arith}
-use Rattle.lldp_text.proofs.LaneLemmas.{empty_mask}
+use Rattle.lldp_text.proofs.Lanes.{empty_mask}
 use Rattle.lldp_text.proofs.digits.are_small.Goals as goal
 
 pub returns : goal.returns

@@ -1,5 +1,5 @@
 use Rattle.std.proofs.Common.{ℕ, List, [], ◌∷◌, refl}
-use Rattle.lldp_text.proofs.LaneLemmas.{turns_are}
+use Rattle.lldp_text.proofs.Lanes.{turns_are}
 use Rattle.lldp_text.proofs.digits.by_turns.Goals as goal
 
 -- one lane of the first, one of the second, and so on

@@ -1,6 +1,6 @@
 use Rattle.std.proofs.Common.{arith}
 use Rattle.std.proofs.lemmas.Simd.{get_or-put_chunk_below}
-use Rattle.lldp_text.proofs.DigitLemmas.{pair_at, block_small}
+use Rattle.lldp_text.proofs.DigitBlocks.{pair_at, block_small}
 use Rattle.lldp_text.proofs.digits.decode_block.Goals as goal
 
 pub returns-clause-pairs : goal.returns-clause-pairs

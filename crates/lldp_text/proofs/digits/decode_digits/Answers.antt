@@ -1,7 +1,7 @@
 use Rattle.std.proofs.Common.{◌-◌, ◌∙◌, length, arith, ap, sym, Ok, inl, inr, refl}
-use Rattle.lldp_text.proofs.LaneLemmas.{zeros_small}
+use Rattle.lldp_text.proofs.Lanes.{zeros_small}
 use Rattle.std.proofs.lemmas.Bool.{cases_lt}
-use Rattle.lldp_text.proofs.DigitLemmas.{all_read, digits_of_ok}
+use Rattle.lldp_text.proofs.DigitBlocks.{all_read, digits_of_ok}
 use Rattle.lldp_text.proofs.digits.decode_digits.Goals as goal
 
 pub blocks-2-init : goal.blocks-2-init

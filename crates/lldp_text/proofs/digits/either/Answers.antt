@@ -1,4 +1,4 @@
-use Rattle.lldp_text.proofs.LaneLemmas.{each_small, both_small}
+use Rattle.lldp_text.proofs.Lanes.{each_small, both_small}
 use Rattle.lldp_text.proofs.digits.either.Goals as goal
 
 pub returns : goal.returns

@@ -1,8 +1,8 @@
 use Rattle.std.proofs.Common.{◌∙◌, ap, ◌/◌, ◌^◌, bit_and, ◌+◌, get_or}
 use Rattle.std.proofs.lemmas.Simd.{get_or-put_chunk_below, get_or-chunk, length-chunk}
 use Rattle.std.specs.Simd.Lanes.{chunk}
-use Rattle.lldp_text.proofs.LaneLemmas.{splat_lane, low_bits}
-use Rattle.lldp_text.proofs.DigitLemmas.{digits_at}
+use Rattle.lldp_text.proofs.Lanes.{splat_lane, low_bits}
+use Rattle.lldp_text.proofs.DigitBlocks.{digits_at}
 use Rattle.lldp_text.proofs.digits.encode_block.Goals as goal
 
 pub returns-clause-pairs : goal.returns-clause-pairs

@@ -1,6 +1,6 @@
 use Rattle.std.proofs.Common.{◌-◌, ◌*◌, ◌+◌, ◌∙◌, length, arith, inl, inr}
 use Rattle.std.proofs.lemmas.Bool.{cases_lt}
-use Rattle.lldp_text.proofs.DigitLemmas.{all_written}
+use Rattle.lldp_text.proofs.DigitBlocks.{all_written}
 use Rattle.lldp_text.proofs.digits.encode_digits.Goals as goal
 
 pub returns : goal.returns

@@ -1,5 +1,5 @@
 use Rattle.std.proofs.Common.{refl}
-use Rattle.lldp_text.proofs.LaneLemmas.{octet_at}
+use Rattle.lldp_text.proofs.Lanes.{octet_at}
 use Rattle.lldp_text.proofs.digits.octets_of.Goals as goal
 
 pub returns-clause-pairs : goal.returns-clause-pairs

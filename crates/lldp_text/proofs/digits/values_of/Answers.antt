@@ -1,7 +1,7 @@
 use Rattle.std.proofs.Common.{◌≡◌, ℕ, map, replicate, refl, sym}
 use Rattle.std.proofs.lemmas.List.{map-id}
 use Rattle.std.proofs.lemmas.Simd.{zip2_of_maps, splat_is_map}
-use Rattle.lldp_text.proofs.LaneLemmas.{chosen, values_are}
+use Rattle.lldp_text.proofs.Lanes.{chosen, values_are}
 use Rattle.lldp_text.proofs.digits.values_of.Goals as goal
 
 pub returns : goal.returns

@@ -1,4 +1,4 @@
-use Rattle.lldp_transmit.proofs.Sending.{waiting_reads, due_reads, open_reads, credit_reads, least_once, sent_reads}
+use Rattle.lldp_transmit.proofs.Sending.{waiting_reads, due_reads, chosen_due_reads, open_reads, credit_reads, least_once, sent_reads}
 use Rattle.lldp_transmit.proofs.laws.positions_tell_sending.Goals as goal
 
 pub returns-clause-waiting : goal.returns-clause-waiting
@@ -18,3 +18,6 @@ returns-clause-due c = due_reads
 
 pub returns-clause-one_credit : goal.returns-clause-one_credit
 returns-clause-one_credit c = least_once
+
+pub returns-clause-chosen : goal.returns-clause-chosen
+returns-clause-chosen c = chosen_due_reads

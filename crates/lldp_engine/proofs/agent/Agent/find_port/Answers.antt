@@ -1,7 +1,7 @@
 use Rattle.std.proofs.Common.{ℕ, map, List, ap, ◌∙◌}
 use Rattle.lldp_engine.specs.AgentState.{AgentState, PortState}
 use Rattle.lldp_engine.specs.Place.{place_from}
-use Rattle.lldp_engine.proofs.ReaderLemmas.{names_read, place_exists}
+use Rattle.lldp_engine.proofs.Readers.{names_read, place_exists}
 use Rattle.lldp_engine.proofs.agent.Agent.find_port.Goals as goal
 
 pub returns-clause-exists : goal.returns-clause-exists

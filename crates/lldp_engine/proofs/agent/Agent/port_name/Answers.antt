@@ -1,6 +1,6 @@
 use Rattle.std.proofs.Common.{ℕ, get_or, List, Some, ap, sym, ◌∙◌}
 use Rattle.lldp_engine.specs.AgentState.{AgentState, PortState}
-use Rattle.lldp_engine.proofs.ReaderLemmas.{port_reads}
+use Rattle.lldp_engine.proofs.Readers.{port_reads}
 use Rattle.lldp_engine.proofs.agent.Agent.port_name.Goals as goal
 
 pub returns-clause-past : goal.returns-clause-past

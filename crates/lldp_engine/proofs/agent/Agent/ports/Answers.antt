@@ -1,6 +1,6 @@
 use Rattle.std.proofs.Common.{length, ap, arith}
 use Rattle.lldp_engine.specs.AgentState.{AgentState}
-use Rattle.lldp_engine.proofs.ReaderLemmas.{number_reads}
+use Rattle.lldp_engine.proofs.Readers.{number_reads}
 use Rattle.lldp_engine.proofs.agent.Agent.ports.Goals as goal
 
 pub returns-clause-past : goal.returns-clause-past

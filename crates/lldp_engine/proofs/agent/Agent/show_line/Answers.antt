@@ -3,8 +3,8 @@ use Rattle.std.specs.Option.{option_map}
 use Rattle.std.specs.Prelude.{slice_get}
 use Rattle.lldp_engine.specs.AgentState.{AgentState}
 use Rattle.lldp_engine.specs.Lines.{lines_of, octets_of}
-use Rattle.lldp_engine.proofs.LinesBound.{within}
-use Rattle.lldp_engine.proofs.OneLineKept.{is_short, wanted_line}
+use Rattle.lldp_engine.proofs.Lines.Bound.{within}
+use Rattle.lldp_engine.proofs.Lines.OneKept.{is_short, wanted_line}
 use Rattle.lldp_engine.proofs.agent.Agent.show_line.Goals as goal
 
 pub into_line-requires : goal.into_line-requires

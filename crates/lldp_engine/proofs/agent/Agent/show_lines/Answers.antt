@@ -1,4 +1,4 @@
-use Rattle.lldp_engine.proofs.LinesBound.{few_lines}
+use Rattle.lldp_engine.proofs.Lines.Bound.{few_lines}
 use Rattle.lldp_engine.proofs.agent.Agent.show_lines.Goals as goal
 
 pub returns-in-Neighbors-clause-few : goal.returns-in-Neighbors-clause-few

@@ -1,8 +1,8 @@
 use Rattle.std.proofs.Common.{get_or, List, ap, ◌∙◌}
 use Rattle.lldp_engine.specs.AgentState.{AgentState, PortState}
 use Rattle.lldp_engine.specs.Past.{past_of}
-use Rattle.lldp_engine.proofs.ReaderLemmas.{port_reads}
-use Rattle.lldp_engine.proofs.HeadlineLemmas.{status_is}
+use Rattle.lldp_engine.proofs.Readers.{port_reads}
+use Rattle.lldp_engine.proofs.Headline.{status_is}
 use Rattle.lldp_engine.proofs.agent.Agent.status.Goals as goal
 
 pub returns-clause-past : goal.returns-clause-past

@@ -1,7 +1,7 @@
 use Rattle.std.proofs.Common.{◌≡◌, ◌<◌, ℕ, length, ap, sym, ◌∙◌, subst, arith}
 use Rattle.std.specs.List.{AllByRecursion}
 use Rattle.lldp_table.specs.Code.Room.{with_items}
-use Rattle.lldp_table.proofs.RoomLemmas.{with_items_is}
+use Rattle.lldp_table.proofs.Slots.Room.{with_items_is}
 use Rattle.lldp_transmit.specs.declared.event.Mark.{Mark}
 use Rattle.lldp_engine.specs.Event.{event_of}
 use Rattle.lldp_engine.specs.AgentState.{AgentState, Allows}
@@ -11,12 +11,12 @@ use Rattle.lldp_engine.specs.Sound.{AreSound}
 use Rattle.lldp_engine.specs.Standing.{Stands}
 use Rattle.lldp_engine.specs.Port.Event.{whose}
 use Rattle.lldp_engine.specs.Code.Step.{agent_after, agent_marks, ports_step}
-use Rattle.lldp_engine.proofs.AllowedLemmas.{configured-capacity}
-use Rattle.lldp_engine.proofs.AnswerLemmas.{promised_step}
-use Rattle.lldp_engine.proofs.HeardLemmas.{octets_for}
-use Rattle.lldp_engine.proofs.SoundLemmas.{can_take, stay_sound, ports_number}
-use Rattle.lldp_engine.proofs.StandingLemmas.{carries, marks_carry}
-use Rattle.lldp_engine.proofs.StepLemmas.{allowed_short, steps_to, marks_to, marks_sent}
+use Rattle.lldp_engine.proofs.OnePort.Allowed.{configured-capacity}
+use Rattle.lldp_engine.proofs.Answered.{promised_step}
+use Rattle.lldp_engine.proofs.OnePort.Heard.{octets_for}
+use Rattle.lldp_engine.proofs.Sound.{can_take, stay_sound, ports_number}
+use Rattle.lldp_engine.proofs.Standing.{carries, marks_carry}
+use Rattle.lldp_engine.proofs.Step.{allowed_short, steps_to, marks_to, marks_sent}
 use Rattle.lldp_engine.proofs.agent.Agent.step.Goals as goal
 
 pub take-requires : goal.take-requires

@@ -4,8 +4,8 @@ use Rattle.lldp_table.specs.Contents.{Contents}
 use Rattle.lldp_table.specs.Standing.{Stands as TableStands}
 use Rattle.lldp_engine.specs.Past.{past_of}
 use Rattle.lldp_engine.specs.Port.Past.{calls_after}
-use Rattle.lldp_engine.proofs.ReaderLemmas.{port_reads, number_reads}
-use Rattle.lldp_engine.proofs.HeadlineLemmas.{table_reads}
+use Rattle.lldp_engine.proofs.Readers.{port_reads, number_reads}
+use Rattle.lldp_engine.proofs.Headline.{table_reads}
 use Rattle.lldp_engine.proofs.agent.Agent.table.Goals as goal
 
 pub returns-clause-past : goal.returns-clause-past

@@ -1,4 +1,4 @@
-use Rattle.lldp_engine.proofs.FramePast.{frame_reads}
+use Rattle.lldp_engine.proofs.Frames.Past.{frame_reads}
 use Rattle.lldp_engine.proofs.agent.Agent.write_frame.Goals as goal
 
 pub returns-clause-past : goal.returns-clause-past

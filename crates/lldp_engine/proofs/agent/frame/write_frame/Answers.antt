@@ -2,7 +2,7 @@ use Rattle.std.proofs.Common.{◌≡◌, ◌++◌}
 use Rattle.lldp_pdu.specs.Frame.{nearest_bridge, lldp_ethertype}
 use Rattle.lldp_pdu.specs.Draft.{lldpdu_octets}
 use Rattle.lldp_engine.specs.Frames.{frame_of, draft_of}
-use Rattle.lldp_engine.proofs.FrameSays.{framed, says_back}
+use Rattle.lldp_engine.proofs.Frames.Says.{framed, says_back}
 use Rattle.lldp_engine.proofs.agent.frame.write_frame.Goals as goal
 
 written : (c : goal.After-append_tlv) → c.append_tlv.new.octets.items

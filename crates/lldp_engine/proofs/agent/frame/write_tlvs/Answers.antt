@@ -1,6 +1,6 @@
 use Rattle.std.proofs.Common.{◌≡◌, rules}
 use Rattle.lldp_transmit.specs.declared.event.Mark.TheVariants.{Ordinary}
-use Rattle.lldp_engine.proofs.FramePuts.{can_tell}
+use Rattle.lldp_engine.proofs.Frames.Puts.{can_tell}
 use Rattle.lldp_engine.proofs.agent.frame.write_tlvs.Goals as goal
 
 pub returns-in-Ordinary-clause-can : goal.returns-in-Ordinary-clause-can

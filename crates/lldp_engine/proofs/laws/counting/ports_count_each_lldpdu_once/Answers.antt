@@ -1,4 +1,4 @@
-use Rattle.lldp_engine.proofs.TallyLemmas.{refused_adds, leaves_adds, whole_adds, faulty_adds}
+use Rattle.lldp_engine.proofs.ForLaws.Tally.{refused_adds, leaves_adds, whole_adds, faulty_adds}
 use Rattle.lldp_engine.proofs.laws.counting.ports_count_each_lldpdu_once.Goals as goal
 
 pub returns-clause-refused : goal.returns-clause-refused

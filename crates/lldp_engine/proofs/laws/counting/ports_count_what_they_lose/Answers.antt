@@ -1,4 +1,4 @@
-use Rattle.lldp_engine.proofs.LossLemmas.{aged_out_is_counted, others_age_none, drop_is_counted, no_drop_is_counted, others_count_none}
+use Rattle.lldp_engine.proofs.ForLaws.Losses.{aged_out_is_counted, others_age_none, drop_is_counted, no_drop_is_counted, others_count_none}
 use Rattle.lldp_engine.proofs.laws.counting.ports_count_what_they_lose.Goals as goal
 
 pub returns-clause-aged_out : goal.returns-clause-aged_out

@@ -1,4 +1,4 @@
-use Rattle.lldp_engine.proofs.TallyLemmas.{sent_is_counted, shutdowns_are_counted}
+use Rattle.lldp_engine.proofs.ForLaws.Tally.{sent_is_counted, shutdowns_are_counted}
 use Rattle.lldp_engine.proofs.laws.counting.ports_count_what_they_sent.Goals as goal
 
 pub returns-clause-sent : goal.returns-clause-sent

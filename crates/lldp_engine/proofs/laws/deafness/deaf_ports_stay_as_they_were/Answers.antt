@@ -1,4 +1,4 @@
-use Rattle.lldp_engine.proofs.DeafLemmas.{tx_only_is_deaf, disabled_is_deaf, down_is_deaf, no_lldp_frame_is_unheard}
+use Rattle.lldp_engine.proofs.ForLaws.Deaf.{tx_only_is_deaf, disabled_is_deaf, down_is_deaf, no_lldp_frame_is_unheard}
 use Rattle.lldp_engine.proofs.laws.deafness.deaf_ports_stay_as_they_were.Goals as goal
 
 pub returns-clause-tx_only : goal.returns-clause-tx_only

@@ -1,4 +1,4 @@
-use Rattle.lldp_engine.proofs.CauseLemmas.{one_more_is_new, others_are_nothing}
+use Rattle.lldp_engine.proofs.ForLaws.Causes.{one_more_is_new, others_are_nothing}
 use Rattle.lldp_engine.proofs.laws.local_changes.new_neighbors_are_one_more.Goals as goal
 
 pub returns-clause-new : goal.returns-clause-new

@@ -1,7 +1,7 @@
 use Rattle.std.proofs.Common.{refl}
 use Rattle.lldp_transmit.specs.declared.event.Cause.TheVariants.{Tick, Change}
 use Rattle.lldp_engine.specs.Event.{tick, set, hostname, description, interval, hold, limit, update}
-use Rattle.lldp_engine.proofs.CauseLemmas.{is_for}
+use Rattle.lldp_engine.proofs.ForLaws.Causes.{is_for}
 use Rattle.lldp_engine.proofs.laws.local_changes.settings_are_local_changes.Goals as goal
 
 pub returns-clause-tick : goal.returns-clause-tick

@@ -1,4 +1,4 @@
-use Rattle.lldp_engine.proofs.OpeningLemmas.{fault_is_first, first_is_fault, none_fails, passed_opens}
+use Rattle.lldp_engine.proofs.ForLaws.Opening.{fault_is_first, first_is_fault, none_fails, passed_opens}
 use Rattle.lldp_engine.proofs.laws.opening.openings_tell_first_faults.Goals as goal
 
 pub returns-clause-fault : goal.returns-clause-fault

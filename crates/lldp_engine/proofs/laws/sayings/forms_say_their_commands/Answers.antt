@@ -5,7 +5,7 @@ use Rattle.lldp_engine.specs.Place.{place_of}
 use Rattle.lldp_engine.specs.AgentState.{names_of}
 use Rattle.lldp_engine.specs.Command.{set}
 use Rattle.lldp_engine.specs.Event.{hostname, description, interval, hold, limit}
-use Rattle.lldp_engine.proofs.SayingLemmas.{text_said, made_said, status_said}
+use Rattle.lldp_engine.proofs.ForLaws.Sayings.{text_said, made_said, status_said}
 use Rattle.lldp_engine.proofs.laws.sayings.forms_say_their_commands.Goals as goal
 
 pub returns-clause-said : goal.returns-clause-said

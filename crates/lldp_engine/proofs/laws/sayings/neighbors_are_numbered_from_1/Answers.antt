@@ -6,7 +6,7 @@ use Rattle.lldp_engine.specs.Keys.{neighbor_key}
 use Rattle.lldp_engine.specs.NeighborLines.{kept_line}
 use Rattle.std.specs.Prelude.{◌++◌, decimal}
 use Rattle.lldp_engine.specs.Laws.FixedTexts.{line_of}
-use Rattle.lldp_engine.proofs.NumberingLemmas.{numbers}
+use Rattle.lldp_engine.proofs.ForLaws.Numbering.{numbers}
 use Rattle.lldp_engine.proofs.laws.sayings.neighbors_are_numbered_from_1.Goals as goal
 
 pub returns-clause-numbers : goal.returns-clause-numbers

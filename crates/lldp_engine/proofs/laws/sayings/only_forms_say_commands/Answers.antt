@@ -1,4 +1,4 @@
-use Rattle.lldp_engine.proofs.OnlyFormsLemmas.{only_its_words, its_words_say_it, only_said, words_are_said, only_given, line_gives, read_by_word, word_is_read}
+use Rattle.lldp_engine.proofs.ForLaws.OnlyForms.{only_its_words, its_words_say_it, only_said, words_are_said, only_given, line_gives, read_by_word, word_is_read}
 use Rattle.lldp_engine.proofs.laws.sayings.only_forms_say_commands.Goals as goal
 
 pub returns-clause-said : goal.returns-clause-said

@@ -1,4 +1,4 @@
-use Rattle.lldp_engine.proofs.EmptiedLemmas.{others_stay_at, own_leaves, refused_leaves}
+use Rattle.lldp_engine.proofs.ForLaws.Emptied.{others_stay_at, own_leaves, refused_leaves}
 use Rattle.lldp_engine.proofs.laws.tables.lldpdus_speak_of_one_neighbor.Goals as goal
 
 pub returns-clause-others : goal.returns-clause-others

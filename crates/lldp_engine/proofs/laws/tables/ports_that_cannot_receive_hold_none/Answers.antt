@@ -1,6 +1,6 @@
 use Rattle.std.proofs.Common.{refl}
 use Rattle.lldp_engine.specs.declared.port.status.Status.TheVariants.{RxAndTx, RxOnly, TxOnly, Disabled}
-use Rattle.lldp_engine.proofs.EmptiedLemmas.{receiving_leaves_tables, deaf_holds_none}
+use Rattle.lldp_engine.proofs.ForLaws.Emptied.{receiving_leaves_tables, deaf_holds_none}
 use Rattle.lldp_engine.proofs.laws.tables.ports_that_cannot_receive_hold_none.Goals as goal
 
 pub returns-clause-rx_and_tx : goal.returns-clause-rx_and_tx

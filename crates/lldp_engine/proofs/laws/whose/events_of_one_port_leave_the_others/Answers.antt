@@ -1,4 +1,4 @@
-use Rattle.lldp_engine.proofs.WhoseLemmas.{frame_leaves_others, link_leaves_others, status_leaves_others}
+use Rattle.lldp_engine.proofs.ForLaws.Whose.{frame_leaves_others, link_leaves_others, status_leaves_others}
 use Rattle.lldp_engine.proofs.laws.whose.events_of_one_port_leave_the_others.Goals as goal
 
 pub returns-clause-frame : goal.returns-clause-frame

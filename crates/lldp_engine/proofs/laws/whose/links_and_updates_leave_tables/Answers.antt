@@ -1,4 +1,4 @@
-use Rattle.lldp_engine.proofs.WhoseLemmas.{link_leaves_tables, setting_leaves_tables, limit_leaves_neighbors}
+use Rattle.lldp_engine.proofs.ForLaws.Whose.{link_leaves_tables, setting_leaves_tables, limit_leaves_neighbors}
 use Rattle.lldp_engine.proofs.laws.whose.links_and_updates_leave_tables.Goals as goal
 
 pub returns-clause-link : goal.returns-clause-link

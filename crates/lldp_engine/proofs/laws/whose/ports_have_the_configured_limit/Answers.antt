@@ -1,4 +1,4 @@
-use Rattle.lldp_engine.proofs.WhoseLemmas.{limits_are_configured, rooms_are_opened}
+use Rattle.lldp_engine.proofs.ForLaws.Whose.{limits_are_configured, rooms_are_opened}
 use Rattle.lldp_engine.proofs.laws.whose.ports_have_the_configured_limit.Goals as goal
 
 pub returns-clause-limit : goal.returns-clause-limit

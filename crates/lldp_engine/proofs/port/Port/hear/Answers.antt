@@ -1,6 +1,6 @@
 use Rattle.std.proofs.Common.{refl}
 use Rattle.lldp_pdu.specs.View.{msap_view}
-use Rattle.lldp_engine.proofs.HeardLemmas.{heard_refused, heard_leaves, heard_tells}
+use Rattle.lldp_engine.proofs.OnePort.Heard.{heard_refused, heard_leaves, heard_tells}
 use Rattle.lldp_engine.proofs.port.Port.hear.Goals as goal
 
 pub returns-in-Err-clause-after : goal.returns-in-Err-clause-after

@@ -1,4 +1,4 @@
-use Rattle.lldp_engine.proofs.LinesTaken.{takes_line}
+use Rattle.lldp_engine.proofs.Lines.Taken.{takes_line}
 use Rattle.lldp_engine.proofs.show.chassis_lines.put_chassis.Goals as goal
 
 pub returns : goal.returns

@@ -1,4 +1,4 @@
-use Rattle.lldp_engine.proofs.LinesTaken.{takes_none, takes_line}
+use Rattle.lldp_engine.proofs.Lines.Taken.{takes_none, takes_line}
 use Rattle.lldp_engine.proofs.show.chassis_lines.put_management.Goals as goal
 
 pub returns-in-Some : goal.returns-in-Some

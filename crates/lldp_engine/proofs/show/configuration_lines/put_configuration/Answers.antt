@@ -1,4 +1,4 @@
-use Rattle.lldp_engine.proofs.LinesTaken.{takes_then}
+use Rattle.lldp_engine.proofs.Lines.Taken.{takes_then}
 use Rattle.lldp_engine.proofs.show.configuration_lines.put_configuration.Goals as goal
 
 pub returns : goal.returns

@@ -1,5 +1,5 @@
 use Rattle.lldp_engine.specs.ConfigurationLines.{status_line}
-use Rattle.lldp_engine.proofs.LinesTaken.{takes_none, takes_next_line, takes_rest_lines}
+use Rattle.lldp_engine.proofs.Lines.Taken.{takes_none, takes_next_line, takes_rest_lines}
 use Rattle.lldp_engine.proofs.show.configuration_lines.put_statuses.Goals as goal
 
 pub loop-port-init : goal.loop-port-init

@@ -1,5 +1,5 @@
 use Rattle.std.proofs.Common.{rules}
-use Rattle.lldp_engine.proofs.LinesTaken.{takes_none, takes_line}
+use Rattle.lldp_engine.proofs.Lines.Taken.{takes_none, takes_line}
 use Rattle.lldp_engine.proofs.show.neighbor_lines.put_counts.Goals as goal
 
 pub returns : goal.returns

@@ -2,7 +2,7 @@ use Rattle.std.proofs.Common.{map}
 use Rattle.std.specs.List.{AllByRecursion}
 use Rattle.lldp_pdu.specs.Kept.{IsKeptTlv}
 use Rattle.lldp_engine.specs.NeighborLines.{kept_line}
-use Rattle.lldp_engine.proofs.LinesTaken.{TakesTo}
+use Rattle.lldp_engine.proofs.Lines.Taken.{TakesTo}
 use Rattle.lldp_engine.proofs.show.neighbor_lines.put_kept.Given as goal
 
 -- the lines of the TLVs that are left are left

@@ -1,5 +1,5 @@
 use Rattle.std.proofs.Common.{rules}
-use Rattle.lldp_engine.proofs.LinesTaken.{takes_line}
+use Rattle.lldp_engine.proofs.Lines.Taken.{takes_line}
 use Rattle.lldp_engine.proofs.show.neighbor_lines.put_neighbor.Goals as goal
 
 pub returns : goal.returns

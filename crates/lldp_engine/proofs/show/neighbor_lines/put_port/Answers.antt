@@ -1,7 +1,7 @@
 use Rattle.std.proofs.Common.{◌∙◌, sym, ap}
 use Rattle.std.specs.Prelude.{slice_get}
 use Rattle.lldp_table.specs.Contents.{Contents}
-use Rattle.lldp_engine.proofs.LinesTaken.{takes_left, takes_more, drop_at}
+use Rattle.lldp_engine.proofs.Lines.Taken.{takes_left, takes_more, drop_at}
 use Rattle.lldp_engine.proofs.show.neighbor_lines.put_port.Goals as goal
 
 pub returns-then-is_done : goal.returns-then-is_done

@@ -1,6 +1,6 @@
 use Rattle.std.proofs.Common.{◌+◌, drop}
 use Rattle.lldp_engine.specs.NeighborLines.{numbered_lines, port_lines}
-use Rattle.lldp_engine.proofs.LinesTaken.{TakesTo}
+use Rattle.lldp_engine.proofs.Lines.Taken.{TakesTo}
 use Rattle.lldp_engine.proofs.show.neighbor_lines.put_port.Given as goal
 
 -- the lines of the neighbors from this one on are left

@@ -1,5 +1,5 @@
 use Rattle.lldp_engine.specs.StatisticsLines.{counter_lines}
-use Rattle.lldp_engine.proofs.LinesTaken.{takes_none, takes_next, takes_rest}
+use Rattle.lldp_engine.proofs.Lines.Taken.{takes_none, takes_next, takes_rest}
 use Rattle.lldp_engine.proofs.show.statistics_lines.put_statistics.Goals as goal
 
 pub loop-port-init : goal.loop-port-init

@@ -19,5 +19,5 @@ returns-clause-msap c = (all c).msap
 pub returns-clause-ttl : goal.returns-clause-ttl
 returns-clause-ttl c = (all c).ttl
 
-pub returns-clause-told : goal.returns-clause-told
-returns-clause-told c = (all c).told
+pub returns-clause-info : goal.returns-clause-info
+returns-clause-info c = (all c).info

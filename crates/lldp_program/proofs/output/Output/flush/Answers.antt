@@ -1,5 +1,5 @@
 use Rattle.std.proofs.Common.{sym, ◌∙◌, refl}
-use Rattle.lldp_program.proofs.OutputLemmas.{flushed}
+use Rattle.lldp_program.proofs.Texts.Taken.{flushed}
 use Rattle.lldp_program.proofs.output.Output.flush.Goals as goal
 
 pub returns-then-is_ok : goal.returns-then-is_ok

@@ -1,4 +1,4 @@
-use Rattle.lldp_program.proofs.OutputLemmas.{puts_nothing}
+use Rattle.lldp_program.proofs.Texts.Taken.{puts_nothing}
 use Rattle.lldp_program.proofs.output.Output.make_room.Goals as goal
 
 pub returns-else-room_left-octets-clause-puts : goal.returns-else-room_left-octets-clause-puts

@@ -1,5 +1,5 @@
-use Rattle.lldp_program.proofs.OutputLemmas.{text_written}
+use Rattle.lldp_program.proofs.Texts.Taken.{text_written}
 use Rattle.lldp_program.proofs.output.Output.write_marks.Goals as goal
 
 pub returns : goal.returns
-returns g c = rw c.end.ensures.answer (text_written _ _ _ _ _ c.begin.ensures c.marks.ensures c.end.ensures.flushed)
+returns g c = rw c.end.ensures.answer (text_written _ _ _ _ _ c.begin.ensures c.put_frames.ensures c.end.ensures.flushed)

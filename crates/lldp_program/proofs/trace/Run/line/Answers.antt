@@ -1,5 +1,5 @@
 use Rattle.std.proofs.Common.{refl}
-use Rattle.lldp_program.proofs.RunLemmas.{items_read, runs_same}
+use Rattle.lldp_program.proofs.Runs.Joined.{items_read, runs_same}
 use Rattle.lldp_program.proofs.trace.Run.line.Goals as goal
 
 pub returns : goal.returns

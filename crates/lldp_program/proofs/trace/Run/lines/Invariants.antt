@@ -2,7 +2,7 @@ use Rattle.std.proofs.Common.{◌≡◌, ◌≤◌, ◌-◌, [], length, take, d
 use Rattle.std.specs.Prelude.{Ok}
 use Rattle.lldp_program.specs.Lines.{ended_lines, unfinished}
 use Rattle.lldp_program.specs.Items.{items_of_lines}
-use Rattle.lldp_program.specs.Code.Told.{Performs}
+use Rattle.lldp_program.specs.Code.Parts.{Performs}
 use Rattle.lldp_program.proofs.trace.Run.lines.Given as goal
 
 -- the lines up to start are done, and from start on to from there is no LF

@@ -1,7 +1,7 @@
 use Rattle.std.proofs.Common.{◌≡◌, ap, length, refl, rules}
 use Rattle.lldp_program.specs.Items.{items_of_lines}
-use Rattle.lldp_program.proofs.LineLemmas.{no_last_line}
-use Rattle.lldp_program.proofs.RunLemmas.{nothing_runs}
+use Rattle.lldp_program.proofs.Lines.Pieces.{no_last_line}
+use Rattle.lldp_program.proofs.Runs.Joined.{nothing_runs}
 use Rattle.lldp_program.proofs.trace.Run.rest.Goals as goal
 
 pub returns-then-is_empty : goal.returns-then-is_empty

@@ -1,5 +1,5 @@
 use Rattle.std.proofs.Common.{refl}
-use Rattle.lldp_table.proofs.DueLemmas.{queue_none}
+use Rattle.lldp_table.proofs.Ageing.Due.{queue_none}
 use Rattle.lldp_table.proofs.queue.Queue.clear.Goals as goal
 
 pub invariant_of-self : goal.invariant_of-self

@@ -1,6 +1,6 @@
 use Rattle.std.proofs.Common.{◌+◌, ◌-◌, ap, arith}
 use Rattle.lldp_table.specs.Code.Queue.{dues, total}
-use Rattle.lldp_table.proofs.QueueLemmas.{total-enter}
+use Rattle.lldp_table.proofs.Ageing.Steps.{total-enter}
 use Rattle.lldp_table.proofs.queue.Queue.enter.Goals as goal
 
 pub invariant_of-self : goal.invariant_of-self

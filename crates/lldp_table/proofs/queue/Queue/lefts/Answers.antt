@@ -1,5 +1,5 @@
-use Rattle.lldp_table.proofs.CountedLemmas.{shown_is}
-use Rattle.lldp_table.proofs.DueLemmas.{lefts_of}
+use Rattle.lldp_table.proofs.Slots.Counted.{shown_is}
+use Rattle.lldp_table.proofs.Ageing.Due.{lefts_of}
 use Rattle.lldp_table.proofs.queue.Queue.lefts.Goals as goal
 
 pub returns : goal.returns

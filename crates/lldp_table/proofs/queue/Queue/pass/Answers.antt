@@ -1,7 +1,7 @@
 use Rattle.std.proofs.Common.{◌≡◌, ◌∙◌, false, ap, arith, length, length-set, refl}
-use Rattle.lldp_table.proofs.CountedLemmas.{shown_is}
+use Rattle.lldp_table.proofs.Slots.Counted.{shown_is}
 use Rattle.lldp_table.specs.Code.Queue.{dues, less_first, is_spent, total}
-use Rattle.lldp_table.proofs.DueLemmas.{lessened, within_times, queue_lessened, some_there, total_passed}
+use Rattle.lldp_table.proofs.Ageing.Due.{lessened, within_times, queue_lessened, some_there, total_passed}
 use Rattle.lldp_table.proofs.queue.Queue.pass.Goals as goal
 
 pub invariant_of-self : goal.invariant_of-self

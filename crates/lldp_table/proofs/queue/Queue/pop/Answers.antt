@@ -1,7 +1,7 @@
 use Rattle.std.proofs.Common.{◌≡◌, ◌∙◌, true, ap, sym}
 use Rattle.lldp_table.specs.Code.Queue.{dues, is_spent}
-use Rattle.lldp_table.proofs.CountedLemmas.{shown_is}
-use Rattle.lldp_table.proofs.DueLemmas.{queue_popped, total_popped}
+use Rattle.lldp_table.proofs.Slots.Counted.{shown_is}
+use Rattle.lldp_table.proofs.Ageing.Due.{queue_popped, total_popped}
 use Rattle.lldp_table.proofs.queue.Queue.pop.Goals as goal
 
 pub invariant_of-self : goal.invariant_of-self

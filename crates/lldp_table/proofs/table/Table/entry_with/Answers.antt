@@ -2,8 +2,8 @@ use Rattle.std.proofs.Common.{◌<◌, Some, length, map, get_or, arith, ap, ◌
 use Rattle.std.specs.List.{slice_get}
 use Rattle.lldp_table.specs.Events.{Neighbor}
 use Rattle.lldp_table.specs.Contents.{Contents, IsHeld}
-use Rattle.lldp_table.proofs.CountedLemmas.{shown_is}
-use Rattle.lldp_table.proofs.LayoutLemmas.{count, held_at, entry_with_at, get_at}
+use Rattle.lldp_table.proofs.Slots.Counted.{shown_is}
+use Rattle.lldp_table.proofs.Slots.Layout.{count, held_at, entry_with_at, get_at}
 use Rattle.lldp_table.proofs.table.Table.entry_with.Goals as goal
 
 pub invariant_of-result : goal.invariant_of-result

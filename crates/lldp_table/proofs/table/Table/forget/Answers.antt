@@ -3,10 +3,10 @@ use Rattle.lldp_pdu.specs.View.{msap_view}
 use Rattle.lldp_table.specs.Events.{forget}
 use Rattle.lldp_table.specs.Contents.{Contents, holds_name}
 use Rattle.lldp_table.specs.Code.Steps.{after_forget}
-use Rattle.lldp_table.proofs.CountedLemmas.{shown_is}
-use Rattle.lldp_table.proofs.StandingLemmas.{stands_after, held_is_live}
-use Rattle.lldp_table.proofs.LayoutLemmas.{found, not_found, forgotten_none, holds_named}
-use Rattle.lldp_table.proofs.LearnLemmas.{forgotten_after, forgotten_table}
+use Rattle.lldp_table.proofs.Slots.Counted.{shown_is}
+use Rattle.lldp_table.proofs.Standing.Calls.{stands_after, held_is_live}
+use Rattle.lldp_table.proofs.Slots.Layout.{found, not_found, forgotten_none, holds_named}
+use Rattle.lldp_table.proofs.Slots.Learned.{forgotten_after, forgotten_table}
 use Rattle.lldp_table.proofs.table.Table.forget.Goals as goal
 
 pub invariant_of-self : goal.invariant_of-self

@@ -1,9 +1,9 @@
 use Rattle.std.proofs.Common.{map, sym, ap, ◌∙◌}
 use Rattle.lldp_table.specs.Events.{Neighbor}
 use Rattle.lldp_table.specs.Contents.{Contents}
-use Rattle.lldp_table.proofs.CountedLemmas.{shown_is}
-use Rattle.lldp_table.proofs.LayoutLemmas.{lefts_held}
-use Rattle.lldp_table.proofs.TimedLemmas.{all_queued}
+use Rattle.lldp_table.proofs.Slots.Counted.{shown_is}
+use Rattle.lldp_table.proofs.Slots.Layout.{lefts_held}
+use Rattle.lldp_table.proofs.Ageing.Timed.{all_queued}
 use Rattle.lldp_table.proofs.table.Table.lefts.Goals as goal
 
 pub lefts_of-requires-clause-queued : goal.lefts_of-requires-clause-queued

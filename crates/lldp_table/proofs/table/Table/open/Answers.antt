@@ -2,8 +2,8 @@ use Rattle.std.proofs.Common.{◌≡◌, [], sym, ap, subst, arith}
 use Rattle.lldp_table.specs.Contents.{Contents}
 use Rattle.lldp_table.specs.Code.Steps.{newly_opened}
 use Rattle.lldp_table.specs.Standing.{Stands}
-use Rattle.lldp_table.proofs.LearnLemmas.{open_table}
-use Rattle.lldp_table.proofs.StandingLemmas.{stands_open}
+use Rattle.lldp_table.proofs.Slots.Learned.{open_table}
+use Rattle.lldp_table.proofs.Standing.Calls.{stands_open}
 use Rattle.lldp_table.proofs.table.Table.open.Goals as goal
 
 pub invariant_of-result : goal.invariant_of-result

@@ -2,9 +2,9 @@ use Rattle.std.proofs.Common.{ap, arith}
 use Rattle.std.proofs.lemmas.Grind.{common_steps}
 use Rattle.lldp_table.specs.Events.{purge}
 use Rattle.lldp_table.specs.Code.Steps.{after_purge}
-use Rattle.lldp_table.proofs.CountedLemmas.{shown_is}
-use Rattle.lldp_table.proofs.StandingLemmas.{stands_after}
-use Rattle.lldp_table.proofs.LearnLemmas.{purged_table}
+use Rattle.lldp_table.proofs.Slots.Counted.{shown_is}
+use Rattle.lldp_table.proofs.Standing.Calls.{stands_after}
+use Rattle.lldp_table.proofs.Slots.Learned.{purged_table}
 use Rattle.lldp_table.proofs.table.Table.purge.Goals as goal
 
 pub invariant_of-self : goal.invariant_of-self

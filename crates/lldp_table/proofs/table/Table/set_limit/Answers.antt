@@ -3,8 +3,8 @@ use Rattle.std.proofs.lemmas.Grind.{common_steps}
 use Rattle.lldp_table.specs.Events.{set_limit}
 use Rattle.lldp_table.specs.Contents.{Contents}
 use Rattle.lldp_table.specs.Code.Steps.{after_set_limit}
-use Rattle.lldp_table.proofs.CountedLemmas.{shown_is}
-use Rattle.lldp_table.proofs.StandingLemmas.{stands_after}
+use Rattle.lldp_table.proofs.Slots.Counted.{shown_is}
+use Rattle.lldp_table.proofs.Standing.Calls.{stands_after}
 use Rattle.lldp_table.proofs.table.Table.set_limit.Goals as goal
 
 pub returns-clause-after : goal.returns-clause-after

@@ -1,14 +1,14 @@
-use Rattle.lldp_table.proofs.CountedLemmas.{shown_is}
-use Rattle.lldp_table.proofs.AgeLemmas.{laid_ticked, after_ticked}
+use Rattle.lldp_table.proofs.Slots.Counted.{shown_is}
+use Rattle.lldp_table.proofs.Ageing.Ticks.{laid_ticked, after_ticked}
 use Rattle.std.proofs.Common.{length, ap, arith}
 use Rattle.lldp_table.specs.Contents.{Contents}
 use Rattle.lldp_table.specs.Code.Queue.{ticks_left}
-use Rattle.lldp_table.proofs.LayoutLemmas.{count}
+use Rattle.lldp_table.proofs.Slots.Layout.{count}
 use Rattle.lldp_table.proofs.table.Table.tick.Goals as goal
 use Rattle.std.proofs.lemmas.Grind.{common_steps}
 use Rattle.lldp_table.specs.Events.{tick}
-use Rattle.lldp_table.proofs.StandingLemmas.{stands_after}
-use Rattle.lldp_table.proofs.LiveLemmas.{tick_answers}
+use Rattle.lldp_table.proofs.Standing.Calls.{stands_after}
+use Rattle.lldp_table.proofs.Live.LastStored.{tick_answers}
 
 pub invariant_of-self : goal.invariant_of-self
 invariant_of-self g c =

@@ -1,0 +1,5 @@
+-- Lines of `show`, and the sinks that take them.
+pub mod Parts
+pub mod Taken
+pub mod OneKept
+pub mod Bound

@@ -1,0 +1,5 @@
+-- Lines of an input.
+pub mod Plain
+pub mod Held
+pub mod Pieces
+pub mod Long

@@ -1,0 +1,169 @@
+-- Runs, one after another.
+use Rattle.std.proofs.Common.{◌≡◌, ℕ, suc, zero, ◌+◌, ◌<◌, List, [], ◌∷◌, ◌++◌, replicate, refl, sym, ap, ◌∙◌, append_assoc, arith, Option, subst}
+use Rattle.std.specs.Prelude.{Result, Ok, Err}
+use Rattle.std.specs.Io.KnownBytes.{Appends}
+use Rattle.std.proofs.lemmas.List.{append-nil, replicate_more}
+use Rattle.std.specs.List.{flat_map}
+use Rattle.lldp_engine.specs.declared.command.Show.{Show}
+use Rattle.lldp_engine.specs.Past.{Past}
+use Rattle.lldp_engine.specs.Standing.{Stands}
+use Rattle.lldp_engine.specs.Lines.{lines_of}
+use Rattle.lldp_engine.specs.AgentState.{AgentState}
+use Rattle.lldp_engine.proofs.Headline.{promised as keeps_promise}
+use Rattle.lldp_program.specs.declared.line.LineFault.{LineFault}
+use Rattle.lldp_program.specs.Lines.{ended}
+use Rattle.lldp_program.specs.Forms.{work_given}
+use Rattle.lldp_program.specs.Work.{Work}
+use Rattle.lldp_program.specs.Items.{Item, happens, shows, refused, after, after_all, text_of, text_of_all, items_of_work, items_of, items_of_lines}
+use Rattle.lldp_program.specs.declared.device.DeviceFault.{DeviceFault}
+use Rattle.lldp_program.specs.Code.Output.{IsWritten, WrittenBy, Output, Writes}
+use Rattle.lldp_program.specs.Runs.{IsCutOff, Done, Failed}
+use Rattle.lldp_program.specs.Code.Parts.{Ended, RunsItems}
+use Rattle.lldp_engine.specs.Event.{tick}
+use Rattle.lldp_program.specs.Forms.{fault_text}
+use Rattle.lldp_program.proofs.Texts.Taken.{same_then}
+use Rattle.lldp_program.proofs.Texts.Written.{appends_then, appends_nothing, appends_same}
+use Rattle.lldp_program.proofs.Runs.Items.{after_all-append, text_of_all-append, items_of_lines-append}
+
+pub done_none : (past : Past) (a : Option (List ℕ)) (agent : AgentState) → Stands past agent → Done past [] a a agent
+done_none past a agent h = record { written = appends_nothing a; stands = h; promised = keeps_promise past agent h }
+
+pub done_one : (past : Past) (item : Item) (a b : Option (List ℕ)) (agent : AgentState) → Appends a b (text_of past item) → Stands (after past item) agent → Done past (item ∷ []) a b agent
+done_one past item a b agent h k = record {
+  written = appends_same a b _ _ (sym (append-nil (text_of past item))) h;
+  stands = k;
+  promised = keeps_promise (after past item) agent k;
+}
+
+pub failed_one : (past : Past) (item : Item) (a b : Option (List ℕ)) (agent : AgentState) → IsWritten (IsCutOff (text_of past item)) a b → Stands (after past item) agent → Failed past (item ∷ []) a b agent
+failed_one past item a b agent h k = record {
+  before = [];
+  item = item;
+  later = [];
+  in_order = refl;
+  part = h.0;
+  cut_off = h.1;
+  written = h.2;
+  stands = k;
+  promised = keeps_promise (after past item) agent k;
+}
+
+pub done_then : (past : Past) (xs ys : List Item) (a b c : Option (List ℕ)) (agent : AgentState) → Appends a b (text_of_all past xs) → Done (after_all past xs) ys b c agent → Done past (xs ++ ys) a c agent
+done_then past xs ys a b c agent h k = record {
+  written = appends_same a c _ _ (sym (text_of_all-append past xs ys)) (appends_then a b c _ _ h k.written);
+  stands = rw after_all-append k.stands;
+  promised = rw after_all-append k.promised;
+}
+
+-- what failed among the first items failed
+pub failed_early : (past : Past) (xs ys : List Item) (a b : Option (List ℕ)) (agent : AgentState) → Failed past xs a b agent → Failed past (xs ++ ys) a b agent
+failed_early past xs ys a b agent h = record {
+  before = h.before;
+  item = h.item;
+  later = h.later ++ ys;
+  in_order = ap (λ t. t ++ ys) h.in_order ∙ append_assoc h.before (h.item ∷ h.later) ys;
+  part = h.part;
+  cut_off = h.cut_off;
+  written = h.written;
+  stands = h.stands;
+  promised = h.promised;
+}
+
+-- what failed behind items that were done failed
+pub failed_later : (past : Past) (xs ys : List Item) (a b c : Option (List ℕ)) (agent : AgentState) → Appends a b (text_of_all past xs) → Failed (after_all past xs) ys b c agent → Failed past (xs ++ ys) a c agent
+failed_later past xs ys a b c agent h k = record {
+  before = xs ++ k.before;
+  item = k.item;
+  later = k.later;
+  in_order = ap (λ t. xs ++ t) k.in_order ∙ sym (append_assoc xs k.before (k.item ∷ k.later));
+  part = k.part;
+  cut_off = rw after_all-append k.cut_off;
+  written = appends_same a c _ _ (sym (append_assoc (text_of_all past xs) (text_of_all (after_all past xs) k.before) k.part) ∙ ap (λ t. t ++ k.part) (sym (text_of_all-append past xs k.before))) (appends_then a b c _ _ h k.written);
+  stands = rw (append_assoc, after_all-append) k.stands;
+  promised = rw (append_assoc, after_all-append) k.promised;
+}
+
+pub done_same : (past : Past) (xs ys : List Item) (a b : Option (List ℕ)) (agent : AgentState) → xs ≡ ys → Done past xs a b agent → Done past ys a b agent
+done_same past xs ys a b agent e h = rw (← e) h
+
+-- what a line was read as is what it asks for after the past
+pub items_read : (past : Past) (agent : AgentState) (line : List ℕ) (read : Result Work LineFault) → Stands past agent → read ≡ work_given agent line → items_of_work read ≡ items_of past line
+items_read past agent line read h is = ap items_of_work (is ∙ ap (λ seen. work_given seen line) (h.is))
+
+-- ## A part of a run and another
+
+pub nothing_runs : {T : Type 0} (items : Past → List Item) (agent : AgentState) (o : Output) (done : T) → ((past : Past) → items past ≡ []) → RunsItems {T = T} items (Ok done) agent agent o o
+nothing_runs items agent o done none = record {
+  ended = λ past h. done_same past [] (items past) _ _ agent (sym (none past)) (done_none past o.taken agent h);
+  same = record { failures = refl; place = refl; sink = refl };
+}
+
+item_ended : (past : Past) (item : Item) (r : Result (Unit {0}) DeviceFault) (a b : Option (List ℕ)) (agent : AgentState) (text : List ℕ) → text ≡ text_of past item → WrittenBy r text a b → Stands (after past item) agent → Ended r past (item ∷ []) a b agent
+item_ended past item (Ok done) a b agent text is h k = done_one past item a b agent (appends_same a b _ _ is h) k
+item_ended past item (Err fault) a b agent text is h k =
+    failed_one past item a b agent (subst (λ (t : List ℕ). IsWritten (IsCutOff t) a b) is h) k
+
+-- one item, by the text that was written for it
+pub one_item : (item : Item) (before agent : AgentState) (r : Result (Unit {0}) DeviceFault) (o p : Output) (text : List ℕ) → ((past : Past) → Stands past before → Stands (after past item) agent × (text ≡ text_of past item)) → Writes text r o p → RunsItems (λ _. item ∷ []) r before agent o p
+one_item item before agent r o p text gives h = record {
+  ended = λ past stands. let given = gives past stands in item_ended past item r _ _ agent text given.1 h.written given.0;
+  same = h.same;
+}
+
+-- the lines of a show that the agent has are those that its past gives
+pub show_runs : (items : List Item) (show : Show) (agent : AgentState) (r : Result (Unit {0}) DeviceFault) (o p : Output) → items ≡ shows show ∷ [] → Writes (flat_map ended (lines_of show agent)) r o p → RunsItems (λ _. items) r agent agent o p
+show_runs items show agent r o p is h =
+    rw is (one_item (shows show) agent agent r o p _ (λ past stands. (stands, ap (λ seen. flat_map ended (lines_of show seen)) stands.is)) h)
+
+pub fault_runs : (items : List Item) (fault : LineFault) (text : List ℕ) (agent : AgentState) (r : Result (Unit {0}) DeviceFault) (o p : Output) → items ≡ refused fault ∷ [] → text ≡ fault_text fault → Writes (ended text) r o p → RunsItems (λ _. items) r agent agent o p
+fault_runs items fault text agent r o p is said h =
+    rw is (one_item (refused fault) agent agent r o p _ (λ past stands. (stands, ap ended said)) h)
+
+pub runs_same : {T : Type 0} (xs ys : Past → List Item) (r : Result T DeviceFault) (before agent : AgentState) (o p : Output) → ((past : Past) → Stands past before → xs past ≡ ys past) → RunsItems xs r before agent o p → RunsItems ys r before agent o p
+runs_same xs ys r before agent o p is h = record {
+  ended = λ past stands. subst (λ (items : List Item). Ended r past items o.taken p.taken agent) (is past stands) (h.ended past stands);
+  same = h.same;
+}
+
+pub ended_then : {T : Type 0} (past : Past) (xs ys : List Item) (r : Result T DeviceFault) (a b c : Option (List ℕ)) (agent : AgentState) → Appends a b (text_of_all past xs) → Ended r (after_all past xs) ys b c agent → Ended r past (xs ++ ys) a c agent
+ended_then past xs ys (Ok done) a b c agent h k = done_then past xs ys a b c agent h k
+ended_then past xs ys (Err fault) a b c agent h k = failed_later past xs ys a b c agent h k
+
+-- what was asked for first was done, and then what was asked for behind it
+pub runs_then : {T : Type 0} (xs ys zs : Past → List Item) (r : Result T DeviceFault) (before between agent : AgentState) (o p q : Output) (done : Unit {0}) → ((past : Past) → xs past ++ ys (after_all past (xs past)) ≡ zs past)
+    → RunsItems {T = Unit {0}} xs (Ok done) before between o p → RunsItems ys r between agent p q → RunsItems zs r before agent o q
+runs_then xs ys zs r before between agent o p q done is h k = record {
+  ended = λ past stands. let first = h.ended past stands in
+      subst (λ (items : List Item). Ended r past items o.taken q.taken agent) (is past)
+      (ended_then past (xs past) (ys (after_all past (xs past))) r _ _ _ agent first.written (k.ended (after_all past (xs past)) first.stands));
+  same = same_then o p q done r h.same k.same;
+}
+
+-- what failed among the first items failed
+pub runs_cut_off : {T X : Type 0} (xs ys zs : Past → List Item) (fault other : DeviceFault) (before agent : AgentState) (o p : Output) → ((past : Past) → xs past ++ ys past ≡ zs past) → RunsItems {T = T} xs (Err fault) before agent o p → RunsItems {T = X} zs (Err other) before agent o p
+runs_cut_off xs ys zs fault other before agent o p is h = record {
+  ended = λ past stands. subst (λ (items : List Item). Failed past items o.taken p.taken agent) (is past) (failed_early past (xs past) (ys past) _ _ agent (h.ended past stands));
+  same = record { failures = h.same.failures; place = h.same.place; sink = h.same.sink };
+}
+
+-- ## Ticks
+
+-- one more tick
+pub tick_more : (n : ℕ) (past : Past) → replicate n (happens tick) ++ happens tick ∷ [] ≡ replicate (n + 1) (happens tick)
+tick_more n past = replicate_more n (happens tick)
+
+pub ticks_left : (i n : ℕ) → i < n → (more : List Item) × ((replicate i (happens tick) ++ happens tick ∷ []) ++ more ≡ replicate n (happens tick))
+ticks_left i zero lt = absurd (omega arith)
+ticks_left zero (suc n) lt = (replicate n (happens tick), refl)
+ticks_left (suc i) (suc n) lt = let left = ticks_left i n (omega arith) in (left.0, ap (λ (items : List Item). happens tick ∷ items) left.1)
+
+-- ## Lines
+
+-- the items of one more line
+pub line_more : (ls : List (List ℕ)) (line : List ℕ) (past : Past) → items_of_lines past ls ++ items_of (after_all past (items_of_lines past ls)) line ≡ items_of_lines past (ls ++ line ∷ [])
+line_more ls line past =
+    ap (λ t. items_of_lines past ls ++ t) (sym (append-nil (items_of (after_all past (items_of_lines past ls)) line))) ∙ sym (items_of_lines-append past ls (line ∷ []))
+
+-- the items of the lines that are left
+pub lines_left : (ls ms : List (List ℕ)) (past : Past) → items_of_lines past ls ++ items_of_lines (after_all past (items_of_lines past ls)) ms ≡ items_of_lines past (ls ++ ms)
+lines_left ls ms past = sym (items_of_lines-append past ls ms)

@@ -1,0 +1,5 @@
+-- The words of the program.
+pub mod Addresses
+pub mod Parsed
+pub mod Usage
+pub mod Listening

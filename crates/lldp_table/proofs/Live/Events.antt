@@ -1,0 +1,292 @@
+-- What one more event makes of the live neighbors.
+use Rattle.std.proofs.Common.{◌≡◌, ℕ, suc, ◌-◌, ◌<◌, Bool, true, false, not, ◌&&◌, ◌||◌, cond, nat_lt, ◌⊎◌, List, [], ◌∷◌, ◌++◌, Option, Some, None, refl, inl, inr, ap, ◌∙◌, sym, arith, map, is_some, max}
+use Rattle.std.specs.List.{find, filter, filter_map, cons_option, list_any}
+use Rattle.std.specs.Option.{option_and_then, option_map}
+use Rattle.std.proofs.lemmas.Bool.{cases_Bool, cond-true, cond-false, false≢true, lt-ltb, or_right, or_left, and_right, false_from_ne_true}
+use Rattle.std.proofs.lemmas.Option.{option_and_then_some, cond_some}
+use Rattle.std.proofs.lemmas.Bool.Decides.{nat_tests}
+use Rattle.std.proofs.lemmas.List.Elements.{filter_map-append}
+use Rattle.std.proofs.lemmas.List.Folds.{list_any-append}
+use Rattle.std.proofs.lemmas.Map.Views.{any-filter_same}
+use Rattle.lldp_pdu.specs.Msap.{MsapId}
+use Rattle.lldp_table.specs.Msap.{same_msap}
+use Rattle.lldp_table.proofs.Msap.{same_msap-refl, same_msap-true, same_msap-sym}
+use Rattle.lldp_table.specs.Events.{TableEvent, learned, forgot, purged, ticked, limit_set, Neighbor, live, live_after, ticks, since, decides_on, arrivals, neighbors, is_tick, is_stored, is_purge, most_left, too_many_left}
+use Rattle.lldp_table.specs.Contents.{is_named}
+use Rattle.lldp_table.specs.Code.Steps.{aged, fresh, refreshed}
+use Rattle.lldp_table.specs.declared.learned.Learned.{Learned}
+use Rattle.lldp_table.specs.declared.learned.Learned.TheVariants.{New, Refreshed, Dropped}
+use Rattle.std.proofs.lemmas.Grind.{common_steps}
+
+-- ## One name
+
+live_after-more : (n : ℕ) (event : TableEvent) → live_after (suc n) event ≡ option_and_then aged (live_after n event)
+live_after-more n (learned name ttl octets answer) = grind (arith, nat_tests)
+live_after-more n _ = refl
+
+after-more : (n : ℕ) (last : Option TableEvent) → option_and_then (live_after (suc n)) last ≡ option_and_then aged (option_and_then (live_after n) last)
+after-more n None = refl
+after-more n (Some event) = live_after-more n event
+
+-- a tick ages what is live of a name
+pub live-ticked : (name : MsapId) (past : List TableEvent) → live name (ticked ∷ past) ≡ option_and_then aged (live name past)
+unfolding live
+live-ticked name past = after-more (ticks (since (decides_on name) past)) (find (decides_on name) past)
+
+settled : (b : Bool) (event : TableEvent) (rest : List TableEvent) (last : Option TableEvent) → is_tick event ≡ false → option_and_then (live_after (ticks (cond b [] (event ∷ rest)))) (cond b (Some event) last) ≡ cond b (live_after 0 event) (option_and_then (live_after (ticks rest)) last)
+settled true event rest last h = refl
+settled false event rest last h = ap (λ b. option_and_then (live_after (cond b (suc (ticks rest)) (ticks rest))) last) h
+
+-- another event decides on a name, or leaves it as it was
+pub live-other : (name : MsapId) (event : TableEvent) (past : List TableEvent) → is_tick event ≡ false → live name (event ∷ past) ≡ cond (decides_on name event) (live_after 0 event) (live name past)
+unfolding live
+live-other name event past h = settled (decides_on name event) event (since (decides_on name) past) (find (decides_on name) past) h
+
+find_passes : (test : TableEvent → Bool) (events : List TableEvent) (event : TableEvent) → find test events ≡ Some event → test event ≡ true
+find_passes test [] event h = cc
+find_passes test (e ∷ past) event h = elim (cases_Bool (test e)) [ inl t ↦ grind arith | inr f ↦ find_passes test past event (grind arith) ]
+
+named_after : (name : MsapId) (n : ℕ) (event : TableEvent) (x : Neighbor) → decides_on name event ≡ true → live_after n event ≡ Some x → x.msap ≡ name
+named_after name n (learned other ttl octets Dropped) x d h = cc
+named_after name n (learned other ttl octets answer) x d h = sym (ap (λ (y : Neighbor). y.msap) (cond_some (nat_lt n ttl) _ x h).1) ∙ same_msap-true other name d
+named_after name n _ x d h = cc
+
+-- what is live of a name has that name
+pub live-named : (name : MsapId) (past : List TableEvent) (x : Neighbor) → live name past ≡ Some x → x.msap ≡ name
+unfolding live
+live-named name past x h = grind (arith, common_steps, option_and_then_some, named_after, find_passes)
+
+-- ## Lists of names
+
+cons_and_then : (g : Neighbor → Option Neighbor) (o : Option Neighbor) (rest before : List Neighbor) → rest ≡ filter_map g before → cons_option (option_and_then g o) rest ≡ filter_map g (cons_option o before)
+cons_and_then g None rest before h = h
+cons_and_then g (Some x) rest before h = ap (cons_option (g x)) h
+
+cons_map : (g : Neighbor → Neighbor) (o : Option Neighbor) (rest before : List Neighbor) → rest ≡ map g before → cons_option (option_map g o) rest ≡ map g (cons_option o before)
+cons_map g None rest before h = h
+cons_map g (Some x) rest before h = ap (cons_option (Some (g x))) h
+
+module _ (f : MsapId → Option Neighbor) where
+  filter_map-agree : (g : MsapId → Option Neighbor) → ((name : MsapId) → f name ≡ g name) → (names : List MsapId) → filter_map f names ≡ filter_map g names
+  filter_map-agree g h [] = refl
+  filter_map-agree g h (name ∷ names) = ap (λ o. cons_option o (filter_map f names)) (h name) ∙ ap (cons_option (g name)) (filter_map-agree g h names)
+
+  filter_map-and_then : (g : Neighbor → Option Neighbor) (names : List MsapId) → filter_map (λ name. option_and_then g (f name)) names ≡ filter_map g (filter_map f names)
+  filter_map-and_then g [] = refl
+  filter_map-and_then g (name ∷ names) = cons_and_then g (f name) _ _ (filter_map-and_then g names)
+
+  filter_map-map : (g : Neighbor → Neighbor) (names : List MsapId) → filter_map (λ name. option_map g (f name)) names ≡ map g (filter_map f names)
+  filter_map-map g [] = refl
+  filter_map-map g (name ∷ names) = cons_map g (f name) _ _ (filter_map-map g names)
+
+-- what is kept of one neighbor
+abbrev pub keep : (Neighbor → Bool) → Neighbor → Option Neighbor
+keep p x = cond (p x) (Some x) None
+
+cons_cond : (b : Bool) (x : Neighbor) (xs : List Neighbor) → cons_option (cond b (Some x) None) xs ≡ cond b (x ∷ xs) xs
+cons_cond true x xs = refl
+cons_cond false x xs = refl
+
+pub filter_map-keep : (p : Neighbor → Bool) (xs : List Neighbor) → filter_map (keep p) xs ≡ filter p xs
+filter_map-keep p [] = refl
+filter_map-keep p (x ∷ xs) = ap (cons_option (keep p x)) (filter_map-keep p xs) ∙ cons_cond (p x) x (filter p xs)
+
+-- ## All names
+
+pub neighbors-ticked : (past : List TableEvent) → neighbors (ticked ∷ past) ≡ filter_map aged (neighbors past)
+unfolding neighbors
+neighbors-ticked past =
+    filter_map-agree (λ name. live name (ticked ∷ past)) (λ name. option_and_then aged (live name past)) (λ name. live-ticked name past) (arrivals past)
+    ∙ filter_map-and_then (λ name. live name past) aged (arrivals past)
+
+none_live : (names : List MsapId) → filter_map {Y = Neighbor} (λ name. None) names ≡ []
+none_live [] = refl
+none_live (name ∷ names) = none_live names
+
+pub neighbors-purged : (past : List TableEvent) → neighbors (purged ∷ past) ≡ []
+unfolding neighbors
+neighbors-purged past =
+    filter_map-agree (λ name. live name (purged ∷ past)) (λ name. None) (λ name. live-other name purged past refl) (arrivals past)
+    ∙ none_live (arrivals past)
+
+-- a neighbor that is forgotten
+forgets_one : (b c : Bool) (x : Neighbor) → c ≡ b → cond b None (Some x) ≡ cond (not c) (Some x) None
+forgets_one true c x h = ap (λ d. cond (not d) (Some x) None) (sym h)
+forgets_one false c x h = ap (λ d. cond (not d) (Some x) None) (sym h)
+
+forgets : (name other : MsapId) (o : Option Neighbor) → ((x : Neighbor) → o ≡ Some x → x.msap ≡ other) → cond (same_msap name other) None o ≡ option_and_then (keep (λ x. not (is_named name x))) o
+forgets name other None h = elim (same_msap name other) as (λ b. cond {A = Option Neighbor} b None None ≡ None) [ true ↦ refl | false ↦ refl ]
+forgets name other (Some x) h = forgets_one (same_msap name other) (is_named name x) x (ap (same_msap name) (h x refl))
+
+pub neighbors-forgot : (name : MsapId) (past : List TableEvent) → neighbors (forgot name ∷ past) ≡ filter (λ x. not (is_named name x)) (neighbors past)
+unfolding neighbors
+neighbors-forgot name past =
+    filter_map-agree (λ other. live other (forgot name ∷ past)) (λ other. option_and_then (keep (λ x. not (is_named name x))) (live other past))
+    (λ other. live-other other (forgot name) past refl ∙ forgets name other (live other past) (live-named other past)) (arrivals past)
+    ∙ filter_map-and_then (λ other. live other past) (keep (λ x. not (is_named name x))) (arrivals past)
+    ∙ filter_map-keep (λ x. not (is_named name x)) (neighbors past)
+
+pub neighbors-dropped : (name : MsapId) (ttl : ℕ) (octets : List ℕ) (past : List TableEvent) → neighbors (learned name ttl octets Dropped ∷ past) ≡ neighbors past
+unfolding neighbors
+neighbors-dropped name ttl octets past = grind (arith, common_steps, filter_map-agree, live-other)
+
+-- a stored frame is live at once
+live_at_once : (name : MsapId) (ttl : ℕ) (octets : List ℕ) (answer : Learned) → 0 < ttl → live_after 0 (learned name ttl octets answer) ≡ Some (fresh name ttl octets)
+live_at_once name ttl octets answer h = grind (arith, common_steps, cond-true, lt-ltb)
+
+pub neighbors-limit_set : (limit : ℕ) (past : List TableEvent) → neighbors (limit_set limit ∷ past) ≡ neighbors past
+unfolding neighbors
+neighbors-limit_set limit past = filter_map-agree (λ name. live name (limit_set limit ∷ past)) (λ name. live name past) (λ name. live-other name (limit_set limit) past refl) (arrivals past)
+
+-- a neighbor that is refreshed
+refreshes_one : (b c : Bool) (x y : Neighbor) → c ≡ b → cond b (Some y) (Some x) ≡ Some (cond c y x)
+refreshes_one true c x y h = ap (λ d. Some (cond d y x)) (sym h)
+refreshes_one false c x y h = ap (λ d. Some (cond d y x)) (sym h)
+
+refreshes : (name other : MsapId) (ttl : ℕ) (octets : List ℕ) (o : Option Neighbor) → (same_msap name other ≡ true → is_some o ≡ true) → ((x : Neighbor) → o ≡ Some x → x.msap ≡ other)
+    → cond (same_msap name other) (Some (fresh name ttl octets)) o ≡ option_map (refreshed name ttl octets) o
+refreshes name other ttl octets None s h = cond-false (same_msap name other) (Some (fresh name ttl octets)) None (false_from_ne_true (same_msap name other) (λ e. false≢true (s e)))
+refreshes name other ttl octets (Some x) s h = refreshes_one (same_msap name other) (is_named name x) x (fresh name ttl octets) (ap (same_msap name) (h x refl))
+
+pub live-stored : (name other : MsapId) (ttl : ℕ) (octets : List ℕ) (answer : Learned) (past : List TableEvent) → 0 < ttl → is_stored answer ≡ true → live other (learned name ttl octets answer ∷ past) ≡ cond (same_msap name other) (Some (fresh name ttl octets)) (live other past)
+live-stored name other ttl octets answer past t stored = grind (arith, common_steps, live-other, live_at_once)
+
+pub neighbors-refreshed : (name : MsapId) (ttl : ℕ) (octets : List ℕ) (past : List TableEvent) → 0 < ttl → is_some (live name past) ≡ true → neighbors (learned name ttl octets Refreshed ∷ past) ≡ map (refreshed name ttl octets) (neighbors past)
+unfolding neighbors
+neighbors-refreshed name ttl octets past t held =
+    filter_map-agree (λ other. live other (learned name ttl octets Refreshed ∷ past)) (λ other. option_map (refreshed name ttl octets) (live other past))
+    (λ other. live-stored name other ttl octets Refreshed past t refl
+    ∙ refreshes name other ttl octets (live other past) (λ e. ap (λ n. is_some (live n past)) (sym (same_msap-true name other e)) ∙ held) (live-named other past)) (arrivals past)
+    ∙ filter_map-map (λ other. live other past) (refreshed name ttl octets) (arrivals past)
+
+-- the others, where a name is new
+others : (name : MsapId) (new : Neighbor) (f : MsapId → Option Neighbor) → f name ≡ None → (names : List MsapId)
+    → filter_map (λ other. cond (same_msap name other) (Some new) (f other)) (filter (λ other. not (same_msap name other)) names) ≡ filter_map f names
+others name new f h [] = refl
+others name new f h (other ∷ names) =
+    elim (cases_Bool (same_msap name other)) [
+      | inl t ↦ rw t (others name new f h names ∙ sym (ap (λ o. cons_option o (filter_map f names)) (ap f (sym (same_msap-true name other t)) ∙ h)))
+      | inr e ↦ rw (e, e) (ap (cons_option (f other)) (others name new f h names))
+    ]
+
+pub neighbors-new : (name : MsapId) (ttl : ℕ) (octets : List ℕ) (past : List TableEvent) → 0 < ttl → live name past ≡ None → neighbors (learned name ttl octets New ∷ past) ≡ neighbors past ++ fresh name ttl octets ∷ []
+unfolding neighbors
+neighbors-new name ttl octets past t gone =
+    let after : MsapId → Option Neighbor = λ other. cond (same_msap name other) (Some (fresh name ttl octets)) (live other past) in
+    let before : List MsapId = filter (λ other. not (same_msap name other)) (arrivals past) in
+    filter_map-agree (λ other. live other (learned name ttl octets New ∷ past)) after (λ other. live-stored name other ttl octets New past t refl) (before ++ name ∷ [])
+    ∙ filter_map-append after before (name ∷ [])
+    ∙ ap (λ xs. xs ++ filter_map after (name ∷ [])) (others name (fresh name ttl octets) (λ other. live other past) gone (arrivals past))
+    ∙ ap (λ b. neighbors past ++ cons_option (cond b (Some (fresh name ttl octets)) (live name past)) []) (same_msap-refl name)
+
+-- ## Each live name has arrived
+
+-- the names that are live are among the arrivals
+abbrev pub Arrived : List TableEvent → Type 0
+Arrived past = (name : MsapId) → is_some (live name past) ≡ true → list_any (same_msap name) (arrivals past) ≡ true
+
+still_there : (name new : MsapId) → same_msap new name ≡ false → (names : List MsapId) → list_any (same_msap name) names ≡ true → list_any (same_msap name) (filter (λ other. not (same_msap new other)) names) ≡ true
+still_there name new d names h =
+    any-filter_same (same_msap name) (λ other. not (same_msap new other)) true (λ k e. ap (λ n. not (same_msap new n)) (sym (same_msap-true name k e)) ∙ ap not d) names ∙ h
+
+was_some : (o : Option Neighbor) → is_some (option_and_then aged o) ≡ true → is_some o ≡ true
+was_some None h = h
+was_some (Some x) h = refl
+
+pub Arrived-ticked : (past : List TableEvent) → Arrived past → Arrived (ticked ∷ past)
+Arrived-ticked past h name s = h name (was_some (live name past) (ap is_some (sym (live-ticked name past)) ∙ s))
+
+pub Arrived-purged : (past : List TableEvent) → Arrived (purged ∷ past)
+Arrived-purged past name s = absurd (false≢true (ap is_some (sym (live-other name purged past refl)) ∙ s))
+
+some_of_two : (b : Bool) (x y : Option Neighbor) → is_some (cond b x y) ≡ true → ((b ≡ true) × (is_some x ≡ true)) ⊎ ((b ≡ false) × (is_some y ≡ true))
+some_of_two true x y h = inl (refl, h)
+some_of_two false x y h = inr (refl, h)
+
+pub Arrived-forgot : (name : MsapId) (past : List TableEvent) → Arrived past → Arrived (forgot name ∷ past)
+Arrived-forgot name past h other s = grind (arith, common_steps, some_of_two, live-other, false≢true)
+
+pub Arrived-limit_set : (limit : ℕ) (past : List TableEvent) → Arrived past → Arrived (limit_set limit ∷ past)
+Arrived-limit_set limit past h name s = h name (ap is_some (sym (live-other name (limit_set limit) past refl)) ∙ s)
+
+pub Arrived-dropped : (name : MsapId) (ttl : ℕ) (octets : List ℕ) (past : List TableEvent) → Arrived past → Arrived (learned name ttl octets Dropped ∷ past)
+Arrived-dropped name ttl octets past h other s = h other (ap is_some (sym (live-other other (learned name ttl octets Dropped) past refl)) ∙ s)
+
+pub Arrived-refreshed : (name : MsapId) (ttl : ℕ) (octets : List ℕ) (past : List TableEvent) → is_some (live name past) ≡ true → Arrived past → Arrived (learned name ttl octets Refreshed ∷ past)
+Arrived-refreshed name ttl octets past held h other s =
+    elim (some_of_two (same_msap name other) (live_after 0 (learned name ttl octets Refreshed)) (live other past) (ap is_some (sym (live-other other (learned name ttl octets Refreshed) past refl)) ∙ s)) [
+      | inl w ↦ h other (ap (λ n. is_some (live n past)) (sym (same_msap-true name other w.0)) ∙ held)
+      | inr w ↦ h other w.1
+    ]
+
+pub Arrived-new : (name : MsapId) (ttl : ℕ) (octets : List ℕ) (past : List TableEvent) → Arrived past → Arrived (learned name ttl octets New ∷ past)
+Arrived-new name ttl octets past h other s = grind (arith, common_steps, some_of_two, live-other, list_any-append, or_right, or_left, same_msap-sym, still_there)
+
+-- a table has a neighbor of a name where the name has arrived and is live
+there : (name : MsapId) (o : Option Neighbor) (xs : List Neighbor) (r : Bool) → ((x : Neighbor) → o ≡ Some x → is_named name x ≡ true) → list_any (is_named name) xs ≡ (r && is_some o) → list_any (is_named name) (cons_option o xs) ≡ is_some o
+there name None xs r h e = e ∙ and_right r false refl
+there name (Some x) xs r h e = ap (λ b. b || list_any (is_named name) xs) (h x refl)
+
+elsewhere : (name : MsapId) (o : Option Neighbor) (xs : List Neighbor) → ((x : Neighbor) → o ≡ Some x → is_named name x ≡ false) → list_any (is_named name) (cons_option o xs) ≡ list_any (is_named name) xs
+elsewhere name None xs h = refl
+elsewhere name (Some x) xs h = ap (λ b. b || list_any (is_named name) xs) (h x refl)
+
+has_named : (name : MsapId) (f : MsapId → Option Neighbor) → ((other : MsapId) (x : Neighbor) → f other ≡ Some x → x.msap ≡ other) → (names : List MsapId)
+    → list_any (is_named name) (filter_map f names) ≡ (list_any (same_msap name) names && is_some (f name))
+has_named name f h [] = refl
+has_named name f h (other ∷ names) =
+    elim (cases_Bool (same_msap name other)) [
+      | inl t ↦
+          let same : f name ≡ f other = ap f (same_msap-true name other t) in
+          there name (f other) (filter_map f names) (list_any (same_msap name) names) (λ x e. ap (same_msap name) (h other x e) ∙ t) (has_named name f h names ∙ ap (λ o. list_any (same_msap name) names && is_some o) same)
+          ∙ ap is_some (sym same) ∙ ap (λ b. (b || list_any (same_msap name) names) && is_some (f name)) (sym t)
+      | inr d ↦
+          elsewhere name (f other) (filter_map f names) (λ x e. ap (same_msap name) (h other x e) ∙ d) ∙ has_named name f h names
+          ∙ ap (λ b. (b || list_any (same_msap name) names) && is_some (f name)) (sym d)
+    ]
+
+and_known : (a b : Bool) → (b ≡ true → a ≡ true) → (a && b) ≡ b
+and_known a true h = ap (λ x. x && true) (h refl)
+and_known a false h = and_right a false refl
+
+-- a table that has the live neighbors has a name exactly where it is live
+pub has-live : (past : List TableEvent) → Arrived past → (name : MsapId) → list_any (is_named name) (neighbors past) ≡ is_some (live name past)
+unfolding neighbors
+has-live past h name = has_named name (λ other. live other past) (λ other. live-named other past) (arrivals past) ∙ and_known (list_any (same_msap name) (arrivals past)) (is_some (live name past)) (h name)
+
+-- ## Too many neighbors
+
+most_left-more : (n : ℕ) (events : List TableEvent) → most_left (suc n) events ≡ most_left n events - 1
+most_left-more n [] = omega arith
+most_left-more n (learned name ttl octets Dropped ∷ past) = omega (arith, most_left-more n past)
+most_left-more n (ticked ∷ past) = most_left-more (suc n) past
+most_left-more n (event ∷ past) = most_left-more n past
+
+pub too_many-ticked : (past : List TableEvent) → too_many_left (ticked ∷ past) ≡ too_many_left past - 1
+unfolding too_many_left
+too_many-ticked past = most_left-more 0 (since is_purge past)
+
+pub too_many-dropped : (name : MsapId) (ttl : ℕ) (octets : List ℕ) (past : List TableEvent) → too_many_left (learned name ttl octets Dropped ∷ past) ≡ max (too_many_left past) ttl
+unfolding too_many_left
+too_many-dropped name ttl octets past = omega arith
+
+-- ## What is answered
+
+-- the answer by the two tests
+abbrev pub answer_by : Bool → Bool → Learned
+answer_by held room = cond held Refreshed (cond room New Dropped)
+
+pub by_refreshed : (held room : Bool) → answer_by held room ≡ Refreshed → held ≡ true
+by_refreshed true room h = refl
+by_refreshed false true h = cc
+by_refreshed false false h = cc
+
+pub by_new : (held room : Bool) → answer_by held room ≡ New → (held ≡ false) × (room ≡ true)
+by_new true room h = cc
+by_new false true h = (refl, refl)
+by_new false false h = cc
+
+pub by_dropped : (held room : Bool) → answer_by held room ≡ Dropped → (held ≡ false) × (room ≡ false)
+by_dropped true room h = cc
+by_dropped false true h = cc
+by_dropped false false h = (refl, refl)

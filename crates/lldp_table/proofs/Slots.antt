@@ -1,0 +1,7 @@
+-- Slots, and the order of those in use.
+pub mod Tags
+pub mod Places
+pub mod Layout
+pub mod Learned
+pub mod Room
+pub mod Counted

@@ -1,0 +1,273 @@
+-- What a write to one slot, and a move of one index, make of the neighbors.
+use Rattle.std.proofs.Common.{◌≡◌, ℕ, suc, ◌+◌, ◌-◌, ◌<◌, ◌≤◌, ◌||◌, Bool, true, false, cond, nat_lt, nat_eq, List, [], ◌∷◌, ◌++◌, length, take, set, get_or, Some, refl, ap, ◌∙◌, sym, subst, arith, map, max, length-set, length-append, length-take-le}
+use Rattle.std.specs.List.{list_any, remove, slice_get, AllByRecursion}
+use Rattle.std.proofs.lemmas.Bool.{cases_Bool, ltb-true, ltb-false, lt-ltb, le-ltb, eqb-true, eqb-false}
+use Rattle.std.proofs.lemmas.Option.{slice_get-get_or}
+use Rattle.std.proofs.lemmas.List.{get_or_default, get_or-map, get_or-take, take_more, length-map, map-append, get_or-set_same, get_or-set_other, get_or_append_left, take-append-le}
+use Rattle.std.proofs.lemmas.List.Folds.{list_any_at}
+use Rattle.lldp_pdu.specs.Msap.{MsapId}
+use Rattle.lldp_table.specs.Msap.{same_msap}
+use Rattle.lldp_table.specs.Events.{Neighbor}
+use Rattle.lldp_table.specs.Contents.{Contents, IsExtent, is_named, IsSound, IsHeld}
+use Rattle.lldp_table.specs.Code.Steps.{fresh, refreshed, learn_answer, learned_as, after_learn, after_forget}
+use Rattle.lldp_table.specs.Code.Layout.{neighbor_of, neighbor_at, neighbors_at, msap_at, blank, with_next, IsOrder, contents_of, IsLaidOut}
+use Rattle.lldp_table.specs.Code.Stored.{Stored}
+use Rattle.lldp_table.specs.declared.learned.Learned.{Learned}
+use Rattle.lldp_table.specs.declared.learned.Learned.TheVariants.{New, Refreshed, Dropped}
+use Rattle.lldp_table.proofs.Standing.Sound.{sound_open, sound_learned, sound_forgotten, sound_purged}
+use Rattle.lldp_table.proofs.Slots.Places.{at_place, all-weaker, all-both, all-take, all-out, others-out, map-agree, map-at_place, not_before, map-remove, take-moved, distinct-take, forgets_none, forgets_place, refreshes_place, IsOrder-forgotten, IsOrder-push, IsOrder-none}
+use Rattle.std.proofs.lemmas.Grind.{common_steps}
+
+-- ## Slots
+
+-- Behind a write the slot of this index has this neighbor, and the ticks left of the others in use are as they were.
+pub record IsStored (used : List ℕ) (left : ℕ → ℕ) (s : ℕ) (slot : Stored) (left' : ℕ → ℕ) (x : Neighbor) : Type 0 where
+  pub here : neighbor_of slot (left' s) ≡ x
+  pub others : AllByRecursion (λ i. nat_eq s i ≡ false → left' i ≡ left i) used
+
+-- a frame in a slot is that of the neighbor who has just come
+pub fresh_in : (slot : Stored) (name : MsapId) (ttl : ℕ) (octets : List ℕ) → slot.octets ≡ octets → slot.ttl ≡ ttl → IsExtent name ttl octets → neighbor_of slot ttl ≡ fresh name ttl octets
+fresh_in slot name ttl octets o t e = grind (arith, common_steps)
+
+module _ (slots : List Stored) {used : List ℕ} {left : ℕ → ℕ} {s : ℕ} {slot : Stored} {left' : ℕ → ℕ} {x : Neighbor} (w : IsStored used left s slot left' x) where
+  stored-others : AllByRecursion (λ i. nat_eq s i ≡ false → neighbor_at (set slots s slot) left' i ≡ neighbor_at slots left i) used
+  stored-others = grind (arith, common_steps, all-weaker, get_or-set_other, eqb-false)
+
+  stored-same : s < length slots → neighbor_at (set slots s slot) left' s ≡ x
+  stored-same l = ap (λ (y : Stored). neighbor_of y (left' s)) (get_or-set_same slots s slot blank l) ∙ w.here
+
+-- the names in slots are those of their neighbors
+pub any-msap : (slots : List Stored) (left : ℕ → ℕ) (name : MsapId) (is : List ℕ) → list_any (same_msap name) (map (msap_at slots) is) ≡ list_any (is_named name) (neighbors_at slots left is)
+any-msap slots left name [] = refl
+any-msap slots left name (i ∷ is) = ap (λ b. same_msap name (msap_at slots i) || b) (any-msap slots left name is)
+
+-- ## Tables
+
+-- a table whose parts show a sound table is laid out
+pub laid_out : {capacity : ℕ} {slots : List Stored} {left : ℕ → ℕ} {order : List ℕ} {used limit too_many : ℕ} {table : Contents} → IsOrder (length slots) order → length slots ≤ capacity → used ≤ length slots → used ≤ limit → contents_of capacity slots left order used limit too_many ≡ table → IsSound table → IsLaidOut capacity slots left order used limit too_many
+laid_out o w f h e s = record { indices = o; written = w; fits = f; held = h; sound = subst IsSound (sym e) s }
+
+module _ {capacity : ℕ} {slots : List Stored} {left : ℕ → ℕ} {order : List ℕ} {used limit too_many : ℕ} (h : IsLaidOut capacity slots left order used limit too_many) where
+  abbrev held : List Neighbor
+  held = neighbors_at slots left (take used order)
+
+  -- with other neighbors, and another timer
+  abbrev with_held : List Neighbor → Contents
+  with_held xs = record { capacity = capacity; limit = limit; neighbors = xs; too_many_left = too_many }
+
+  abbrev shown : Contents
+  shown = with_held held
+
+  pub fits : used ≤ length order
+  fits = omega (arith, h.fits, h.indices.all)
+
+  pub count : length held ≡ used
+  count = length-map (take used order) (neighbor_at slots left) ∙ length-take-le used order fits
+
+  -- what a table with these parts tells of its room
+  module _ (table : Contents) (is : shown ≡ table) (room : Bool) (told : room ≡ nat_lt (length table.neighbors) table.limit) where
+    test_is : room ≡ nat_lt used limit
+    test_is = told ∙ ap (λ (t : Contents). nat_lt (length t.neighbors) t.limit) (sym is) ∙ ap (λ n. nat_lt n limit) count
+
+    pub has_room : room ≡ true → used < limit
+    has_room e = ltb-true used limit (sym test_is ∙ e)
+
+    pub has_none : room ≡ false → limit ≤ used
+    has_none e = ltb-false used limit (sym test_is ∙ e)
+
+  -- the neighbor at a place
+  pub place : (at : ℕ) (d : Neighbor) → at < used → get_or held at d ≡ neighbor_at slots left (get_or order at 0)
+  place at d l = get_or-map (neighbor_at slots left) (take used order) at 0 d (omega (arith, length-take-le used order fits)) ∙ ap (neighbor_at slots left) (get_or-take used order at 0 l)
+
+  pub index_within : (at : ℕ) → at < used → get_or order at 0 < length slots
+  index_within at l = at_place (λ i. i < length slots) order at 0 (omega (arith, fits)) h.indices.within
+
+  pub next_within : used < length slots → get_or order used 0 < length slots
+  next_within l = at_place (λ i. i < length slots) order used 0 (omega (arith, h.indices.all)) h.indices.within
+
+  pub held_at : (at : ℕ) → at < used → IsHeld (neighbor_at slots left (get_or order at 0))
+  held_at at l = subst IsHeld (place at (neighbor_of blank 0) l) (at_place IsHeld held at (neighbor_of blank 0) (omega (arith, count)) h.sound.held)
+
+  at_named : (name : MsapId) (at : ℕ) → at < used → same_msap name (msap_at slots (get_or order at 0)) ≡ true → is_named name (get_or held at (neighbor_of blank 0)) ≡ true
+  at_named name at l e = ap (is_named name) (place at (neighbor_of blank 0) l) ∙ e
+
+  -- the neighbor at a place, from what was read of the slots and the order
+  entry_at : (at : ℕ) (read : List ℕ) (slot : Stored) → read ≡ order → slot ≡ get_or slots (get_or read at 0) slot → at < used → neighbor_of slot (left (get_or read at 0)) ≡ neighbor_at slots left (get_or order at 0)
+  entry_at at read slot r e l =
+      let s : ℕ = get_or order at 0 in
+      let same : get_or read at 0 ≡ s = ap (λ (is : List ℕ). get_or is at 0) r in
+      ap (λ n. neighbor_of slot (left n)) same
+      ∙ ap (λ (y : Stored). neighbor_of y (left s)) (e ∙ ap (λ n. get_or slots n slot) same ∙ get_or_default slots s slot blank (index_within at l))
+
+  pub entry_with_at : (at : ℕ) (read : List ℕ) (slot : Stored) (value : ℕ) → read ≡ order → slot ≡ get_or slots (get_or read at 0) slot → at < used → get_or (map (λ (x : Neighbor). x.left) held) at 0 ≡ value
+      → neighbor_of slot value ≡ neighbor_at slots left (get_or order at 0)
+  entry_with_at at read slot value r e l v =
+      let told : get_or (map (λ (x : Neighbor). x.left) held) at 0 ≡ left (get_or order at 0) =
+      get_or-map (λ (x : Neighbor). x.left) held at (neighbor_of blank 0) 0 (omega (arith, count)) ∙ ap (λ (x : Neighbor). x.left) (place at (neighbor_of blank 0) l) in
+      ap (neighbor_of slot) (sym v ∙ told ∙ ap (λ (is : List ℕ). left (get_or is at 0)) (sym r)) ∙ entry_at at read slot r e l
+
+  -- the ticks left of all, in order
+  pub lefts_held : map (λ (x : Neighbor). x.left) held ≡ map left (take used order)
+  lefts_held = lefts_at (take used order)
+    where
+      lefts_at : (is : List ℕ) → map (λ (x : Neighbor). x.left) (neighbors_at slots left is) ≡ map left is
+      lefts_at [] = refl
+      lefts_at (i ∷ is) = ap (λ ns. left i ∷ ns) (lefts_at is)
+
+  pub get_at : (at : ℕ) → at < used → slice_get held at ≡ Some (neighbor_at slots left (get_or order at 0))
+  get_at at l = slice_get-get_or held at (neighbor_of blank 0) (omega (arith, count)) ∙ ap Some (place at (neighbor_of blank 0) l)
+
+  -- ### What `place_of` finds among the slots in use
+
+  pub found : (name : MsapId) (at : ℕ) → (at < length (take used order)) × (same_msap name (msap_at slots (get_or (take used order) at 0)) ≡ true) → (at < used) × (same_msap name (msap_at slots (get_or order at 0)) ≡ true)
+  found name at p = grind (arith, common_steps, length-take-le, fits, get_or-take)
+
+  pub not_found : (name : MsapId) → list_any (same_msap name) (map (msap_at slots) (take used order)) ≡ false → list_any (is_named name) held ≡ false
+  not_found name e = sym (any-msap slots left name (take used order)) ∙ e
+
+  pub holds_named : (name : MsapId) (at : ℕ) → at < used → same_msap name (msap_at slots (get_or order at 0)) ≡ true → list_any (is_named name) held ≡ true
+  holds_named name at l e = list_any_at (is_named name) held at (neighbor_of blank 0) (omega (arith, count)) (at_named name at l e)
+
+  -- ### `learn` of a name that is held
+
+  abbrev answer_by : Bool → ℕ → ℕ → Learned
+  answer_by b n most = cond b Refreshed (cond (nat_lt n most) New Dropped)
+
+  pub answer_refreshed : (name : MsapId) (at : ℕ) → at < used → same_msap name (msap_at slots (get_or order at 0)) ≡ true → learn_answer shown name ≡ Refreshed
+  answer_refreshed name at l e = ap (λ b. answer_by b (length held) limit) (holds_named name at l e)
+
+  pub answer_new : (name : MsapId) → list_any (is_named name) held ≡ false → used < limit → learn_answer shown name ≡ New
+  answer_new name none l = ap (λ b. answer_by b (length held) limit) none ∙ ap (λ n. answer_by false n limit) count ∙ ap (λ b. cond b New Dropped) (lt-ltb used limit l)
+
+  module _ (name : MsapId) (ttl : ℕ) (octets : List ℕ) (slot : Stored) (left' : ℕ → ℕ) where
+    module _ (at : ℕ) (l : at < used) (e : same_msap name (msap_at slots (get_or order at 0)) ≡ true) (w : IsStored (take used order) left (get_or order at 0) slot left' (fresh name ttl octets)) where
+      abbrev s : ℕ
+      s = get_or order at 0
+
+      stored : neighbors_at (set slots s slot) left' (take used order) ≡ set held at (fresh name ttl octets)
+      stored =
+          map-at_place (neighbor_at slots left) (neighbor_at (set slots s slot) left') s (take used order) (stored-others slots w)
+          at (omega (arith, length-take-le used order fits)) (get_or-take used order at 0 l) (distinct-take used order h.indices.distinct)
+          ∙ ap (set held at) (stored-same slots w (index_within at l))
+
+      refreshed_all : map (refreshed name ttl octets) held ≡ set held at (fresh name ttl octets)
+      refreshed_all = refreshes_place name ttl octets held at (neighbor_of blank 0) (omega (arith, count)) (at_named name at l e) h.sound.distinct
+
+      pub after_refreshed : contents_of capacity (set slots s slot) left' order used limit too_many ≡ after_learn shown name ttl octets
+      after_refreshed = ap with_held (stored ∙ sym refreshed_all) ∙ ap (λ a. learned_as a shown name ttl octets) (sym (answer_refreshed name at l e))
+
+      pub laid_refreshed : IsExtent name ttl octets → IsLaidOut capacity (set slots s slot) left' order used limit too_many
+      laid_refreshed t =
+          let same = length-set slots s slot in
+          laid_out (subst (λ n. IsOrder n order) (sym same) h.indices)
+          (omega (arith, same, h.written)) (omega (arith, same, h.fits)) h.held after_refreshed (sound_learned shown name ttl octets t h.sound)
+
+    -- ### `learn` of a new name, to a slot that is free
+
+    module _ (none : list_any (is_named name) held ≡ false) (l : used < limit) (free : used < length slots) where
+      pub short : used < length order
+      short = omega (arith, free, h.indices.all)
+
+      module _ (w : IsStored (take used order) left (get_or order used 0) slot left' (fresh name ttl octets)) where
+        abbrev next : ℕ
+        next = get_or order used 0
+
+        others : neighbors_at (set slots next slot) left' (take used order) ≡ held
+        others = map-agree (neighbor_at slots left) (neighbor_at (set slots next slot) left') (take used order)
+            (all-both (λ i. nat_eq next i ≡ false) (λ i. nat_eq next i ≡ false → neighbor_at (set slots next slot) left' i ≡ neighbor_at slots left i) (λ i. neighbor_at (set slots next slot) left' i ≡ neighbor_at slots left i)
+            (λ i d q. q d) (take used order) (not_before order used short h.indices.distinct) (stored-others slots w))
+
+        pushed : neighbors_at (set slots next slot) left' (take (used + 1) order) ≡ held ++ fresh name ttl octets ∷ []
+        pushed = grind (arith, common_steps, take_more, short, map-append, others, stored-same, next_within, free)
+
+        pub after_new : contents_of capacity (set slots next slot) left' order (used + 1) limit too_many ≡ after_learn shown name ttl octets
+        after_new = ap with_held pushed ∙ ap (λ a. learned_as a shown name ttl octets) (sym (answer_new name none l))
+
+        pub laid_new : IsExtent name ttl octets → IsLaidOut capacity (set slots next slot) left' order (used + 1) limit too_many
+        laid_new t =
+            let same = length-set slots next slot in
+            laid_out (subst (λ n. IsOrder n order) (sym same) h.indices)
+            (omega (arith, same, h.written)) (omega (arith, same, free)) (omega arith) after_new (sound_learned shown name ttl octets t h.sound)
+
+  -- ### `learn` of a name that finds no room
+
+  module _ (name : MsapId) (none : list_any (is_named name) held ≡ false) (l : limit ≤ used) where
+    pub answer_dropped : learn_answer shown name ≡ Dropped
+    answer_dropped = ap (λ b. answer_by b (length held) limit) none ∙ ap (λ n. answer_by false n limit) count ∙ ap (λ b. cond b New Dropped) (le-ltb used limit l)
+
+    pub after_dropped : (ttl : ℕ) (octets : List ℕ) (timer : ℕ) → timer ≡ max too_many ttl → contents_of capacity slots left order used limit timer ≡ after_learn shown name ttl octets
+    after_dropped ttl octets timer e = ap (contents_of capacity slots left order used limit) e ∙ ap (λ a. learned_as a shown name ttl octets) (sym answer_dropped)
+
+  -- ### `forget`
+
+  module _ (name : MsapId) (at x : ℕ) (left' : ℕ → ℕ) (l : at < used) (e : same_msap name (msap_at slots (get_or order at 0)) ≡ true) (o : AllByRecursion (λ i. nat_eq (get_or order at 0) i ≡ false → left' i ≡ left i) (take used order)) where
+    pub moved_out : take (used - 1) (remove order at ++ x ∷ []) ≡ remove (take used order) at
+    moved_out =
+        let one : suc (used - 1) ≡ used = omega arith in
+        take-moved order x at (used - 1) (omega arith) (omega (arith, fits)) ∙ ap (λ n. remove (take n order) at) one
+
+    others_left : neighbors_at slots left' (remove (take used order) at) ≡ neighbors_at slots left (remove (take used order) at)
+    others_left =
+        let there : at < length (take used order) = omega (arith, length-take-le used order fits) in
+        let s : ℕ = get_or order at 0 in
+        map-agree (neighbor_at slots left) (neighbor_at slots left') (remove (take used order) at)
+        (all-both (λ i. nat_eq s i ≡ false) (λ i. nat_eq s i ≡ false → left' i ≡ left i) (λ i. neighbor_at slots left' i ≡ neighbor_at slots left i) (λ i d q. ap (neighbor_of (get_or slots i blank)) (q d)) (remove (take used order) at)
+        (subst (λ n. AllByRecursion (λ i. nat_eq n i ≡ false) (remove (take used order) at)) (get_or-take used order at 0 l) (others-out (take used order) at there (distinct-take used order h.indices.distinct)))
+        (all-out (λ i. nat_eq s i ≡ false → left' i ≡ left i) (take used order) at there o))
+
+    pub after_forgotten : contents_of capacity slots left' (remove order at ++ x ∷ []) (used - 1) limit too_many ≡ after_forget shown name
+    after_forgotten =
+        ap with_held (ap (neighbors_at slots left') moved_out ∙ others_left ∙ map-remove (neighbor_at slots left) (take used order) at
+        ∙ sym (forgets_place name held at (neighbor_of blank 0) (omega (arith, count)) (at_named name at l e) h.sound.distinct))
+
+    pub laid_forgotten : x ≡ get_or order at x → IsLaidOut capacity slots left' (remove order at ++ x ∷ []) (used - 1) limit too_many
+    laid_forgotten i =
+        laid_out (IsOrder-forgotten (length slots) order at x (omega (arith, fits)) i h.indices) h.written (omega (arith, h.fits)) (omega (arith, h.held)) after_forgotten (sound_forgotten shown name h.sound)
+
+  -- nothing of this name
+  pub forgotten_none : (name : MsapId) → list_any (is_named name) held ≡ false → after_forget shown name ≡ shown
+  forgotten_none name none = ap with_held (forgets_none name held none)
+
+  -- ### `purge`
+
+  pub laid_purged : (left' : ℕ → ℕ) → IsLaidOut capacity slots left' order 0 limit 0
+  laid_purged left' = laid_out h.indices h.written (omega arith) (omega arith) refl (sound_purged shown h.sound)
+
+  -- ### One more slot
+
+  -- the order with a free slot in it: where all that were written are in use, one more is written
+  pub record HasFree (slots' : List Stored) (order' : List ℕ) : Type 0 where
+    pub laid : IsLaidOut capacity slots' left order' used limit too_many
+    pub same : contents_of capacity slots' left order' used limit too_many ≡ shown
+    pub free : used < length slots'
+    pub order_same : take used order' ≡ take used order
+
+  full : used < limit → nat_eq (length slots) used ≡ true → HasFree (slots ++ blank ∷ []) (order ++ used ∷ [])
+  full l e =
+      let all : length slots ≡ used = eqb-true (length slots) used e in
+      let more : length (slots ++ blank ∷ []) ≡ length slots + 1 = length-append slots (blank ∷ []) in
+      let front : take used (order ++ used ∷ []) ≡ take used order = take-append-le used order (used ∷ []) fits in
+      let same : contents_of capacity (slots ++ blank ∷ []) left (order ++ used ∷ []) used limit too_many ≡ shown =
+      ap with_held (ap (neighbors_at (slots ++ blank ∷ []) left) front
+      ∙ map-agree (neighbor_at slots left) (neighbor_at (slots ++ blank ∷ []) left) (take used order)
+      (all-weaker (λ i. i < length slots) (λ i. neighbor_at (slots ++ blank ∷ []) left i ≡ neighbor_at slots left i) (λ i w. ap (λ (y : Stored). neighbor_of y (left i)) (get_or_append_left slots (blank ∷ []) blank i w)) (take used order)
+      (all-take (λ i. i < length slots) used order h.indices.within))) in
+      let indices : IsOrder (length slots + 1) (order ++ used ∷ []) = subst (λ n. IsOrder (length slots + 1) (order ++ n ∷ [])) all (IsOrder-push (length slots) order h.indices) in
+      record {
+        laid = laid_out (subst (λ n. IsOrder n (order ++ used ∷ [])) (sym more) indices)
+            (omega (arith, more, all, l, h.sound.room)) (omega (arith, more, all)) h.held same h.sound;
+        same = same;
+        free = omega (arith, more, all);
+        order_same = front;
+      }
+
+  not_full : nat_eq (length slots) used ≡ false → HasFree slots order
+  not_full e = let n = eqb-false (length slots) used e in record { laid = h; same = refl; free = omega (arith, n, h.fits); order_same = refl }
+
+  pub has_free : used < limit → HasFree (with_next used blank slots) (with_next used used order)
+  has_free l = grind (arith, common_steps, cases_Bool, full, not_full)
+
+-- ## `open`
+
+pub laid_open : (left : ℕ → ℕ) (limit : ℕ) → 0 < limit → limit ≤ 128 → IsLaidOut limit [] left [] 0 limit 0
+laid_open left limit l m = laid_out IsOrder-none (omega arith) (omega arith) (omega arith) refl (sound_open limit l m)

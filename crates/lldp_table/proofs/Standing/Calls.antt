@@ -1,0 +1,97 @@
+-- Each call carries standing from every list of calls to the list with the call.
+use Rattle.std.proofs.Common.{◌≡◌, ℕ, ◌<◌, ◌≤◌, false, nat_lt, List, [], ◌∷◌, length, Option, Some, None, refl, ap, ◌∙◌, sym, subst, is_some}
+use Rattle.std.specs.List.{list_any}
+use Rattle.lldp_pdu.specs.Msap.{MsapId}
+use Rattle.lldp_table.specs.Events.{Call, learn, forget, purge, tick, set_limit, TableEvent, learned, Neighbor, live, neighbors, too_many_left, limit_after, answer, event_of, events_of}
+use Rattle.lldp_table.specs.Contents.{Contents, is_named}
+use Rattle.lldp_table.specs.Code.Steps.{learn_answer, learned_as, newly_opened, table_after}
+use Rattle.lldp_table.specs.Standing.{Stands, IsPossible, table_of}
+use Rattle.lldp_table.specs.declared.learned.Learned.{Learned}
+use Rattle.lldp_table.specs.declared.learned.Learned.TheVariants.{New, Refreshed, Dropped}
+use Rattle.lldp_table.proofs.Live.Events.{Arrived, Arrived-new, Arrived-refreshed, Arrived-dropped, Arrived-forgot, Arrived-purged, Arrived-ticked, Arrived-limit_set, neighbors-limit_set, has-live, answer_by, by_refreshed, by_new, neighbors-new, neighbors-refreshed, neighbors-dropped, neighbors-forgot, neighbors-purged, neighbors-ticked, too_many-dropped, too_many-ticked}
+
+-- ## What an answer tells
+
+none : (o : Option Neighbor) → is_some o ≡ false → o ≡ None
+none None h = refl
+none (Some x) h = cc
+
+-- ## Each live name has arrived
+
+Arrived-learnt : (opened : ℕ) (name : MsapId) (ttl : ℕ) (octets : List ℕ) (past : List TableEvent) (a : Learned) → answer opened name past ≡ a → Arrived past → Arrived (learned name ttl octets a ∷ past)
+Arrived-learnt opened name ttl octets past New e h = Arrived-new name ttl octets past h
+Arrived-learnt opened name ttl octets past Refreshed e h = Arrived-refreshed name ttl octets past (by_refreshed (is_some (live name past)) _ e) h
+Arrived-learnt opened name ttl octets past Dropped e h = Arrived-dropped name ttl octets past h
+
+pub arrived : (opened : ℕ) (calls : List Call) → Arrived (events_of opened calls)
+unfolding events_of live
+arrived opened [] = λ name h. h
+arrived opened (learn name ttl octets ∷ calls) = Arrived-learnt opened name ttl octets (events_of opened calls) (answer opened name (events_of opened calls)) refl (arrived opened calls)
+arrived opened (forget name ∷ calls) = Arrived-forgot name (events_of opened calls) (arrived opened calls)
+arrived opened (purge ∷ calls) = Arrived-purged (events_of opened calls)
+arrived opened (tick ∷ calls) = Arrived-ticked (events_of opened calls) (arrived opened calls)
+arrived opened (set_limit limit ∷ calls) = Arrived-limit_set limit (events_of opened calls) (arrived opened calls)
+
+-- ## Answers
+
+-- the events of one more call
+pub events-more : (opened : ℕ) (call : Call) (calls : List Call) → events_of opened (call ∷ calls) ≡ event_of opened call (events_of opened calls) ∷ events_of opened calls
+unfolding events_of
+events-more opened call calls = refl
+
+-- what a table that stands for a list of calls has
+pub stands_limit : (table : Contents) (opened : ℕ) (calls : List Call) → Stands opened calls table → table.limit ≡ limit_after opened (events_of opened calls)
+stands_limit table opened calls h = ap (λ (t : Contents). t.limit) h.is
+
+pub stands_neighbors : (table : Contents) (opened : ℕ) (calls : List Call) → Stands opened calls table → table.neighbors ≡ neighbors (events_of opened calls)
+stands_neighbors table opened calls h = ap (λ (t : Contents). t.neighbors) h.is
+
+-- what a table stands for decides what `learn` answers
+answered : (opened : ℕ) (calls : List Call) (name : MsapId) → learn_answer (table_of opened calls) name ≡ answer opened name (events_of opened calls)
+answered opened calls name =
+    let past : List TableEvent = events_of opened calls in
+    ap (λ b. answer_by b (nat_lt (length (neighbors past)) (limit_after opened past))) (has-live past (arrived opened calls) name)
+
+pub learn_answers : (table : Contents) (opened : ℕ) (calls : List Call) (name : MsapId) → Stands opened calls table → learn_answer table name ≡ answer opened name (events_of opened calls)
+learn_answers table opened calls name h = rw h.is (answered opened calls name)
+
+-- a name is held where it is live
+pub held_is_live : (table : Contents) (opened : ℕ) (calls : List Call) (name : MsapId) → Stands opened calls table → list_any (is_named name) table.neighbors ≡ is_some (live name (events_of opened calls))
+held_is_live table opened calls name h = rw h.is (has-live (events_of opened calls) (arrived opened calls) name)
+
+-- ## What each call leaves
+
+-- the table after these events
+abbrev table_by : ℕ → List TableEvent → Contents
+table_by opened past = record { capacity = opened; limit = limit_after opened past; neighbors = neighbors past; too_many_left = too_many_left past }
+
+learn_leaves : (opened : ℕ) (past : List TableEvent) (name : MsapId) (ttl : ℕ) (octets : List ℕ) (a : Learned) → answer opened name past ≡ a → 0 < ttl → learned_as a (table_by opened past) name ttl octets ≡ table_by opened (learned name ttl octets a ∷ past)
+unfolding too_many_left
+learn_leaves opened past name ttl octets New e t = ap (λ xs. record (table_by opened past) { neighbors = xs }) (sym (neighbors-new name ttl octets past t (none (live name past) (by_new (is_some (live name past)) _ e).0)))
+learn_leaves opened past name ttl octets Refreshed e t = ap (λ xs. record (table_by opened past) { neighbors = xs }) (sym (neighbors-refreshed name ttl octets past t (by_refreshed (is_some (live name past)) _ e)))
+learn_leaves opened past name ttl octets Dropped e t = cc (neighbors-dropped name ttl octets past, too_many-dropped name ttl octets past)
+
+-- it is the one that the list with the call leaves
+pub leaves : (opened : ℕ) (calls : List Call) (call : Call) → IsPossible (table_of opened calls) call → table_after (table_of opened calls) call ≡ table_of opened (call ∷ calls)
+unfolding events_of too_many_left
+leaves opened calls (learn name ttl octets) t = ap (λ a. learned_as a (table_of opened calls) name ttl octets) (answered opened calls name) ∙ learn_leaves opened (events_of opened calls) name ttl octets _ refl t.lives
+leaves opened calls (forget name) t = cc (neighbors-forgot name (events_of opened calls))
+leaves opened calls purge t = cc (neighbors-purged (events_of opened calls))
+leaves opened calls tick t = cc (neighbors-ticked (events_of opened calls), too_many-ticked (events_of opened calls))
+leaves opened calls (set_limit limit) t = cc (neighbors-limit_set limit (events_of opened calls))
+
+-- ## Standing
+
+pub stands_open : (opened : ℕ) → 0 < opened → opened ≤ 128 → Stands opened [] (newly_opened opened)
+unfolding events_of neighbors too_many_left
+stands_open opened l m = record { least = l; most = m; allowed = tt; is = refl }
+
+-- a call carries standing from a list of calls to the list with the call
+pub carries : (table : Contents) (opened : ℕ) (calls : List Call) (call : Call) → Stands opened calls table → IsPossible table call → Stands opened (call ∷ calls) (table_after table call)
+carries table opened calls call h t =
+    let taken = subst (λ (x : Contents). IsPossible x call) h.is t in
+    record { least = h.least; most = h.most; allowed = (taken, h.allowed); is = ap (λ (x : Contents). table_after x call) h.is ∙ leaves opened calls call taken }
+
+-- the same of what a call leaves
+pub stands_after : (old new : Contents) (opened : ℕ) (calls : List Call) (call : Call) → new ≡ table_after old call → IsPossible old call → Stands opened calls old → Stands opened (call ∷ calls) new
+stands_after old new opened calls call e t h = subst (λ (x : Contents). Stands opened (call ∷ calls) x) (sym e) (carries old opened calls call h t)

@@ -1,0 +1,246 @@
+/*
+ * The functions that programs call. Each looks whether a pointer is NULL that must not be, and says so. Else it calls
+ * the proved function, with the same arguments; for NULL with a length of 0 that one is given an address, as its
+ * contract asks. tools/library.sh puts `proved_` before the names of the proved functions.
+ */
+#include "lldpa.h"
+
+#define PROVED(name) extern __typeof__(name) proved_##name
+
+PROVED(lldpa_frame_pdu);
+PROVED(lldpa_examine);
+PROVED(lldpa_next_kept);
+PROVED(lldpa_caps);
+PROVED(lldpa_mgmt);
+PROVED(lldpa_build);
+PROVED(lldpa_transmit_new);
+PROVED(lldpa_transmit_event);
+PROVED(lldpa_transmit_credit);
+PROVED(lldpa_open);
+PROVED(lldpa_tick);
+PROVED(lldpa_frame);
+PROVED(lldpa_link);
+PROVED(lldpa_command);
+PROVED(lldpa_command_text);
+PROVED(lldpa_show_lines);
+PROVED(lldpa_show_line);
+PROVED(lldpa_frame_of);
+PROVED(lldpa_close);
+
+/* Of more names of ports the proved function does not look at the others. */
+#define MOST_NAMES 65
+
+/* Where no elements stand. Nothing is read or written here. */
+static lldpa_tlv nowhere;
+
+/* Whether elements ought to stand where none can. */
+static bool is_missing(const void *at, size_t count)
+{
+    return at == NULL && count > 0;
+}
+
+/* Where octets stand that are read. */
+static const uint8_t *octets(const uint8_t *at)
+{
+    return at != NULL ? at : (const uint8_t *)&nowhere;
+}
+
+/* Where octets stand that are written. */
+static uint8_t *room_at(uint8_t *at)
+{
+    return at != NULL ? at : (uint8_t *)&nowhere;
+}
+
+/* ---- Reading ---------------------------------------------------------------------------------------------------- */
+
+bool lldpa_frame_pdu(const uint8_t *frame, size_t length, lldpa_place *pdu)
+{
+    if (is_missing(frame, length) || pdu == NULL) {
+        return false;
+    }
+    return proved_lldpa_frame_pdu(octets(frame), length, pdu);
+}
+
+uint8_t lldpa_examine(const uint8_t *pdu, size_t length, lldpa_examined *told)
+{
+    if (is_missing(pdu, length) || told == NULL) {
+        return LLDPA_NULL;
+    }
+    return proved_lldpa_examine(octets(pdu), length, told);
+}
+
+bool lldpa_next_kept(const uint8_t *extent, size_t length, lldpa_kept *walk)
+{
+    if (is_missing(extent, length) || walk == NULL) {
+        return false;
+    }
+    return proved_lldpa_next_kept(octets(extent), length, walk);
+}
+
+bool lldpa_caps(const uint8_t *body, size_t length, lldpa_capabilities *told)
+{
+    if (is_missing(body, length) || told == NULL) {
+        return false;
+    }
+    return proved_lldpa_caps(octets(body), length, told);
+}
+
+bool lldpa_mgmt(const uint8_t *body, size_t length, lldpa_management *told)
+{
+    if (is_missing(body, length) || told == NULL) {
+        return false;
+    }
+    return proved_lldpa_mgmt(octets(body), length, told);
+}
+
+/* ---- Building --------------------------------------------------------------------------------------------------- */
+
+/* Whether the body of one of the TLVs is missing. */
+static bool lacks_body(const lldpa_tlv *tlvs, size_t count)
+{
+    for (size_t at = 0; at < count; at++) {
+        if (is_missing(tlvs[at].body, tlvs[at].length)) {
+            return true;
+        }
+    }
+    return false;
+}
+
+uint8_t lldpa_build(const uint8_t *chassis, size_t chassis_length, const uint8_t *port, size_t port_length,
+                    uint16_t ttl, const lldpa_tlv *tlvs, size_t tlv_count, uint8_t *faults, size_t fault_count,
+                    uint8_t *room, size_t room_length, size_t *length)
+{
+    if (is_missing(chassis, chassis_length) || is_missing(port, port_length) || is_missing(tlvs, tlv_count) ||
+        is_missing(faults, fault_count) || is_missing(room, room_length) || length == NULL) {
+        return LLDPA_NULL;
+    }
+    if (lacks_body(tlvs, tlv_count)) {
+        return LLDPA_NULL;
+    }
+    return proved_lldpa_build(octets(chassis), chassis_length, octets(port), port_length, ttl,
+                              tlvs != NULL ? tlvs : &nowhere, tlv_count, room_at(faults), fault_count, room_at(room),
+                              room_length, length);
+}
+
+/* ---- The transmit machine --------------------------------------------------------------------------------------- */
+
+uint8_t lldpa_transmit_new(lldpa_machine *machine, uint8_t credit_max, uint8_t fast_init, uint8_t reinit,
+                           bool allowed)
+{
+    return machine == NULL ? LLDPA_NULL : proved_lldpa_transmit_new(machine, credit_max, fast_init, reinit, allowed);
+}
+
+uint8_t lldpa_transmit_event(lldpa_machine *machine, uint8_t cause, uint16_t interval, uint8_t *mark)
+{
+    if (machine == NULL || mark == NULL) {
+        return LLDPA_NULL;
+    }
+    return proved_lldpa_transmit_event(machine, cause, interval, mark);
+}
+
+uint8_t lldpa_transmit_credit(const lldpa_machine *machine)
+{
+    return machine == NULL ? 0 : proved_lldpa_transmit_credit(machine);
+}
+
+/* ---- The agent -------------------------------------------------------------------------------------------------- */
+
+/* Copies a text, where it is not missing. */
+static bool is_copied(lldpa_text *to, const lldpa_text *from)
+{
+    if (is_missing(from->octets, from->length)) {
+        return false;
+    }
+    *to = (lldpa_text){octets(from->octets), from->length};
+    return true;
+}
+
+uint8_t lldpa_open(const lldpa_options *options, lldpa_agent *agent)
+{
+    lldpa_text names[MOST_NAMES];
+    if (options == NULL || agent == NULL || is_missing(options->ports, options->port_count)) {
+        return LLDPA_NULL;
+    }
+    lldpa_options given = *options;
+    if (given.port_count > MOST_NAMES) {
+        given.port_count = MOST_NAMES;
+    }
+    given.ports = names;
+    for (size_t at = 0; at < given.port_count; at++) {
+        if (!is_copied(&names[at], &options->ports[at])) {
+            return LLDPA_NULL;
+        }
+    }
+    if (!is_copied(&given.hostname, &options->hostname)) {
+        return LLDPA_NULL;
+    }
+    return proved_lldpa_open(&given, agent);
+}
+
+uint8_t lldpa_tick(lldpa_agent *agent, lldpa_marks *marks)
+{
+    return agent == NULL || marks == NULL ? LLDPA_NULL : proved_lldpa_tick(agent, marks);
+}
+
+uint8_t lldpa_frame(lldpa_agent *agent, uint8_t port, const uint8_t *frame, size_t length, lldpa_marks *marks)
+{
+    if (agent == NULL || is_missing(frame, length) || marks == NULL) {
+        return LLDPA_NULL;
+    }
+    return proved_lldpa_frame(agent, port, octets(frame), length, marks);
+}
+
+uint8_t lldpa_link(lldpa_agent *agent, uint8_t port, bool up, lldpa_marks *marks)
+{
+    return agent == NULL || marks == NULL ? LLDPA_NULL : proved_lldpa_link(agent, port, up, marks);
+}
+
+uint8_t lldpa_command(lldpa_agent *agent, const uint8_t *line, size_t length, uint8_t *show, lldpa_marks *marks)
+{
+    if (agent == NULL || is_missing(line, length) || show == NULL || marks == NULL) {
+        return LLDPA_NULL;
+    }
+    return proved_lldpa_command(agent, octets(line), length, show, marks);
+}
+
+uint8_t lldpa_command_text(uint8_t fault, uint8_t *room, size_t room_length, size_t *length)
+{
+    if (is_missing(room, room_length) || length == NULL) {
+        return LLDPA_NULL;
+    }
+    return proved_lldpa_command_text(fault, room_at(room), room_length, length);
+}
+
+uint8_t lldpa_show_lines(lldpa_agent *agent, uint8_t show, uint32_t from, uint8_t *room, size_t room_length,
+                         lldpa_lines *told)
+{
+    if (agent == NULL || is_missing(room, room_length) || told == NULL) {
+        return LLDPA_NULL;
+    }
+    return proved_lldpa_show_lines(agent, show, from, room_at(room), room_length, told);
+}
+
+uint8_t lldpa_show_line(lldpa_agent *agent, uint8_t show, uint32_t line, uint8_t *room, size_t room_length,
+                        size_t *length)
+{
+    if (agent == NULL || is_missing(room, room_length) || length == NULL) {
+        return LLDPA_NULL;
+    }
+    return proved_lldpa_show_line(agent, show, line, room_at(room), room_length, length);
+}
+
+uint8_t lldpa_frame_of(lldpa_agent *agent, uint8_t port, uint8_t mark, uint8_t *room, size_t room_length,
+                       size_t *length)
+{
+    if (agent == NULL || is_missing(room, room_length) || length == NULL) {
+        return LLDPA_NULL;
+    }
+    return proved_lldpa_frame_of(agent, port, mark, room_at(room), room_length, length);
+}
+
+void lldpa_close(lldpa_agent *agent)
+{
+    if (agent != NULL) {
+        proved_lldpa_close(agent);
+    }
+}

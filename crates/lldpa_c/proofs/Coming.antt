@@ -1,0 +1,137 @@
+-- What is in a room once lines have come.
+use Rattle.std.proofs.Common.{◌≡◌, ℕ, zero, suc, ◌+◌, ◌%◌, ◌^◌, ◌<◌, ◌≤◌, Bool, true, false, not, List, [], ◌∷◌, ◌++◌, length, take, drop, None, refl, sym, ap, subst, ◌∙◌, append-nil, append_assoc, arith}
+use Rattle.std.specs.Prelude.{slice_get, nat_le}
+use Rattle.std.specs.List.{flat_map}
+use Rattle.std.proofs.lemmas.Bool.{leb-true, leb-false}
+use Rattle.std.proofs.lemmas.List.{length-append, length-drop}
+use Rattle.std.proofs.lemmas.Option.{slice_get_past}
+use Rattle.std.proofs.Math.Nat.{mod-eq_of_lt}
+use Rattle.lldp_engine.specs.Takes.{Takes}
+use Rattle.lldp_text.specs.Text.{ended}
+use Rattle.lldpa_c.specs.declared.lines.Filling.{Filling}
+use Rattle.lldpa_c.specs.Filling.{View, begun, put_if, put_unless, come_at, come, come_all, view, TakesLine}
+use Rattle.lldpa_c.specs.Filled.{Fills, IsFull}
+
+-- From what was written on, so many of these lines were written too: all, or the next does not fit.
+pub record Comes (size : ℕ) (v r : View) (lines : List (List ℕ)) : Type 0 where
+  pub count : ℕ
+  pub next : r.next ≡ v.next + count
+  pub text : r.text ≡ v.text ++ flat_map ended (take count lines)
+  pub within : r.used ≤ size
+  pub done : r.is_full ≡ false → slice_get lines count ≡ None
+  pub full : r.is_full ≡ true → IsFull lines count size r.used
+
+-- where the room is full nothing comes
+come_full : (size : ℕ) (v : View) (lines : List (List ℕ)) → v.is_full ≡ true → come_all size v lines ≡ v
+come_full size v [] full = refl
+come_full size v (line ∷ lines) full =
+    let here : come v.is_full size v (ended line) ≡ v = ap (λ (b : Bool). come b size v (ended line)) full in
+    ap (λ (w : View). come_all size w lines) here ∙ come_full size v lines full
+
+none_comes : (size : ℕ) (v : View) → v.used ≤ size → v.is_full ≡ false → Comes size v v []
+none_comes size v within room = record {
+  count = 0;
+  next = omega arith;
+  text = sym (append-nil v.text);
+  within = within;
+  done = λ _. refl;
+  full = λ full. absurd cc;
+}
+
+-- a line that fits is written, and the others come
+one_comes : (b : Bool) (size : ℕ) (v : View) (line : List ℕ) (lines : List (List ℕ)) → nat_le (v.used + length (ended line)) size ≡ b
+    → v.skip ≡ 0 → v.is_full ≡ false → v.used ≤ size → v.next + length (line ∷ lines) < 2 ^ 32
+    → ((w : View) → w.skip ≡ 0 → w.is_full ≡ false → w.used ≤ size → w.next + length lines < 2 ^ 32 → Comes size w (come_all size w lines) lines)
+    → Comes size v (come_all size (put_if b v (ended line)) lines) (line ∷ lines)
+one_comes true size v line lines is skip room within few others =
+    let text = ended line in
+    let w : View = put_if true v text in
+    let low : (v.next + 1) % 2 ^ 32 ≡ v.next + 1 = mod-eq_of_lt (omega (arith, few)) in
+    let c = others w skip room (leb-true _ _ is) (omega (arith, low, few)) in
+    record {
+      count = suc c.count;
+      next = omega (arith, c.next, low);
+      text = c.text ∙ append_assoc v.text text (flat_map ended (take c.count lines));
+      within = c.within;
+      done = c.done;
+      full = c.full;
+    }
+one_comes false size v line lines is skip room within few others =
+    let w : View = put_if false v (ended line) in
+    subst (λ (r : View). Comes size v r (line ∷ lines)) (sym (come_full size w lines refl)) record {
+      count = 0;
+      next = omega arith;
+      text = sym (append-nil v.text);
+      within = within;
+      done = λ no. absurd cc;
+      full = λ _ other h. let e : line ≡ other = cc in too_long other e;
+    }
+  where
+    too_long : (other : List ℕ) → line ≡ other → size < v.used + length other + 1
+    too_long other e = omega (arith, leb-false _ _ is, length-append line (10 ∷ []), ap length e)
+
+come_open : (size : ℕ) (lines : List (List ℕ)) (v : View) → v.skip ≡ 0 → v.is_full ≡ false → v.used ≤ size → v.next + length lines < 2 ^ 32 → Comes size v (come_all size v lines) lines
+come_open size [] v skip room within few = none_comes size v within room
+come_open size (line ∷ lines) v skip room within few =
+    let text = ended line in
+    let here : come v.is_full size v text ≡ put_if (nat_le (v.used + length text) size) v text =
+    ap (λ (b : Bool). come b size v text) room ∙ ap (λ (n : ℕ). come_at n size v text) skip ∙ ap (λ (b : Bool). put_unless b size v text) room in
+    subst (λ (w : View). Comes size v (come_all size w lines) (line ∷ lines)) (sym here) (one_comes _ size v line lines refl skip room within few (λ w. come_open size lines w))
+
+-- those that are not wanted come first
+pub come_behind : (size k : ℕ) (lines : List (List ℕ)) (v : View) → v.skip ≡ k → v.is_full ≡ false → v.used ≤ size → v.next + length (drop k lines) < 2 ^ 32 → Comes size v (come_all size v lines) (drop k lines)
+come_behind size zero lines v skip room within few = come_open size lines v skip room within few
+come_behind size (suc k) [] v skip room within few = none_comes size v within room
+come_behind size (suc k) (line ∷ lines) v skip room within few =
+    let w : View = record v { skip = k } in
+    let here : come v.is_full size v (ended line) ≡ w =
+    ap (λ (b : Bool). come b size v (ended line)) room ∙ ap (λ (n : ℕ). come_at n size v (ended line)) skip in
+    let c = come_behind size k lines w refl room within few in
+    subst (λ (x : View). Comes size v (come_all size x lines) (drop k lines)) (sym here) record { count = c.count; next = c.next; text = c.text; within = c.within; done = c.done; full = c.full }
+
+-- all lines of a show come
+pub all_come : (lines : List (List ℕ)) (from size n : ℕ) (a r : View) → n ≡ size → a ≡ begun from → r ≡ come_all n a lines → from < 2 ^ 32 → length lines ≤ 6127808
+    → Comes size (begun from) r (drop from lines)
+all_come lines from size n a r e b is fits few =
+    subst (λ (x : View). Comes size (begun from) x (drop from lines)) (sym (is ∙ ap (λ (x : View). come_all n x lines) b ∙ ap (λ (m : ℕ). come_all m (begun from) lines) e))
+    (come_behind size from lines (begun from) refl refl (omega arith) (omega (arith, fits, few, length-drop from lines)))
+
+-- ---- by a sink
+
+pub taken : (size : ℕ) (a b : Filling) (lines : List (List ℕ)) → length a.room.now ≡ size → Takes TakesLine a b lines
+    → (view b ≡ come_all size (view a) lines) × (length b.room.now ≡ size) × (b.room.ghost_name ≡ a.room.ghost_name)
+unfolding Takes
+taken size a b [] e h = (ap view (sym h), ap (λ (f : Filling). length f.room.now) (sym h) ∙ e, ap (λ (f : Filling). f.room.ghost_name) (sym h))
+taken size a b (line ∷ lines) e h =
+    let t = h.1 in
+    let others = taken size h.0 b lines (t.size ∙ e) h.2 in
+    (others.0 ∙ ap (λ (v : View). come_all size v lines) (t.view ∙ ap (λ (n : ℕ). come (view a).is_full n (view a) (ended line)) e), others.1, others.2 ∙ t.same)
+
+-- ---- what was written of a show
+
+get_behind : {X : Type 0} (k n : ℕ) (xs : List X) → slice_get (drop k xs) n ≡ slice_get xs (k + n)
+get_behind zero n xs = ap (slice_get xs) (omega arith)
+get_behind (suc k) n [] = slice_get_past [] n (omega arith) ∙ sym (slice_get_past [] (suc k + n) (omega arith))
+get_behind (suc k) n (x ∷ xs) =
+    let there : suc (k + n) ≡ suc k + n = omega arith in
+    get_behind k n xs ∙ ap (slice_get (x ∷ xs)) there
+
+pub fills : (lines : List (List ℕ)) (from size : ℕ) (r : View) → Comes size (begun from) r (drop from lines) → Fills lines from r.next r.text
+fills lines from size r c = record {
+  order = omega (arith, c.next);
+  are = c.text ∙ ap (λ (n : ℕ). flat_map ended (take n (drop from lines))) (omega (arith, c.next));
+}
+
+pub no_more : (lines : List (List ℕ)) (from size : ℕ) (r : View) → Comes size (begun from) r (drop from lines) → r.is_full ≡ false → slice_get lines r.next ≡ None
+no_more lines from size r c room = ap (slice_get lines) c.next ∙ sym (get_behind from c.count lines) ∙ c.done room
+
+pub is_full : (lines : List (List ℕ)) (from size : ℕ) (r : View) → Comes size (begun from) r (drop from lines) → r.is_full ≡ true → IsFull lines r.next size r.used
+is_full lines from size r c full line h = c.full full line (get_behind from c.count lines ∙ ap (slice_get lines) (sym c.next) ∙ h)
+
+pub is_open : (full : Bool) → not full ≡ true → full ≡ false
+is_open true h = absurd cc
+is_open false h = refl
+
+pub is_not_open : (full : Bool) → not full ≡ false → full ≡ true
+is_not_open true h = refl
+is_not_open false h = absurd cc

@@ -1,0 +1,58 @@
+-- Lines on their way into the caller's room.
+use Rattle.std.specs.Prelude.{◌≡◌, ℕ, zero, suc, ◌+◌, ◌%◌, ◌^◌, Bool, true, false, nat_le, List, [], ◌∷◌, ◌++◌, length, take}
+use Rattle.lldp_text.specs.Text.{ended}
+use Rattle.lldpa_c.specs.declared.lines.Filling.{Filling}
+
+-- what was written of a show: how many lines are not wanted yet, the octets used and what they are, the line to go on
+-- with, and whether that one did not fit
+pub record View : Type 0 where
+  pub skip : ℕ
+  pub used : ℕ
+  pub next : ℕ
+  pub text : List ℕ
+  pub is_full : Bool
+
+-- nothing is written, and so many lines are not wanted
+abbrev pub begun : ℕ → View
+begun from = record { skip = from; used = 0; next = from; text = []; is_full = false }
+
+-- a text is written, where it fits in a room of that size
+abbrev pub put_if : Bool → View → List ℕ → View
+put_if true v text = record v { used = v.used + length text; text = v.text ++ text; next = (v.next + 1) % 2 ^ 32 }
+put_if false v text = record v { is_full = true }
+
+-- the same, where all before it did
+abbrev pub put_unless : Bool → ℕ → View → List ℕ → View
+put_unless true size v text = v
+put_unless false size v text = put_if (nat_le (v.used + length text) size) v text
+
+-- a line comes: it is left out, or it is written
+abbrev pub come_at : ℕ → ℕ → View → List ℕ → View
+come_at zero size v text = put_unless v.is_full size v text
+come_at (suc skip) size v text = record v { skip = skip }
+
+abbrev pub come : Bool → ℕ → View → List ℕ → View
+come true size v text = v
+come false size v text = come_at v.skip size v text
+
+abbrev pub come_all : ℕ → View → List (List ℕ) → View
+come_all size v [] = v
+come_all size v (line ∷ lines) = come_all size (come v.is_full size v (ended line)) lines
+
+-- what is in the room
+abbrev pub settled : Filling → View
+settled f = record { skip = f.before; used = f.used; next = f.next; text = take f.used f.room.now; is_full = f.is_full }
+
+-- the same with the line that waits
+abbrev pub with_waiting : Bool → Filling → View
+with_waiting true f = put_unless f.is_full (length f.room.now) (settled f) f.line
+with_waiting false f = settled f
+
+abbrev pub view : Filling → View
+view f = with_waiting f.is_wanted f
+
+-- a line came
+pub record TakesLine (old new : Filling) (line : List ℕ) : Type 0 where
+  pub view : view new ≡ come (view old).is_full (length old.room.now) (view old) (ended line)
+  pub size : length new.room.now ≡ length old.room.now
+  pub same : new.room.ghost_name ≡ old.room.ghost_name
