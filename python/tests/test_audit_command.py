@@ -75,12 +75,16 @@ class Words(InAFolder):
     def test_damaged_files_are_no_empty_ports(self) -> None:
         (self.folder / "empty").write_bytes(b"")
         self.file("text", "no capture\n")
-        for file, why in (("empty", "it is empty"), ("text", "it is no capture")):
-            for word in (f"swp1={self.folder}/{file}", f"{self.folder}/{file}"):
-                status, out, err = self.audit(word)
-                self.assertEqual(status, 1)
-                self.assertIn(f"swp1  no data: wants host01 eth0 ({self.folder}/{file}: {why}", out)
-                self.assertIn(f"lldpa-audit: {self.folder}/{file}: {why}", err)
+        no_list = "it is text, but no list of neighbors that is known"
+        for port, file, why in (("swp1=", "empty", "it is empty"),
+                                ("", "empty", "it is empty"),
+                                ("swp1=", "text", "it is no capture"),
+                                ("", "text", no_list)):
+            path = f"{self.folder}/{file}"
+            status, out, err = self.audit(f"{port}{path}")
+            self.assertEqual(status, 1)
+            self.assertIn(f"swp1  no data: wants host01 eth0 ({path}: {why}", out)
+            self.assertIn(f"lldpa-audit: {path}: {why}", err)
 
     def test_damaged_file_of_an_unplanned_port(self) -> None:
         (self.folder / "empty").write_bytes(b"")

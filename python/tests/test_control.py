@@ -98,7 +98,7 @@ class Questions(Answered):
                 for line in (word, f"\t {word} eth0", f'"{word}" 3', f"{word}\t00", f'"{word}"x'):
                     with self.assertRaises(Refused) as refused:
                         client.ask(line)
-                    self.assertEqual(refused.exception.text, "for the bridge alone")
+                    self.assertEqual(refused.exception.text, "for lldpa-live alone")
         self.assertEqual(self.served.asked, [])
 
     def test_a_line_that_is_too_long_is_passed_over(self) -> None:

@@ -58,7 +58,7 @@ class Answers(Program):
         self.assertEqual(self.run_ctl("update"), "")
         self.run_ctl("configure", "lldp", "tx-hold", "0", status=1,
                      said="out of range: 0 (a number from 1 to 100)")
-        self.run_ctl("tick", status=1, said="for the bridge alone")
+        self.run_ctl("tick", status=1, said="for lldpa-live alone")
 
     def test_json_tells_the_same(self) -> None:
         self.served.frame("eth0", numbered(1, 120, tlv(5, HOSTILE), tlv(7, b"\0\x14\0\4"),

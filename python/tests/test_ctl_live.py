@@ -116,7 +116,7 @@ class OnARealLink(OnLinks):
         bridge = self.bridge()
         second = self.live("--control", bridge.control, "--stay", "eth0", awaits=False)
         self.assertEqual(second.ends(), 1)
-        self.assertIn("another bridge answers at this control path", second.errors())
+        self.assertIn("another lldpa-live answers at this control path", second.errors())
         self.assertIn("bridge.eth0.interface=present", self.ctl(bridge, "bridge"))
 
     @by_the_clock

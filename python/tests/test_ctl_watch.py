@@ -80,7 +80,7 @@ class Watching(Program):
         self.served.call(self.served.server.close())
         said = child.communicate(timeout=SECONDS)
         self.assertEqual((said, child.returncode),
-                         (("", "lldpa-ctl: the bridge has ended the connection\n"), 1))
+                         (("", "lldpa-ctl: lldpa-live has ended the connection\n"), 1))
         self.served.call(self.served.server.start())
 
 

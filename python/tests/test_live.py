@@ -129,7 +129,7 @@ class TestStart(OnLinks):
     def test_what_the_bridge_tells_is_refused_from_its_user(self) -> None:
         live = self.live("eth0")
         for line in ("tick 5", " tick", '"tick" 5', "\tdown eth0", "up eth0", "rx eth0 00"):
-            self.assertEqual(live.told(line), ["error: for the bridge alone"], line)
+            self.assertEqual(live.told(line), ["error: for lldpa-live alone"], line)
         self.assertEqual(live.told("x" * 4097), ["error: line too long"])
         self.assertEqual(live.told("x" * 40000), ["error: line too long"])
 

@@ -199,7 +199,7 @@ class TestControlPath(OnLinks):
         first = self.live("eth0")
         second = self.live("--control", first.control, "eth0")
         self.assertEqual(second.ends(), 1)
-        text = f"{first.control}: another bridge answers at this control path"
+        text = f"{first.control}: another lldpa-live answers at this control path"
         self.assertIn(text, second.errors())
         self.assertTrue(first.answers())
 

@@ -108,7 +108,7 @@ class TestLog(OnLinks):
         for number in range(60):
             peer.send(numbered(number).ljust(1500, b"\0"))
             time.sleep(0.01)
-        self.assertTrue(live.says("stops, the bridge goes on: No space left on device"))
+        self.assertTrue(live.says("stops, lldpa-live goes on: No space left on device"))
         self.assertIn("bridge.log=full", live.ask("bridge"))
         self.assertTrue(self.logs()[0].read_bytes().endswith(b"\n"))
         live.signal(signal.SIGTERM)
@@ -198,7 +198,7 @@ class TestConnect(OnLinks):
         self.listener(1)
         live = self.live("--connect", "4711", "eth1")
         self.assertEqual(live.ends(), 1)
-        self.assertIn("the agent refused what the bridge told it: error: no such port\n",
+        self.assertIn("the agent refused what lldpa-live told it: error: no such port\n",
                       live.errors())
 
     def test_nobody_listens(self) -> None:

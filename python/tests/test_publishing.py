@@ -17,7 +17,7 @@ from patience import SECONDS
 from served import BRIDGE_LINES, CTL, Served, numbered
 
 DOWN = """\
-# HELP lldpa_up Whether the bridge answers and its agent does, 1 or 0.
+# HELP lldpa_up Whether lldpa-live answers and its agent does, 1 or 0.
 # TYPE lldpa_up gauge
 lldpa_up 0
 """
@@ -78,10 +78,10 @@ class Publishing(unittest.TestCase):
             self.assertNotIn("lldpa_neighbors", printed)
 
     def test_a_bridge_that_ends_or_answers_nonsense_is_down(self) -> None:
-        answers = {b"": "the bridge has ended the connection",
-                   b"=1\n": "the bridge has ended the connection",
-                   b"hello\n": "no answer of a bridge: 'hello'",
-                   b"=1\nbridge.began=now\n=0\n=0\n": "no answer of a bridge: time data 'now' "
+        answers = {b"": "lldpa-live has ended the connection",
+                   b"=1\n": "lldpa-live has ended the connection",
+                   b"hello\n": "no answer of lldpa-live: 'hello'",
+                   b"=1\nbridge.began=now\n=0\n=0\n": "no answer of lldpa-live: time data 'now' "
                                                        "does not match format",
                    b"=0\n=1\nx\n=0\n": "line 1"}
         for answer, said in answers.items():

@@ -167,7 +167,7 @@ class Words(unittest.TestCase):
         said, = self.ctl("neighbours", status=1)
         self.assertEqual(said, "lldpa-ctl: unknown command: neighbours (neighbors, details, "
                          "interfaces, statistics, bridge, show, configure, update, watch, metrics)")
-        self.assertEqual(self.ctl("tick", status=1), ["lldpa-ctl: for the bridge alone"])
+        self.assertEqual(self.ctl("tick", status=1), ["lldpa-ctl: for lldpa-live alone"])
 
     def test_other_lines_of_the_console_go_to_the_agent_as_they_are(self) -> None:
         self.assertEqual(self.console("nonsense"), ["error: unknown command"])

@@ -166,6 +166,16 @@ class TestSets(OnLinks):
         self.assertEqual(status_of(live.process.pid)["Groups"].strip(), "")
         self.assertEqual(int(status_of(live.process.pid)["CapEff"], 16), 0)
 
+    def test_no_other_process_of_its_user_reaches_into_it(self) -> None:
+        Path(self.wires.folder).chmod(0o777)
+        user = ["setpriv", "--reuid=1", "--regid=1", "--clear-groups"]
+        live = self.live("eth0", before=[*user, "--inh-caps=+net_raw", "--ambient-caps=+net_raw"])
+        for name in ("mem", "environ"):
+            looked = subprocess.run([*user, sys.executable, "-c", "import sys; open(sys.argv[1])",
+                                     f"/proc/{live.process.pid}/{name}"],
+                                    capture_output=True, text=True, check=False)
+            self.assertIn("PermissionError", looked.stderr, name)
+
 
 if __name__ == "__main__":
     unittest.main()

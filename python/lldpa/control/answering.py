@@ -19,7 +19,7 @@ HELP = (
     "  show neighbors | statistics | chassis | configuration",
     "  configure ...             changes the agent, see lldpa(1)",
     "  update                    sends the present state",
-    "  bridge                    what the bridge says of itself",
+    "  bridge                    what lldpa-live says of itself",
     "  help                      this",
 )
 

@@ -26,7 +26,7 @@ def first_word(line: bytes) -> bytes:
 
 def refusal(line: bytes, may_change: Callable[[], bool]) -> Optional[list[bytes]]:
     """The answer to a client's line that nobody is asked: one that is too long, says nothing, is
-    for the bridge alone to tell, changes the agent and may not, or is none. None for all others."""
+    for lldpa-live alone to tell, changes the agent and may not, or is none. None for all others."""
     words = line.lstrip(b" \t")
     answer = refusal_to_all(line)
     if answer is not None:
@@ -46,5 +46,5 @@ def refusal_to_all(line: bytes) -> Optional[list[bytes]]:
     if len(line) > LONGEST_LINE:
         return [b"error: line too long"]
     if first_word(line) in OF_THE_BRIDGE:
-        return [b"error: for the bridge alone"]
+        return [b"error: for lldpa-live alone"]
     return None

@@ -11,7 +11,7 @@ from .exposition import lines_of
 from ..limits import CLOCK
 
 LINE = re.compile(r"bridge\.(?:([^.=]+)\.)?([a-z-]+)=(.*)")
-UP = ("lldpa_up", "gauge", "Whether the bridge answers and its agent does, 1 or 0.")
+UP = ("lldpa_up", "gauge", "Whether lldpa-live answers and its agent does, 1 or 0.")
 
 
 class State(NamedTuple):
@@ -44,7 +44,7 @@ OF_PORTS = (
             "Whether the interface of the port is there, 1 or 0.", "present"),
     OfPorts("link", "lldpa_link_up", "gauge", "Whether the port has a carrier, 1 or 0.", "up"),
     OfPorts("kernel-drops", "lldpa_kernel_drops_total", "counter",
-            "Frames that the kernel dropped since the bridge did not read them in time."),
+            "Frames that the kernel dropped since lldpa-live did not read them in time."),
     OfPorts("limit-drops", "lldpa_limit_drops_total", "counter",
             "Frames that came faster than a port may, dropped before the agent."),
     OfPorts("unsent", "lldpa_unsent_total", "counter",
@@ -76,7 +76,7 @@ def bridge_lines(told: BridgeLines) -> Iterator[str]:
     if "began" in told.own:
         start = calendar.timegm(time.strptime(told.own["began"], CLOCK))
         yield from lines_of("lldpa_start_time_seconds", "gauge",
-                            "When the bridge began, in seconds since 1970.", [({}, start)])
+                            "When lldpa-live began, in seconds since 1970.", [({}, start)])
     for state in STATES:
         if state.key in told.own:
             samples = [({"state": one}, int(told.own[state.key] == one)) for one in state.states]

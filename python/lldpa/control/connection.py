@@ -230,7 +230,7 @@ class Client:
             self.connection.sendall(octets + b"\n")  # a bridge that has gone may have said why
         head = self.read_line()
         if not (head.startswith("=") and head[1:].isdecimal()):
-            raise Gone(f"no answer of a bridge: {head!r}")
+            raise Gone(f"no answer of lldpa-live: {head!r}")
         lines = [self.read_line() for _ in range(int(head[1:]))]
         if len(lines) == 1 and lines[0].startswith("error: "):
             raise Refused(lines[0][len("error: "):])
@@ -243,7 +243,7 @@ class Client:
         except ConnectionResetError:
             line = b""
         if not line.endswith(b"\n"):
-            raise Gone("the bridge has ended the connection")
+            raise Gone("lldpa-live has ended the connection")
         return line[:-1].decode("ascii", "backslashreplace")
 
     def close(self) -> None:

@@ -17,7 +17,7 @@ class InUse(OSError):
     """Somebody answers at this path already."""
 
     def __init__(self, path: str) -> None:
-        super().__init__(errno.EADDRINUSE, "another bridge answers at this control path", path)
+        super().__init__(errno.EADDRINUSE, "another lldpa-live answers at this control path", path)
 
 
 class Listening:

@@ -37,7 +37,7 @@ def publish(path: str, file: Optional[str]) -> None:
         raise
     except ValueError as fault:  # whoever answers, that is no bridge
         write(down_lines(), file)
-        raise Gone(f"no answer of a bridge: {fault}") from None
+        raise Gone(f"no answer of lldpa-live: {fault}") from None
     write(lines, file)
     if not told.is_up:
         raise Refused(f"the agent is {told.own['agent']}")

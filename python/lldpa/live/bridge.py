@@ -117,7 +117,7 @@ class Bridge:
         self.take_links(went)
         downs = self.batch.downs if self.forgets_on_down else []
         for refusal in await self.tell_agent():
-            raise Ended(None, f"the agent refused what the bridge told it: {refusal}")
+            raise Ended(None, f"the agent refused what lldpa-live told it: {refusal}")
         for name in downs:
             await self.forget(name)
         if self.name.has_changed():
@@ -180,7 +180,7 @@ class Bridge:
         """
         async with self.telling:
             if self.stopping.is_set():
-                raise Ended(None, "the bridge has ended")
+                raise Ended(None, "lldpa-live has ended")
             await self.catch_up()
             return [text.encode() for text in await self.tell(line)]
 
@@ -191,7 +191,7 @@ class Bridge:
         """
         async with self.telling:
             if self.stopping.is_set():
-                raise Ended(None, "the bridge has ended")
+                raise Ended(None, "lldpa-live has ended")
             return await tell_settings(paths, self.tell)
 
     async def show_to_log(self) -> Show:

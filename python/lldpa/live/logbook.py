@@ -101,7 +101,7 @@ class Logbook:
         if self.unanswered and self.waiting.look() >= SECONDS_TO_STALL and not self.trouble:
             self.trouble = "stalled"
             self.report(f"the log in {self.files.path} has stood still for "
-                        f"{SECONDS_TO_STALL:.0f} seconds; the bridge goes on")
+                        f"{SECONDS_TO_STALL:.0f} seconds; lldpa-live goes on")
 
     def take(self, answer: logprocess.Answer) -> None:
         """Takes the answer to the first message that has none."""
@@ -128,7 +128,7 @@ class Logbook:
         self.is_whole = False
         self.next_try = Seconds.now() + SECONDS_BETWEEN_TRIES
         if not self.trouble:
-            self.report(f"the log in {self.files.path} stops, the bridge goes on: {text}")
+            self.report(f"the log in {self.files.path} stops, lldpa-live goes on: {text}")
         if number != errno.EBADF:  # by which the process says that the file has ended before
             self.trouble = "full" if number in OF_FULL_DISKS else "stalled"
 

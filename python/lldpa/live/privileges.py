@@ -10,6 +10,7 @@ from contextlib import suppress
 from typing import Optional
 
 # linux/prctl.h, linux/capability.h
+PR_SET_DUMPABLE = 4
 PR_CAPBSET_READ, PR_CAPBSET_DROP = 23, 24
 PR_SET_NO_NEW_PRIVS = 38
 PR_CAP_AMBIENT, PR_CAP_AMBIENT_CLEAR_ALL = 47, 4
@@ -21,8 +22,9 @@ def give_up(user: Optional[str]) -> None:
     """Keeps no capability, for good, and no group if it may drop them; as root it becomes that
     user, `nobody` unless given.
 
-    Children have none either, and no program that they run gives them any. Raises LookupError
-    where there is no such user, and OSError where the kernel refuses.
+    Children have none either, and no program that they run gives them any. No other process of the
+    same user can look into this one, or change it. Raises LookupError where there is no such user,
+    and OSError where the kernel refuses.
     """
     libc = ctypes.CDLL(None, use_errno=True)
     empty_bounding_set(libc)
@@ -37,6 +39,7 @@ def give_up(user: Optional[str]) -> None:
     succeeded(libc.prctl(PR_CAP_AMBIENT, PR_CAP_AMBIENT_CLEAR_ALL, 0, 0, 0))
     header = struct.pack("Ii", LINUX_CAPABILITY_VERSION_3, 0)
     succeeded(libc.capset(header, struct.pack("6I", 0, 0, 0, 0, 0, 0)))
+    succeeded(libc.prctl(PR_SET_DUMPABLE, 0, 0, 0, 0))
 
 
 def user_of(user: Optional[str]) -> Optional[int]:

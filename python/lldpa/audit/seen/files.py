@@ -39,9 +39,19 @@ def read_file(path: str) -> SeenFile:
                 begin, take = b"", Unzipped(file, begin).read
             front = begin + taken(take, FRONT)
             read = reader_of(front)
-            return SeenFile() if read is None else SeenFile(read(front + rest_of(take)))
+            if read is not None:
+                return SeenFile(read(front + rest_of(take)))
+            if is_text(front):
+                raise SeenFault("it is text, but no list of neighbors that is known: see "
+                                "lldpa-audit(1)")
+            return SeenFile()
     except (BadCapture, ShowFault, SeenFault) as fault:
         return SeenFile(None, f"{path}: {fault}")
+
+
+def is_text(front: bytes) -> bool:
+    """Whether a file that begins like this is text: no capture has so few control characters."""
+    return bool(front) and all(octet >= 0x20 or octet in b"\t\r\n" for octet in front)
 
 
 def rest_of(take: Take) -> bytes:
