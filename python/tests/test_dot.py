@@ -14,7 +14,6 @@ from typing import List, Optional, Tuple
 from lldpa.audit.dot import DEEPEST, edges_of, is_dot
 from lldpa.audit.dot_tokens import DotFault
 from lldpa.audit.topology import TopologyFault, read_topology
-from patience import by_the_clock
 from test_plan import TOPOLOGY
 
 Node = Tuple[str, Optional[str]]
@@ -111,14 +110,21 @@ class Damaged(unittest.TestCase):
 class Large(unittest.TestCase):
     """A plan of 100,000 edges."""
 
-    @by_the_clock
-    def test_100_000_edges(self) -> None:
+    def test_time_grows_with_the_edges(self) -> None:
+        self.seconds_of(1_000)  # whatever is done once
+        few = min(self.seconds_of(10_000) for _ in range(3))
+        many = self.seconds_of(100_000)
+        self.assertLess(many, 30 * few)  # 100 times as long if each edge looked at all before it
+        self.assertLess(many, 60)
+
+    def seconds_of(self, edges: int) -> float:
+        """The processor time that reading so many edges takes."""
         lines = [f'"leaf{at // 99}":"swp{at}" -- "spine{at % 97}":"swp{at // 3}" [label="x"];'
-                 for at in range(100_000)]
+                 for at in range(edges)]
         text = "\n".join(["graph G {", *lines, "}", ""])
         begin = time.process_time()
-        self.assertEqual(sum(1 for _ in read_topology(text)), 100_000)
-        self.assertLess(time.process_time() - begin, 6)
+        self.assertEqual(sum(1 for _ in read_topology(text)), edges)
+        return time.process_time() - begin
 
     def test_memory(self) -> None:
         program = ("import resource; from lldpa.audit.topology import read_topology;"
