@@ -2,7 +2,7 @@
 use Rattle.std.specs.Prelude.{◌≡◌, ℕ, ◌+◌, List, [], ◌∷◌, length, drop, Option, MatchOption}
 use Rattle.lldp_pdu.specs.declared.tlv.Tlv.{Tlv}
 use Rattle.lldp_pdu.specs.declared.fields.Mgmt.{Mgmt}
-use Rattle.lldp_pdu.specs.declared.msap.Msap.{Msap}
+use Rattle.lldp_pdu.specs.declared.fields.Msap.{Msap}
 use Rattle.lldp_pdu.specs.ManagementAddress.{Address}
 use Rattle.lldp_pdu.specs.Msap.{MsapId}
 use Rattle.lldp_pdu.specs.Tlv.{TlvUnit}

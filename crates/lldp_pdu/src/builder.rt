@@ -15,8 +15,7 @@ use crate::bodies::body_is_well_formed;
 use crate::fault::BuildFault;
 use crate::frame::MOST_OCTETS;
 use crate::seen::Seen;
-use crate::spelling::append_tlv;
-use crate::tlv::Tlv;
+use crate::tlv::{Tlv, append_tlv};
 use crate::tlv_type::{
     CHASSIS_ID, END_OF_LLDPDU, ORGANIZATIONALLY_SPECIFIC, PORT_DESCRIPTION, PORT_ID, TIME_TO_LIVE,
 };

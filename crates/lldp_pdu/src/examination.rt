@@ -11,8 +11,8 @@ ghost use Rattle.lldp_pdu.specs.Examined.{Answers, IsWithin};
 ghost use Rattle.lldp_pdu.specs.Code.Survey.{OpensWith, IsSurveyOf};
 
 use crate::fault::PduFault;
+use crate::fields::Msap;
 use crate::info::Info;
-use crate::msap::Msap;
 use crate::seen::Seen;
 use crate::tlv::Tlvs;
 use crate::tlv_type::{CHASSIS_ID, END_OF_LLDPDU, FIRST_RESERVED, PORT_ID, TIME_TO_LIVE};

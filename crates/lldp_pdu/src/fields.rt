@@ -1,4 +1,13 @@
-//! What the bodies with fields say.
+//! What bodies of TLVs say: whom those of a Chassis ID and a Port ID name, and the fields of two
+//! others.
+
+/// What names a neighbor: the bodies of its Chassis ID and its Port ID, subtypes included (IEEE
+/// 802.1AB-2009, 8.5.2 and 8.5.3).
+#[derive(Clone, Copy, Debug, PartialEq, Eq)]
+pub struct Msap<'a> {
+    pub chassis: &'a [u8],
+    pub port: &'a [u8],
+}
 
 /// System Capabilities: the bits that stand for what a system can do, and for what of it is
 /// enabled.

@@ -6,8 +6,8 @@ ghost use Rattle.lldp_pdu.specs.Kept.{IsKeptTlv};
 ghost use Rattle.lldp_pdu.specs.Info.{TellsItself};
 ghost use Rattle.lldp_pdu.specs.View.{msap_view};
 
+use crate::fields::Msap;
 use crate::kept::Kept;
-use crate::msap::Msap;
 use std::marker::Model;
 
 /// What a sound LLDPDU tells of a neighbor that lives: its TTL is not 0.
