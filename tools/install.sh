@@ -2,25 +2,29 @@
 # Installs lldpa under a prefix, /usr/local unless given: the program, those of bin/ with the Python package that they
 # stand on, the manual pages, completions for bash and zsh, the service with its configuration, a timer that writes its
 # metrics, alerts for Prometheus, and the documents.
-#     tools/install.sh [--uninstall] [--python FOLDER] [--library] [PREFIX]
-# With --uninstall it takes away what it installs, but for a configuration that was changed. `import lldpa` works for
-# the python3 that looks into FOLDER, by itself the first one below the prefix where python3 looks. DESTDIR, where it is
-# set, is put in front. LLDPA names the program, crates/lldpa/out/lldpa unless it is set.
+#     tools/install.sh [--list] [--uninstall] [--python FOLDER] [--library] [PREFIX]
+# With --list it only lists what it would install, and nothing need be built for that: mode, name and source of each
+# file, and where each link leads. With --uninstall it takes away what it installs, but for a configuration that was
+# changed. `import lldpa` works for the python3 that looks into FOLDER, by itself the first one below the prefix where
+# python3 looks. DESTDIR, where it is set, is put in front. LLDPA names the program, crates/lldpa/out/lldpa unless it is
+# set.
 # With --library it installs the library for C in place of all that: the header, the archive and what pkg-config tells of
 # it. LLDPA_LIB_DIR, where it is set, names the folder that tools/library.sh made, crates/lldpa_c/out/lib unless it is set.
 # tools/package.sh makes its packages of what this installs under /usr.
 set -eu
 usage() {
-    echo "usage: tools/install.sh [--uninstall] [--python FOLDER] [--library] [PREFIX]" >&2
+    echo "usage: tools/install.sh [--list] [--uninstall] [--python FOLDER] [--library] [PREFIX]" >&2
     exit 2
 }
 
+list=
 uninstall=
 prefix=/usr/local
 looks=
 library=
 while [ $# -gt 0 ]; do
     case $1 in
+        --list) list=yes ;;
         --uninstall) uninstall=yes ;;
         --library) library=yes ;;
         --python)
@@ -33,7 +37,7 @@ while [ $# -gt 0 ]; do
     esac
     shift
 done
-program=$(realpath -- "${LLDPA:-$(dirname "$0")/../crates/lldpa/out/lldpa}")
+program=$(realpath -m -- "${LLDPA:-$(dirname "$0")/../crates/lldpa/out/lldpa}")
 built=$(realpath -m -- "${LLDPA_LIB_DIR:-$(dirname "$0")/../crates/lldpa_c/out/lib}")
 cd "$(dirname "$0")/.."
 umask 022
@@ -164,6 +168,16 @@ take_away() {
 if [ -z "$looks" ]; then
     looks=$(python3 -c 'import site; print(*site.getsitepackages(), sep="\n")' |
         awk -v front="$prefix/" 'index($0, front) == 1 && !found++')
+fi
+if [ -n "$list" ]; then
+    files | while read -r way source name; do
+        case $way in program | script) mode=755 ;; *) mode=644 ;; esac
+        echo "$mode $name ${source#"$PWD/"}"
+    done
+    links | while read -r target name; do
+        echo "link $name $target"
+    done
+    exit
 fi
 if [ -n "$uninstall" ]; then
     files | while read -r way source name; do
