@@ -23,5 +23,5 @@ pub use lldp_text::{
 pub use lldp_transmit::Mark;
 pub use port::counters::Counters;
 pub use port::status::Status;
-pub use show::line_sink::LineSink;
+pub use show::line::LineSink;
 pub use show::lines::MOST_LINES;

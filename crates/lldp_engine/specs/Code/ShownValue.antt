@@ -4,8 +4,8 @@ use Rattle.std.specs.Borrow.{Bor}
 use Rattle.lldp_pdu.specs.Msap.{IsIdentifier}
 use Rattle.lldp_pdu.specs.Kept.{IsKeptTlv}
 use Rattle.lldp_pdu.specs.View.{tlv_view}
-use Rattle.lldp_engine.specs.declared.show.value.Value.{Value}
-use Rattle.lldp_engine.specs.declared.show.value.Value.TheVariants as value
+use Rattle.lldp_engine.specs.declared.show.line.Value.{Value}
+use Rattle.lldp_engine.specs.declared.show.line.Value.TheVariants as value
 use Rattle.lldp_text.specs.Addresses.{mac_text}
 use Rattle.lldp_engine.specs.ChassisLines.{own_address_text}
 use Rattle.lldp_text.specs.Identifier.{chassis_text, port_text}

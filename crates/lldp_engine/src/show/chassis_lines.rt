@@ -5,9 +5,7 @@ ghost use Rattle.lldp_engine.specs.Takes.{Takes};
 
 use crate::agent::configuration::Configuration;
 use crate::agent::options::Role;
-use crate::show::line_sink::LineSink;
-use crate::show::put_line::put_line;
-use crate::show::value::Value;
+use crate::show::line::{LineSink, Value, put_line};
 
 const FRONT: &[u8] = b"local-chassis.";
 

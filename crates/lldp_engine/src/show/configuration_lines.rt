@@ -8,11 +8,7 @@ ghost use Rattle.lldp_engine.specs.Takes.{Takes};
 use crate::agent::configuration::Configuration;
 use crate::port::Port;
 use crate::port::status::Status;
-use crate::show::front::front;
-use crate::show::line_sink::LineSink;
-use crate::show::numbers::{Number, put_numbers};
-use crate::show::put_line::put_line;
-use crate::show::value::Value;
+use crate::show::line::{LineSink, Number, Value, front, put_line, put_numbers};
 use std::alloc::Allocator;
 
 const FRONT: &[u8] = b"configuration.";

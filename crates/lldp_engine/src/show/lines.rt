@@ -10,7 +10,7 @@ use crate::agent::Agent;
 use crate::command::Show;
 use crate::show::chassis_lines::put_chassis;
 use crate::show::configuration_lines::put_configuration;
-use crate::show::line_sink::LineSink;
+use crate::show::line::LineSink;
 use crate::show::neighbor_lines::put_neighbors;
 use crate::show::one_line::OneLine;
 use crate::show::statistics_lines::put_statistics;

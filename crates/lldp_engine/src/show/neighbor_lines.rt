@@ -6,10 +6,7 @@ ghost use Rattle.lldp_engine.specs.NeighborLines.{kept_line, neighbor_lines, yes
 ghost use Rattle.lldp_engine.specs.Takes.{Takes};
 
 use crate::port::Port;
-use crate::show::front::{neighbor_front, port_front};
-use crate::show::line_sink::LineSink;
-use crate::show::put_line::put_line;
-use crate::show::value::Value;
+use crate::show::line::{LineSink, Value, neighbor_front, port_front, put_line};
 use lldp_pdu::Kept;
 use lldp_table::Entry;
 use std::alloc::Allocator;

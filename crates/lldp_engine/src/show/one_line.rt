@@ -5,7 +5,7 @@ ghost use Rattle.lldp_engine.specs.Lines.{octets_of};
 ghost use Rattle.lldp_text.specs.Text.{ended};
 ghost use Rattle.lldp_engine.specs.Code.OneLineState.{KeepsOne};
 
-use crate::show::line_sink::LineSink;
+use crate::show::line::LineSink;
 use arrayvec::ArrayVec;
 use lldp_text::{Line, Writer};
 

@@ -7,9 +7,7 @@ ghost use Rattle.lldp_engine.specs.Takes.{Takes};
 
 use crate::port::Port;
 use crate::port::counters::Counters;
-use crate::show::front::port_front;
-use crate::show::line_sink::LineSink;
-use crate::show::numbers::{Number, put_numbers};
+use crate::show::line::{LineSink, Number, port_front, put_numbers};
 use std::alloc::Allocator;
 
 /// The counters, in the order in which they are shown.

@@ -1,6 +1,6 @@
 use Rattle.std.proofs.Common.{arith}
 use Rattle.lldp_engine.proofs.Lines.Parts.{three_parts}
-use Rattle.lldp_engine.proofs.show.put_line.put_line.Goals as goal
+use Rattle.lldp_engine.proofs.show.line.put_line.Goals as goal
 
 pub returns : goal.returns
 returns g c =

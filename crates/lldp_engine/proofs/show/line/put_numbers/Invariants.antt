@@ -2,7 +2,7 @@ use Rattle.std.proofs.Common.{take, map}
 use Rattle.lldp_engine.specs.Keys.{number_line}
 use Rattle.lldp_engine.specs.Code.ShownValue.{plain_number}
 use Rattle.lldp_engine.specs.Takes.{Takes}
-use Rattle.lldp_engine.proofs.show.numbers.put_numbers.Given as goal
+use Rattle.lldp_engine.proofs.show.line.put_numbers.Given as goal
 
 -- the lines of the numbers before this one were taken
 abbrev pub invariant-loop-number : goal.invariant-loop-number

@@ -1,0 +1,153 @@
+//! A line of a show: what takes it, its value, what it begins with, and lines of numbers.
+ghost use Rattle.std.specs.Prelude.{◌≡◌, ℕ, ◌+◌, ◌≤◌, ◌++◌, List, length, map, true, IfSome};
+ghost use Rattle.std.specs.Borrow.{sem, Bor};
+ghost use Rattle.std.specs.List.{AllByRecursion};
+ghost use Rattle.lldp_engine.specs.LineRoom.{LendsRoom};
+ghost use Rattle.lldp_engine.specs.Code.ShownValue.{value_text, FitsLine, plain_number};
+ghost use Rattle.lldp_text.specs.declared.writing.TheConstants.{ROOM, VALUE_ROOM};
+ghost use Rattle.lldp_engine.specs.Keys.{front_of, port_key, neighbor_key, number_lines};
+ghost use Rattle.lldp_engine.specs.Takes.{Takes};
+
+use arrayvec::ArrayVec;
+use lldp_pdu::Tlv;
+use lldp_text::{Writer, write_chassis, write_ipv4, write_kept_tlv, write_mac, write_port};
+
+/// What takes the lines of a show, one after another: it lends the room of a line and takes what is
+/// written there. A sink that can fail may keep its fault, and be done from then on.
+pub trait LineSink {
+    /// How it is after it took a line.
+    ghost takes: { Self → Self → List ℕ → Type 0 };
+
+    /// Lends the writer in which the next line is written, behind what stands there; None where no
+    /// line changes the sink any more. What is written there is taken as a line: at most 2,048
+    /// octets, and a line feed.
+    fn begin_line(&mut self) -> Option<&mut Writer>
+        ensures* takes_line { sem 𝓛 (LendsRoom Self.row takes self.entry result) }
+        ensures room { IfSome result (λ writer. length writer.now + 2049 ≤ 8192) };
+
+    /// Whether no line changes it any more, so that the others need not come. Shows ask this before
+    /// each port and before each neighbor, though no clause says so.
+    fn is_done(&self) -> bool
+        ensures { result ≡ true → (line : List ℕ) → takes self.now self.now line };
+}
+
+/// What stands behind the key of a shown line.
+#[derive(Clone, Copy)]
+pub(crate) enum Value<'a> {
+    /// A number, in decimal.
+    Number(u32),
+    /// A text as it is.
+    Word(&'a [u8]),
+    /// A text, escaped.
+    Text(&'a [u8]),
+    /// A MAC address.
+    Mac(&'a [u8; 6]),
+    /// The agent's management address.
+    OwnAddress(&'a [u8; 4]),
+    /// The body of a Chassis ID.
+    Chassis(&'a [u8]),
+    /// The body of a Port ID.
+    Port(&'a [u8]),
+    /// A kept TLV, which has a key of its own.
+    Kept(Tlv<'a>),
+}
+
+/// Writes a value.
+pub(crate) fn write_value(line: &mut Writer, value: Value<'_>)
+    requires room { length line.old + VALUE_ROOM ≤ ROOM }
+    requires fits { FitsLine value }
+    ensures value { line.new ≡ line.old ++ value_text value.entry }
+    ensures len { length line.new ≤ length line.old + VALUE_ROOM }
+{
+    match value {
+        Value::Number(n) => line.decimal(n),
+        Value::Word(text) => line.text(text),
+        Value::Text(text) => line.escaped(text),
+        Value::Mac(octets) => write_mac(line, octets),
+        // Interface number 0 of unknown numbering, and no OID.
+        Value::OwnAddress(octets) => {
+            write_ipv4(line, octets);
+            line.text(b",1,0,");
+        }
+        Value::Chassis(id) => write_chassis(line, id),
+        Value::Port(id) => write_port(line, id),
+        Value::Kept(tlv) => write_kept_tlv(line, tlv),
+    }
+}
+
+/// What a line begins with: the same for all lines of a port, or of a neighbor.
+pub(crate) type Front = ArrayVec<u8, 32>;
+
+/// Puts octets behind what stands there.
+fn extend(front: &mut Front, octets: &[u8])
+    requires { length front.old.items + length octets.now ≤ 32 }
+    ensures { front.new.items ≡ front.old.items ++ octets.now }
+{
+    let _ = front.try_extend_from_slice(octets);
+}
+
+/// A word, the name of a port, and a `.`.
+pub(crate) fn front(word: &[u8], name: &[u8]) -> Front
+    requires word { length word.now ≤ 14 }
+    requires name { length name.now ≤ 15 }
+    ensures value { result.items ≡ front_of word.now name.now }
+    ensures len { length result.items ≤ length word.now + 16 }
+{
+    let mut front = Front::new();
+    extend(&mut front, word);
+    extend(&mut front, name);
+    extend(&mut front, b".");
+    front
+}
+
+/// `lldp.PORT.`
+pub(crate) fn port_front(name: &[u8]) -> Front
+    requires { length name.now ≤ 15 }
+    ensures value { result.items ≡ port_key name.now }
+    ensures len { length result.items ≤ 21 }
+{
+    front(b"lldp.", name)
+}
+
+/// `lldp.PORT.N.`
+pub(crate) fn neighbor_front(name: &[u8], number: u8) -> Front
+    requires { length name.now ≤ 15 }
+    ensures { result.items ≡ neighbor_key name.now number }
+{
+    let mut front = port_front(name);
+    let mut digits = itoa::Buffer::new();
+    extend(&mut front, digits.format(number).as_bytes());
+    extend(&mut front, b".");
+    front
+}
+
+/// A line: what it begins with, its key, and its value.
+pub(crate) fn put_line<S: LineSink>(sink: &mut S, front: &[u8], key: &[u8], value: Value<'_>)
+    requires front { length front.now ≤ 32 }
+    requires key { length key.now ≤ 32 }
+    requires value { FitsLine value }
+    ensures { S.takes sink.old sink.new (front.now ++ (key.now ++ value_text value.entry)) }
+{
+    let Some(line) = sink.begin_line() else {
+        return;
+    };
+    line.text(front);
+    line.text(key);
+    write_value(line, value);
+    line.end_line();
+}
+
+/// A number and the key that stands before it.
+pub(crate) type Number = (&'static [u8], u32);
+
+/// A line for each number.
+pub(crate) fn put_numbers<S: LineSink>(sink: &mut S, front: &[u8], numbers: &[Number])
+    requires front { length front.now ≤ 32 }
+    requires keys { AllByRecursion (λ number. length number.0.now ≤ 32) numbers.now }
+    ensures { Takes S.takes sink.old sink.new
+        (number_lines front.now (map plain_number numbers.now)) }
+{
+    for number in numbers {
+        put_line(sink, front, number.0, Value::Number(number.1));
+    }
+}
