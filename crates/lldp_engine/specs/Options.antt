@@ -1,7 +1,8 @@
 -- What an agent is opened with, as plain data, and which options are refused.
-use Rattle.std.specs.Prelude.{◌≡◌, ℕ, ◌≤◌, ◌==◌, ◌&&◌, ◌||◌, not, nat_le, nat_lt, Bool, false, if◌then◌else◌, List, [], ◌∷◌, length, map, Option, Some, None}
+use Rattle.std.specs.Prelude.{◌≡◌, ℕ, ◌≤◌, ◌==◌, ◌&&◌, ◌||◌, not, nat_le, nat_lt, Bool, false, List, [], ◌∷◌, length, map, Option, Some, None}
 use Rattle.std.specs.List.{list_any, list_all}
 use Rattle.std.specs.Str.{bytes_eq}
+use Rattle.lldp_pdu.specs.Check.{Check, first_fault}
 use Rattle.lldp_text.specs.Text.{is_text}
 use Rattle.lldp_engine.specs.declared.agent.options.Options.{Options as CodeOptions}
 use Rattle.lldp_engine.specs.declared.agent.options.Role.{Role}
@@ -60,15 +61,19 @@ abbrev pub has_same : List (List ℕ) → Bool
 has_same [] = false
 has_same (name ∷ names) = list_any (λ other. bytes_eq other name) names || has_same names
 
--- the fault of the first check that fails, each over the whole list of ports
+-- the checks in their order, each over the whole list of ports
+abbrev pub checks : Options → List (Check OpenFault)
+checks o =
+    record { fails = length o.names == 0; fault = NoPorts }
+    ∷ record { fails = nat_lt 64 (length o.names); fault = TooManyPorts }
+    ∷ record { fails = not (list_all is_port_name o.names); fault = PortName }
+    ∷ record { fails = has_same o.names; fault = SamePort }
+    ∷ record { fails = not (is_text o.hostname); fault = Text }
+    ∷ []
+
+-- The fault is that of the first check that fails; options with none open an agent if there is memory.
 abbrev pub fault_of : Options → Option OpenFault
-fault_of o =
-    if length o.names == 0 then Some NoPorts
-    else if nat_lt 64 (length o.names) then Some TooManyPorts
-    else if not (list_all is_port_name o.names) then Some PortName
-    else if has_same o.names then Some SamePort
-    else if not (is_text o.hostname) then Some Text
-    else None
+fault_of o = first_fault (checks o)
 
 -- An opening is refused for the first check that fails, and for want of memory only where none does.
 abbrev pub IsRefusal : Options → OpenFault → Type 0

@@ -1,5 +1,5 @@
 //! The agent.
-ghost use Rattle.std.specs.Prelude.{◌≡◌, ℕ, ◌<◌, ◌≤◌, length, map, None, Some, IfOk, IfErr, IfSome, IsTrue, ◌↔◌, slice_get};
+ghost use Rattle.std.specs.Prelude.{◌≡◌, ℕ, ◌<◌, ◌≤◌, length, map, None, Some, IfOk, IfErr, IfSome, IsTrue, ◌↔◌, slice_get, slice_index_or};
 ghost use Rattle.std.specs.List.{AllByRecursion};
 ghost use Rattle.std.specs.Option.{option_map};
 ghost use Rattle.lldp_table.specs.Standing.{Stands as TableStands};
@@ -11,7 +11,7 @@ ghost use Rattle.lldp_engine.specs.Place.{place_of};
 ghost use Rattle.lldp_engine.specs.Past.{Past, opened, with_event, past_of, marks_of};
 ghost use Rattle.lldp_engine.specs.Port.Past.{status_after, up_after, calls_after, counters_after};
 ghost use Rattle.lldp_engine.specs.Frames.{IsSent};
-ghost use Rattle.lldp_engine.specs.Sound.{AreSound};
+ghost use Rattle.lldp_engine.specs.Sound.{AreSound, IsSoundPort};
 ghost use Rattle.lldp_engine.specs.Standing.{Stands};
 ghost use Rattle.lldp_engine.specs.Code.Step.{agent_after, agent_marks};
 ghost use Rattle.lldp_engine.specs.Headline.{PromisedStep};
@@ -96,6 +96,15 @@ impl<A: Allocator> Agent<A> {
         self.ports.as_slice()
     }
 
+    /// The port of this number.
+    fn port(&self, port: u8) -> &Port<A>
+        requires { IsPort self.now port }
+        ensures place { result.now ≡ slice_index_or self.now.ports port result.now }
+        ensures sound { IsSoundPort self.now.configuration.capacity result.now }
+    {
+        self.ports.at(port as usize)
+    }
+
     /// How many ports it has, at most 64: as many as the options named.
     pub fn ports(&self) -> u8
         ensures value { result ≡ length self.now.ports }
@@ -115,7 +124,7 @@ impl<A: Allocator> Agent<A> {
         ensures past { (past : Past) → Stands past self.now →
             slice_get past.options.names port ≡ Some result.now }
     {
-        self.ports.at(port as usize).name()
+        self.port(port).name()
     }
 
     /// The place of the port of that name, from 0. None if there is none.
@@ -135,7 +144,7 @@ impl<A: Allocator> Agent<A> {
         ensures past { (past : Past) → Stands past self.now →
             result ≡ status_after past.options (past_of past port) }
     {
-        self.ports.at(port as usize).status()
+        self.port(port).status()
     }
 
     /// Whether the link of a port is up, by its last link event, else it is.
@@ -146,7 +155,7 @@ impl<A: Allocator> Agent<A> {
         ensures past { (past : Past) → Stands past self.now →
             result ≡ up_after (past_of past port) }
     {
-        self.ports.at(port as usize).is_up()
+        self.port(port).is_up()
     }
 
     /// The neighbors of a port: a table that stands for the calls that the past gives the port.
@@ -158,7 +167,7 @@ impl<A: Allocator> Agent<A> {
             TableStands past.options.max_neighbors
             (calls_after past.options (past_of past port)) result.now.shown }
     {
-        self.ports.at(port as usize).table()
+        self.port(port).table()
     }
 
     /// The counters of a port: the definitions' numbers over its whole past, modulo 2^32.
@@ -169,7 +178,7 @@ impl<A: Allocator> Agent<A> {
         ensures past { (past : Past) → Stands past self.now →
             result.now ≡ counters_after past.options (past_of past port) }
     {
-        self.ports.at(port as usize).counters()
+        self.port(port).counters()
     }
 
     /// Whether it accepts an event: its port exists, its value is in the range, its text has at

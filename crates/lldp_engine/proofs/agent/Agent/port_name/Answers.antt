@@ -1,11 +1,9 @@
-use Rattle.std.proofs.Common.{ℕ, get_or, List, Some, ap, sym, ◌∙◌}
-use Rattle.lldp_engine.specs.AgentState.{AgentState, PortState}
+use Rattle.std.proofs.Common.{ℕ, List, Some, ap, sym, ◌∙◌}
 use Rattle.lldp_engine.proofs.Readers.{port_reads}
 use Rattle.lldp_engine.proofs.agent.Agent.port_name.Goals as goal
 
 pub returns-clause-past : goal.returns-clause-past
 returns-clause-past g c = λ past h.
-    let p = c.at.result.now in
-    let same = ap (λ (a : AgentState). a.ports) c.self.view_is in
-    let r = port_reads past c.args.self.now c.args.port p h c.requires (c.at.ensures ∙ ap (λ (ps : List PortState). get_or ps c.args.port p) same) in
+    let p = c.port.result.now in
+    let r = port_reads past c.args.self.now c.args.port p h c.requires c.port.ensures.place in
     r.named ∙ ap (λ (x : List ℕ). Some x) (sym c.name.ensures.value)

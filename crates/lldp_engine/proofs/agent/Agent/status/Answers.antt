@@ -1,5 +1,4 @@
-use Rattle.std.proofs.Common.{get_or, List, ap, ◌∙◌}
-use Rattle.lldp_engine.specs.AgentState.{AgentState, PortState}
+use Rattle.std.proofs.Common.{◌∙◌}
 use Rattle.lldp_engine.specs.Past.{past_of}
 use Rattle.lldp_engine.proofs.Readers.{port_reads}
 use Rattle.lldp_engine.proofs.Headline.{status_is}
@@ -7,7 +6,6 @@ use Rattle.lldp_engine.proofs.agent.Agent.status.Goals as goal
 
 pub returns-clause-past : goal.returns-clause-past
 returns-clause-past g c = λ past h.
-    let p = c.at.result.now in
-    let same = ap (λ (a : AgentState). a.ports) c.self.view_is in
-    let r = port_reads past c.args.self.now c.args.port p h c.requires (c.at.ensures ∙ ap (λ (ps : List PortState). get_or ps c.args.port p) same) in
+    let p = c.port.result.now in
+    let r = port_reads past c.args.self.now c.args.port p h c.requires c.port.ensures.place in
     c.status.ensures ∙ status_is past.options (past_of past c.args.port) p r.is
