@@ -13,7 +13,7 @@ use Rattle.lldp_pdu.specs.Fault.{checks, fault_of, is_mandatory}
 use Rattle.lldp_pdu.specs.Code.Survey.{OpensWith}
 use Rattle.std.proofs.lemmas.Grind.{common_steps}
 
--- the cut where u stands before the octets t
+-- the cut if u stands before the octets t
 abbrev pub with_front : TlvUnit → List ℕ → Cut
 with_front u t = record { tlvs = u ∷ (cut t).tlvs; rest = (cut t).rest }
 

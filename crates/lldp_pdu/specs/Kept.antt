@@ -15,12 +15,12 @@ is_single kind = is_between port_description_type kind system_capabilities_type
 abbrev pub has_well_formed : ℕ → List TlvUnit → Bool
 has_well_formed kind us = list_any (λ u. (u.kind == kind) && is_well_formed u) us
 
--- A TLV is kept where it is well formed and, for a type of which one counts, no earlier TLV is well formed and of its
+-- A TLV is kept if it is well formed and, for a type of which one counts, no earlier TLV is well formed and of its
 -- type.
 abbrev pub is_kept : List TlvUnit → TlvUnit → Bool
 is_kept earlier u = is_well_formed u && not (is_single u.kind && has_well_formed u.kind earlier)
 
--- those of the TLVs that are kept, in order, where these others stand before them
+-- those of the TLVs that are kept, in order, if these others stand before them
 abbrev pub kept_after : List TlvUnit → List TlvUnit → List TlvUnit
 kept_after earlier [] = []
 kept_after earlier (u ∷ us) = if is_kept earlier u then u ∷ kept_after (u ∷ earlier) us else kept_after (u ∷ earlier) us
@@ -35,7 +35,7 @@ others_after earlier (u ∷ us) =
 unfoldable pub kept_of : List ℕ → List TlvUnit
 kept_of octets = kept_after [] (later_tlvs octets)
 
--- the number of later TLVs that are not kept, and one more where a TLV that is not complete ended the extent
+-- the number of later TLVs that are not kept, and one more if a TLV that is not complete ended the extent
 unfoldable pub discarded_of : List ℕ → ℕ
 discarded_of octets = length (others_after [] (later_tlvs octets)) + (if ended_incomplete octets then 1 else 0)
 

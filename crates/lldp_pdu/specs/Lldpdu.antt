@@ -10,7 +10,7 @@ use Rattle.lldp_pdu.specs.Msap.{MsapId}
 abbrev pub is_end : TlvUnit → Bool
 is_end u = u.kind == end_of_lldpdu_type
 
--- the TLVs before the first End Of LLDPDU, or all where there is none
+-- the TLVs before the first End Of LLDPDU, or all if there is none
 abbrev pub before_end : List TlvUnit → List TlvUnit
 before_end [] = []
 before_end (u ∷ us) = if is_end u then [] else u ∷ before_end us

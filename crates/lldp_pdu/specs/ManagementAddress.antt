@@ -33,7 +33,7 @@ pub record IsSpelled (body : List ℕ) (a : Address) : Type 0 where
 
 -- ---- by its places, which the law `management_addresses_are_spelled` proves equal
 
--- the fields, where m octets have family and address
+-- the fields, if m octets have family and address
 abbrev pub address_fields : List ℕ → ℕ → Address
 address_fields body m =
     record {

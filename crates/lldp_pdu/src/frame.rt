@@ -12,7 +12,7 @@ const NEAREST_BRIDGE: [u8; 6] = [0x01, 0x80, 0xc2, 0x00, 0x00, 0x0e];
 const LLDP_ETHERTYPE: [u8; 2] = [0x88, 0xcc];
 
 /// The LLDPDU of an Ethernet frame, all that follows its EtherType: at most 1,500 octets. None
-/// where the octets are no LLDP frame, that is, do not have 14 to 1,514 octets, the destination
+/// if the octets are no LLDP frame, that is, do not have 14 to 1,514 octets, the destination
 /// nearest bridge and LLDP's EtherType. Any source address is accepted (IEEE 802.1AB-2009, 7.1 to
 /// 7.4).
 #[tactic(auto, unfolding(crate::specs::Frame::is_lldp_frame))]

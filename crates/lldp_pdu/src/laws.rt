@@ -59,7 +59,7 @@ pub fn lldp_frames_have_their_form()
     ensures { (frame lldpdu : List ℕ) → (lldpdu_of frame ≡ Some lldpdu) ↔ HasForm frame lldpdu }
 {}
 
-/// A TLV is put exactly where it passes each check of `Builder::put`.
+/// A TLV is put exactly if it passes each check of `Builder::put`.
 pub fn checked_tlvs_are_put()
     ensures { (draft : Draft) (tlv : TlvUnit) → CanPut draft tlv ↔ (put_fault draft tlv ≡ None) }
 {}
@@ -71,7 +71,7 @@ pub fn drafts_are_read_back()
     ensures read_back { (draft : Draft) → CanBuild draft → IsReadBack draft (lldpdu_octets draft) }
 {}
 
-/// A body is a well-formed Management Address with these fields exactly where it is their spelling.
+/// A body is a well-formed Management Address with these fields exactly if it is their spelling.
 pub fn management_addresses_are_spelled()
     ensures { (body : List ℕ) (address : Address) → AreOctets body →
         (address_of body ≡ Some address) ↔ IsSpelled body address }

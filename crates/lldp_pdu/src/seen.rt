@@ -27,7 +27,7 @@ impl Seen {
     /// None was met.
     pub const NONE: Seen = Seen { types: [false; 4] };
 
-    /// Whether a TLV of the type was met, where one of the type counts.
+    /// Whether a TLV of the type was met, if one of the type counts.
     #[tactic(auto, unfolding(crate::specs::Code::Seen::has_flag))]
     pub(crate) fn has(&self, kind: u8) -> bool
         ensures { result ≡ has_flag self.now.types kind }
@@ -45,7 +45,7 @@ impl Seen {
         }
     }
 
-    /// Whether the next TLV is kept. It counts as met from then on where it is well formed.
+    /// Whether the next TLV is kept. It counts as met from then on if it is well formed.
     pub fn keeps(&mut self, tlv: &Tlv<'_>) -> bool
         ensures kept { result ≡ is_kept_seen self.old.types (tlv_view tlv.now) }
         ensures met { self.new.types ≡ seen_after self.old.types (tlv_view tlv.now) }

@@ -31,7 +31,7 @@ pub command_begins : (agent : AgentState) (words : List (List ℕ)) (word : List
 unfolding form_of
 command_begins agent words word a b c d = rw (differs word tick_word a, differs word rx_word b, differs word up_word c, differs word down_word d) refl
 
--- a step behind another never skips where it doesn't behind any answer
+-- a step behind another never skips if it doesn't behind any answer
 then_never : {A : Type 0} (r : Result A LineFault) (next : A → Result Work LineFault) → ((a : A) → next a ≡ Ok skip → ⊥) → (r >>= next) ≡ Ok skip → ⊥
 then_never (Ok a) next never h = never a h
 then_never (Err fault) next never h = cc
@@ -61,7 +61,7 @@ asked_never : (r : Result Asked CommandFault) → on_ok command (of_command r) �
 asked_never (Ok asked) h = cc
 asked_never (Err fault) h = cc
 
--- a choice never skips where neither side does
+-- a choice never skips if neither side does
 either_never : (b : Bool) (x y : Result Work LineFault) → (x ≡ Ok skip → ⊥) → (y ≡ Ok skip → ⊥) → (if b then x else y) ≡ Ok skip → ⊥
 either_never true x y p q h = p h
 either_never false x y p q h = q h

@@ -20,7 +20,7 @@ pub data Call (C : Type 0) : Type 0 where
   bound : (address : List ℕ) (port : ℕ) → Call C
   unbound : (address : List ℕ) (port : ℕ) → Call C
 
--- what an acceptor tells after more calls, the last one first: nothing, where it tells nothing
+-- what an acceptor tells after more calls, the last one first: nothing, if it tells nothing
 abbrev pub logged : {C : Type 0} → List (Call C) → Option (List (Call C)) → Option (List (Call C))
 logged calls None = None
 logged calls (Some earlier) = Some (calls ++ earlier)

@@ -15,7 +15,7 @@ abbrev pub ends_after : {E : Type 0} → ℕ → Result ℕ E → ℕ
 ends_after ends (Ok n) = if n == 0 then one_more ends else ends
 ends_after ends (Err fault) = ends
 
--- A read answered how many octets it put at the front of these. None came only at the end, and where it failed.
+-- A read answered how many octets it put at the front of these. None came only at the end, or if it failed.
 abbrev pub ReadsMore : {E : Type 0} → Option (List ℕ) → Option (List ℕ) → List ℕ → Result ℕ E → Type 0
 ReadsMore old new octets (Ok n) = Consumes old new (take n octets) × (n ≡ 0 → IsAtEnd new)
 ReadsMore old new octets (Err fault) = Keeps old new

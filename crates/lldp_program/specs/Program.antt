@@ -34,8 +34,8 @@ pub record RanBy (options : Options) (to_come left old new : Option (List ℕ)) 
   pub ran : Ran options to_come left old new result
   pub done : status ≡ 0 → is_ok result ≡ true
 
--- What became of reader and writer, by the text of `--listen`: where there is none, the trace of the reader was run;
--- where there is one, nothing was read and nothing written.
+-- What became of reader and writer, by the text of `--listen`: if there is none, the trace of the reader was run;
+-- if there is one, nothing was read and nothing written.
 abbrev pub RanBut : Option Text → Options → Option (List ℕ) → Option (List ℕ) → Option (List ℕ) → Option (List ℕ) → ℕ →
     Type 0
 RanBut None options to_come left old new status = RanBy options to_come left old new status

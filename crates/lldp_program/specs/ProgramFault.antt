@@ -25,7 +25,7 @@ line_of Text = codes "lldpa: bad text\n"
 line_of Mac = codes "lldpa: bad --mac\n"
 line_of Management = codes "lldpa: bad --management\n"
 
--- the status of a fault: 1 where a stream or a socket failed, or the trace was too long; 2 where nothing was begun
+-- the status of a fault: 1 if a stream or a socket failed, or the trace was too long; 2 if nothing was begun
 abbrev pub status_of : ProgramFault → ℕ
 status_of Read = 1
 status_of Write = 1

@@ -38,7 +38,7 @@ pub record Failed (past : Past) (items : List Item) (old new : Option (List ℕ)
   pub stands : Stands (after_all past (before ++ item ∷ [])) agent
   pub promised : Promised (after_all past (before ++ item ∷ [])) agent
 
--- The run stopped at an item whose output failed: one of a line whose LF was read, or, where nothing is left to come,
+-- The run stopped at an item whose output failed: one of a line whose LF was read, or, if nothing is left to come,
 -- one of the last line.
 abbrev pub StoppedAt : Past → List ℕ → Option (List ℕ) → Option (List ℕ) → Option (List ℕ) → AgentState → Type 0
 StoppedAt past input left old new agent =
@@ -71,18 +71,18 @@ pub record HasRun {T : Type 0} (to_come left old new : Option (List ℕ)) (befor
   pub read : HasRead left input result
   pub ends : (past : Past) → Stands past before → Ends past input left old new after result
 
--- the failed reads after a run: one more where it answers Read, else as many as before
+-- the failed reads after a run: one more if it answers Read, else as many as before
 abbrev pub read_failures_after : {T : Type 0} → ℕ → Result T RunFault → ℕ
 read_failures_after failures (Err Read) = one_more failures
 read_failures_after failures _ = failures
 
--- the failed writes after a run: one more where it answers Write, else as many as before
+-- the failed writes after a run: one more if it answers Write, else as many as before
 abbrev pub write_failures_after : {T : Type 0} → ℕ → Result T RunFault → ℕ
 write_failures_after failures (Err Write) = one_more failures
 write_failures_after failures _ = failures
 
--- How often the end was answered, before and after a run: once more where it answers Ok, not once where it answers Read
--- or InputTooLong; where it answers Write, at most once.
+-- How often the end was answered, before and after a run: once more if it answers Ok, not once if it answers Read
+-- or InputTooLong; if it answers Write, at most once.
 abbrev pub EndsTold : {T : Type 0} → ℕ → ℕ → Result T RunFault → Type 0
 EndsTold before after (Ok done) = after ≡ one_more before
 EndsTold before after (Err Read) = after ≡ before

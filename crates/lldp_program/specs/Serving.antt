@@ -47,7 +47,7 @@ AreRun to_come taken (visit ∷ earlier) before after =
     (between : AgentState) × AreRun to_come taken earlier before between
     × HasRun (to_come visit.connection) visit.left (taken visit.connection) visit.new between after visit.result
 
--- What an acceptor was asked, where it tells that: so many connections were accepted and each was run over once, and the
+-- What an acceptor was asked, if it tells that: so many connections were accepted and each was run over once, and the
 -- answer tells how many of the runs ended with a fault; or fewer were, and then accepting was refused.
 pub record HasAsked {C : Type 0} (to_come taken : C → Option (List ℕ)) (old new : Option (List (Call C)))
     (connections : ℕ) (before after : AgentState) (result : Result ℕ ServeFault) : Type 0 where
@@ -60,7 +60,7 @@ pub record HasAsked {C : Type 0} (to_come taken : C → Option (List ℕ)) (old 
 abbrev pub this_host : List ℕ
 this_host = 127 ∷ 0 ∷ 0 ∷ 1 ∷ []
 
--- Ok where serving ended with no fault, of which the answer counts none
+-- Ok if serving ended with no fault, of which the answer counts none
 abbrev pub without_fault : Result ℕ ServeFault → Result (Unit {0}) DeviceFault
 without_fault (Ok faulty) = if faulty == 0 then Ok tt else Err Failed
 without_fault (Err fault) = Err Failed

@@ -112,7 +112,7 @@ abbrev pub WritesNoIpv4 : Option Text → Type 0
 WritesNoIpv4 None = ⊥
 WritesNoIpv4 (Some text) = (octets : List ℕ) → ¬ IsDotted text octets
 
--- the first address that cannot be read: that of `--mac`, or, where it can, that of `--management`
+-- the first address that cannot be read: that of `--mac`, or, if it can, that of `--management`
 abbrev pub HasBadAddress : List Row → AddressFault → Type 0
 HasBadAddress rows Mac = WritesNoMac (first_of (codes "mac") rows)
 HasBadAddress rows Management =
@@ -137,7 +137,7 @@ abbrev pub WritesNumber : Option Text → ℕ → Type 0
 WritesNumber None n = ⊥
 WritesNumber (Some text) n = ParsesUnsigned {E = Unit {0}} 16 10 text (Ok n)
 
--- By the texts of `--listen` and `--connections`: nothing where there is none to listen, else the port and how many
+-- By the texts of `--listen` and `--connections`: nothing if there is none to listen, else the port and how many
 -- connections.
 abbrev pub AsksListening : Option Text → Option Text → Option Listening → Type 0
 AsksListening None connections listening = listening ≡ None

@@ -14,11 +14,11 @@ use std::net::{Ipv4Addr, Net, TcpListener, TcpStream};
 pub trait Acceptor {
     type Connection;
 
-    /// What it was asked so far, the last call first, or None where the acceptor tells none.
+    /// What it was asked so far, the last call first, or None if the acceptor tells none.
     ghost asked: { Self → Option (List (Call Self.Connection)) };
-    /// The octets to come over a connection, or None where it tells none.
+    /// The octets to come over a connection, or None if it tells none.
     ghost to_come: { Self.Connection → Option (List ℕ) };
-    /// The octets that a connection has taken, or None where it tells none.
+    /// The octets that a connection has taken, or None if it tells none.
     ghost taken: { Self.Connection → Option (List ℕ) };
 
     /// Waits for the next connection.

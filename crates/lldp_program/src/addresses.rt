@@ -5,7 +5,7 @@ ghost use Rattle.lldp_program.specs.Addresses.{IsMac};
 
 use std::net::Ipv4Addr;
 
-/// Six pairs of hexadecimal digits of either case, joined by `:`. None where the text is nothing of
+/// Six pairs of hexadecimal digits of either case, joined by `:`. None if the text is nothing of
 /// the kind.
 pub fn read_mac(text: &str) -> Option<[u8; 6]>
     ensures { MatchOption result ((mac : List ℕ) → ¬ (IsMac text.now mac)) (IsMac text.now) }
@@ -37,7 +37,7 @@ pub fn read_mac(text: &str) -> Option<[u8; 6]>
     Some(mac)
 }
 
-/// Four numbers from 0 to 255 without leading zeros, joined by `.`. None where the text is nothing
+/// Four numbers from 0 to 255 without leading zeros, joined by `.`. None if the text is nothing
 /// of the kind.
 pub fn read_ipv4(text: &str) -> Option<[u8; 4]>
     ensures { MatchOption result ((octets : List ℕ) →

@@ -154,7 +154,7 @@ fn ports<'a>(alloc: Global) -> Arg<'a>
 }
 
 /// Reads the words, of which the first is the program's name, by `clap`'s own specification. Fails
-/// with an error of a kind that it names, or of memory; also where they ask for help or the
+/// with an error of a kind that it names, or of memory; also if they ask for help or the
 /// version.
 pub fn parse<'a, S: AsStr>(alloc: Global, words: &'a [S]) -> Result<ArgMatches<'a>, Error>
     ensures options { IfOk result IsProgramParse }
@@ -240,8 +240,8 @@ pub fn read_options<'m>(matches: &'m ArgMatches<'_>) -> Result<Options<'m>, Addr
     })
 }
 
-/// The port and the number of connections that the words write, where they ask to listen. None
-/// where they do not.
+/// The port and the number of connections that the words write, if they ask to listen. None
+/// if they do not.
 pub fn listening_of(matches: &ArgMatches<'_>) -> Option<Listening>
     requires parse { IsProgramParse matches.now }
     ensures { AsksListening (one_text (found_of matches.now) (codes "listen"))

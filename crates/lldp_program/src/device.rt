@@ -16,7 +16,7 @@ pub enum DeviceFault {
 /// What octets come from. Its counts stop at the greatest u64. A device may tell no octets; a
 /// clause then says nothing of them.
 pub trait Source {
-    /// The octets still to come, or None where the device tells none.
+    /// The octets still to come, or None if the device tells none.
     ghost to_come: { Self → Option (List ℕ) };
     /// How often it was read.
     ghost calls: { Self → ℕ };
@@ -42,7 +42,7 @@ pub trait Source {
 /// What takes octets. Its count stops at the greatest u64. A device may tell no octets; a clause
 /// then says nothing of them.
 pub trait Sink {
-    /// The octets taken, or None where the device tells none.
+    /// The octets taken, or None if the device tells none.
     ghost taken: { Self → Option (List ℕ) };
     /// How many writes failed.
     ghost failures: { Self → ℕ };

@@ -71,7 +71,7 @@ impl<W: Sink> Output<'_, W> {
         }
     }
 
-    /// Writes what waits where less room than this is left.
+    /// Writes what waits if less room than this is left.
     fn make_room(&mut self, octets: usize)
         requires { octets ≤ ROOM }
         ensures puts { Between W.taken W.failures W.place self.old self.new (Puts []) }

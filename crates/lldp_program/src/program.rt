@@ -42,7 +42,7 @@ const REFUSED: u8 = 2;
 /// read; or they have no fault by it, each option, the MAC and the management address included, is
 /// the value of its argument or its default and in its range, and opening finds no fault in them.
 /// Without `--listen` the trace of the reader was then run over an agent so opened, as `run_trace`
-/// says, all of it where the status is 0. With `--listen` nothing was read and nothing written;
+/// says, all of it if the status is 0. With `--listen` nothing was read and nothing written;
 /// what is listened to is the port given by it, and the number of connections given by
 /// `--connections`, or its default 1.
 ///
@@ -129,7 +129,7 @@ fn answer_words<W: Write, E: Write>(error: &Error, writer: &mut W, faults: &mut 
     finish(writer.flush().is_ok(), faults)
 }
 
-/// Runs the trace that comes from the reader, and flushes the writer also where the run failed.
+/// Runs the trace that comes from the reader, and flushes the writer also if the run failed.
 fn run_streams<R: Read, W: Write, E: Write>(
     agent: &mut Agent,
     reader: &mut R,
@@ -145,7 +145,7 @@ fn run_streams<R: Read, W: Write, E: Write>(
     run_devices(agent, &mut source, &mut sink, faults)
 }
 
-/// Runs the trace that comes from a source, and flushes the sink behind the last write, also where
+/// Runs the trace that comes from a source, and flushes the sink behind the last write, also if
 /// the run failed. Status 0 says that no read, write or flush failed, status 1 that one did or that
 /// the trace was too long.
 fn run_devices<S: Source, W: Flush, E: Write>(

@@ -56,7 +56,7 @@ pub fn serve_connections<D: Acceptor>(
     ensures asked { HasAsked D.to_come D.taken (D.asked acceptor.old) (D.asked acceptor.new) connections
         agent.old agent.new result }
     ensures few { IfOk result (λ faulty. faulty ≤ connections) }
-    // Whatever came over the connections, and also where accepting failed.
+    // Whatever came over the connections, and also if accepting failed.
     ensures headline { (past : Past) → Stands past agent.old → KeepsOn past agent.new }
 {
     let mut faulty = 0;
@@ -70,8 +70,8 @@ pub fn serve_connections<D: Acceptor>(
 }
 
 /// Binds a port of this host, 127.0.0.1, before anything else, and serves so many connections
-/// there. Ok exactly if all were served and none ended with a fault. Fails where it is not bound,
-/// and then nothing else is asked; where accepting failed; and where a connection ended with a
+/// there. Ok exactly if all were served and none ended with a fault. Fails if it is not bound,
+/// and then nothing else is asked; if accepting failed; and if a connection ended with a
 /// fault. The agent is promised either way.
 pub fn listen<D: Bind>(
     agent: &mut Agent,
@@ -96,7 +96,7 @@ pub fn listen<D: Bind>(
 /// and a listener does not tell what it was asked, so no clause says that anybody is served.
 pub fn serve(agent: &mut Agent, listener: &TcpListener, connections: u16) -> Result<u16, ServeFault>
     ensures few { IfOk result (λ faulty. faulty ≤ connections) }
-    // Whatever came over the connections, and also where accepting failed.
+    // Whatever came over the connections, and also if accepting failed.
     ensures headline { (past : Past) → Stands past agent.old → KeepsOn past agent.new }
 {
     serve_connections(agent, &mut AtListener { listener }, connections)

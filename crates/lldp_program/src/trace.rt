@@ -144,7 +144,7 @@ impl<W: Sink> Run<'_, '_, W> {
         Ok(start)
     }
 
-    /// The last line, where it is not empty.
+    /// The last line, if it is not empty.
     fn rest(&mut self, rest: &[u8]) -> Result<(), DeviceFault>
         ensures { Performs W.taken W.failures W.place self.old self.new
             (λ past. items_of_lines past (if_any rest.now)) result }
@@ -193,11 +193,11 @@ pub fn run_trace<S: Source, W: Sink>(
     // sent exactly what was due while its credit window was open; no run of events has more frames,
     // nor more stops, than its bound, and no other choice has sent more up to any event.
     ensures headline { (past : Past) → Stands past agent.old → KeepsOn past agent.new }
-    // Read is answered exactly where a read failed, Write exactly where a write did, once and as
-    // the last call; where the answer is another, InputTooLong among them, no device failed.
+    // Read is answered exactly if a read failed, Write exactly if a write did, once and as
+    // the last call; if the answer is another, InputTooLong among them, no device failed.
     ensures reads { S.failures reader.new ≡ read_failures_after (S.failures reader.old) result }
     ensures writes { W.failures writer.new ≡ write_failures_after (W.failures writer.old) result }
-    // Where the answer is Ok the last read answered the end; where it is Read or InputTooLong, none
+    // If the answer is Ok the last read answered the end; if it is Read or InputTooLong, none
     // of the reads did.
     ensures ends { EndsTold (S.ends reader.old) (S.ends reader.new) result }
     // The devices are the ones that were lent.

@@ -1,4 +1,4 @@
-//! What no clause says of `lldp_engine`: that opening works where there is memory, and what code
+//! What no clause says of `lldp_engine`: that opening works if there is memory, and what code
 //! that the program does not run answers.
 mod embedded;
 mod full_heap;
@@ -13,7 +13,7 @@ use std::alloc::Allocator;
 use std::process::Abort;
 use std::test::Fail;
 
-/// What the program takes where nothing else is said, but that its ports only receive.
+/// What the program takes if nothing else is said, but that its ports only receive.
 fn options<'a>(ports: &'a [&'a str], max_neighbors: u8) -> Options<'a> {
     Options {
         ports,

@@ -121,8 +121,8 @@ fn equal_expiries(rt: HostRuntime) -> Result<(), Fail> {
     Ok(())
 }
 
-/// The one allocation is for all neighbors, and is refused where there is less room. No call after
-/// it takes any, where none is left.
+/// The one allocation is for all neighbors, and is refused if there is less room. No call after
+/// it takes any, if none is left.
 #[test]
 fn memory(rt: HostRuntime) -> Result<(), Fail> {
     for limit in [1u8, 32, 128] {

@@ -222,7 +222,7 @@ identifier_back number kind (t ∷ u ∷ rest) s long o =
 
 -- ## Chassis IDs and port IDs
 
--- the subtypes of table 8-2, and a number that no octet is where there is none
+-- the subtypes of table 8-2, and a number that no octet is if there is none
 abbrev chassis_number : IdentifierKind → ℕ
 chassis_number Component = 1
 chassis_number InterfaceAlias = 2

@@ -132,7 +132,7 @@ all_below_n n (x ∷ xs) some e zero = go (leb n x) refl (omega arith)
     go false p q = leb-false n x p
 all_below_n n (x ∷ xs) some e (suc i) = all_below_n n xs some (omega arith) i
 
--- the mask of the lanes that are not below n is empty exactly where all are below
+-- the mask of the lanes that are not below n is empty exactly if all are below
 pub empty_mask : (n : ℕ) (xs : List ℕ) → length xs ≡ 32 → 0 < n
     → (eqb (mask_l (map (top 7) (zip2 at_least (replicate 32 n) xs)) % 2 ^ 64) 0 ≡ true) ↔ ((i : ℕ) → get_or xs i 0 < n)
 empty_mask n xs long some =

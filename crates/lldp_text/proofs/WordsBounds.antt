@@ -37,7 +37,7 @@ is_some-mapped : (w : List ℕ) (o : Option (List (List ℕ))) → is_some (opti
 is_some-mapped w None = refl
 is_some-mapped w (Some words) = refl
 
--- where no octet is a quote there are words, between words and in an unquoted one
+-- if no octet is a quote there are words, between words and in an unquoted one
 unquoted : (line : List ℕ) → ByRecursion (λ c. is_quote c ≡ false) line → (is_some (words_from between line) ≡ true) × ((w : List ℕ) → is_some (words_from (bare w) line) ≡ true)
 unfolding words_from
 unquoted [] h = (refl, λ w. refl)

@@ -96,7 +96,7 @@ closed_other (c ∷ rest) h = rw h refl
 abbrev pub Answers : {R : Type 0} → (R → List ℕ) → (R → List ℕ) → List ℕ → Result (Option R) CommandFault → Type 0
 Answers word rest line r = MatchResult r (λ found. MatchOption found (words_of line ≡ Some []) (λ x. words_of line ≡ option_map (λ words. word x ∷ words) (words_of (rest x)))) (λ fault. (fault ≡ Quote) × (words_of line ≡ None))
 
--- A word is answered with what follows it exactly where it may end there.
+-- A word is answered with what follows it exactly if it may end there.
 abbrev pub Ends : {R : Type 0} → (R → List ℕ) → (R → List ℕ) → List ℕ → List ℕ → Result (Option R) CommandFault → Type 0
 Ends word rest w after r = MatchResult r (λ found. IsTrue (may_end_word after) × IsSomeAnd found (λ x. (word x ≡ w) × (rest x ≡ after))) (λ fault. (fault ≡ Quote) × (may_end_word after ≡ false))
 

@@ -41,7 +41,7 @@ abbrev pub begins_bare : List ℕ → Bool
 begins_bare [] = false
 begins_bare (c ∷ _) = is_bare c
 
--- The line is these words and no others: separators alone where there is none; else separators, a spelling of
+-- The line is these words and no others: separators alone if there is none; else separators, a spelling of
 -- the first, its end, and the words that follow.
 abbrev pub AreWords : List ℕ → List (List ℕ) → Type 0
 AreWords line [] = AllPass is_separator line
@@ -57,7 +57,7 @@ pub data Place : Type 0 where
   quoted : List ℕ → Place
   closed : Place
 
--- The words of what is left of a line, None where a quote stands wrongly.
+-- The words of what is left of a line, None if a quote stands wrongly.
 unfoldable pub words_from : Place → List ℕ → Option (List (List ℕ))
 words_from between [] = Some []
 words_from (bare word) [] = Some (word ∷ [])
@@ -76,6 +76,6 @@ words_from (quoted word) (c ∷ cs) =
     else words_from (quoted (word ++ c ∷ [])) cs
 words_from closed (c ∷ cs) = if is_separator c then words_from between cs else None
 
--- The words of a line, None where a quote stands wrongly.
+-- The words of a line, None if a quote stands wrongly.
 abbrev pub words_of : List ℕ → Option (List (List ℕ))
 words_of line = words_from between line

@@ -1,11 +1,11 @@
 //! Hexadecimal digits, sixteen octets at a time and without a branch for each.
 //!
 //! What is read and written is said by the definitions of the crate `hex`. This module is fast and
-//! nothing else: where it answers no, and wherever fewer than sixteen octets are to be read or
+//! nothing else: if it answers no, and wherever fewer than sixteen octets are to be read or
 //! written, `hex` itself decides and does the work.
 //!
 //! **Reading.** Thirty-two digits `c` stand in the lanes of one vector, and each lane becomes the
-//! value of its digit, or 16 or more where `c` is no digit. Lanes wrap round at 256. Two values are
+//! value of its digit, or 16 or more if `c` is no digit. Lanes wrap round at 256. Two values are
 //! computed, and the lesser one is taken:
 //!
 //! | `c` | `c - 58` | less 6, never below 0 | less 240 |
@@ -24,7 +24,7 @@
 //! upper half is the octet.
 //!
 //! **What was met.** The values of all blocks are joined by `|`, lane by lane. The union is below
-//! 16 exactly where each part is, so one look at the end tells whether there was any octet that is
+//! 16 exactly if each part is, so one look at the end tells whether there was any octet that is
 //! no digit. Until then wrong octets may have been written, which nobody reads.
 //!
 //! **Writing.** A value up to 9 is its distance from `0`, a greater one that and 39 more, which is
@@ -102,7 +102,7 @@ fn decode_block(digits: &[u8], octets: &mut [u8], at: usize) -> u8x32
 }
 
 /// Reads pairs of digits into the octets, as `hex` reads them, and answers whether it did: exactly
-/// where there are sixteen octets or more and each digit is one. Where it answers no, nothing is
+/// if there are sixteen octets or more and each digit is one. If it answers no, nothing is
 /// promised of the octets.
 pub fn decode_digits(digits: &[u8], octets: &mut [u8]) -> bool
     requires { length digits.now ≡ 2 * length octets.old }

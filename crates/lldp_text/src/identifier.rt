@@ -63,7 +63,7 @@ fn write_unhandled(line: &mut Writer, body: &[u8])
     line.hex(body);
 }
 
-/// Writes a network address, where it has the length of its family.
+/// Writes a network address, if it has the length of its family.
 fn write_network(line: &mut Writer, body: &[u8])
     requires fits { IsIdentifier body.now }
     requires room { length line.old + VALUE_ROOM ≤ ROOM }

@@ -23,7 +23,7 @@ fn writes_number(word: &[u8]) -> bool
     !word.is_empty() && all_digits(word)
 }
 
-/// The value of the digits, or `TOO_LARGE` where it is greater.
+/// The value of the digits, or `TOO_LARGE` if it is greater.
 fn value_of(digits: &[u8]) -> u32
     requires { IsTrue (is_number digits.now) }
     ensures { result ≡ min (digits_value 10 digits.now) 65536 }

@@ -29,7 +29,7 @@ none_from_start false ms = refl
 pub is_waiting-cons : (m : Moment) (past : List Moment) → is_waiting (m ∷ past) ≡ (not m.sent && (m.signal || (not m.start && is_waiting past)))
 is_waiting-cons m past = grind (arith, common_steps, none_from_start)
 
--- the same where no frame has gone yet
+-- the same if no frame has gone yet
 pub wanted-cons : (m : Moment) (past : List Moment) → is_waiting (record m { sent = false } ∷ past) ≡ (m.signal || (not m.start && is_waiting past))
 wanted-cons m past = is_waiting-cons (record m { sent = false }) past
 

@@ -105,7 +105,7 @@ chosen_due_reads s h e bs t =
     let active : IsTrue (is_active (record m { sent = false } ∷ past)) ↔ HasStarted (m ∷ past) = rw (same_active past m m.signal m.opening false) (chosen_reads s h e bs t) in
     and_reads _ _ _ _ active (waiting_reads (record m { sent = false } ∷ past))
 
--- An ordinary frame goes exactly where one is due and the window open.
+-- An ordinary frame goes exactly if one is due and the window open.
 pub sent_reads : (s : Settings) (h : History) (e : Event) → 1 ≤ s.credit_max →
     IsTrue (moment s (moments s h) e).sent ↔ (IsDue (moments s h) (moment s (moments s h) e) × IsOpen s (moments s h) (moment s (moments s h) e))
 unfolding moment

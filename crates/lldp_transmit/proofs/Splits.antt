@@ -75,7 +75,7 @@ module _ {X : Type 0} (p : X → Bool) where
   pub find_last : (xs : List X) → list_any p xs ≡ true → Lasts p p (λ _. false) xs
   find_last xs = (lasts_reads (list_any p) p p (λ _. false) refl (λ x xs. or_again (p x) (list_any p xs)) xs).0
 
-  -- where none passes
+  -- if none passes
   pub none_counted : (xs : List X) → list_any p xs ≡ false → count p xs ≡ 0
   none_counted [] e = refl
   none_counted (x ∷ xs) e = let parts = or_parts _ _ e in ap₂ (λ b n. one_if b + n) parts.0 (none_counted xs parts.1)
@@ -84,7 +84,7 @@ module _ {X : Type 0} (p : X → Bool) where
   up_to_none [] e = refl
   up_to_none (x ∷ xs) e = let parts = or_parts _ _ e in ap (λ b. cond b (x ∷ xs) (up_to_last p xs)) parts.0 ∙ up_to_none xs parts.1
 
-  -- a test that fails at the first of some elements, where none of them passes
+  -- a test that fails at the first of some elements, if none of them passes
   first_fails : (b : Bool) (n : ℕ) → one_if b + n ≡ 0 → b ≡ false
   first_fails true n e = absurd (omega arith)
   first_fails false n e = refl

@@ -132,6 +132,6 @@ ordinary_by true false r a e = ((λ p. cc, λ q. cc), (λ p. refl, λ q. e))
 ordinary_by false true r a e = ((λ p. refl, λ q. e), (λ p. cc, λ q. cc))
 ordinary_by false false r a e = ((λ p. cc, λ q. cc), (λ p. cc, λ q. cc))
 
--- The mark is Ordinary exactly where a frame is due and the window open, and Shutdown exactly at a stop.
+-- The mark is Ordinary exactly if a frame is due and the window open, and Shutdown exactly at a stop.
 pub exact : (s : Settings) (past : List Moment) (e : Event) (r : Mark) → r ≡ mark_of (moment s past e) → ((r ≡ Ordinary) ↔ IsTrue (moment s past e).sent) × ((r ≡ Shutdown) ↔ IsTrue (moment s past e).stop)
 exact s past e r p = ordinary_by (moment s past e).stop (moment s past e).sent r (apart s past e) p

@@ -12,7 +12,7 @@ use Rattle.lldp_transmit.specs.Moments.{moment, Moment, ticks, frames, within, o
 use Rattle.lldp_transmit.specs.Remaining.{room, credit_left}
 use Rattle.std.proofs.lemmas.Grind.{common_steps}
 
--- one where the test passes
+-- one if the test passes
 abbrev pub one_if : Bool → ℕ
 one_if b = cond b 1 0
 
@@ -29,7 +29,7 @@ abbrev pub IsPaid : Settings → List Moment → Type 0
 IsPaid s [] = Unit {0}
 IsPaid s (m ∷ past) = (one_if m.sent ≤ filled s (bucket s past) (is_tick m.cause)) × IsPaid s past
 
--- every run that ends now is within its bound, where it goes on with a frames and b ticks
+-- every run that ends now is within its bound, if it goes on with a frames and b ticks
 abbrev pub fits : ℕ → ℕ → ℕ → List Moment → Bool
 fits max a b [] = true
 fits max a b (m ∷ past) =
@@ -58,7 +58,7 @@ all_fit max a b (m ∷ past) =
     (λ z zs. ap₂ nat_le (omega arith) (omega arith)) past
     ∙ all_fit max (x + a) (y + b) past)
 
--- The runs fit exactly where the bucket has enough.
+-- The runs fit exactly if the bucket has enough.
 pub fits_enough : (s : Settings) (a b : ℕ) (ms : List Moment) → IsPaid s ms → a ≤ bucket s ms + b → fits s.credit_max a b ms ≡ true
 fits_enough s a b [] paid h = refl
 fits_enough s a b (m ∷ past) paid h = grind (arith, common_steps, and_from, le-leb, fits_enough s (one_if m.sent + a) (one_if (is_tick m.cause) + b) past paid.1 (omega arith))
@@ -74,7 +74,7 @@ enough_fits s a b (m ∷ past) paid h f =
 pub within_is : (s : Settings) (ms : List Moment) → list_all (within s) (runs ms) ≡ fits s.credit_max 0 0 ms
 within_is s ms = same_on_runs (within s) (bounded s.credit_max 0 0) (λ z zs. ap₂ nat_le (omega arith) (omega arith)) ms ∙ all_fit s.credit_max 0 0 ms
 
--- A window is open exactly where the bucket, after this event's tick, isn't empty.
+-- A window is open exactly if the bucket, after this event's tick, isn't empty.
 pub open_is : (s : Settings) (past : List Moment) (m : Moment) → 1 ≤ s.credit_max → IsPaid s past → open_at s past m ≡ nat_le 1 (filled s (bucket s past) (is_tick m.cause))
 open_is s past m most paid = within_is s (record m { sent = true } ∷ past) ∙ go _ refl
   where
@@ -97,12 +97,12 @@ and_true : (b : Bool) → b ≡ (b && true)
 and_true true = refl
 and_true false = refl
 
--- A number is at most the least of some exactly where it is at most each.
+-- A number is at most the least of some exactly if it is at most each.
 least_is : {X : Type 0} (c d : ℕ) (f : X → ℕ) (xs : List X) → nat_le c (fold min d (map f xs)) ≡ (nat_le c d && list_all (λ x. nat_le c (f x)) xs)
 least_is c d f [] = and_true (nat_le c d)
 least_is c d f (x ∷ xs) = grind (arith, common_steps, le_min, and_assoc, least_is c (min d (f x)) f xs)
 
--- what a run leaves of its bound is at least c, where c isn't 0, exactly where the run fits with c more
+-- what a run leaves of its bound is at least c, if c isn't 0, exactly if the run fits with c more
 room_is : (s : Settings) (c : ℕ) (run : List Moment) → nat_le (suc c) (room s run) ≡ bounded s.credit_max (suc c) 0 run
 room_is s c run = grind (arith, nat_tests)
 

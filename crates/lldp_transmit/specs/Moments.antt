@@ -96,7 +96,7 @@ starts s past m =
     is_tick m.cause
     && (is_allowed s (m ∷ past) && (is_up (m ∷ past) && (not (is_active past) && rested s past)))
 
--- Stop: it stops where the right to transmit is taken from it while it is active.
+-- Stop: it stops if the right to transmit is taken from it while it is active.
 abbrev pub stops : Settings → List Moment → Moment → Bool
 stops s past m = is_active past && not (is_allowed s (m ∷ past))
 
@@ -111,7 +111,7 @@ abbrev pub signals : Settings → List Moment → Moment → Bool
 signals s past m =
     is_active (m ∷ past) && (m.start || (is_change m.cause || (is_neighbor m.cause || timer_ends s past m)))
 
--- Burst: a new neighbor's signal opens one where no signals are left.
+-- Burst: a new neighbor's signal opens one if no signals are left.
 abbrev pub opens : Settings → List Moment → Moment → Bool
 opens s past m = signals s past m && (is_neighbor m.cause && (signals_left s past == 0))
 
@@ -123,7 +123,7 @@ due past m = let now = record m { sent = false } ∷ past in is_active now && is
 abbrev pub within : Settings → List Moment → Bool
 within s run = nat_le (frames run) (s.credit_max + ticks (after_first run))
 
--- The window is open where, with an ordinary frame now, every run that ends now would be within.
+-- The window is open if, with an ordinary frame now, every run that ends now would be within.
 abbrev pub open_at : Settings → List Moment → Moment → Bool
 open_at s past m = list_all (within s) (runs (record m { sent = true } ∷ past))
 
@@ -149,7 +149,7 @@ with_activity s past m = record m { start = starts s past m; stop = stops s past
 abbrev pub with_signals : Settings → List Moment → Moment → Moment
 with_signals s past m = record m { signal = signals s past m; opening = opens s past m }
 
--- Frame, on top of the signals: an ordinary one goes where one is due and the window open.
+-- Frame, on top of the signals: an ordinary one goes if one is due and the window open.
 abbrev pub with_frame : Settings → List Moment → Moment → Moment
 with_frame s past m = record m { sent = due past m && open_at s past m }
 
@@ -162,7 +162,7 @@ abbrev pub moments : Settings → History → List Moment
 moments s [] = []
 moments s (e ∷ past) = let before = moments s past in moment s before e ∷ before
 
--- the frame that goes at a moment: a shutdown frame at a stop, an ordinary one where one is sent; both never meet
+-- the frame that goes at a moment: a shutdown frame at a stop, an ordinary one if one is sent; both never meet
 abbrev pub mark_of : Moment → Mark
 mark_of m = if m.stop then Shutdown else (if m.sent then Ordinary else Quiet)
 

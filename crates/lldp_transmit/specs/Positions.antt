@@ -52,11 +52,11 @@ HasOpened s ms n =
 abbrev pub NoneOpened : List Moment → Type 0
 NoneOpened ms = (p : Position ms) → IsTrue p.there.opening → 1 ≤ starts_in (p.there ∷ p.after)
 
--- Burst: n signals are left, none where no burst was opened since the last start.
+-- Burst: n signals are left, none if no burst was opened since the last start.
 abbrev pub AreLeft : Settings → List Moment → ℕ → Type 0
 AreLeft s ms n = HasOpened s ms n ⊎ (NoneOpened ms × (n ≡ 0))
 
--- Distance from a signal to the next: msgFastTx, that is 1, where signals are left after it, else the tx-interval then.
+-- Distance from a signal to the next: msgFastTx, that is 1, if signals are left after it, else the tx-interval then.
 abbrev pub IsDistance : Settings → Moment → List Moment → ℕ → Type 0
 IsDistance s m before d = (n : ℕ) × AreLeft s (m ∷ before) n × (1 ≤ n → d ≡ 1) × (n ≡ 0 → d ≡ m.interval)
 

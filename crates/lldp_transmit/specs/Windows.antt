@@ -13,7 +13,7 @@ abbrev pub with_marks : List Bool → List Moment → List Moment
 with_marks (b ∷ bs) (m ∷ ms) = record m { sent = b } ∷ with_marks bs ms
 with_marks _ _ = []
 
--- one mark for each moment, and true only where a frame is due and the window open, both read with the marks for the
+-- one mark for each moment, and true only if a frame is due and the window open, both read with the marks for the
 -- frames
 abbrev pub AreTimely : Settings → List Bool → List Moment → Type 0
 AreTimely s [] [] = Unit {0}
@@ -61,7 +61,7 @@ abbrev pub frames_with : Mark → List Moment → ℕ
 frames_with Ordinary run = 1 + frames run
 frames_with _ run = frames run
 
--- how many stops stand in a run and, where the answer is a shutdown frame, now
+-- how many stops stand in a run and, if the answer is a shutdown frame, now
 abbrev pub stops_with : Mark → List Moment → ℕ
 stops_with Shutdown run = 1 + count (λ m. m.stop) run
 stops_with _ run = count (λ m. m.stop) run

@@ -28,7 +28,7 @@ pub fn steps_carry_standing()
         Stands s past t → (stepped t e.cause e.interval).1 ≡ mark_at s (e ∷ past) }
 {}
 
-/// Where nothing concerns a port, its machine needs no call: it stands for that event too, and no
+/// If nothing concerns a port, its machine needs no call: it stands for that event too, and no
 /// frame goes.
 pub fn causeless_events_change_nothing()
     ensures stands { (s : Settings) (past : History) (t : Machine) (interval : ℕ) →
@@ -52,7 +52,7 @@ pub fn frames_are_timely()
 {}
 
 /// Active, rested, start and stop, said of positions: an active port has a start with no stop and
-/// no lost link since; it has rested where each stop is long enough ago.
+/// no lost link since; it has rested if each stop is long enough ago.
 pub fn positions_tell_activity()
     ensures active { (s : Settings) (h : History) →
         IsTrue (is_active (moments s h)) ↔ HasStarted (moments s h) }
@@ -82,9 +82,9 @@ pub fn positions_tell_signals()
         IsTrue (timer_ends s past m) ↔ IsTimerEnd s past m }
 {}
 
-/// Waiting, due, open, sent and the credit, said of positions: a frame waits where a signal since
-/// the start has had none, and is due where the port is active too, also by the frames of another
-/// choice (`chosen`); a window is open where, with one frame more, each run that ends now is within
+/// Waiting, due, open, sent and the credit, said of positions: a frame waits if a signal since
+/// the start has had none, and is due if the port is active too, also by the frames of another
+/// choice (`chosen`); a window is open if, with one frame more, each run that ends now is within
 /// its bound; the credit is the least that any run leaves of its bound, and no other number is.
 pub fn positions_tell_sending()
     ensures waiting { (ms : List Moment) → IsTrue (is_waiting ms) ↔ HasWanted ms }

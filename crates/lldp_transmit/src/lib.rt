@@ -2,8 +2,8 @@
 //! memory or refuses.
 //!
 //! A port is told its events one by one and answers the frame that goes. What it answers is said by
-//! the whole list of events, without a counter: an ordinary frame goes exactly where one is due and
-//! its window is open, a shutdown frame exactly where an active port loses the right to transmit.
+//! the whole list of events, without a counter: an ordinary frame goes exactly if one is due and
+//! its window is open, a shutdown frame exactly if an active port loses the right to transmit.
 #![tactic(auto)]
 
 mod event;

@@ -118,7 +118,7 @@ impl Transmit {
         }
     }
 
-    /// The machine with these fields. None exactly where the credit is above `credit_max`, as no
+    /// The machine with these fields. None exactly if the credit is above `credit_max`, as no
     /// machine's is.
     pub fn of_parts(parts: &Parts) -> Option<Transmit>
         ensures some { IfSome result (λ machine. machine ≡ machine_of_parts parts.now) }
@@ -164,7 +164,7 @@ impl Transmit {
         ensures stands { ForEachHistory self.old (λ s past.
             Stands s (event cause interval ∷ past) self.new) }
 
-        // The mark is that of the event: Ordinary exactly where a frame is due and its window open,
+        // The mark is that of the event: Ordinary exactly if a frame is due and its window open,
         // Shutdown exactly at a stop.
         ensures mark { ForEachHistory self.old (λ s past. result
             ≡ mark_at s (event cause interval ∷ past)) }
@@ -285,7 +285,7 @@ impl Transmit {
         self.serve()
     }
 
-    /// Sends the wanted frame where credit is left, else it waits.
+    /// Sends the wanted frame if credit is left, else it waits.
     fn serve(&mut self) -> Mark
         ensures next { self.new ≡ (served self.old).0 }
         ensures answer { result ≡ (served self.old).1 }

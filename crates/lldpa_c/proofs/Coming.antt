@@ -21,7 +21,7 @@ pub record Comes (size : ℕ) (v r : View) (lines : List (List ℕ)) : Type 0 wh
   pub done : r.is_full ≡ false → slice_get lines count ≡ None
   pub full : r.is_full ≡ true → IsFull lines count size r.used
 
--- where the room is full nothing comes
+-- if the room is full nothing comes
 come_full : (size : ℕ) (v : View) (lines : List (List ℕ)) → v.is_full ≡ true → come_all size v lines ≡ v
 come_full size v [] full = refl
 come_full size v (line ∷ lines) full =

@@ -19,14 +19,14 @@ pub record Holds (octets : List ℕ) (place : LldpaPlace) (body : List ℕ) : Ty
   pub within : place.start + place.length ≤ length octets
   pub held : octets_at octets place ≡ body
 
--- what is told beside the name where the neighbor lives
+-- what is told beside the name if the neighbor lives
 pub record TellsLife (octets : List ℕ) (told : LldpaExamined) : Type 0 where
   pub within : told.extent ≤ length octets
   pub extent : take told.extent octets ≡ extent octets
   pub discarded : told.discarded ≡ discarded_of octets
   pub unrecognized : told.unrecognized ≡ count_unrecognized (kept_of octets)
 
--- what is told beside the name where the neighbor is gone: nothing
+-- what is told beside the name if the neighbor is gone: nothing
 pub record TellsNothing (told : LldpaExamined) : Type 0 where
   pub extent : told.extent ≡ 0
   pub discarded : told.discarded ≡ 0

@@ -18,7 +18,7 @@ abbrev pub IsFull : List (List ℕ) → ℕ → ℕ → ℕ → Type 0
 IsFull lines next room used = (line : List ℕ) → slice_get lines next ≡ Some line → room < used + length line + 1
 
 -- What was written of a show by its number, to the front of a room: the lines from one on up to another. No line is left
--- where that is said; else at least one was written, and the next does not fit.
+-- if that is said; else at least one was written, and the next does not fit.
 pub record Filled (agent : AgentState) (number from : ℕ) (told : LldpaLines) (room : List ℕ) : Type 0 where
   pub show : Show
   pub numbered : show_numbered number ≡ Some show

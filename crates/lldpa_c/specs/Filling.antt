@@ -16,12 +16,12 @@ pub record View : Type 0 where
 abbrev pub begun : ℕ → View
 begun from = record { skip = from; used = 0; next = from; text = []; is_full = false }
 
--- a text is written, where it fits in a room of that size
+-- a text is written, if it fits in a room of that size
 abbrev pub put_if : Bool → View → List ℕ → View
 put_if true v text = record v { used = v.used + length text; text = v.text ++ text; next = (v.next + 1) % 2 ^ 32 }
 put_if false v text = record v { is_full = true }
 
--- the same, where all before it did
+-- the same, if all before it did
 abbrev pub put_unless : Bool → ℕ → View → List ℕ → View
 put_unless true size v text = v
 put_unless false size v text = put_if (nat_le (v.used + length text) size) v text

@@ -14,7 +14,7 @@ use Rattle.lldpa_c.specs.declared.options.LldpaOptions.{LldpaOptions}
 abbrev pub role_numbered : ℕ → Option Role
 role_numbered n = if n == 0 then Some Station else if n == 1 then Some Bridge else if n == 2 then Some Router else None
 
--- the role of a number, a station where there is none
+-- the role of a number, a station if there is none
 abbrev pub role_or_station : Option Role → Role
 role_or_station None = Station
 role_or_station (Some role) = role

@@ -9,7 +9,7 @@ use crate::marks::{LldpaMarks, tell};
 use lldp_engine::Event;
 use std::alloc::Global;
 
-/// The agent takes an event, where it allows it, and the ports that send are told.
+/// The agent takes an event, if it allows it, and the ports that send are told.
 fn step(alloc: Global, handle: &mut LldpaAgent, event: Event<'_>, marks: &mut LldpaMarks) -> u8
     ensures { Answers handle.old (event_of event.entry) marks.old result handle.new marks.new }
 {

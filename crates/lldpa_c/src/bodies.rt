@@ -27,7 +27,7 @@ pub struct LldpaManagement {
     pub numbering: u8,
 }
 
-/// The fields of the body of a System Capabilities TLV. False exactly where it is not well formed,
+/// The fields of the body of a System Capabilities TLV. False exactly if it is not well formed,
 /// and then the struct stays as it was.
 #[unsafe(no_mangle)]
 pub extern "C" fn lldpa_caps(body: &[u8], told: &mut LldpaCapabilities) -> bool
@@ -66,7 +66,7 @@ fn management(fields: &Mgmt<'_>) -> LldpaManagement
     }
 }
 
-/// The fields of the body of a Management Address TLV. False exactly where it is not well formed,
+/// The fields of the body of a Management Address TLV. False exactly if it is not well formed,
 /// and then the struct stays as it was.
 #[unsafe(no_mangle)]
 pub extern "C" fn lldpa_mgmt(body: &[u8], told: &mut LldpaManagement) -> bool

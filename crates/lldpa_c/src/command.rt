@@ -21,7 +21,7 @@ fn show_number(show: Show) -> u8
     }
 }
 
-/// Does what a line asks for, where it is no show.
+/// Does what a line asks for, if it is no show.
 fn obey(agent: &mut Agent, line: &[u8], show: &mut u8, marks: &mut LldpaMarks) -> u8
     ensures { Obeys (command_given agent.old line.now) agent.old show.old marks.old result
         agent.new show.new marks.new }

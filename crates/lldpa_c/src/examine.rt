@@ -15,11 +15,11 @@ pub struct LldpaExamined {
     pub chassis: LldpaPlace,
     /// The body of the Port ID, its subtype first.
     pub port: LldpaPlace,
-    /// How many octets count, from the front. 0 where the TTL is 0.
+    /// How many octets count, from the front. 0 if the TTL is 0.
     pub extent: usize,
-    /// How many TLVs are discarded. 0 where the TTL is 0.
+    /// How many TLVs are discarded. 0 if the TTL is 0.
     pub discarded: usize,
-    /// How many kept TLVs are of the types 9 to 127. 0 where the TTL is 0.
+    /// How many kept TLVs are of the types 9 to 127. 0 if the TTL is 0.
     pub unrecognized: usize,
     /// The time to live, in seconds. 0 says that the neighbor is gone.
     pub ttl: u16,
@@ -93,8 +93,8 @@ fn alive(info: &Info<'_>) -> LldpaExamined
     }
 }
 
-/// What an LLDPDU of any length tells, or the number of its fault, 1 to 8, and 0 where it has none.
-/// Where it has one, the struct stays as it was.
+/// What an LLDPDU of any length tells, or the number of its fault, 1 to 8, and 0 if it has none.
+/// If it has one, the struct stays as it was.
 #[unsafe(no_mangle)]
 pub extern "C" fn lldpa_examine(pdu: &[u8], told: &mut LldpaExamined) -> u8
     ensures fault { result ≡ fault_number (fault_of pdu.now) }

@@ -3,7 +3,7 @@ ghost use Rattle.std.specs.Prelude.{◌≡◌, ◌≤◌, length, take, drop};
 
 use crate::answer::{NO_ROOM, OK};
 
-/// Writes octets into the front of the room, where they fit.
+/// Writes octets into the front of the room, if they fit.
 pub(crate) fn give(octets: &[u8], room: &mut [u8], written: &mut usize) -> u8
     ensures fits { length octets.now ≤ length room.old → result ≡ 0 }
     ensures within { result ≡ 0 → written.new ≤ length room.new }

@@ -16,7 +16,7 @@ pub struct LldpaAgent {
 }
 
 impl LldpaAgent {
-    /// Takes the agent out, where there is one, and leaves none.
+    /// Takes the agent out, if there is one, and leaves none.
     pub(crate) fn take(&mut self, alloc: Global) -> Option<Box<Agent>>
         ensures closed { self.new.is_open ≡ false }
         ensures some { IfSome result (λ agent. (self.old.is_open ≡ true)

@@ -56,7 +56,7 @@ fn rest_from(extent: &[u8], next: usize) -> &[u8]
     }
 }
 
-/// The first kept TLV of these octets, where these types were met before.
+/// The first kept TLV of these octets, if these types were met before.
 fn first_kept(octets: &[u8], met: Seen) -> Option<Found<'_>>
     ensures none { IfNone result (kept_seen met.types (cut octets.now).tlvs ≡ []) }
     ensures some { IfSome result (λ found. kept_seen met.types (cut octets.now).tlvs
@@ -78,7 +78,7 @@ fn first_kept(octets: &[u8], met: Seen) -> Option<Found<'_>>
     None
 }
 
-/// The next kept TLV of an extent, by a walk that is carried on. False where none is left, and then
+/// The next kept TLV of an extent, by a walk that is carried on. False if none is left, and then
 /// the walk stays as it was.
 #[unsafe(no_mangle)]
 pub extern "C" fn lldpa_next_kept(extent: &[u8], walk: &mut LldpaKept) -> bool

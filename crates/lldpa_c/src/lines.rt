@@ -23,7 +23,7 @@ pub struct LldpaLines {
     pub done: bool,
 }
 
-/// Writes a text behind what is used of the room, where it fits.
+/// Writes a text behind what is used of the room, if it fits.
 fn append(room: &mut [u8], used: usize, text: &[u8]) -> Option<usize>
     ensures end { IfSome result (λ end. end ≡ used + length text.now) }
     ensures within { IfSome result (λ end. end ≤ length room.new) }

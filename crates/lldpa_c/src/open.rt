@@ -22,7 +22,7 @@ fn role_numbered(number: u8) -> Option<Role>
     }
 }
 
-/// The first 65 names, which is one more than an agent has ports. None where one is not UTF-8.
+/// The first 65 names, which is one more than an agent has ports. None if one is not UTF-8.
 fn names_of<'a>(ports: &'a [LldpaText<'a>]) -> Option<ArrayVec<&'a str, 65>>
     ensures { IfSome result (λ names. map (λ name. name.now) names.items
         ≡ map (λ text. text.octets.now) (take (min (length ports.now) 65) ports.now)) }

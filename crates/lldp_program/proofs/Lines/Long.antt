@@ -21,7 +21,7 @@ same_onto past p q [] h k = refl
 same_onto past p q (l ∷ ls) h k =
     same_first past (p ++ l) (q ++ l) ls (too_long past (p ++ l) (omega (arith, length-append p l)) ∙ sym (too_long past (q ++ l) (omega (arith, length-append q l))))
 
--- The lines that are ended by more octets ask for the same where only the first 4097 octets of the unfinished line are held.
+-- The lines that are ended by more octets ask for the same if only the first 4097 octets of the unfinished line are held.
 pub same_items : (past : Past) (xs ys : List ℕ) → items_of_lines past (ended_lines (take 4097 (unfinished xs) ++ ys)) ≡ items_of_lines past (ended_lines (unfinished xs ++ ys))
 same_items past xs ys =
     let p = unfinished xs in

@@ -219,7 +219,7 @@ held_more n xs ys =
     ap (take n) (unfinished-onto (take n p) ys (no_lf-take n p none)) ∙ take_rest_all n p (ended_lines ys) (unfinished ys)
     ∙ ap (take n) (sym (unfinished-onto p ys none)) ∙ ap (take n) (sym (unfinished-append xs ys))
 
--- no line follows the last LF where nothing does
+-- no line follows the last LF if nothing does
 pub no_last_line : (rest : List ℕ) → length rest ≡ 0 → if_any rest ≡ []
 no_last_line [] e = refl
 no_last_line (octet ∷ octets) e = absurd (omega (arith, e))

@@ -29,7 +29,7 @@ goes_out_then a b c w v u t s h k = record {
   taken = appends_then a b c h.sent k.sent h.taken k.taken;
 }
 
--- where nothing waits before and after, the text was written
+-- if nothing waits before and after, the text was written
 goes_out_whole : (a b : Option (List ℕ)) (v t : List ℕ) → v ≡ [] → GoesOut a [] b v t → Appends a b t
 goes_out_whole a b v t none h = appends_same a b _ _ (sym (h.in_order ∙ ap (λ x. h.sent ++ x) none ∙ append-nil h.sent)) h.taken
 

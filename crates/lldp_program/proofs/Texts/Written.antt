@@ -21,7 +21,7 @@ appends_kept None b h = tt
 appends_kept (Some xs) None h = h
 appends_kept (Some xs) (Some ys) h = h ∙ sym (append-nil xs)
 
--- what was written is still there where nothing more was
+-- what was written is still there if nothing more was
 pub appends_and_kept : (a b c : Option (List ℕ)) (x : List ℕ) → Appends a b x → Keeps b c → Appends a c x
 appends_and_kept None b c x h k = tt
 appends_and_kept (Some xs) None c x h k = absurd h

@@ -92,13 +92,13 @@ listens_not E G m connections r (inr given) read only is =
     let bad : None ≡ Some got.0 = sym is ∙ got.1 in
     cc
 
--- where nothing was asked for, there is no text
+-- if nothing was asked for, there is no text
 pub not_asked : (port connections : Option Text) (asked : Option Listening) → AsksListening port connections asked → asked ≡ None → port ≡ None
 not_asked None connections asked h is = refl
 not_asked (Some t) connections None h is = absurd h
 not_asked (Some t) connections (Some listening) h is = cc
 
--- where listening was asked for, there is one
+-- if listening was asked for, there is one
 pub was_asked : (port connections : Option Text) (asked : Option Listening) (listening : Listening) → AsksListening port connections asked → asked ≡ Some listening → (t : Text) × (port ≡ Some t)
 was_asked None connections asked listening h is = let bad : None ≡ Some listening = sym h ∙ is in cc
 was_asked (Some t) connections asked listening h is = (t, refl)

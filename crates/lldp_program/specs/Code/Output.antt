@@ -32,7 +32,7 @@ pub record Output : Type 0 where
   pub waits : List ℕ
   pub answer : Result (Unit {0}) DeviceFault
 
--- the sink is the same, and has had one failure more where this answer is a fault
+-- the sink is the same, and has had one failure more if this answer is a fault
 pub record SameSink {T : Type 0} (answer : Result T DeviceFault) (old new : Output) : Type 0 where
   pub failures : new.failures ≡ failures_after old.failures answer
   pub place : new.place ≡ old.place
@@ -43,7 +43,7 @@ abbrev pub Went : Result (Unit {0}) DeviceFault → List ℕ → Output → Outp
 Went (Ok done) text old new = GoesOut old.taken old.waits new.taken new.waits text
 Went (Err fault) text old new = IsWritten (IsCutOff (old.waits ++ text)) old.taken new.taken
 
--- a text where no write had failed
+-- a text if no write had failed
 pub record Goes (text : List ℕ) (old new : Output) : Type 0 where
   pub went : Went new.answer text old new
   pub same : SameSink new.answer old new

@@ -80,8 +80,8 @@ fn expect_same<A: Allocator, B: Allocator>(rt: &impl Abort, one: &Agent<A>, othe
     }
 }
 
-/// Each event, and all that is read of the agent behind it, is as with memory where a heap is full
-/// since the opening; and where there is more, none of it is taken.
+/// Each event, and all that is read of the agent behind it, is as with memory if a heap is full
+/// since the opening; and if there is more, none of it is taken.
 fn expect_none_taken(rt: &impl Abort, alloc: Global, past: &[Event<'_>]) -> Result<(), Fail> {
     let size = size_of_opening(rt, alloc)?;
     let full = LocalHeap::new(alloc, size)?;

@@ -46,7 +46,7 @@ fn expect_refused(
 }
 
 /// Each allocation of an opening is refused in turn: that of the ports, for which there is one unit
-/// too little, and that of the table of each port, behind those before it. Where there is just
+/// too little, and that of the table of each port, behind those before it. If there is just
 /// enough, none is.
 fn refuse_each(rt: &impl Abort, alloc: Global, ports: &[&str], limit: u8) -> Result<(), Fail> {
     let table = table_size(rt, alloc, limit)?;

@@ -1,4 +1,4 @@
-//! What opening refuses, that it works where there is memory, and the numbers of faults.
+//! What opening refuses, that it works if there is memory, and the numbers of faults.
 use super::whole_shows::NAMES;
 use super::{open, open_with, options};
 use lldp_engine::{CommandFault, OpenFault, Options};
@@ -68,7 +68,7 @@ fn numbers_of_faults(rt: HostRuntime) {
     }
 }
 
-/// No opening is refused where there is memory: every number of ports, with every limit.
+/// No opening is refused if there is memory: every number of ports, with every limit.
 #[test]
 fn every_size(rt: HostRuntime) -> Result<(), Fail> {
     for ports in 1..65 {

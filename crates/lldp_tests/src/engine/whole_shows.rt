@@ -47,7 +47,7 @@ struct Compared<'a, A: Allocator> {
 }
 
 impl<A: Allocator> Compared<'_, A> {
-    /// Compares the line that was written last, where there is one, and looks for its line feed.
+    /// Compares the line that was written last, if there is one, and looks for its line feed.
     fn compare(&mut self) {
         let Some((end, line)) = self.line.as_slice().split_last() else {
             return;

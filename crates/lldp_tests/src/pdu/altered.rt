@@ -115,7 +115,7 @@ fn is_info(pdu: &[u8]) -> bool {
 }
 
 /// A frame of 36 octets with one changed, at each place and to each other value, each heard by an
-/// agent of its own: it is no LLDP frame exactly where the destination (6 octets) or the EtherType
+/// agent of its own: it is no LLDP frame exactly if the destination (6 octets) or the EtherType
 /// (2) is another.
 #[test]
 fn one_octet_changed(rt: HostRuntime) -> Result<(), Fail> {

@@ -61,7 +61,7 @@ impl<'a> Cut<'a> {
         256 * octet(0) + octet(1)
     }
 
-    /// The TLVs of the extent: those before the first of type 0, or all where none has it.
+    /// The TLVs of the extent: those before the first of type 0, or all if none has it.
     fn extent(&self) -> &[Unit<'a>] {
         match self.units.iter().position(|unit| unit.kind == 0) {
             Some(end) => &self.units[..end],
@@ -118,7 +118,7 @@ impl<'a> Cut<'a> {
         Ok(kept)
     }
 
-    /// How many TLVs are discarded where so many are kept: the other later ones, and one that is
+    /// How many TLVs are discarded if so many are kept: the other later ones, and one that is
     /// not complete and ended the extent.
     pub fn discarded(&self, kept: usize) -> usize {
         let incomplete = self.units.iter().all(|unit| unit.kind != 0) && !self.rest.is_empty();

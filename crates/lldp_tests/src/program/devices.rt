@@ -66,7 +66,7 @@ pub enum Burn {
     AtFlush,
 }
 
-/// Takes pieces of this size, and fails once after so many octets, or where it is flushed. What is
+/// Takes pieces of this size, and fails once after so many octets, or if it is flushed. What is
 /// written after that shows. It counts how often it is flushed.
 #[derive(Drop)]
 pub struct Fuse {

@@ -65,7 +65,7 @@ lldp.eth0.2.ttl=120
 lldp.eth0.2.expires=111
 ";
 
-/// Four neighbors where two are held at most: lines, each with its text.
+/// Four neighbors if two are held at most: lines, each with its text.
 const FULL_TABLE: &[(&str, &str)] = &[
     (HEARD, ""),
     (HEARD_OTHER, ""),
@@ -149,7 +149,7 @@ fn cut_off_at(
     Ok(())
 }
 
-/// The lines that were not done where so many frames were written whole, and more.
+/// The lines that were not done if so many frames were written whole, and more.
 fn lines_left(alloc: Global, frames: usize) -> Result<String, Fail> {
     let done = if frames < 5 { frames + 1 } else { 8 };
     let mut input = LINES[done..].concat(alloc)?;
@@ -182,7 +182,7 @@ fn fails_at(rt: &(impl Abort + AllocGlobal), octets: usize, burn: Burn) -> Resul
 }
 
 /// Exactly the octets before the fault were written, and the agent stands for the events up to the
-/// one whose output failed. Where none fails, all were written.
+/// one whose output failed. If none fails, all were written.
 #[test]
 fn writer_that_fails(rt: HostRuntime) -> Result<(), Fail> {
     for octets in 0..6 * SENT_OCTETS {

@@ -12,7 +12,7 @@ use std::alloc::Global;
 use std::process::Abort;
 use std::test::Fail;
 
-/// The line of an ordinary frame of port eth0 where no option is given.
+/// The line of an ordinary frame of port eth0 if no option is given.
 pub const SENT: &str =
     "tx eth0 0180c200000e02000000000188cc02070402000000000104050565746830060200790804657468300a096c6f63616c686f73740c056c6c6470610e04008000800000\n";
 
@@ -54,7 +54,7 @@ lldp.eth0.octets=0
 lldp.eth0.too-many=no
 ";
 
-/// What an agent on one port is opened with where no option is given.
+/// What an agent on one port is opened with if no option is given.
 pub fn sending() -> Options<'static> {
     Options {
         ports: &["eth0"],
@@ -70,7 +70,7 @@ pub fn sending() -> Options<'static> {
     }
 }
 
-/// The same where it only receives, of so many neighbors at most.
+/// The same if it only receives, of so many neighbors at most.
 pub fn only_receiving(max_neighbors: u8) -> Options<'static> {
     let mut options = sending();
     options.max_neighbors = max_neighbors;

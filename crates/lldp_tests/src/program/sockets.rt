@@ -14,7 +14,7 @@ use std::time::Duration;
 
 const SHOW: &str = "show neighbors\n";
 
-/// What it gives where the neighbor of `HEARD` is held.
+/// What it gives if the neighbor of `HEARD` is held.
 const SHOWN: &str = "lldp.eth0.neighbors=1
 lldp.eth0.octets=20
 lldp.eth0.too-many=no
@@ -40,7 +40,7 @@ pub const ASK_IN_VAIN: Client<'static> = (&[SHOW], Some(NONE));
 /// It asks for more than it ever reads.
 pub const LEAVE: Client<'static> = (&[SHOW; 200], None);
 
-/// A listener at a free port. Where nobody waits there, accepting fails.
+/// A listener at a free port. If nobody waits there, accepting fails.
 pub fn listen(
     rt: &(impl Abort + AllocGlobal + Net<Stream = TcpStream, Listener = TcpListener>),
 ) -> io::Result<TcpListener> {
@@ -159,7 +159,7 @@ fn client_that_leaves(rt: HostRuntime) -> Result<(), Fail> {
     read_all(&rt, waiting)
 }
 
-/// Where nobody can be accepted, what came before counts.
+/// If nobody can be accepted, what came before counts.
 #[test]
 fn nobody_to_accept(rt: HostRuntime) -> Result<(), Fail> {
     let mut server = Server::open(&rt)?;
@@ -186,7 +186,7 @@ fn many_connections(rt: HostRuntime) -> Result<(), Fail> {
 }
 
 /// What comes over a connection whose client reads each answer before it sends its next lines, and
-/// then is gone. It fails where an answer is another.
+/// then is gone. It fails if an answer is another.
 #[derive(Drop)]
 struct Conversation<'a> {
     client: Option<TcpStream>,

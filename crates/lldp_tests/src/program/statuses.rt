@@ -8,7 +8,7 @@ use std::net::{Net, TcpListener, TcpStream};
 use std::process::Abort;
 use std::test::Fail;
 
-/// What `show neighbors` gives where none is held.
+/// What `show neighbors` gives if none is held.
 pub const NONE: &str = "lldp.eth0.neighbors=0\nlldp.eth0.octets=0\nlldp.eth0.too-many=no\n";
 
 const READ_FAILED: &str = "lldpa: read failed\n";

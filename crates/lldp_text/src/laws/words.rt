@@ -6,7 +6,7 @@ ghost use Rattle.std.specs.Str.Parse.{digits_value};
 ghost use Rattle.lldp_text.specs.Number.{number_of, IsOfDigits};
 ghost use Rattle.lldp_text.specs.declared.fault.CommandFault.TheVariants.{Number, Range};
 
-/// The words of a line are those that the grammar gives it, both ways, and it has none where a
+/// The words of a line are those that the grammar gives it, both ways, and it has none if a
 /// quote stands wrongly.
 pub fn words_are_spelled()
     ensures { (line : List ℕ) (words : List (List ℕ)) →

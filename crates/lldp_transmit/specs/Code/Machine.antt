@@ -37,7 +37,7 @@ opened s = record {
   up = true;
 }
 
--- a wanted frame goes where credit is left, else it waits
+-- a wanted frame goes if credit is left, else it waits
 abbrev pub served : Machine → Machine × Mark
 served t = (record t { waiting = t.credit == 0; credit = t.credit - 1 }, if t.credit == 0 then Quiet else Ordinary)
 
@@ -65,7 +65,7 @@ ticked t interval =
     then signalled (record (counted t) { active = true; left = 0 }) interval
     else (counted t, Quiet))
 
--- a new neighbor opens a burst where no signals are left, and takes one of them
+-- a new neighbor opens a burst if no signals are left, and takes one of them
 abbrev pub neighbored : Machine → ℕ → Machine × Mark
 neighbored t interval = signalled (record t { left = (if t.left == 0 then t.fast_init else t.left) - 1 }) interval
 

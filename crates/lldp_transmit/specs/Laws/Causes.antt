@@ -11,7 +11,7 @@ use Rattle.lldp_transmit.specs.Positions.{HasStarted}
 abbrev pub HasCause : Cause → History → Type 0
 HasCause cause h = (p : Position h) × (p.there.cause ≡ cause)
 
--- what one cause gives and another takes away is there: each that takes has one that gives after it, and where it was
+-- what one cause gives and another takes away is there: each that takes has one that gives after it, and if it was
 -- not there at first, some event has given it
 pub record IsGiven (gives takes : Cause) (at_first : Bool) (h : History) : Type 0 where
   pub since : (p : Position h) → p.there.cause ≡ takes → HasCause gives p.after
