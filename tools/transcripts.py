@@ -17,6 +17,7 @@ from examples import ROWS, rows, transcripts
 
 FILE = pathlib.Path(__file__).resolve().parent.parent / "crates/lldpa/proofs/Transcripts.antt"
 MOST_TICKS = 60
+WIDTH = 105  # columns of a line of texts, but for what stands between two
 
 HEAD = """\
 -- The transcripts of examples/, computed from the definitions alone. tools/transcripts.py writes this file.
@@ -87,11 +88,15 @@ lines_with [] written = written
 lines_with (sought ∷ more) written =
     flat_map ended (filter (λ line. list_any (λ one. has one line) (sought ∷ more)) (ended_lines written))
 
+-- The words ask for these options without a fault.
+abbrev AsksFor : List Text → Options → Type 0
+AsksFor words options = (roles : Bor (List (Bor Text))) → Asks (matches_of (program roles) words) options
+
 -- The words ask for options without a fault, and an agent opened with them writes these lines that have one of the
 -- texts sought, a text for each line of the input.
 record Shows (sought : List Text) (words : List Text) (input : List ℕ) (lines : List (List ℕ)) : Type 0 where
   options : Options
-  asked : (roles : Bor (List (Bor Text))) → Asks (matches_of (program roles) words) options
+  asked : AsksFor words options
   sound : opening_fault options ≡ None
   written : map (lines_with sought) (texts (opened options) input) ≡ lines
 
@@ -114,6 +119,14 @@ usual =
       reinit = 2;
       receive_only = false;
     }
+
+-- what a transcript computes with: each definition that opens by name alone
+computed : Unit {0}
+unfolding digits encode_with decode_pairs
+    cut_within cut is_lldp_frame extent ended_incomplete ttl_of msap_of later_tlvs fault_of is_well_formed
+    kept_of discarded_of live neighbors events_of too_many_left moment machine_of heard_of counters_of port_after agent_of
+    frame_of words_from tick_form frame_form link_form form_of work_given
+computed = tt
 """
 
 # what a row says of its transcript, of the counters that stand between
@@ -135,12 +148,6 @@ counted {{input = input}} shown =
     lines_with counters (text (opened shown.options) (input ++ codes "show statistics\\n"))
 """
 
-# each definition that opens by name alone
-OPENED = """digits encode_with decode_pairs
-    cut_within cut is_lldp_frame extent ended_incomplete ttl_of msap_of later_tlvs fault_of is_well_formed
-    kept_of discarded_of live neighbors events_of too_many_left moment machine_of heard_of counters_of port_after agent_of
-    frame_of words_from tick_form frame_form link_form form_of work_given"""
-
 NUMBERS = {"max-neighbors": "max_neighbors", "tx-credit-max": "credit_max", "tx-fast-init": "fast_init",
            "reinit-delay": "reinit"}
 
@@ -159,7 +166,19 @@ def codes(line):
 
 
 def joined(lines):
-    return "\n    ++ ".join(map(codes, lines)) or "[]"
+    """Lines as one text."""
+    return packed(" ++ ", map(codes, lines)) or "[]"
+
+
+def packed(between, terms):
+    """Terms with an operator between them: as many on a line of the file as fit."""
+    rows = []
+    for term in terms:
+        if rows and "\n" not in rows[-1] + term and len(rows[-1]) + len(term) < WIDTH:
+            rows[-1] += between + term
+        else:
+            rows.append(term)
+    return f"\n   {between}".join(rows)
 
 
 def written_by(lines):
@@ -206,25 +225,14 @@ def asked(name, words):
         fit = ", ".join(["omega arith"] * 4)
         dotted = f"({octets(management)}, refl, record {{ {fields}fit = ({fit}); value = refl; spelled = refl }})"
     only = "--receive-only" in words
+    read = ["names = refl", "mac = record { long = refl; colons = refl; digits = refl }", "hostname = refl",
+            f"management = {dotted}", "role = refl", "max_neighbors = refl", "credit_max = refl", "fast_init = refl",
+            "reinit = refl", f"receives = λ e. {'refl' if only else 'cc'}", f"sends = λ e. {'cc' if only else 'refl'}"]
     return f"""
-{name} : (roles : Bor (List (Bor Text)))
-    → Asks (matches_of (program roles) {list_of_words(words)})
+{name} : AsksFor {list_of_words(words)}
     {given if given == "usual" else f"({given})"}
 unfolding clap_on_literals decode_pairs digits
-{name} roles =
-    record {{
-      names = refl;
-      mac = record {{ long = refl; colons = refl; digits = refl }};
-      hostname = refl;
-      management = {dotted};
-      role = refl;
-      max_neighbors = refl;
-      credit_max = refl;
-      fast_init = refl;
-      reinit = refl;
-      receives = λ e. {"refl" if only else "cc"};
-      sends = λ e. {"cc" if only else "refl"};
-    }}
+{name} roles = record {{ {"; ".join(read)} }}
 """
 
 
@@ -238,14 +246,14 @@ def theorem(name, words, sought, trace, steps, asks):
     if isinstance(steps, str):
         sys.exit(f"{name}: {steps}")
     lines = re.findall(rb"[^\n]*\n|[^\n]+", trace)
-    texts = "".join(written_by(written) + "\n    ∷ " for _, written in steps)
+    texts = packed(" ∷ ", [*(written_by(written) for _, written in steps), "[]"])
     stated = f"Shows ({listed(text.encode() for text in sought)})" if sought else "Writes"
     return f"""
 {name} : {stated}
     {list_of_words(words)}
     ({joined(lines)})
-    ({texts}[])
-unfolding {OPENED}
+    ({texts})
+unfolding computed
 {name} = record {{ options = {options(words)[0]}; asked = {asks}; sound = refl; written = refl }}
 """
 
@@ -276,7 +284,7 @@ def theorem_of_row(name, values):
     """A row as a theorem and its proof."""
     return f"""
 counters_of_{name} : counted {name} ≡ valued counters ({octets(values)})
-unfolding {OPENED} {name}
+unfolding computed {name}
 counters_of_{name} = refl
 """
 
