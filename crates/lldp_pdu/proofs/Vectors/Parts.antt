@@ -1,5 +1,5 @@
 -- Parts of LLDPDUs, by their octets. The neighbor is MAC 00:11:22:33:44:55, interface eth0.
-use Rattle.std.proofs.Common.{ℕ, List, [], ◌∷◌, ◌++◌}
+use Rattle.std.proofs.Common.{◌≡◌, ℕ, List, [], ◌∷◌, ◌++◌, map}
 use Rattle.lldp_pdu.specs.Tlv.{TlvUnit}
 use Rattle.lldp_pdu.specs.Msap.{MsapId}
 
@@ -45,3 +45,11 @@ named =
 
 abbrev pub tlv : ℕ → List ℕ → TlvUnit
 tlv kind body = record { kind = kind; body = body }
+
+-- what stands first in each row gives what stands behind it
+abbrev pub Gives : {A B : Type 0} → (A → B) → List (A × B) → Type 0
+Gives f rows = map (λ row. f row.0) rows ≡ map (λ row. row.1) rows
+
+-- the first two in each row give the third
+abbrev pub BothGive : {A B C : Type 0} → (A → B → C) → List (A × B × C) → Type 0
+BothGive f rows = map (λ row. f row.0 row.1) rows ≡ map (λ row. row.2) rows
