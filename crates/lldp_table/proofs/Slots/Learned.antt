@@ -7,14 +7,15 @@ use Rattle.std.proofs.lemmas.List.Sorted.{IsPermutation-sym, IsPermutation-appen
 use Rattle.lldp_pdu.specs.Msap.{MsapId}
 use Rattle.lldp_table.specs.Msap.{same_msap}
 use Rattle.lldp_table.specs.Contents.{Contents, IsExtent, is_named}
-use Rattle.lldp_table.specs.Code.Steps.{fresh, after_learn, after_forget}
+use Rattle.lldp_table.specs.Code.Steps.{fresh, learned_as, after_forget}
 use Rattle.lldp_table.specs.Code.Layout.{neighbor_of, neighbors_at, msap_at, blank, with_next, contents_of, IsTable}
 use Rattle.lldp_table.specs.Code.Queue.{Due, holds, ticks_left, enter, leave, IsQueued, IsTimed}
 use Rattle.lldp_table.specs.Code.Stored.{Stored}
+use Rattle.lldp_table.specs.declared.learned.Learned.TheVariants.{New, Refreshed}
 use Rattle.lldp_table.proofs.Slots.Places.{one-out, not_before, none-with, distinct-take}
 use Rattle.lldp_table.proofs.Ageing.Order.{running-enter, running-leave}
-use Rattle.lldp_table.proofs.Ageing.Timed.{queued_enter, queued_leave, enter_here, enter_others, out_of, leave_others, again_others}
-use Rattle.lldp_table.proofs.Slots.Layout.{IsStored, fresh_in, fits, found, HasFree, has_free, after_refreshed, laid_refreshed, after_new, laid_new, moved_out, after_forgotten, laid_forgotten, laid_purged, laid_open}
+use Rattle.lldp_table.proofs.Ageing.Timed.{queued_enter, holds_it, queued_leave, enter_here, enter_others, out_of, leave_others, again_others}
+use Rattle.lldp_table.proofs.Slots.Layout.{IsStored, fresh_in, fits, HasFree, has_free, after_refreshed, laid_refreshed, after_new, laid_new, moved_out, after_forgotten, laid_forgotten, laid_purged, laid_open}
 use Rattle.std.proofs.lemmas.Grind.{common_steps}
 
 timed_none : IsTimed [] []
@@ -22,11 +23,6 @@ unfolding IsDistinct
 timed_none = record { queued = record { same = λ i. refl; count = refl; distinct = tt }; running = refl }
 
 module _ {capacity : ℕ} {slots : List Stored} {queue : List Due} {order : List ℕ} {used limit too_many : ℕ} (h : IsTable capacity slots queue order used limit too_many) where
-  -- what `place_of` finds under an equal name
-  pub found_as : {told name : MsapId} (at : ℕ) → told ≡ name → (at < length (take used order)) × (same_msap told (msap_at slots (get_or (take used order) at 0)) ≡ true) → (at < used) × (same_msap name (msap_at slots (get_or order at 0)) ≡ true)
-  found_as {told} {name} at same p =
-      let f = found h.laid told at p in (f.0, ap (λ (m : MsapId). same_msap m (msap_at slots (get_or order at 0))) (sym same) ∙ f.1)
-
   pub few_queued : length queue ≡ used
   few_queued = h.timed.queued.count ∙ length-take-le used order (fits h.laid)
 
@@ -50,6 +46,9 @@ module _ {capacity : ℕ} {slots : List Stored} {queue : List Due} {order : List
 
     parted : IsPermutation in_use (s ∷ others)
     parted = subst (λ i. IsPermutation in_use (i ∷ others)) (get_or-take used order at 0 l) (one-out in_use at there)
+
+    pub is_in : holds s queue ≡ true
+    is_in = holds_it queue in_use h.timed.queued s apart others parted
 
     -- it is out of the queue
     left_queued : IsQueued (leave s queue) others
@@ -81,7 +80,7 @@ module _ {capacity : ℕ} {slots : List Stored} {queue : List Due} {order : List
 
       -- `read` is the order as it was read, and `left` the TTL
       module _ {read : List ℕ} {left : ℕ} {queue' : List Due} (r : read ≡ order) (k : left ≡ ttl) (q : queue' ≡ enter (get_or read at 0) left (leave (get_or read at 0) queue)) where
-        pub refreshed_after : contents_of capacity (set slots (get_or read at 0) slot) (ticks_left queue') order used limit too_many ≡ after_learn (contents_of capacity slots (ticks_left queue) order used limit too_many) name ttl octets
+        pub refreshed_after : contents_of capacity (set slots (get_or read at 0) slot) (ticks_left queue') order used limit too_many ≡ learned_as Refreshed (contents_of capacity slots (ticks_left queue) order used limit too_many) name ttl octets
         refreshed_after = rw (q, r, k) (after_refreshed h.laid name ttl octets slot _ at l e stored_again)
 
         pub refreshed_table : IsTable capacity (set slots (get_or read at 0) slot) queue' order used limit too_many
@@ -149,8 +148,8 @@ module _ {capacity : ℕ} {slots : List Stored} {queue : List Due} {order : List
       none_there = let f = free in ap (λ (table : Contents). list_any (is_named name) table.neighbors) f.same ∙ none
 
       module _ {read : List ℕ} {left : ℕ} {queue' : List Due} (r : read ≡ order') (k : left ≡ ttl) (q : queue' ≡ enter (get_or read used 0) left queue) where
-        pub new_after : contents_of capacity (set slots' (get_or read used 0) slot) (ticks_left queue') order' (used + 1) limit too_many ≡ after_learn (contents_of capacity slots (ticks_left queue) order used limit too_many) name ttl octets
-        new_after = grind (arith, common_steps, free, after_new, none_there, stored_new)
+        pub new_after : contents_of capacity (set slots' (get_or read used 0) slot) (ticks_left queue') order' (used + 1) limit too_many ≡ learned_as New (contents_of capacity slots (ticks_left queue) order used limit too_many) name ttl octets
+        new_after = let f = free in rw (q, r, k) (after_new f.laid name ttl octets slot _ none_there l f.free stored_new ∙ ap (λ table. learned_as New table name ttl octets) f.same)
 
         pub new_table : IsTable capacity (set slots' (get_or read used 0) slot) queue' order' (used + 1) limit too_many
         new_table =
