@@ -10,10 +10,11 @@ ghost use Rattle.lldp_table.specs.declared.learned.Learned.TheVariants.{New, Ref
 ghost use Rattle.lldp_table.specs.Events.{Call, learn, forget, purge, tick, set_limit, live, answer, aged_out, events_of};
 ghost use Rattle.lldp_table.specs.Standing.{Stands, ForEachCalls};
 
+use crate::entries::Entries;
 use crate::entry::Entry;
 use crate::learned::Learned;
 use crate::limits::MOST_NEIGHBORS;
-use crate::order::{age_out, lefts_of, octets_of, place_of, write_next};
+use crate::order::{age_out, octets_of, place_of, write_next};
 use crate::queue::Queue;
 use crate::room::Room;
 use crate::slot::{Slot, mix_name};
@@ -268,20 +269,23 @@ impl<A: Allocator> Table<A> {
         self.too_many > 0
     }
 
-    /// The ticks left of each neighbor, one a second, in the order in which they were last new. It
-    /// goes over all of them once.
-    pub fn lefts(&self) -> ArrayVec<u16, MOST_NEIGHBORS>
-        ensures { result.items ≡ map (λ neighbor. neighbor.left) self.now.shown.neighbors }
+    /// The neighbors in the order in which they were last new, each with its ticks left, one a
+    /// second. It goes over all of them once.
+    pub fn entries(&self) -> Entries<'_>
+        ensures value { result ≡ self.now.shown.neighbors }
+        ensures sound { IsSound self.now.shown }
     {
-        lefts_of(&self.queue, &self.order[..self.used as usize])
+        Entries {
+            slots: self.slots.as_slice(),
+            order: &self.order[..self.used as usize],
+            ticks: self.queue.lefts(),
+        }
     }
 
-    /// The neighbor at place `i` of the order, from 0 and below `len`. `left` is what `lefts` gives at
-    /// that place while nothing changes the table; so all of them are read without going over all
-    /// for each.
-    pub fn entry_with(&self, i: u8, left: u16) -> Entry<'_>
-        requires within { i < length self.now.shown.neighbors }
-        requires left { slice_index (map (λ neighbor. neighbor.left) self.now.shown.neighbors) i ≡ left }
+    /// The neighbor at place `i` of the order, from 0. It goes over all neighbors: whoever reads
+    /// each of them calls `entries`.
+    pub fn entry(&self, i: u8) -> Entry<'_>
+        requires { i < length self.now.shown.neighbors }
         ensures value { slice_get self.now.shown.neighbors i ≡ Some result }
         ensures held { IsHeld result }
         ensures sound { IsSound self.now.shown }
@@ -289,19 +293,7 @@ impl<A: Allocator> Table<A> {
         let slot = self.order[i as usize] as usize;
         Entry {
             slot: self.slots.at(slot),
-            left,
+            left: self.queue.lefts()[slot],
         }
-    }
-
-    /// The neighbor at place `i` of the order, from 0. It goes over all neighbors: whoever reads
-    /// each of them calls `lefts` once, and `entry_with`.
-    pub fn entry(&self, i: u8) -> Entry<'_>
-        requires { i < length self.now.shown.neighbors }
-        ensures value { slice_get self.now.shown.neighbors i ≡ Some result }
-        ensures held { IsHeld result }
-        ensures sound { IsSound self.now.shown }
-    {
-        let lefts = self.lefts();
-        self.entry_with(i, lefts[i as usize])
     }
 }

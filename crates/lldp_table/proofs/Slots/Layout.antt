@@ -1,22 +1,20 @@
 -- What a write to one slot, and a move of one index, make of the neighbors.
-use Rattle.std.proofs.Common.{◌≡◌, ℕ, suc, ◌+◌, ◌-◌, ◌<◌, ◌≤◌, ◌||◌, Bool, true, false, cond, nat_lt, nat_eq, List, [], ◌∷◌, ◌++◌, length, take, set, get_or, Option, Some, None, option_map, MatchOption, refl, ap, ◌∙◌, sym, subst, arith, map, max, length-set, length-append, length-take-le}
+use Rattle.std.proofs.Common.{◌≡◌, ℕ, suc, ◌+◌, ◌-◌, ◌<◌, ◌≤◌, ◌||◌, true, false, nat_eq, List, [], ◌∷◌, ◌++◌, length, take, set, get_or, Option, Some, None, option_map, MatchOption, refl, ap, ◌∙◌, sym, subst, arith, map, length-set, length-append, length-take-le}
 use Rattle.std.specs.List.{list_any, remove, slice_get, AllByRecursion}
-use Rattle.std.proofs.lemmas.Bool.{cases_Bool, ltb-true, ltb-false, lt-ltb, le-ltb, eqb-true, eqb-false}
+use Rattle.std.proofs.lemmas.Bool.{cases_Bool, eqb-true, eqb-false}
 use Rattle.std.proofs.lemmas.Option.{slice_get-get_or, slice_get-map, slice_get_within}
 use Rattle.std.proofs.lemmas.List.{get_or_default, get_or-map, get_or-take, take_more, length-map, map-append, get_or-set_same, get_or-set_other, get_or_append_left, take-append-le}
-use Rattle.std.proofs.lemmas.List.Folds.{list_any_at}
 use Rattle.lldp_pdu.specs.Msap.{MsapId}
 use Rattle.lldp_table.specs.Msap.{same_msap}
 use Rattle.lldp_table.specs.Events.{Neighbor}
 use Rattle.lldp_table.specs.Contents.{Contents, IsExtent, is_named, holds_name, names_of, IsSound, IsHeld}
-use Rattle.lldp_table.specs.Code.Steps.{fresh, refreshed, learn_answer, learned_as, after_learn, after_forget}
+use Rattle.lldp_table.specs.Code.Steps.{fresh, refreshed, learned_as, after_forget}
 use Rattle.lldp_table.specs.Code.Layout.{neighbor_of, neighbor_at, neighbors_at, msap_at, blank, with_next, IsOrder, contents_of, IsLaidOut}
 use Rattle.lldp_table.specs.Code.Stored.{Stored}
-use Rattle.lldp_table.specs.declared.learned.Learned.{Learned}
-use Rattle.lldp_table.specs.declared.learned.Learned.TheVariants.{New, Refreshed, Dropped}
+use Rattle.lldp_table.specs.declared.learned.Learned.TheVariants.{New, Refreshed}
 use Rattle.lldp_table.proofs.Msap.{same_msap-true, same_msap-refl}
 use Rattle.lldp_table.proofs.Standing.Sound.{sound_open, sound_new, sound_refreshed, sound_forgotten, sound_purged}
-use Rattle.lldp_table.proofs.Slots.Places.{at_place, all-weaker, all-both, all-take, all-out, others-out, map-agree, map-at_place, not_before, map-remove, take-moved, distinct-take, forgets_none, forgets_place, refreshes_place, IsOrder-forgotten, IsOrder-push, IsOrder-none}
+use Rattle.lldp_table.proofs.Slots.Places.{at_place, all-weaker, all-both, all-take, all-out, others-out, map-agree, map-at_place, not_before, map-remove, take-moved, distinct-take, forgets_place, refreshes_place, IsOrder-forgotten, IsOrder-push, IsOrder-none}
 use Rattle.std.proofs.lemmas.Grind.{common_steps}
 
 -- ## Slots
@@ -68,6 +66,9 @@ module _ {capacity : ℕ} {slots : List Stored} {left : ℕ → ℕ} {order : Li
   pub has_room : {table : Contents} → shown ≡ table → length table.neighbors < table.limit → used < limit
   has_room is room = omega (arith, ap (λ (t : Contents). t.limit) is, ap (λ (t : Contents). length t.neighbors) is, count, room)
 
+  pub place_used : {table : Contents} → shown ≡ table → (at : ℕ) → at < length table.neighbors → at < used
+  place_used is at l = omega (arith, ap (λ (t : Contents). length t.neighbors) is, count, l)
+
   pub not_held : {table : Contents} → shown ≡ table → (name : MsapId) → holds_name table name ≡ false → list_any (is_named name) held ≡ false
   not_held is name none = ap (λ (t : Contents). holds_name t name) is ∙ none
 
@@ -88,27 +89,12 @@ module _ {capacity : ℕ} {slots : List Stored} {left : ℕ → ℕ} {order : Li
   at_named name at l e = ap (is_named name) (place at (neighbor_of blank 0) l) ∙ e
 
   -- the neighbor at a place, from what was read of the slots and the order
-  entry_at : (at : ℕ) (read : List ℕ) (slot : Stored) → read ≡ order → slot ≡ get_or slots (get_or read at 0) slot → at < used → neighbor_of slot (left (get_or read at 0)) ≡ neighbor_at slots left (get_or order at 0)
+  pub entry_at : (at : ℕ) (read : List ℕ) (slot : Stored) → read ≡ order → slot ≡ get_or slots (get_or read at 0) slot → at < used → neighbor_of slot (left (get_or read at 0)) ≡ neighbor_at slots left (get_or order at 0)
   entry_at at read slot r e l =
       let s : ℕ = get_or order at 0 in
       let same : get_or read at 0 ≡ s = ap (λ (is : List ℕ). get_or is at 0) r in
       ap (λ n. neighbor_of slot (left n)) same
       ∙ ap (λ (y : Stored). neighbor_of y (left s)) (e ∙ ap (λ n. get_or slots n slot) same ∙ get_or_default slots s slot blank (index_within at l))
-
-  pub entry_with_at : (at : ℕ) (read : List ℕ) (slot : Stored) (value : ℕ) → read ≡ order → slot ≡ get_or slots (get_or read at 0) slot → at < used → get_or (map (λ (x : Neighbor). x.left) held) at 0 ≡ value
-      → neighbor_of slot value ≡ neighbor_at slots left (get_or order at 0)
-  entry_with_at at read slot value r e l v =
-      let told : get_or (map (λ (x : Neighbor). x.left) held) at 0 ≡ left (get_or order at 0) =
-      get_or-map (λ (x : Neighbor). x.left) held at (neighbor_of blank 0) 0 (omega (arith, count)) ∙ ap (λ (x : Neighbor). x.left) (place at (neighbor_of blank 0) l) in
-      ap (neighbor_of slot) (sym v ∙ told ∙ ap (λ (is : List ℕ). left (get_or is at 0)) (sym r)) ∙ entry_at at read slot r e l
-
-  -- the ticks left of all, in order
-  pub lefts_held : map (λ (x : Neighbor). x.left) held ≡ map left (take used order)
-  lefts_held = lefts_at (take used order)
-    where
-      lefts_at : (is : List ℕ) → map (λ (x : Neighbor). x.left) (neighbors_at slots left is) ≡ map left is
-      lefts_at [] = refl
-      lefts_at (i ∷ is) = ap (λ ns. left i ∷ ns) (lefts_at is)
 
   pub get_at : (at : ℕ) → at < used → slice_get held at ≡ Some (neighbor_at slots left (get_or order at 0))
   get_at at l = slice_get-get_or held at (neighbor_of blank 0) (omega (arith, count)) ∙ ap Some (place at (neighbor_of blank 0) l)

@@ -1,4 +1,4 @@
-use Rattle.std.proofs.Common.{ap, ◌∙◌, refl, arith, length}
+use Rattle.std.proofs.Common.{ap, ◌∙◌, refl}
 use Rattle.lldp_table.specs.Contents.{Contents}
 use Rattle.lldp_pdu.specs.Lldpdu.{msap_of}
 use Rattle.lldp_table.specs.Code.Steps.{learned_as}

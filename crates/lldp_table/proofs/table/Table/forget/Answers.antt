@@ -2,7 +2,7 @@ use Rattle.std.proofs.Common.{sym, ap, ◌∙◌, arith}
 use Rattle.std.proofs.lemmas.List.{get_or_default}
 use Rattle.lldp_pdu.specs.View.{msap_view}
 use Rattle.lldp_table.specs.Events.{Neighbor, forget}
-use Rattle.lldp_table.specs.Contents.{Contents, holds_name}
+use Rattle.lldp_table.specs.Contents.{Contents}
 use Rattle.lldp_table.specs.Code.Steps.{after_forget}
 use Rattle.lldp_table.proofs.Slots.Counted.{shown_is}
 use Rattle.lldp_table.proofs.Standing.Calls.{stands_after, held_is_live}

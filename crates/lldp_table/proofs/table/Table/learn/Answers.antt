@@ -1,7 +1,6 @@
 use Rattle.std.proofs.Common.{◌∙◌, arith, rules}
 use Rattle.std.proofs.lemmas.Grind.{common_steps}
 use Rattle.lldp_table.specs.Events.{learn}
-use Rattle.lldp_table.proofs.Extents.{info_is_extent}
 use Rattle.lldp_table.proofs.Standing.Calls.{stands_after, learn_answers}
 use Rattle.lldp_table.proofs.Slots.Places.{held_there}
 use Rattle.lldp_table.proofs.table.Table.learn.Goals as goal

@@ -1,7 +1,4 @@
-use Rattle.std.proofs.Common.{Some, false, ◌≡◌, MatchOption}
-use Rattle.std.specs.List.{slice_get}
 use Rattle.lldp_pdu.specs.View.{msap_view}
-use Rattle.lldp_table.specs.Contents.{Contents, holds_name, names_of}
 use Rattle.lldp_table.proofs.Slots.Counted.{shown_is}
 use Rattle.lldp_table.proofs.Slots.Layout.{place_of_name}
 use Rattle.lldp_table.proofs.table.Table.place.Goals as goal
