@@ -9,9 +9,9 @@ are handed it.
 
 Accesses: `Times` counts each get and set of a stored time. So its numbers are reached by `get`, `set`
 and `look` alone, and it cannot be copied; and `look`, which is not counted, is reached from
-`Table::lefts`, which no tick calls: it is called by the show of neighbors alone. A proof by hand could
-say of a count what it likes, so there is none but the two of `Count`, and those of the library for C, which move
-the pointer of a handle.
+`Table::entries` and `entry`, which no tick calls: the show of neighbors alone calls the one, and the tests
+the other. A proof by hand could say of a count what it likes, so there is none but the two of `Count`, and
+those of the library for C, which move the pointer of a handle.
 
     tools/check-memory.py
 
@@ -61,15 +61,15 @@ REACHED: tuple[tuple[str, dict[str, int]], ...] = (
     (r"\bTimes \{", {"times.rt": 4}),
     (r"\blook\b", {"times.rt": 1}),
     (r"\blefts_in\(", {"queue.rt": 1}),
-    (r"(?:\.|::)lefts\b", {"order.rt": 1, "table.rt": 1}),
-    (r"\blefts_of\(", {"table.rt": 1}),
-    (r"\.entry\(|::entry\b(?!::)", {}),
+    (r"(?:\.|::)lefts\b", {"table.rt": 2}),
+    (r"\.(?:entries|entry)\(|::(?:entries|entry)\b(?!::)", {}),
+    (r"\bEntries \{", {"table.rt": 1}),
     (r"\bCount::new\(", {"times.rt": 1}),
     (r"\bTimes::new\(", {"queue.rt": 1}),
     (r"\bQueue::new\(", {"table.rt": 1}),
 )
 # What looks at all times uncounted, and where those above the table may.
-LOOKS = r"\.(?:lefts|entry)\(|::(?:lefts|entry)\b(?!::)"
+LOOKS = r"\.(?:entries|entry)\(|::(?:entries|entry)\b(?!::)"
 LOOKING = {"lldp_engine/src/show/neighbor_lines.rt": 1}
 COUNTING = ("count.rt", "times.rt", "queue.rt")
 
@@ -196,7 +196,7 @@ def see_library(sources: Sources) -> None:
 
 
 def see_reached(sources: Sources) -> None:
-    """Stored times are reached by what is counted, or from `Table::lefts`, and are not copied."""
+    """Stored times are reached by what is counted, or from `Table::entries` and `entry`, and are not copied."""
     code = sources.code("lldp_table")
     for pattern, modules in REACHED:
         found = counts_of(pattern, code)

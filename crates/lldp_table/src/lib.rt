@@ -2,6 +2,7 @@
 #![tactic(auto)]
 
 mod count;
+mod entries;
 mod entry;
 pub mod laws;
 mod learned;
@@ -13,6 +14,7 @@ mod slot;
 mod table;
 mod times;
 
+pub use entries::Entries;
 pub use entry::Entry;
 pub use learned::Learned;
 pub use limits::MOST_NEIGHBORS;

@@ -86,21 +86,6 @@ pub(crate) fn age_out(
     kept
 }
 
-/// The ticks left of the neighbors in these slots.
-pub(crate) fn lefts_of(queue: &Queue, order: &[u8]) -> ArrayVec<u16, MOST_NEIGHBORS>
-    requires few { length order.now ≤ MOST_NEIGHBORS }
-    requires within { AllByRecursion (λ i. i < MOST_NEIGHBORS) order.now }
-    requires queued { AllByRecursion (λ i. holds i queue.now.shown ≡ true) order.now }
-    ensures { result.items ≡ map (ticks_left queue.now.shown) order.now }
-{
-    let each = queue.lefts();
-    let mut lefts = ArrayVec::new();
-    for slot in order {
-        lefts.push(each[*slot as usize]);
-    }
-    lefts
-}
-
 /// How many octets these slots store.
 pub(crate) fn octets_of(slots: &[Slot], order: &[u8]) -> u32
     requires within { AllByRecursion (λ i. i < length slots.now) order.now }

@@ -1,16 +1,20 @@
 //! The neighbors of one port.
-ghost use Rattle.std.specs.Prelude.{◌≡◌, ℕ, List, ◌≤◌, ◌<◌, ◌↔◌, ◌+◌, ◌*◌, [], ◌∷◌, length, map, IfOk, IsTrue, nat_lt, sum_by, slice_index, slice_get, Some, is_some};
+ghost use Rattle.std.specs.Prelude.{◌≡◌, ℕ, List, ◌≤◌, ◌<◌, ◌↔◌, ◌+◌, ◌*◌, [], ◌∷◌, length, map, IfOk, IsTrue, MatchOption, false, nat_lt, sum_by, slice_index, slice_get, Some, is_some};
 ghost use Rattle.lldp_pdu.specs.Kept.{kept_of};
 ghost use Rattle.lldp_pdu.specs.View.{msap_view};
-ghost use Rattle.lldp_table.specs.Contents.{IsExtent, IsHeld, IsSound, holds_name};
-ghost use Rattle.lldp_table.specs.Code.Steps.{learn_answer, after_learn, after_forget, after_purge, after_tick, after_set_limit, newly_opened};
+ghost use Rattle.lldp_pdu.specs.Lldpdu.{msap_of};
+ghost use Rattle.lldp_table.specs.Contents.{IsExtent, IsHeld, IsSound, holds_name, names_of};
+ghost use Rattle.lldp_table.specs.Code.Stored.{tag_of};
+ghost use Rattle.lldp_table.specs.Code.Steps.{learn_answer, learned_as, after_learn, after_forget, after_purge, after_tick, after_set_limit, newly_opened};
+ghost use Rattle.lldp_table.specs.declared.learned.Learned.TheVariants.{New, Refreshed};
 ghost use Rattle.lldp_table.specs.Events.{Call, learn, forget, purge, tick, set_limit, live, answer, aged_out, events_of};
 ghost use Rattle.lldp_table.specs.Standing.{Stands, ForEachCalls};
 
+use crate::entries::Entries;
 use crate::entry::Entry;
 use crate::learned::Learned;
 use crate::limits::MOST_NEIGHBORS;
-use crate::order::{age_out, lefts_of, octets_of, place_of, write_next};
+use crate::order::{age_out, octets_of, place_of, write_next};
 use crate::queue::Queue;
 use crate::room::Room;
 use crate::slot::{Slot, mix_name};
@@ -99,24 +103,55 @@ impl<A: Allocator> Table<A> {
         let tag = mix_name(&name);
         let ttl = info.ttl();
         let octets = info.octets();
-        let used = self.used as usize;
-        if let Some(at) = place_of(self.slots.as_slice(), &self.order[..used], &name, tag) {
-            let slot = self.order[at];
-            self.slots.at_mut(slot as usize).store(octets, ttl, tag);
-            self.queue.leave(slot);
-            self.queue.enter(slot, ttl);
+        if let Some(at) = self.place(&name, tag) {
+            self.refresh(at, octets, ttl, tag);
             return Learned::Refreshed;
         }
         if self.has_room() {
-            write_next(&mut self.slots, &mut self.order, used);
-            let slot = self.order[used];
-            self.slots.at_mut(slot as usize).store(octets, ttl, tag);
-            self.queue.enter(slot, ttl);
-            self.used += 1;
+            self.admit(octets, ttl, tag);
             return Learned::New;
         }
         self.too_many = self.too_many.max(ttl);
         Learned::Dropped
+    }
+
+    /// The place in the order of the neighbor of this name, whose tag is given.
+    fn place(&self, name: &Msap<'_>, tag: u32) -> Option<usize>
+        requires { tag ≡ tag_of (msap_view name.now) }
+        ensures { MatchOption result (holds_name self.now.shown (msap_view name.now) ≡ false)
+            (λ at. slice_get (names_of self.now.shown.neighbors) at ≡ Some (msap_view name.now)) }
+    {
+        let order = &self.order[..self.used as usize];
+        place_of(self.slots.as_slice(), order, name, tag)
+    }
+
+    /// The neighbor at this place, whose name is that of the frame, has the frame and its time.
+    fn refresh(&mut self, at: usize, octets: &[u8], ttl: u16, tag: u32)
+        requires extent { IsExtent (msap_of octets.now) ttl octets.now }
+        requires tag { tag ≡ tag_of (msap_of octets.now) }
+        requires there { slice_get (names_of self.old.shown.neighbors) at ≡ Some (msap_of octets.now) }
+        ensures { self.new.shown ≡ learned_as Refreshed self.old.shown (msap_of octets.now) ttl octets.now }
+    {
+        let slot = self.order[at];
+        self.slots.at_mut(slot as usize).store(octets, ttl, tag);
+        self.queue.leave(slot);
+        self.queue.enter(slot, ttl);
+    }
+
+    /// A new neighbor stands behind the others, with this frame and its time. There is room for it.
+    fn admit(&mut self, octets: &[u8], ttl: u16, tag: u32)
+        requires extent { IsExtent (msap_of octets.now) ttl octets.now }
+        requires tag { tag ≡ tag_of (msap_of octets.now) }
+        requires new { holds_name self.old.shown (msap_of octets.now) ≡ false }
+        requires room { length self.old.shown.neighbors < self.old.shown.limit }
+        ensures { self.new.shown ≡ learned_as New self.old.shown (msap_of octets.now) ttl octets.now }
+    {
+        let used = self.used as usize;
+        write_next(&mut self.slots, &mut self.order, used);
+        let slot = self.order[used];
+        self.slots.at_mut(slot as usize).store(octets, ttl, tag);
+        self.queue.enter(slot, ttl);
+        self.used += 1;
     }
 
     /// Whether fewer neighbors are held than the limit in force.
@@ -136,13 +171,7 @@ impl<A: Allocator> Table<A> {
         ensures stands { ForEachCalls self.old.shown (λ opened calls.
             Stands opened (forget (msap_view msap.now) ∷ calls) self.new.shown) }
     {
-        let used = self.used as usize;
-        match place_of(
-            self.slots.as_slice(),
-            &self.order[..used],
-            msap,
-            mix_name(msap),
-        ) {
+        match self.place(msap, mix_name(msap)) {
             None => false,
             Some(at) => {
                 let slot = self.order.remove(at);
@@ -240,20 +269,23 @@ impl<A: Allocator> Table<A> {
         self.too_many > 0
     }
 
-    /// The ticks left of each neighbor, one a second, in the order in which they were last new. It
-    /// goes over all of them once.
-    pub fn lefts(&self) -> ArrayVec<u16, MOST_NEIGHBORS>
-        ensures { result.items ≡ map (λ neighbor. neighbor.left) self.now.shown.neighbors }
+    /// The neighbors in the order in which they were last new, each with its ticks left, one a
+    /// second. It goes over all of them once.
+    pub fn entries(&self) -> Entries<'_>
+        ensures value { result ≡ self.now.shown.neighbors }
+        ensures sound { IsSound self.now.shown }
     {
-        lefts_of(&self.queue, &self.order[..self.used as usize])
+        Entries {
+            slots: self.slots.as_slice(),
+            order: &self.order[..self.used as usize],
+            ticks: self.queue.lefts(),
+        }
     }
 
-    /// The neighbor at place `i` of the order, from 0 and below `len`. `left` is what `lefts` gives at
-    /// that place while nothing changes the table; so all of them are read without going over all
-    /// for each.
-    pub fn entry_with(&self, i: u8, left: u16) -> Entry<'_>
-        requires within { i < length self.now.shown.neighbors }
-        requires left { slice_index (map (λ neighbor. neighbor.left) self.now.shown.neighbors) i ≡ left }
+    /// The neighbor at place `i` of the order, from 0. It goes over all neighbors: whoever reads
+    /// each of them calls `entries`.
+    pub fn entry(&self, i: u8) -> Entry<'_>
+        requires { i < length self.now.shown.neighbors }
         ensures value { slice_get self.now.shown.neighbors i ≡ Some result }
         ensures held { IsHeld result }
         ensures sound { IsSound self.now.shown }
@@ -261,19 +293,7 @@ impl<A: Allocator> Table<A> {
         let slot = self.order[i as usize] as usize;
         Entry {
             slot: self.slots.at(slot),
-            left,
+            left: self.queue.lefts()[slot],
         }
-    }
-
-    /// The neighbor at place `i` of the order, from 0. It goes over all neighbors: whoever reads
-    /// each of them calls `lefts` once, and `entry_with`.
-    pub fn entry(&self, i: u8) -> Entry<'_>
-        requires { i < length self.now.shown.neighbors }
-        ensures value { slice_get self.now.shown.neighbors i ≡ Some result }
-        ensures held { IsHeld result }
-        ensures sound { IsSound self.now.shown }
-    {
-        let lefts = self.lefts();
-        self.entry_with(i, lefts[i as usize])
     }
 }

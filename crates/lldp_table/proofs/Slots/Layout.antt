@@ -1,21 +1,20 @@
 -- What a write to one slot, and a move of one index, make of the neighbors.
-use Rattle.std.proofs.Common.{◌≡◌, ℕ, suc, ◌+◌, ◌-◌, ◌<◌, ◌≤◌, ◌||◌, Bool, true, false, cond, nat_lt, nat_eq, List, [], ◌∷◌, ◌++◌, length, take, set, get_or, Some, refl, ap, ◌∙◌, sym, subst, arith, map, max, length-set, length-append, length-take-le}
+use Rattle.std.proofs.Common.{◌≡◌, ℕ, suc, ◌+◌, ◌-◌, ◌<◌, ◌≤◌, ◌||◌, true, false, nat_eq, List, [], ◌∷◌, ◌++◌, length, take, set, get_or, Option, Some, None, option_map, MatchOption, refl, ap, ◌∙◌, sym, subst, arith, map, length-set, length-append, length-take-le}
 use Rattle.std.specs.List.{list_any, remove, slice_get, AllByRecursion}
-use Rattle.std.proofs.lemmas.Bool.{cases_Bool, ltb-true, ltb-false, lt-ltb, le-ltb, eqb-true, eqb-false}
-use Rattle.std.proofs.lemmas.Option.{slice_get-get_or}
+use Rattle.std.proofs.lemmas.Bool.{cases_Bool, eqb-true, eqb-false}
+use Rattle.std.proofs.lemmas.Option.{slice_get-get_or, slice_get-map, slice_get_within}
 use Rattle.std.proofs.lemmas.List.{get_or_default, get_or-map, get_or-take, take_more, length-map, map-append, get_or-set_same, get_or-set_other, get_or_append_left, take-append-le}
-use Rattle.std.proofs.lemmas.List.Folds.{list_any_at}
 use Rattle.lldp_pdu.specs.Msap.{MsapId}
 use Rattle.lldp_table.specs.Msap.{same_msap}
 use Rattle.lldp_table.specs.Events.{Neighbor}
-use Rattle.lldp_table.specs.Contents.{Contents, IsExtent, is_named, IsSound, IsHeld}
-use Rattle.lldp_table.specs.Code.Steps.{fresh, refreshed, learn_answer, learned_as, after_learn, after_forget}
+use Rattle.lldp_table.specs.Contents.{Contents, IsExtent, is_named, holds_name, names_of, IsSound, IsHeld}
+use Rattle.lldp_table.specs.Code.Steps.{fresh, refreshed, learned_as, after_forget}
 use Rattle.lldp_table.specs.Code.Layout.{neighbor_of, neighbor_at, neighbors_at, msap_at, blank, with_next, IsOrder, contents_of, IsLaidOut}
 use Rattle.lldp_table.specs.Code.Stored.{Stored}
-use Rattle.lldp_table.specs.declared.learned.Learned.{Learned}
-use Rattle.lldp_table.specs.declared.learned.Learned.TheVariants.{New, Refreshed, Dropped}
-use Rattle.lldp_table.proofs.Standing.Sound.{sound_open, sound_learned, sound_forgotten, sound_purged}
-use Rattle.lldp_table.proofs.Slots.Places.{at_place, all-weaker, all-both, all-take, all-out, others-out, map-agree, map-at_place, not_before, map-remove, take-moved, distinct-take, forgets_none, forgets_place, refreshes_place, IsOrder-forgotten, IsOrder-push, IsOrder-none}
+use Rattle.lldp_table.specs.declared.learned.Learned.TheVariants.{New, Refreshed}
+use Rattle.lldp_table.proofs.Msap.{same_msap-true, same_msap-refl}
+use Rattle.lldp_table.proofs.Standing.Sound.{sound_open, sound_new, sound_refreshed, sound_forgotten, sound_purged}
+use Rattle.lldp_table.proofs.Slots.Places.{at_place, all-weaker, all-both, all-take, all-out, others-out, map-agree, map-at_place, not_before, map-remove, take-moved, distinct-take, forgets_place, refreshes_place, IsOrder-forgotten, IsOrder-push, IsOrder-none}
 use Rattle.std.proofs.lemmas.Grind.{common_steps}
 
 -- ## Slots
@@ -64,16 +63,14 @@ module _ {capacity : ℕ} {slots : List Stored} {left : ℕ → ℕ} {order : Li
   pub count : length held ≡ used
   count = length-map (take used order) (neighbor_at slots left) ∙ length-take-le used order fits
 
-  -- what a table with these parts tells of its room
-  module _ (table : Contents) (is : shown ≡ table) (room : Bool) (told : room ≡ nat_lt (length table.neighbors) table.limit) where
-    test_is : room ≡ nat_lt used limit
-    test_is = told ∙ ap (λ (t : Contents). nat_lt (length t.neighbors) t.limit) (sym is) ∙ ap (λ n. nat_lt n limit) count
+  pub has_room : {table : Contents} → shown ≡ table → length table.neighbors < table.limit → used < limit
+  has_room is room = omega (arith, ap (λ (t : Contents). t.limit) is, ap (λ (t : Contents). length t.neighbors) is, count, room)
 
-    pub has_room : room ≡ true → used < limit
-    has_room e = ltb-true used limit (sym test_is ∙ e)
+  pub place_used : {table : Contents} → shown ≡ table → (at : ℕ) → at < length table.neighbors → at < used
+  place_used is at l = omega (arith, ap (λ (t : Contents). length t.neighbors) is, count, l)
 
-    pub has_none : room ≡ false → limit ≤ used
-    has_none e = ltb-false used limit (sym test_is ∙ e)
+  pub not_held : {table : Contents} → shown ≡ table → (name : MsapId) → holds_name table name ≡ false → list_any (is_named name) held ≡ false
+  not_held is name none = ap (λ (t : Contents). holds_name t name) is ∙ none
 
   -- the neighbor at a place
   pub place : (at : ℕ) (d : Neighbor) → at < used → get_or held at d ≡ neighbor_at slots left (get_or order at 0)
@@ -92,52 +89,39 @@ module _ {capacity : ℕ} {slots : List Stored} {left : ℕ → ℕ} {order : Li
   at_named name at l e = ap (is_named name) (place at (neighbor_of blank 0) l) ∙ e
 
   -- the neighbor at a place, from what was read of the slots and the order
-  entry_at : (at : ℕ) (read : List ℕ) (slot : Stored) → read ≡ order → slot ≡ get_or slots (get_or read at 0) slot → at < used → neighbor_of slot (left (get_or read at 0)) ≡ neighbor_at slots left (get_or order at 0)
+  pub entry_at : (at : ℕ) (read : List ℕ) (slot : Stored) → read ≡ order → slot ≡ get_or slots (get_or read at 0) slot → at < used → neighbor_of slot (left (get_or read at 0)) ≡ neighbor_at slots left (get_or order at 0)
   entry_at at read slot r e l =
       let s : ℕ = get_or order at 0 in
       let same : get_or read at 0 ≡ s = ap (λ (is : List ℕ). get_or is at 0) r in
       ap (λ n. neighbor_of slot (left n)) same
       ∙ ap (λ (y : Stored). neighbor_of y (left s)) (e ∙ ap (λ n. get_or slots n slot) same ∙ get_or_default slots s slot blank (index_within at l))
 
-  pub entry_with_at : (at : ℕ) (read : List ℕ) (slot : Stored) (value : ℕ) → read ≡ order → slot ≡ get_or slots (get_or read at 0) slot → at < used → get_or (map (λ (x : Neighbor). x.left) held) at 0 ≡ value
-      → neighbor_of slot value ≡ neighbor_at slots left (get_or order at 0)
-  entry_with_at at read slot value r e l v =
-      let told : get_or (map (λ (x : Neighbor). x.left) held) at 0 ≡ left (get_or order at 0) =
-      get_or-map (λ (x : Neighbor). x.left) held at (neighbor_of blank 0) 0 (omega (arith, count)) ∙ ap (λ (x : Neighbor). x.left) (place at (neighbor_of blank 0) l) in
-      ap (neighbor_of slot) (sym v ∙ told ∙ ap (λ (is : List ℕ). left (get_or is at 0)) (sym r)) ∙ entry_at at read slot r e l
-
-  -- the ticks left of all, in order
-  pub lefts_held : map (λ (x : Neighbor). x.left) held ≡ map left (take used order)
-  lefts_held = lefts_at (take used order)
-    where
-      lefts_at : (is : List ℕ) → map (λ (x : Neighbor). x.left) (neighbors_at slots left is) ≡ map left is
-      lefts_at [] = refl
-      lefts_at (i ∷ is) = ap (λ ns. left i ∷ ns) (lefts_at is)
-
   pub get_at : (at : ℕ) → at < used → slice_get held at ≡ Some (neighbor_at slots left (get_or order at 0))
   get_at at l = slice_get-get_or held at (neighbor_of blank 0) (omega (arith, count)) ∙ ap Some (place at (neighbor_of blank 0) l)
 
-  -- ### What `place_of` finds among the slots in use
+  -- ### The place of a name
 
-  pub found : (name : MsapId) (at : ℕ) → (at < length (take used order)) × (same_msap name (msap_at slots (get_or (take used order) at 0)) ≡ true) → (at < used) × (same_msap name (msap_at slots (get_or order at 0)) ≡ true)
-  found name at p = grind (arith, common_steps, length-take-le, fits, get_or-take)
+  abbrev msap_there : ℕ → MsapId
+  msap_there at = msap_at slots (get_or order at 0)
 
-  pub not_found : (name : MsapId) → list_any (same_msap name) (map (msap_at slots) (take used order)) ≡ false → list_any (is_named name) held ≡ false
-  not_found name e = sym (any-msap slots left name (take used order)) ∙ e
+  name_at : (at : ℕ) → at < used → slice_get (names_of held) at ≡ Some (msap_there at)
+  name_at at l = slice_get-map (λ (x : Neighbor). x.msap) held at ∙ ap (option_map (λ (x : Neighbor). x.msap)) (get_at at l)
 
-  pub holds_named : (name : MsapId) (at : ℕ) → at < used → same_msap name (msap_at slots (get_or order at 0)) ≡ true → list_any (is_named name) held ≡ true
-  holds_named name at l e = list_any_at (is_named name) held at (neighbor_of blank 0) (omega (arith, count)) (at_named name at l e)
+  -- what `place_of` finds among the slots in use
+  pub place_of_name : (name : MsapId) (found : Option ℕ) → MatchOption found (list_any (same_msap name) (map (msap_at slots) (take used order)) ≡ false) (λ at. (at < length (take used order)) × (same_msap name (msap_at slots (get_or (take used order) at 0)) ≡ true))
+      → {table : Contents} → shown ≡ table → MatchOption found (holds_name table name ≡ false) (λ at. slice_get (names_of table.neighbors) at ≡ Some name)
+  place_of_name name None e is = ap (λ (t : Contents). holds_name t name) (sym is) ∙ sym (any-msap slots left name (take used order)) ∙ e
+  place_of_name name (Some at) f is =
+      let l : at < used = omega (arith, f.0, length-take-le used order fits) in
+      ap (λ (t : Contents). slice_get (names_of t.neighbors) at) (sym is) ∙ name_at at l ∙ ap Some (sym (same_msap-true name _ (ap (λ i. same_msap name (msap_at slots i)) (sym (get_or-take used order at 0 l)) ∙ f.1)))
 
-  -- ### `learn` of a name that is held
-
-  abbrev answer_by : Bool → ℕ → ℕ → Learned
-  answer_by b n most = cond b Refreshed (cond (nat_lt n most) New Dropped)
-
-  pub answer_refreshed : (name : MsapId) (at : ℕ) → at < used → same_msap name (msap_at slots (get_or order at 0)) ≡ true → learn_answer shown name ≡ Refreshed
-  answer_refreshed name at l e = ap (λ b. answer_by b (length held) limit) (holds_named name at l e)
-
-  pub answer_new : (name : MsapId) → list_any (is_named name) held ≡ false → used < limit → learn_answer shown name ≡ New
-  answer_new name none l = ap (λ b. answer_by b (length held) limit) none ∙ ap (λ n. answer_by false n limit) count ∙ ap (λ b. cond b New Dropped) (lt-ltb used limit l)
+  -- a place at which this name stands
+  pub named_there : {table : Contents} → shown ≡ table → (name : MsapId) (at : ℕ) → slice_get (names_of table.neighbors) at ≡ Some name → (at < used) × (same_msap name (msap_there at) ≡ true)
+  named_there is name at there =
+      let e = ap (λ (t : Contents). slice_get (names_of t.neighbors) at) is ∙ there in
+      let l : at < used = omega (arith, slice_get_within (names_of held) at name e, length-map held (λ (x : Neighbor). x.msap), count) in
+      let same : msap_there at ≡ name = cc (name_at at l) in
+      (l, ap (same_msap name) same ∙ same_msap-refl name)
 
   module _ (name : MsapId) (ttl : ℕ) (octets : List ℕ) (slot : Stored) (left' : ℕ → ℕ) where
     module _ (at : ℕ) (l : at < used) (e : same_msap name (msap_at slots (get_or order at 0)) ≡ true) (w : IsStored (take used order) left (get_or order at 0) slot left' (fresh name ttl octets)) where
@@ -153,14 +137,14 @@ module _ {capacity : ℕ} {slots : List Stored} {left : ℕ → ℕ} {order : Li
       refreshed_all : map (refreshed name ttl octets) held ≡ set held at (fresh name ttl octets)
       refreshed_all = refreshes_place name ttl octets held at (neighbor_of blank 0) (omega (arith, count)) (at_named name at l e) h.sound.distinct
 
-      pub after_refreshed : contents_of capacity (set slots s slot) left' order used limit too_many ≡ after_learn shown name ttl octets
-      after_refreshed = ap with_held (stored ∙ sym refreshed_all) ∙ ap (λ a. learned_as a shown name ttl octets) (sym (answer_refreshed name at l e))
+      pub after_refreshed : contents_of capacity (set slots s slot) left' order used limit too_many ≡ learned_as Refreshed shown name ttl octets
+      after_refreshed = ap with_held (stored ∙ sym refreshed_all)
 
       pub laid_refreshed : IsExtent name ttl octets → IsLaidOut capacity (set slots s slot) left' order used limit too_many
       laid_refreshed t =
           let same = length-set slots s slot in
           laid_out (subst (λ n. IsOrder n order) (sym same) h.indices)
-          (omega (arith, same, h.written)) (omega (arith, same, h.fits)) h.held after_refreshed (sound_learned shown name ttl octets t h.sound)
+          (omega (arith, same, h.written)) (omega (arith, same, h.fits)) h.held after_refreshed (sound_refreshed shown name ttl octets t h.sound)
 
     -- ### `learn` of a new name, to a slot that is free
 
@@ -180,23 +164,14 @@ module _ {capacity : ℕ} {slots : List Stored} {left : ℕ → ℕ} {order : Li
         pushed : neighbors_at (set slots next slot) left' (take (used + 1) order) ≡ held ++ fresh name ttl octets ∷ []
         pushed = grind (arith, common_steps, take_more, short, map-append, others, stored-same, next_within, free)
 
-        pub after_new : contents_of capacity (set slots next slot) left' order (used + 1) limit too_many ≡ after_learn shown name ttl octets
-        after_new = ap with_held pushed ∙ ap (λ a. learned_as a shown name ttl octets) (sym (answer_new name none l))
+        pub after_new : contents_of capacity (set slots next slot) left' order (used + 1) limit too_many ≡ learned_as New shown name ttl octets
+        after_new = ap with_held pushed
 
         pub laid_new : IsExtent name ttl octets → IsLaidOut capacity (set slots next slot) left' order (used + 1) limit too_many
         laid_new t =
             let same = length-set slots next slot in
             laid_out (subst (λ n. IsOrder n order) (sym same) h.indices)
-            (omega (arith, same, h.written)) (omega (arith, same, free)) (omega arith) after_new (sound_learned shown name ttl octets t h.sound)
-
-  -- ### `learn` of a name that finds no room
-
-  module _ (name : MsapId) (none : list_any (is_named name) held ≡ false) (l : limit ≤ used) where
-    pub answer_dropped : learn_answer shown name ≡ Dropped
-    answer_dropped = ap (λ b. answer_by b (length held) limit) none ∙ ap (λ n. answer_by false n limit) count ∙ ap (λ b. cond b New Dropped) (le-ltb used limit l)
-
-    pub after_dropped : (ttl : ℕ) (octets : List ℕ) (timer : ℕ) → timer ≡ max too_many ttl → contents_of capacity slots left order used limit timer ≡ after_learn shown name ttl octets
-    after_dropped ttl octets timer e = ap (contents_of capacity slots left order used limit) e ∙ ap (λ a. learned_as a shown name ttl octets) (sym answer_dropped)
+            (omega (arith, same, h.written)) (omega (arith, same, free)) (omega arith) after_new (sound_new shown name ttl octets none (omega (arith, count, l)) t h.sound)
 
   -- ### `forget`
 
@@ -223,10 +198,6 @@ module _ {capacity : ℕ} {slots : List Stored} {left : ℕ → ℕ} {order : Li
     pub laid_forgotten : x ≡ get_or order at x → IsLaidOut capacity slots left' (remove order at ++ x ∷ []) (used - 1) limit too_many
     laid_forgotten i =
         laid_out (IsOrder-forgotten (length slots) order at x (omega (arith, fits)) i h.indices) h.written (omega (arith, h.fits)) (omega (arith, h.held)) after_forgotten (sound_forgotten shown name h.sound)
-
-  -- nothing of this name
-  pub forgotten_none : (name : MsapId) → list_any (is_named name) held ≡ false → after_forget shown name ≡ shown
-  forgotten_none name none = ap with_held (forgets_none name held none)
 
   -- ### `purge`
 

@@ -1,20 +1,22 @@
 -- What `learn` and `forget` make of a table: a frame that is written to a slot, which enters or leaves the queue.
 use Rattle.std.proofs.Common.{◌≡◌, ℕ, ◌+◌, ◌-◌, ◌<◌, ◌≤◌, true, false, nat_eq, List, [], ◌∷◌, ◌++◌, length, take, set, get_or, refl, ap, ◌∙◌, sym, subst, arith, length-take-le}
-use Rattle.std.specs.List.{list_any, remove, IsDistinct}
+use Rattle.std.specs.Prelude.{slice_index}
+use Rattle.std.specs.List.{list_any, remove, IsDistinct, AllByRecursion}
 use Rattle.std.specs.List.Sorted.{IsPermutation}
 use Rattle.std.proofs.lemmas.List.{get_or_default, get_or-take, take_more}
 use Rattle.std.proofs.lemmas.List.Sorted.{IsPermutation-sym, IsPermutation-append_comm, length_permutation}
 use Rattle.lldp_pdu.specs.Msap.{MsapId}
 use Rattle.lldp_table.specs.Msap.{same_msap}
-use Rattle.lldp_table.specs.Contents.{Contents, IsExtent, is_named}
-use Rattle.lldp_table.specs.Code.Steps.{fresh, after_learn, after_forget}
-use Rattle.lldp_table.specs.Code.Layout.{neighbor_of, neighbors_at, msap_at, blank, with_next, contents_of, IsTable}
+use Rattle.lldp_table.specs.Contents.{Contents, IsExtent, IsHeld, is_named}
+use Rattle.lldp_table.specs.Code.Steps.{fresh, learned_as, after_forget}
+use Rattle.lldp_table.specs.Code.Layout.{neighbor_of, neighbor_at, neighbors_at, msap_at, blank, with_next, contents_of, AreEntries, IsTable}
 use Rattle.lldp_table.specs.Code.Queue.{Due, holds, ticks_left, enter, leave, IsQueued, IsTimed}
 use Rattle.lldp_table.specs.Code.Stored.{Stored}
-use Rattle.lldp_table.proofs.Slots.Places.{one-out, not_before, none-with, distinct-take}
+use Rattle.lldp_table.specs.declared.learned.Learned.TheVariants.{New, Refreshed}
+use Rattle.lldp_table.proofs.Slots.Places.{all-weaker, all-take, map-agree, one-out, not_before, none-with, distinct-take}
 use Rattle.lldp_table.proofs.Ageing.Order.{running-enter, running-leave}
-use Rattle.lldp_table.proofs.Ageing.Timed.{queued_enter, queued_leave, enter_here, enter_others, out_of, leave_others, again_others}
-use Rattle.lldp_table.proofs.Slots.Layout.{IsStored, fresh_in, fits, found, HasFree, has_free, after_refreshed, laid_refreshed, after_new, laid_new, moved_out, after_forgotten, laid_forgotten, laid_purged, laid_open}
+use Rattle.lldp_table.proofs.Ageing.Timed.{all_queued, queued_enter, holds_it, queued_leave, enter_here, enter_others, out_of, leave_others, again_others}
+use Rattle.lldp_table.proofs.Slots.Layout.{IsStored, fresh_in, fits, entry_at, HasFree, has_free, after_refreshed, laid_refreshed, after_new, laid_new, moved_out, after_forgotten, laid_forgotten, laid_purged, laid_open}
 use Rattle.std.proofs.lemmas.Grind.{common_steps}
 
 timed_none : IsTimed [] []
@@ -22,11 +24,6 @@ unfolding IsDistinct
 timed_none = record { queued = record { same = λ i. refl; count = refl; distinct = tt }; running = refl }
 
 module _ {capacity : ℕ} {slots : List Stored} {queue : List Due} {order : List ℕ} {used limit too_many : ℕ} (h : IsTable capacity slots queue order used limit too_many) where
-  -- what `place_of` finds under an equal name
-  pub found_as : {told name : MsapId} (at : ℕ) → told ≡ name → (at < length (take used order)) × (same_msap told (msap_at slots (get_or (take used order) at 0)) ≡ true) → (at < used) × (same_msap name (msap_at slots (get_or order at 0)) ≡ true)
-  found_as {told} {name} at same p =
-      let f = found h.laid told at p in (f.0, ap (λ (m : MsapId). same_msap m (msap_at slots (get_or order at 0))) (sym same) ∙ f.1)
-
   pub few_queued : length queue ≡ used
   few_queued = h.timed.queued.count ∙ length-take-le used order (fits h.laid)
 
@@ -50,6 +47,9 @@ module _ {capacity : ℕ} {slots : List Stored} {queue : List Due} {order : List
 
     parted : IsPermutation in_use (s ∷ others)
     parted = subst (λ i. IsPermutation in_use (i ∷ others)) (get_or-take used order at 0 l) (one-out in_use at there)
+
+    pub is_in : holds s queue ≡ true
+    is_in = holds_it queue in_use h.timed.queued s apart others parted
 
     -- it is out of the queue
     left_queued : IsQueued (leave s queue) others
@@ -81,7 +81,7 @@ module _ {capacity : ℕ} {slots : List Stored} {queue : List Due} {order : List
 
       -- `read` is the order as it was read, and `left` the TTL
       module _ {read : List ℕ} {left : ℕ} {queue' : List Due} (r : read ≡ order) (k : left ≡ ttl) (q : queue' ≡ enter (get_or read at 0) left (leave (get_or read at 0) queue)) where
-        pub refreshed_after : contents_of capacity (set slots (get_or read at 0) slot) (ticks_left queue') order used limit too_many ≡ after_learn (contents_of capacity slots (ticks_left queue) order used limit too_many) name ttl octets
+        pub refreshed_after : contents_of capacity (set slots (get_or read at 0) slot) (ticks_left queue') order used limit too_many ≡ learned_as Refreshed (contents_of capacity slots (ticks_left queue) order used limit too_many) name ttl octets
         refreshed_after = rw (q, r, k) (after_refreshed h.laid name ttl octets slot _ at l e stored_again)
 
         pub refreshed_table : IsTable capacity (set slots (get_or read at 0) slot) queue' order used limit too_many
@@ -149,13 +149,35 @@ module _ {capacity : ℕ} {slots : List Stored} {queue : List Due} {order : List
       none_there = let f = free in ap (λ (table : Contents). list_any (is_named name) table.neighbors) f.same ∙ none
 
       module _ {read : List ℕ} {left : ℕ} {queue' : List Due} (r : read ≡ order') (k : left ≡ ttl) (q : queue' ≡ enter (get_or read used 0) left queue) where
-        pub new_after : contents_of capacity (set slots' (get_or read used 0) slot) (ticks_left queue') order' (used + 1) limit too_many ≡ after_learn (contents_of capacity slots (ticks_left queue) order used limit too_many) name ttl octets
-        new_after = grind (arith, common_steps, free, after_new, none_there, stored_new)
+        pub new_after : contents_of capacity (set slots' (get_or read used 0) slot) (ticks_left queue') order' (used + 1) limit too_many ≡ learned_as New (contents_of capacity slots (ticks_left queue) order used limit too_many) name ttl octets
+        new_after = let f = free in rw (q, r, k) (after_new f.laid name ttl octets slot _ none_there l f.free stored_new ∙ ap (λ table. learned_as New table name ttl octets) f.same)
 
         pub new_table : IsTable capacity (set slots' (get_or read used 0) slot) queue' order' (used + 1) limit too_many
         new_table =
             let f = free in
             rw (q, r, k) (record { laid = laid_new f.laid name ttl octets slot _ none_there l f.free stored_new t; timed = timed_new })
+
+  -- ## What is shown
+
+  -- `times` has the ticks left of each slot in the queue
+  module _ (times : List ℕ) (told : (i : ℕ) → holds i queue ≡ true → get_or times i 0 ≡ ticks_left queue i) where
+    pub entries_shown : neighbors_at slots (slice_index times) (take used order) ≡ neighbors_at slots (ticks_left queue) (take used order)
+    entries_shown =
+        map-agree (neighbor_at slots (ticks_left queue)) (neighbor_at slots (slice_index times)) (take used order)
+        (all-weaker (λ i. holds i queue ≡ true) (λ i. neighbor_at slots (slice_index times) i ≡ neighbor_at slots (ticks_left queue) i) (λ i w. ap (neighbor_of (get_or slots i blank)) (told i w)) (take used order) (all_queued queue (take used order) h.timed.queued))
+
+    pub are_entries : AreEntries slots (slice_index times) (take used order)
+    are_entries =
+        let most : length slots ≤ 128 = omega (arith, h.laid.written, h.laid.sound.most) in
+        let written = all-take (λ i. i < length slots) used order h.laid.indices.within in
+        record {
+          written = written;
+          within = all-weaker (λ i. i < length slots) (λ i. i < 128) (λ i w. omega (arith, w, most)) (take used order) written;
+          held = subst (AllByRecursion IsHeld) (sym entries_shown) h.laid.sound.held;
+        }
+
+    pub entry_shown : (at : ℕ) → at < used → (read : List ℕ) (slot : Stored) → read ≡ order → slot ≡ get_or slots (get_or read at 0) slot → neighbor_of slot (get_or times (get_or read at 0) 0) ≡ neighbor_at slots (ticks_left queue) (get_or order at 0)
+    entry_shown at l read slot r e = ap (neighbor_of slot) (told (get_or read at 0) (rw r (is_in at l))) ∙ entry_at h.laid at read slot r e l
 
   -- ## A purge
 

@@ -1,9 +1,10 @@
 -- Places in a list of neighbors, and in an order of slot indices.
-use Rattle.std.proofs.Common.{◌≡◌, ℕ, zero, suc, ◌+◌, ◌<◌, ◌≤◌, Bool, true, false, not, cond, nat_eq, List, [], ◌∷◌, ◌++◌, length, take, drop, set, get_or, refl, ap, ◌∙◌, sym, arith, map, length-append}
-use Rattle.std.specs.List.{list_any, filter, AllByRecursion, IsDistinct, remove}
+use Rattle.std.proofs.Common.{◌≡◌, ℕ, zero, suc, ◌+◌, ◌<◌, ◌≤◌, Bool, true, false, not, cond, nat_eq, List, [], ◌∷◌, ◌++◌, length, take, drop, set, get_or, Some, refl, ap, ◌∙◌, sym, arith, map, length-append}
+use Rattle.std.specs.List.{list_any, filter, AllByRecursion, IsDistinct, remove, slice_get}
 use Rattle.std.proofs.lemmas.Bool.{or_parts, or_from, or_left, or_right, ne_eqb, eq-eqb}
 use Rattle.std.proofs.lemmas.Cmp.{nat_eq_equiv}
 use Rattle.std.proofs.lemmas.List.{get_or_default, take-map, drop-map, take-append-le, map-append}
+use Rattle.std.proofs.lemmas.Option.{slice_get_past}
 use Rattle.std.proofs.lemmas.List.Elements.{All-from_recursion, recursion_from_All, All-get_or, All-take}
 use Rattle.std.proofs.lemmas.List.Sorted.{All-permutation, length_permutation, IsPermutation-trans, IsPermutation-remove, IsPermutation-append_comm}
 use Rattle.std.proofs.lemmas.Map.Keys.{IsDistinct-head, IsDistinct-tail, IsDistinct-push, IsDistinct-IsPermutation}
@@ -14,7 +15,7 @@ use Rattle.lldp_table.specs.Events.{Neighbor}
 use Rattle.lldp_table.specs.Contents.{is_named, names_of}
 use Rattle.lldp_table.specs.Code.Steps.{fresh, refreshed}
 use Rattle.lldp_table.specs.Code.Layout.{IsOrder}
-use Rattle.lldp_table.proofs.Msap.{same_msap-true, same_msap-sym}
+use Rattle.lldp_table.proofs.Msap.{same_msap-true, same_msap-refl, same_msap-sym}
 use Rattle.std.proofs.lemmas.Grind.{common_steps}
 
 -- ## Facts of each element
@@ -64,6 +65,12 @@ module _ (name : MsapId) where
   refreshed-unnamed : (ttl : ℕ) (octets : List ℕ) (xs : List Neighbor) → AllByRecursion (λ y. is_named name y ≡ false) xs → map (refreshed name ttl octets) xs ≡ xs
   refreshed-unnamed ttl octets [] a = refl
   refreshed-unnamed ttl octets (x ∷ xs) a = ap (λ b. cond b (fresh name ttl octets) x ∷ map (refreshed name ttl octets) xs) a.0 ∙ ap (λ ys. x ∷ ys) (refreshed-unnamed ttl octets xs a.1)
+
+  -- a name that stands at some place is held
+  pub held_there : (xs : List Neighbor) (at : ℕ) → slice_get (names_of xs) at ≡ Some name → list_any (is_named name) xs ≡ true
+  held_there (x ∷ xs) zero e = let same : x.msap ≡ name = cc e in or_left (is_named name x) (list_any (is_named name) xs) (ap (same_msap name) same ∙ same_msap-refl name)
+  held_there (x ∷ xs) (suc at) e = or_right (is_named name x) (list_any (is_named name) xs) (held_there xs at e)
+  held_there [] at e = cc (e, slice_get_past {X = MsapId} [] at (omega arith))
 
   -- to forget a name that isn't held changes nothing
   pub forgets_none : (xs : List Neighbor) → list_any (is_named name) xs ≡ false → filter (λ x. not (is_named name x)) xs ≡ xs

@@ -9,7 +9,7 @@ use Rattle.lldp_pdu.specs.Msap.{MsapId}
 use Rattle.lldp_table.specs.Msap.{same_msap}
 use Rattle.lldp_table.proofs.Msap.{same_msap-laws, same_msap-true}
 use Rattle.lldp_table.specs.Events.{Neighbor, Call, learn, forget, purge, tick, set_limit}
-use Rattle.lldp_table.specs.Contents.{Contents, is_named, IsExtent, IsHeld, IsSound, names_of}
+use Rattle.lldp_table.specs.Contents.{Contents, is_named, holds_name, IsExtent, IsHeld, IsSound, names_of}
 use Rattle.lldp_table.specs.Code.Steps.{aged, fresh, refreshed, learn_answer, learned_as, after_learn, after_forget, after_purge, after_tick, after_set_limit, newly_opened, table_after}
 use Rattle.lldp_table.specs.Standing.{IsNewLimit, IsPossible}
 use Rattle.lldp_table.proofs.Live.Events.{keep, filter_map-keep, by_new}
@@ -104,9 +104,15 @@ held-refreshed : (name : MsapId) (ttl : ℕ) (octets : List ℕ) (xs : List Neig
 held-refreshed name ttl octets [] k h = tt
 held-refreshed name ttl octets (x ∷ xs) k h = (cond_both (is_named name x) (fresh name ttl octets) x IsHeld (λ e. k) (λ e. h.0), held-refreshed name ttl octets xs k h.1)
 
+pub sound_new : (table : Contents) (name : MsapId) (ttl : ℕ) (octets : List ℕ) → holds_name table name ≡ false → length table.neighbors < table.limit → IsExtent name ttl octets → IsSound table → IsSound (learned_as New table name ttl octets)
+sound_new table name ttl octets none l t h = grind (arith, common_steps, length-append, all-push, map-append, IsDistinct-push, same_msap-laws, names_none)
+
+pub sound_refreshed : (table : Contents) (name : MsapId) (ttl : ℕ) (octets : List ℕ) → IsExtent name ttl octets → IsSound table → IsSound (learned_as Refreshed table name ttl octets)
+sound_refreshed table name ttl octets t h = grind (arith, common_steps, length-map, held-refreshed, names-refreshed)
+
 sound_learned_as : (a : Learned) (table : Contents) (name : MsapId) (ttl : ℕ) (octets : List ℕ) → learn_answer table name ≡ a → IsExtent name ttl octets → IsSound table → IsSound (learned_as a table name ttl octets)
-sound_learned_as New table name ttl octets e t h = grind (arith, common_steps, by_new, ltb-true, length-append, all-push, map-append, IsDistinct-push, same_msap-laws, names_none)
-sound_learned_as Refreshed table name ttl octets e t h = grind (arith, common_steps, length-map, held-refreshed, names-refreshed)
+sound_learned_as New table name ttl octets e t h = let n = by_new (holds_name table name) _ e in sound_new table name ttl octets n.0 (ltb-true _ _ n.1) t h
+sound_learned_as Refreshed table name ttl octets e t h = sound_refreshed table name ttl octets t h
 sound_learned_as Dropped table name ttl octets e t h = record { most = h.most; room = h.room; least = h.least; few = h.few; held = h.held; distinct = h.distinct }
 
 pub sound_learned : (table : Contents) (name : MsapId) (ttl : ℕ) (octets : List ℕ) → IsExtent name ttl octets → IsSound table → IsSound (after_learn table name ttl octets)

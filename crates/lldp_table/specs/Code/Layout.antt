@@ -4,7 +4,8 @@ use Rattle.std.specs.List.{IsDistinct, AllByRecursion}
 use Rattle.lldp_pdu.specs.Msap.{MsapId}
 use Rattle.lldp_pdu.specs.Lldpdu.{msap_of}
 use Rattle.lldp_table.specs.Events.{Neighbor}
-use Rattle.lldp_table.specs.Contents.{Contents, IsSound}
+use Rattle.lldp_table.specs.Contents.{Contents, IsHeld, IsSound}
+use Rattle.lldp_table.specs.declared.limits.TheConstants.{MOST_NEIGHBORS}
 use Rattle.lldp_table.specs.Code.Stored.{Stored}
 use Rattle.lldp_table.specs.Code.Queue.{Due, ticks_left, IsTimed}
 
@@ -30,6 +31,12 @@ neighbor_at slots left i = neighbor_of (slice_index_or slots i blank) (left i)
 -- the neighbors in these slots
 abbrev pub neighbors_at : List Stored → (ℕ → ℕ) → List ℕ → List Neighbor
 neighbors_at slots left indices = map (neighbor_at slots left) indices
+
+-- what is true of entries that are still to come: each index has a slot that holds a neighbor, and a time
+pub record AreEntries (slots : List Stored) (left : ℕ → ℕ) (indices : List ℕ) : Type 0 where
+  pub written : AllByRecursion (λ i. i < length slots) indices
+  pub within : AllByRecursion (λ i. i < MOST_NEIGHBORS) indices
+  pub held : AllByRecursion IsHeld (neighbors_at slots left indices)
 
 -- a list of n, with one more, and any other list as it is
 abbrev pub with_next : {X : Type 0} → ℕ → X → List X → List X

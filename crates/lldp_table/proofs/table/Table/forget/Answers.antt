@@ -1,46 +1,45 @@
-use Rattle.std.proofs.Common.{sym, ap, ◌∙◌}
+use Rattle.std.proofs.Common.{sym, ap, ◌∙◌, arith}
+use Rattle.std.proofs.lemmas.List.{get_or_default}
 use Rattle.lldp_pdu.specs.View.{msap_view}
-use Rattle.lldp_table.specs.Events.{forget}
-use Rattle.lldp_table.specs.Contents.{Contents, holds_name}
+use Rattle.lldp_table.specs.Events.{Neighbor, forget}
+use Rattle.lldp_table.specs.Contents.{Contents}
 use Rattle.lldp_table.specs.Code.Steps.{after_forget}
 use Rattle.lldp_table.proofs.Slots.Counted.{shown_is}
 use Rattle.lldp_table.proofs.Standing.Calls.{stands_after, held_is_live}
-use Rattle.lldp_table.proofs.Slots.Layout.{found, not_found, forgotten_none, holds_named}
-use Rattle.lldp_table.proofs.Slots.Learned.{forgotten_after, forgotten_table}
+use Rattle.std.proofs.Common.{List}
+use Rattle.lldp_table.proofs.Slots.Places.{forgets_none, held_there}
+use Rattle.lldp_table.proofs.Slots.Layout.{fits, named_there}
+use Rattle.lldp_table.proofs.Slots.Learned.{is_in, forgotten_after, forgotten_table}
 use Rattle.lldp_table.proofs.table.Table.forget.Goals as goal
+
+pub leave-requires : goal.leave-requires
+leave-requires g c =
+    let f = named_there c.self.invariant.laid (shown_is c.self.view_is) (msap_view c.args.msap.now) c.in-Some.at c.in-Some.ensures in
+    rw (c.remove-slot.ensures.value, get_or_default c.self.inside.order.items c.in-Some.at c.remove-slot.result 0 (omega (arith, f.0, fits c.self.invariant.laid))) (is_in c.self.invariant c.in-Some.at f.0)
 
 pub invariant_of-self : goal.invariant_of-self
 invariant_of-self g c =
     let name = msap_view c.args.msap.now in
-    let f = found c.self.invariant.laid name c.in-Some.at (rw (c.as_slice.ensures, c.deref.ensures.0) at c.in-Some.ensures) in
+    let f = named_there c.self.invariant.laid (shown_is c.self.view_is) name c.in-Some.at c.in-Some.ensures in
     rw (c.push.ensures.items, c.remove-slot.ensures.items) (forgotten_table c.self.invariant c.in-Some.at f.0 name f.1 c.remove-slot.ensures.value c.leave.ensures)
-
-pub returns-in-None-clause-answer : goal.returns-in-None-clause-answer
-returns-in-None-clause-answer g c =
-    let name = msap_view c.args.msap.now in
-    sym (not_found c.self.invariant.laid name (rw (c.as_slice.ensures, c.deref.ensures.0) at c.in-None.ensures)) ∙ ap (λ (table : Contents). holds_name table name) (shown_is c.self.view_is)
 
 pub returns-in-None-clause-after : goal.returns-in-None-clause-after
 returns-in-None-clause-after g c =
-    let name = msap_view c.args.msap.now in
-    let none = not_found c.self.invariant.laid name (rw (c.as_slice.ensures, c.deref.ensures.0) at c.in-None.ensures) in
-    rw (← shown_is c.self.view_is) (sym (forgotten_none c.self.invariant.laid name none))
+    let table = c.args.self.now.shown in
+    ap (λ (held : List Neighbor). record table { neighbors = held }) (sym (forgets_none (msap_view c.args.msap.now) table.neighbors c.in-None.ensures))
 
 pub returns-in-Some-clause-answer : goal.returns-in-Some-clause-answer
-returns-in-Some-clause-answer g c =
-    let name = msap_view c.args.msap.now in
-    let f = found c.self.invariant.laid name c.in-Some.at (rw (c.as_slice.ensures, c.deref.ensures.0) at c.in-Some.ensures) in
-    sym (holds_named c.self.invariant.laid name c.in-Some.at f.0 f.1) ∙ ap (λ (table : Contents). holds_name table name) (shown_is c.self.view_is)
+returns-in-Some-clause-answer g c = sym (held_there (msap_view c.args.msap.now) _ c.in-Some.at c.in-Some.ensures)
 
 pub returns-in-Some-clause-after : goal.returns-in-Some-clause-after
 returns-in-Some-clause-after g c =
     let name = msap_view c.args.msap.now in
-    let f = found c.self.invariant.laid name c.in-Some.at (rw (c.as_slice.ensures, c.deref.ensures.0) at c.in-Some.ensures) in
+    let f = named_there c.self.invariant.laid (shown_is c.self.view_is) name c.in-Some.at c.in-Some.ensures in
     rw (c.push.ensures.items, c.remove-slot.ensures.items) (forgotten_after c.self.invariant c.in-Some.at f.0 name f.1 c.remove-slot.ensures.value c.leave.ensures)
     ∙ ap (λ (table : Contents). after_forget table name) (shown_is c.self.view_is)
 
 pub returns-in-None-clause-answers : goal.returns-in-None-clause-answers
-returns-in-None-clause-answers g c = λ opened calls h. returns-in-None-clause-answer g c ∙ held_is_live c.args.self.now.shown opened calls (msap_view c.args.msap.now) h
+returns-in-None-clause-answers g c = λ opened calls h. sym c.in-None.ensures ∙ held_is_live c.args.self.now.shown opened calls (msap_view c.args.msap.now) h
 
 pub returns-in-None-clause-stands : goal.returns-in-None-clause-stands
 returns-in-None-clause-stands g c = λ opened calls h. stands_after c.args.self.now.shown c.args.self.now.shown opened calls (forget (msap_view c.args.msap.now)) (returns-in-None-clause-after g c) tt h

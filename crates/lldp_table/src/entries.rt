@@ -1,0 +1,47 @@
+//! The neighbors of a table, one after the other.
+ghost use Rattle.std.specs.Iterator.{YieldsFirst, item_count};
+
+use crate::entry::Entry;
+use crate::limits::MOST_NEIGHBORS;
+use crate::slot::Slot;
+use std::marker::Model;
+
+/// The neighbors of a table, in its order.
+#[derive(Drop)]
+pub struct Entries<'a> {
+    pub(crate) slots: &'a [Slot],
+    /// The indices of the slots whose neighbors are still to come.
+    pub(crate) order: &'a [u8],
+    /// The ticks left of each slot.
+    pub(crate) ticks: [u16; MOST_NEIGHBORS],
+}
+
+impl<'a> Model for Entries<'a> {
+    ghost use Rattle.std.specs.Prelude.{List, slice_index};
+    ghost use Rattle.lldp_table.specs.Events.{Neighbor};
+    ghost use Rattle.lldp_table.specs.Code.Layout.{neighbors_at, AreEntries};
+
+    ghost Value = { List Neighbor };
+
+    ghost view = { λ e. neighbors_at e.slots.now (slice_index e.ticks) e.order.now };
+
+    ghost invariant = { λ e. AreEntries e.slots.now (slice_index e.ticks) e.order.now };
+}
+
+impl<'a> Iterator for Entries<'a> {
+    type Item = Entry<'a>;
+
+    ghost next_gives = { YieldsFirst (λ entries. entries) };
+
+    ghost remaining = { item_count (λ entries. entries) };
+
+    fn next(&mut self) -> Option<Entry<'a>> {
+        let (index, others) = self.order.split_first()?;
+        self.order = others;
+        let slot = *index as usize;
+        Some(Entry {
+            slot: &self.slots[slot],
+            left: self.ticks[slot],
+        })
+    }
+}
