@@ -16,12 +16,12 @@ role_text Router = codes "Router:on"
 abbrev pub own_address_text : List ℕ → List ℕ
 own_address_text address = ipv4_text address ++ codes ",1,0,"
 
--- a line where one was given
+-- a line if one was given
 abbrev pub management_lines : Option (List ℕ) → List (List ℕ)
 management_lines None = []
 management_lines (Some address) = (codes "local-chassis.mgmt=" ++ own_address_text address) ∷ []
 
--- The lines: MAC address, system name, system description, capabilities, management address where one was given.
+-- The lines: MAC address, system name, system description, capabilities, management address if one was given.
 abbrev pub chassis_lines : Configuration → List (List ℕ)
 chassis_lines c =
     (codes "local-chassis.mac=" ++ mac_text c.mac)

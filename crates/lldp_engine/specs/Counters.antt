@@ -19,7 +19,7 @@ abbrev pub is_refused : Heard → Bool
 is_refused refused = true
 is_refused heard = false
 
--- how many of its TLVs were discarded, where it tells of a neighbor that lives
+-- how many of its TLVs were discarded, if it tells of a neighbor that lives
 abbrev pub discarded_tlvs : Heard → ℕ
 discarded_tlvs (tells info) = info.discarded
 discarded_tlvs heard = 0

@@ -75,7 +75,7 @@ fault_or (Ok next) others = others
 fault_or (Err Extra) others = others
 fault_or (Err fault) others = fault
 
--- forms, or this fault where there is none
+-- forms, or this fault if there is none
 abbrev pub if_any : List Form → CommandFault → Result (List Form) CommandFault
 if_any [] fault = Err fault
 if_any (form ∷ others) fault = Ok (form ∷ others)
@@ -90,11 +90,11 @@ abbrev pub first_fault : List (List ℕ) → List Form → List ℕ → CommandF
 first_fault names [] w = Extra
 first_fault names (form ∷ others) w = fault_or (after_word names form w) (first_fault names others w)
 
--- The forms go on with a word where one of them does.
+-- The forms go on with a word if one of them does.
 abbrev pub going_on : List (List ℕ) → List Form → List ℕ → Result (List Form) CommandFault
 going_on names left w = if_any (forms_left names left w) (first_fault names left w)
 
--- What is said where no word is left.
+-- What is said if no word is left.
 abbrev pub completed : List Form → Result Command CommandFault
 completed [] = Err Unknown
 completed (complete command ∷ others) = Ok command

@@ -25,7 +25,7 @@ sent_msap c name = record { chassis = 4 ∷ c.mac; port = 5 ∷ name }
 abbrev pub management_body : List ℕ → List ℕ
 management_body address = (5 ∷ 1 ∷ address) ++ (1 ∷ 0 ∷ 0 ∷ 0 ∷ 0 ∷ 0 ∷ [])
 
--- the Management Address TLV (8.5.9), where there is an address
+-- the Management Address TLV (8.5.9), if there is an address
 abbrev pub management_tlvs : Option (List ℕ) → List TlvUnit
 management_tlvs None = []
 management_tlvs (Some address) = unit 8 (management_body address) ∷ []

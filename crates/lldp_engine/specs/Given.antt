@@ -13,7 +13,7 @@ use Rattle.lldp_text.specs.Words.{words_of}
 abbrev pub said_by : AgentState → List (List ℕ) → Result Command CommandFault
 said_by agent words = read_forms (names_of agent) (Ok (forms agent.configuration.capacity)) words
 
--- A limit is in use where a port holds more neighbors. This comes after all other checks.
+-- A limit is in use if a port holds more neighbors. This comes after all other checks.
 abbrev pub unless_in_use : List PortState → Result Command CommandFault → Result Command CommandFault
 unless_in_use ports (Ok (set (limit n))) = if fits ports n then Ok (set (limit n)) else Err InUse
 unless_in_use ports said = said

@@ -29,7 +29,7 @@ abbrev pub StopsNow : Past → Event → ℕ → Type 0
 StopsNow past event i = Stops past.options (happened past.options i event past.events) (past_of past i)
 
 -- What is answered at an event is what the definitions say is sent: port i stands there with an ordinary frame exactly
--- where one is due and its credit window is open, and with a shutdown frame exactly where it stops; nothing else stands
+-- if one is due and its credit window is open, and with a shutdown frame exactly if it stops; nothing else stands
 -- there, and the ports rise.
 pub record AnswersExactly (past : Past) (event : Event) (marks : List Sending) : Type 0 where
   pub are : marks ≡ marks_of (with_event past event)

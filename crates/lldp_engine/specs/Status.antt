@@ -16,6 +16,6 @@ transmits RxAndTx = true
 transmits TxOnly = true
 transmits status = false
 
--- each port begins by receiving and sending, or by receiving alone where that was asked for
+-- each port begins by receiving and sending, or by receiving alone if that was asked for
 abbrev pub status_at_opening : Options → Status
 status_at_opening o = if o.receive_only then RxOnly else RxAndTx

@@ -182,7 +182,7 @@ impl<A: Allocator> Agent<A> {
     }
 
     /// Whether it accepts an event: its port exists, its value is in the range, its text has at
-    /// most 255 printable octets, and where it sets a limit no port holds more neighbors.
+    /// most 255 printable octets, and if it sets a limit no port holds more neighbors.
     pub fn allows(&self, event: &Event<'_>) -> bool
         ensures { IsTrue result ↔ Allows self.now (event_of event.now) }
     {

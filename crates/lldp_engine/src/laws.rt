@@ -43,14 +43,14 @@ pub fn standing_agents_are_promised()
 {}
 
 /// Whatever a port has seen, by what its events were for its transmitting it has the right to
-/// transmit exactly where its status gives it, so that a status that gives the right gives it back;
-/// and its link is up exactly where its last link event says so.
+/// transmit exactly if its status gives it, so that a status that gives the right gives it back;
+/// and its link is up exactly if its last link event says so.
 pub fn rights_follow_statuses()
     ensures { (options : Options) (past : List Happened) → FollowsStatus options past }
 {}
 
 /// The status and the link of a port and the configuration, said of positions: each is what the
-/// last event that set it set, and no event after that one sets it; where none does, it is as it
+/// last event that set it set, and no event after that one sets it; if none does, it is as it
 /// was opened.
 pub fn last_events_decide()
     ensures status { (options : Options) (port : ℕ) (events : List Event) (status : Status) →

@@ -155,7 +155,7 @@ impl<A: Allocator> Port<A> {
         }
     }
 
-    /// Another status: where it takes receiving away, the table is emptied.
+    /// Another status: if it takes receiving away, the table is emptied.
     fn set_status(&mut self, given: Status) -> Cause
         ensures after { self.new ≡ port_after_event (status given) self.old }
         ensures cause { result ≡ port_cause (status given) self.old }

@@ -76,7 +76,7 @@ live_after n _ = None
 unfoldable pub live : MsapId → List TableEvent → Option Neighbor
 live name events = option_and_then (live_after (ticks (since (decides_on name) events))) (find (decides_on name) events)
 
--- an event's name comes last where it is new
+-- an event's name comes last if it is new
 abbrev pub arrive : TableEvent → List MsapId → List MsapId
 arrive (learned name ttl octets New) names = filter (λ other. not (same_msap name other)) names ++ name ∷ []
 arrive _ names = names
@@ -99,7 +99,7 @@ limit_after opened (limit_set limit ∷ past) = limit
 limit_after opened (event ∷ past) = limit_after opened past
 
 -- What a `learn` of this name answers. A live name is refreshed, whether or not there is room. Another name is new
--- where fewer neighbors than the limit in force are live, else its frame is dropped.
+-- if fewer neighbors than the limit in force are live, else its frame is dropped.
 abbrev pub answer : ℕ → MsapId → List TableEvent → Learned
 answer opened name past =
     if is_some (live name past) then Refreshed

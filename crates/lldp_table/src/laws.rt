@@ -22,7 +22,7 @@ pub fn calls_carry_standing()
         ForEachCalls table (λ opened calls. Stands opened (call ∷ calls) (table_after table call)) }
 {}
 
-/// A table that stands for a list of calls is the one that they leave, an empty one where there was
+/// A table that stands for a list of calls is the one that they leave, an empty one if there was
 /// none; and it answers as the definitions do of the list.
 pub fn calls_tell_standing_tables()
     ensures opened { (opened : ℕ) → 0 < opened → opened ≤ 128 →
@@ -81,7 +81,7 @@ pub fn calls_leave_last_stored_frames()
         ArePossible opened calls → Stands opened calls (table_of opened calls) }
 {}
 
-/// A frame is a refresh exactly where a neighbor of its name is live, new exactly where none is and
+/// A frame is a refresh exactly if a neighbor of its name is live, new exactly if none is and
 /// fewer than the limit in force are live, and else it is dropped.
 pub fn live_neighbors_decide_answers()
     ensures refreshed { (opened : ℕ) (calls : List Call) (name : MsapId) →
@@ -162,7 +162,7 @@ pub fn purges_end_timers_too()
 {}
 
 /// A limit is in force from the call that sets it until another one does, the limit of opening
-/// until the first: a frame of a name that is not live is dropped exactly where as many neighbors
+/// until the first: a frame of a name that is not live is dropped exactly if as many neighbors
 /// are held. Setting it changes nothing else.
 pub fn limits_last_until_the_next()
     ensures set { (opened limit : ℕ) (later calls : List Call) →

@@ -34,7 +34,7 @@ pub(crate) fn place_of(slots: &[Slot], order: &[u8], name: &Msap<'_>, tag: u32) 
     None
 }
 
-/// Writes one more slot where all that were written are in use. The room was made at opening.
+/// Writes one more slot if all that were written are in use. The room was made at opening.
 pub(crate) fn write_next<A: Allocator>(
     slots: &mut Room<Slot, A>,
     order: &mut ArrayVec<u8, MOST_NEIGHBORS>,

@@ -35,7 +35,7 @@ impl Model for Slot {
     ghost invariant = { λ s. IsSlot s.room s.length s.tag };
 }
 
-/// The body of the next TLV, or no octets where there is none.
+/// The body of the next TLV, or no octets if there is none.
 fn next_body<'a>(tlvs: &mut Tlvs<'a>) -> &'a [u8]
     ensures first { result.now ≡ (tlv_at (cut tlvs.old).tlvs 0).body }
     ensures second { tlv_at (cut tlvs.new).tlvs 0 ≡ tlv_at (cut tlvs.old).tlvs 1 }

@@ -96,7 +96,7 @@ module _ (opened : ℕ) (calls : List Call) where
   learn_drops : (name : MsapId) (ttl : ℕ) (octets : List ℕ) (a : Learned) → answer opened name past ≡ a → with_call (Some (learn name ttl octets)) ≡ learned name ttl octets a ∷ past
   learn_drops name ttl octets a e = events-more opened (learn name ttl octets) calls ∙ ap (λ (b : Learned). learned name ttl octets b ∷ past) e
 
-  -- a frame of a name that is not held is dropped where no fewer are held than the limit
+  -- a frame of a name that is not held is dropped if no fewer are held than the limit
   dropped_answer : (name : MsapId) → list_any (is_named name) (neighbors past) ≡ false → limit_after opened past ≤ length (neighbors past) → answer opened name past ≡ Dropped
   dropped_answer name held full =
       let no : is_some (live name past) ≡ false = sym (has-live past (arrived opened calls) name) ∙ held in

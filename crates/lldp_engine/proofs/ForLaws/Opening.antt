@@ -106,7 +106,7 @@ passed_below o n a b c d e PortName lt = c lt
 passed_below o n a b c d e SamePort lt = d lt
 passed_below o n a b c d e Text lt = e lt
 
--- the test is true exactly where the check fails
+-- the test is true exactly if the check fails
 record Tests (failed : Bool) (Check : Type 0) : Type 0 where
   fails : failed ≡ true → Check → ⊥
   passes : failed ≡ false → Check

@@ -1,4 +1,4 @@
--- What is said where one form is left that takes a word.
+-- What is said if one form is left that takes a word.
 use Rattle.std.proofs.Common.{◌≡◌, ℕ, Bool, true, false, List, [], ◌∷◌, Option, Some, None, Result, Ok, Err, refl}
 use Rattle.std.specs.Prelude.{if◌then◌else◌}
 use Rattle.lldp_text.specs.declared.fault.CommandFault.{CommandFault}

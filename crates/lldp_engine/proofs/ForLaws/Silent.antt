@@ -37,7 +37,7 @@ active_if_sent : (s : Settings) (past : List Moment) (e : Caused) → (moment s 
 unfolding moment
 active_if_sent s past e sent = grind (arith, common_steps, is_active-cons, and_parts)
 
--- a port stops that was active, where it may no longer transmit
+-- a port stops that was active, if it may no longer transmit
 stop_parts : (s : Settings) (past : List Moment) (e : Caused) → (moment s past e).stop ≡ true → (is_active past ≡ true) × (is_allowed s (moment s past e ∷ past) ≡ false)
 unfolding moment
 stop_parts s past e stop = grind (arith, common_steps, and_parts, not-true)

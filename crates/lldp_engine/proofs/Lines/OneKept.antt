@@ -12,7 +12,7 @@ unfolding Takes
 is_short a b [] h short = subst (λ (s : OneLine). length s.line ≤ 2049) h short
 is_short a b (x ∷ xs) h short = is_short h.0 b xs h.2 (h.1.1 short)
 
--- what is given for a sink: none where the line didn't come, and else the line
+-- what is given for a sink: none if the line didn't come, and else the line
 pub record Gives (sink : OneLine) (given : Option (List ℕ)) : Type 0 where
   pub none : sink.came ≡ false → given ≡ None
   pub line : (line : List ℕ) → sink.came ≡ true → sink.line ≡ ended line → given ≡ Some line

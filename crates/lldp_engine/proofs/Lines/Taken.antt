@@ -39,7 +39,7 @@ pub takes_next_line : {S X : Type 0} (t : S → S → List ℕ → Type 0) (f : 
 takes_next_line t f a b c xs i d x lt e h k =
     rw (← flat_map_single f (take (i + 1) xs)) (takes_next t (λ y. f y ∷ []) a b c xs i d x lt e (rw (flat_map_single f (take i xs)) h) (takes_line t b c c (f x) [] k (takes_none t c)))
 
--- the lines of the elements so far, where no other line changes anything
+-- the lines of the elements so far, if no other line changes anything
 pub takes_rest : {S X : Type 0} (t : S → S → List ℕ → Type 0) (f : X → List (List ℕ)) (a b : S) (xs : List X) (i : ℕ) → Takes t a b (flat_map f (take i xs)) → ((x : List ℕ) → t b b x) → Takes t a b (flat_map f xs)
 takes_rest t f a b xs i h k =
     let split : flat_map f xs ≡ flat_map f (take i xs) ++ flat_map f (drop i xs) = ap (flat_map f) (sym (take-append-drop i xs)) ∙ flat_map-append f (take i xs) (drop i xs) in
@@ -57,7 +57,7 @@ TakesTo t a b left all = (gone : List (List ℕ)) × (gone ++ left ≡ all) × T
 pub takes_more : {S : Type 0} (t : S → S → List ℕ → Type 0) (a b c : S) (xs left all : List (List ℕ)) → TakesTo t a b (xs ++ left) all → Takes t b c xs → TakesTo t a c left all
 takes_more t a b c xs left all h k = (h.0 ++ xs, append_assoc h.0 xs left ∙ h.1, takes_then t a b c h.0 xs h.2 k)
 
--- where no line changes anything, those that are left needn't come
+-- if no line changes anything, those that are left needn't come
 pub takes_left : {S : Type 0} (t : S → S → List ℕ → Type 0) (a b : S) (left all : List (List ℕ)) → TakesTo t a b left all → ((x : List ℕ) → t b b x) → Takes t a b all
 takes_left t a b left all h k = rw (← h.1) (takes_then t a b b h.0 left h.2 (takes_all t b left k))
 

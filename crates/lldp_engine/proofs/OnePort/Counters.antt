@@ -27,7 +27,7 @@ counts_one all = omega arith
 counts_none : (all : ℕ) → wrapped all ≡ wrapped (0 + all)
 counts_none all = omega arith
 
--- one more where the test holds
+-- one more if the test holds
 counts_if : (b : Bool) (x : Heard) (xs : List Heard) → wrapped (wrapped (length xs) + from_bool b) ≡ wrapped (length (if b then x ∷ xs else xs))
 counts_if true x xs = omega arith
 counts_if false x xs = omega arith

@@ -15,7 +15,7 @@ use Rattle.lldp_engine.specs.Laws.FixedTexts.{line_of}
 abbrev pub own_line : List ℕ → List ℕ
 own_line rest = (0x6c ∷ 0x6f ∷ 0x63 ∷ 0x61 ∷ 0x6c ∷ 0x2d ∷ 0x63 ∷ 0x68 ∷ 0x61 ∷ 0x73 ∷ 0x73 ∷ 0x69 ∷ 0x73 ∷ 0x2e ∷ []) ++ rest
 
--- mgmt= and the address, then ,1,0, where there is one
+-- mgmt= and the address, then ,1,0, if there is one
 abbrev pub lines_of_management : Option (List ℕ) → List (List ℕ)
 lines_of_management None = []
 lines_of_management (Some address) = own_line ((0x6d ∷ 0x67 ∷ 0x6d ∷ 0x74 ∷ 0x3d ∷ []) ++ ipv4_text address ++ (0x2c ∷ 0x31 ∷ 0x2c ∷ 0x30 ∷ 0x2c ∷ [])) ∷ []

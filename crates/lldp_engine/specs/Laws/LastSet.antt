@@ -11,7 +11,7 @@ use Rattle.lldp_engine.specs.Configuration.{Configuration, configuration_at_open
 abbrev pub NoneSets : {X : Type 0} → (X → Event) → List Event → Type 0
 NoneSets make events = (later earlier : List Event) (value : _) → events ≡ later ++ make value ∷ earlier → ⊥
 
--- The value is what the last event that sets it set; where none does, the first value.
+-- The value is what the last event that sets it set; if none does, the first value.
 abbrev pub IsLastSet : {X : Type 0} → (X → Event) → X → List Event → X → Type 0
 IsLastSet make first events value =
     ((later earlier : List Event) × (events ≡ later ++ make value ∷ earlier) × NoneSets make later)

@@ -11,7 +11,7 @@ use Rattle.lldp_engine.specs.Laws.InUse.{HoldAtMost}
 use Rattle.lldp_text.specs.Words.{words_of}
 use Rattle.lldp_engine.specs.Laws.Sayings.{show_word, neighbors_word, statistics_word, chassis_word, configuration_word, configure_word, system_word, hostname_word, description_word, lldp_word, interval_word, hold_word, limit_word, ports_word, status_word, update_word, word_of}
 
--- The words of a command. Where its form takes a word it is the text, one that reads as the number within the range, the
+-- The words of a command. If its form takes a word it is the text, one that reads as the number within the range, the
 -- name of the port, or the word of the status.
 abbrev pub AreWordsOf : AgentState → Command → List (List ℕ) → Type 0
 AreWordsOf agent (show Neighbors) words = words ≡ show_word ∷ neighbors_word ∷ []

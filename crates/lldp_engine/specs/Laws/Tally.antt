@@ -31,7 +31,7 @@ pub record HaveRisen (before after : Counters) (faults faulty left_out unknown :
   pub tlvs_discarded : after.tlvs_discarded ≡ (before.tlvs_discarded + left_out) % 2 ^ 32
   pub unrecognized : after.unrecognized ≡ (before.unrecognized + unknown) % 2 ^ 32
 
--- These octets, where they come on port i, add so many faults, errors, discarded and unrecognized TLVs to its counters.
+-- These octets, if they come on port i, add so many faults, errors, discarded and unrecognized TLVs to its counters.
 abbrev pub Adds : Past → ℕ → List ℕ → ℕ → ℕ → ℕ → ℕ → Type 0
 Adds past i octets faults errors discarded unrecognized =
     (before after : PortState) → port_at past i ≡ Some before → port_at (with_event past (frame i octets)) i ≡ Some after →

@@ -19,7 +19,7 @@ pub data Whose : Type 0 where
   one_port : (port : ℕ) (event : PortEvent) → Whose
   each_port : (event : PortEvent) → Whose
 
--- Every command but a status command is each port's, and a local change, also where it sets the same value.
+-- Every command but a status command is each port's, and a local change, also if it sets the same value.
 abbrev pub whose_setting : agent.Setting → Whose
 whose_setting (agent.status port given) = one_port port (status given)
 whose_setting (agent.limit neighbors) = each_port (limit neighbors)

@@ -32,15 +32,15 @@ DueAndOpen o now earlier = IsDueAndOpen (settings_of o) (causes_after o earlier)
 abbrev pub Stops : Options → Happened → List Happened → Type 0
 Stops o now earlier = StopsAt (settings_of o) (causes_after o earlier) (caused_at o now earlier)
 
--- At an event after earlier ones a port sends an ordinary frame exactly where one is due and the credit window is open:
+-- At an event after earlier ones a port sends an ordinary frame exactly if one is due and the credit window is open:
 -- no run of events that ends there would hold more than txCreditMax and the ticks after its first event. It sends a
--- shutdown frame exactly where it was active and may no longer transmit.
+-- shutdown frame exactly if it was active and may no longer transmit.
 pub record SendsExactly (o : Options) (now : Happened) (earlier : List Happened) : Type 0 where
   pub ordinary : (mark_after o (now ∷ earlier) ≡ Ordinary) ↔ DueAndOpen o now earlier
   pub shutdown : (mark_after o (now ∷ earlier) ≡ Shutdown) ↔ Stops o now earlier
 
--- After this past, by what its events were for its transmitting, a port has the right to transmit exactly where its
--- status gives it, and its link is up exactly where its last link event says so.
+-- After this past, by what its events were for its transmitting, a port has the right to transmit exactly if its
+-- status gives it, and its link is up exactly if its last link event says so.
 pub record FollowsStatus (o : Options) (past : List Happened) : Type 0 where
   pub right : is_allowed (settings_of o) (moments (settings_of o) (causes_after o past))
       ≡ transmits (status_after o past)

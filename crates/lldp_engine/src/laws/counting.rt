@@ -41,7 +41,7 @@ pub fn ports_count_each_lldpdu_once()
 {}
 
 /// A tick adds to `ageouts` of each port the neighbors that it takes away, and nothing else changes
-/// it. A frame adds one to `drops` of its port exactly where it finds no room there; and what is
+/// it. A frame adds one to `drops` of its port exactly if it finds no room there; and what is
 /// counted of received frames is changed by frames of that port alone.
 pub fn ports_count_what_they_lose()
     ensures aged_out { (past : Past) (i : ℕ) → Makes past tick i CountsAgedOut }

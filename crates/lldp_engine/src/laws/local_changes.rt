@@ -32,7 +32,7 @@ pub fn statuses_links_and_frames_are_no_changes()
         ¬ (IsFor past (frame port octets) i Change) }
 {}
 
-/// A frame is a new neighbor exactly where its port holds one neighbor more after it; every other
+/// A frame is a new neighbor exactly if its port holds one neighbor more after it; every other
 /// frame, as a refresh and one that is dropped, is nothing for transmitting.
 pub fn new_neighbors_are_one_more()
     ensures new { (past : Past) (i : ℕ) (octets : List ℕ) (before after : List Held) →

@@ -24,8 +24,8 @@ pub fn forms_say_their_commands()
 {}
 
 /// A command is said by the words of its form and by no others, and given by a line that has them
-/// and by no other, where a limit that it sets is not in use. A word is read as a status exactly
-/// where it is that status's own.
+/// and by no other, if a limit that it sets is not in use. A word is read as a status exactly
+/// if it is that status's own.
 pub fn only_forms_say_commands()
     ensures said { (agent : AgentState) (words : List (List ℕ)) (command : Command) →
         (said_by agent words ≡ Ok command) ↔ AreWordsOf agent command words }

@@ -20,7 +20,7 @@ fn text_of_role(role: Role) -> &'static [u8]
     }
 }
 
-/// The line of the management address, where one was given.
+/// The line of the management address, if one was given.
 fn put_management<S: LineSink>(sink: &mut S, management: Option<[u8; 4]>)
     ensures { Takes S.takes sink.old sink.new (management_lines management) }
 {

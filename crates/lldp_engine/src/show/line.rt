@@ -18,7 +18,7 @@ pub trait LineSink {
     /// How it is after it took a line.
     ghost takes: { Self → Self → List ℕ → Type 0 };
 
-    /// Lends the writer in which the next line is written, behind what stands there; None where no
+    /// Lends the writer in which the next line is written, behind what stands there; None if no
     /// line changes the sink any more. What is written there is taken as a line: at most 2,048
     /// octets, and a line feed.
     fn begin_line(&mut self) -> Option<&mut Writer>

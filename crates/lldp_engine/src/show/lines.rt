@@ -25,7 +25,7 @@ pub const MOST_LINES: u32 = 64 * (3 + 128 * (4 + 744));
 impl<A: Allocator> Agent<A> {
     /// Gives the lines of a show, in their order, to a sink: exactly those, at most `MOST_LINES`,
     /// 6,127,808, none cut, each of at most 2,048 octets. It takes no memory. Past its clauses:
-    /// where the sink is done, as behind a write that failed, no further port or neighbor is gone
+    /// if the sink is done, as behind a write that failed, no further port or neighbor is gone
     /// through.
     pub fn show_lines<S: LineSink>(&self, show: &Show, sink: &mut S)
         ensures value { Takes S.takes sink.old sink.new (lines_of show.now self.now) }

@@ -29,7 +29,7 @@ impl OneLine {
         }
     }
 
-    /// The line that is wanted, where it came, without its line feed.
+    /// The line that is wanted, if it came, without its line feed.
     pub fn into_line(self) -> Option<Line>
         requires { length self.line ≤ 2049 }
         ensures none { self.came ≡ false → result ≡ None }

@@ -75,7 +75,7 @@ module _ (times : List ℕ) where
       pub raised : (n to : ℕ) → to ≡ n + gap → dues (set times s to) slots ≡ take k queue ++ add_first n (drop k queue)
       raised n to e = ap (λ m. dues (set times s m) slots) e ∙ dues-set s (n + gap) slots k l refl d h ∙ ap (λ q. take k queue ++ q) (sym (ap (add_first n) (drop-dues slots k l)))
 
-    -- ## Where a slot enters
+    -- ## If a slot enters
 
     module _ (slot left rest : ℕ) (p : enter slot left queue ≡ take k queue ++ enter slot rest (drop k queue)) where
       -- before a slot that expires later
@@ -171,7 +171,7 @@ two_fit times slots k slot l e =
     let next : (get_or (dues times slots) (suc k) (due 0 0)).gap ≡ get_or times (get_or slots (k + 1) 0) 0 = gap_at times slots (suc k) (omega arith) ∙ ap (λ n. get_or times (get_or slots n 0) 0) one in
     omega (arith, two_of_total (dues times slots) k (due 0 0) (omega (arith, length-dues times slots, l)), first, next)
 
--- the ticks left of the last, where another one leaves, and where it leaves itself
+-- the ticks left of the last, if another one leaves, and if it leaves itself
 module _ (times slots : List ℕ) (k slot : ℕ) (l : k < length slots) (e : get_or slots k 0 ≡ slot) (d : IsDistinct nat_eq slots) where
   abbrev front : List Due
   front = take k (dues times slots)
@@ -247,7 +247,7 @@ pub queue_popped : (times slots : List ℕ) → IsQueue times slots → IsQueue 
 queue_popped times [] h = h
 queue_popped times (i ∷ is) h = grind (arith, common_steps, IsDistinct-tail, total-cons)
 
--- the ticks left of the last, where the first has nothing left and leaves, and where a tick passes
+-- the ticks left of the last, if the first has nothing left and leaves, and if a tick passes
 pub total_popped : (times slots : List ℕ) → is_spent (dues times slots) ≡ true → total (dues times (remove slots 0)) ≡ total (dues times slots)
 total_popped times [] e = refl
 total_popped times (i ∷ is) e = omega (arith, eqb-true (get_or times i 0) 0 e, total-cons (due i (get_or times i 0)) (dues times is))

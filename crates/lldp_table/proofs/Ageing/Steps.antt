@@ -58,7 +58,7 @@ left-add_first : (n slot : ℕ) (queue : List Due) → holds slot queue ≡ true
 left-add_first n slot [] h = cc
 left-add_first n slot (e ∷ queue) h = grind (arith, common_steps, cases_Bool, at_first, behind)
 
--- where a slot leaves, the others keep theirs
+-- if a slot leaves, the others keep theirs
 pub left-leave : (slot other : ℕ) (queue : List Due) → nat_eq slot other ≡ false → holds other queue ≡ true → ticks_left (leave slot queue) other ≡ ticks_left queue other
 left-leave slot other [] d h = cc
 left-leave slot other (e ∷ queue) d h =
@@ -81,7 +81,7 @@ pub left-pass : (slot : ℕ) (queue : List Due) → IsRunning queue → holds sl
 left-pass slot [] r h = cc
 left-pass slot (e ∷ queue) r h = grind (arith, common_steps, cases_Bool, at_first, behind, running_first)
 
--- each has some left where the first has
+-- each has some left if the first has
 pub left-positive : (slot : ℕ) (queue : List Due) → IsRunning queue → holds slot queue ≡ true → 0 < ticks_left queue slot
 left-positive slot [] r h = cc
 left-positive slot (e ∷ queue) r h = grind (arith, common_steps, running_first, cases_Bool, at_first, behind)
@@ -118,7 +118,7 @@ pub total-append : (queue others : List Due) → total (queue ++ others) ≡ tot
 total-append [] others = omega arith
 total-append (e ∷ queue) others = omega (arith, total-cons e (queue ++ others), total-cons e queue, total-append queue others)
 
--- where there is a first, it takes what is added
+-- if there is a first, it takes what is added
 pub total-added : (n : ℕ) (e : Due) (queue : List Due) → total (add_first n (e ∷ queue)) ≡ n + total (e ∷ queue)
 total-added n e queue = omega (arith, total-cons e queue, total-cons (due e.slot (n + e.gap)) queue)
 

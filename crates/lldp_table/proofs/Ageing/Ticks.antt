@@ -50,7 +50,7 @@ module _ (slots : List Stored) where
   neighbors-pass queue r [] a = refl
   neighbors-pass queue r (i ∷ order) a = grind (arith, common_steps, left-pass, neighbors-pass queue r order a.1)
 
-  -- where a slot has nothing left and is first, the others don't change without it
+  -- if a slot has nothing left and is first, the others don't change without it
   others_same : (slot : ℕ) (queue : List Due) (order : List ℕ) → AllByRecursion (λ i. nat_eq slot i ≡ false) order → in_queue (due slot 0 ∷ queue) order ≡ in_queue queue order
   others_same slot queue [] a = refl
   others_same slot queue (i ∷ order) a = grind (arith, common_steps, left-front_other, others_same slot queue order a.1)

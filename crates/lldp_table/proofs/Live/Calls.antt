@@ -16,7 +16,7 @@ use Rattle.lldp_table.proofs.Msap.{same_msap-refl, same_msap-true}
 use Rattle.lldp_table.proofs.Live.Events.{live-other, live-ticked, live-stored, neighbors-purged, neighbors-dropped, neighbors-limit_set, too_many-ticked, too_many-dropped}
 use Rattle.lldp_table.proofs.Live.LastStored.{last_from_live, live_from_last, last_stored_from_held, held_from_last_stored}
 
--- a neighbor is held where it is what is live of its name
+-- a neighbor is held if it is what is live of its name
 module _ (opened : ℕ) (calls : List Call) (x : Neighbor) where
   pub live_from_held : Contains (neighbors (events_of opened calls)) x → live x.msap (events_of opened calls) ≡ Some x
   live_from_held c = live_from_last (events_of opened calls) x (last_stored_from_held opened calls x c)

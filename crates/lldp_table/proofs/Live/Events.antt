@@ -159,7 +159,7 @@ neighbors-refreshed name ttl octets past t held =
     ∙ refreshes name other ttl octets (live other past) (λ e. ap (λ n. is_some (live n past)) (sym (same_msap-true name other e)) ∙ held) (live-named other past)) (arrivals past)
     ∙ filter_map-map (λ other. live other past) (refreshed name ttl octets) (arrivals past)
 
--- the others, where a name is new
+-- the others, if a name is new
 others : (name : MsapId) (new : Neighbor) (f : MsapId → Option Neighbor) → f name ≡ None → (names : List MsapId)
     → filter_map (λ other. cond (same_msap name other) (Some new) (f other)) (filter (λ other. not (same_msap name other)) names) ≡ filter_map f names
 others name new f h [] = refl
@@ -222,7 +222,7 @@ Arrived-refreshed name ttl octets past held h other s =
 pub Arrived-new : (name : MsapId) (ttl : ℕ) (octets : List ℕ) (past : List TableEvent) → Arrived past → Arrived (learned name ttl octets New ∷ past)
 Arrived-new name ttl octets past h other s = grind (arith, common_steps, some_of_two, live-other, list_any-append, or_right, or_left, same_msap-sym, still_there)
 
--- a table has a neighbor of a name where the name has arrived and is live
+-- a table has a neighbor of a name if the name has arrived and is live
 there : (name : MsapId) (o : Option Neighbor) (xs : List Neighbor) (r : Bool) → ((x : Neighbor) → o ≡ Some x → is_named name x ≡ true) → list_any (is_named name) xs ≡ (r && is_some o) → list_any (is_named name) (cons_option o xs) ≡ is_some o
 there name None xs r h e = e ∙ and_right r false refl
 there name (Some x) xs r h e = ap (λ b. b || list_any (is_named name) xs) (h x refl)
@@ -249,7 +249,7 @@ and_known : (a b : Bool) → (b ≡ true → a ≡ true) → (a && b) ≡ b
 and_known a true h = ap (λ x. x && true) (h refl)
 and_known a false h = and_right a false refl
 
--- a table that has the live neighbors has a name exactly where it is live
+-- a table that has the live neighbors has a name exactly if it is live
 pub has-live : (past : List TableEvent) → Arrived past → (name : MsapId) → list_any (is_named name) (neighbors past) ≡ is_some (live name past)
 unfolding neighbors
 has-live past h name = has_named name (λ other. live other past) (λ other. live-named other past) (arrivals past) ∙ and_known (list_any (same_msap name) (arrivals past)) (is_some (live name past)) (h name)

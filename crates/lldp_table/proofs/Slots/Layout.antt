@@ -206,7 +206,7 @@ module _ {capacity : ℕ} {slots : List Stored} {left : ℕ → ℕ} {order : Li
 
   -- ### One more slot
 
-  -- the order with a free slot in it: where all that were written are in use, one more is written
+  -- the order with a free slot in it: if all that were written are in use, one more is written
   pub record HasFree (slots' : List Stored) (order' : List ℕ) : Type 0 where
     pub laid : IsLaidOut capacity slots' left order' used limit too_many
     pub same : contents_of capacity slots' left order' used limit too_many ≡ shown

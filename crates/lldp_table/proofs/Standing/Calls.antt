@@ -55,7 +55,7 @@ answered opened calls name =
 pub learn_answers : (table : Contents) (opened : ℕ) (calls : List Call) (name : MsapId) → Stands opened calls table → learn_answer table name ≡ answer opened name (events_of opened calls)
 learn_answers table opened calls name h = rw h.is (answered opened calls name)
 
--- a name is held where it is live
+-- a name is held if it is live
 pub held_is_live : (table : Contents) (opened : ℕ) (calls : List Call) (name : MsapId) → Stands opened calls table → list_any (is_named name) table.neighbors ≡ is_some (live name (events_of opened calls))
 held_is_live table opened calls name h = rw h.is (has-live (events_of opened calls) (arrived opened calls) name)
 

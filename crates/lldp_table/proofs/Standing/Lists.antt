@@ -33,7 +33,7 @@ some_is None h = absurd (false≢true h)
 some_is (Some x) h = (x, refl)
 
 module _ (name : MsapId) (past : List TableEvent) where
-  -- a name is live by the definition where its neighbor is
+  -- a name is live by the definition if its neighbor is
   live_is_last : is_some (live name past) ≡ true → IsLive past name
   live_is_last h =
       let x = some_is (live name past) h in

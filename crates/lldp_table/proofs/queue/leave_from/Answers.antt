@@ -21,7 +21,7 @@ returns-then-at-len-clause-queue c =
 pub returns-then-at-len-clause-less : goal.returns-then-at-len-clause-less
 returns-then-at-len-clause-less c = grind (arith, common_steps, total_left_behind)
 
--- ## Where it was the last itself
+-- ## If it was the last itself
 
 pub returns-clause-after : goal.returns-clause-after
 returns-clause-after c = grind (arith, common_steps, left_at)
