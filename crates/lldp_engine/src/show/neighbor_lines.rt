@@ -81,14 +81,13 @@ fn put_port<A: Allocator, S: LineSink>(sink: &mut S, port: &Port<A>)
     ensures { Takes S.takes sink.old sink.new (port_lines port.now) }
 {
     put_counts(sink, port);
-    let table = port.table();
-    let lefts = table.lefts();
-    for i in 0..table.len() {
+    let mut number = 0;
+    for entry in port.table().entries() {
         if sink.is_done() {
             return;
         }
-        let entry = table.entry_with(i, lefts[i as usize]);
-        put_neighbor(sink, port.name(), i + 1, entry);
+        number += 1;
+        put_neighbor(sink, port.name(), number, entry);
     }
 }
 
