@@ -1,5 +1,5 @@
 //! The agent.
-ghost use Rattle.std.specs.Prelude.{◌≡◌, ℕ, ◌<◌, ◌≤◌, length, map, None, Some, IfOk, IfErr, IfSome, IsTrue, ◌↔◌, slice_get, slice_index_or};
+ghost use Rattle.std.specs.Prelude.{◌≡◌, ℕ, ◌<◌, ◌≤◌, length, map, None, Some, IfOk, IfErr, IfSome, IsTrue, ◌↔◌, slice_get};
 ghost use Rattle.std.specs.List.{AllByRecursion};
 ghost use Rattle.std.specs.Option.{option_map};
 ghost use Rattle.lldp_table.specs.Standing.{Stands as TableStands};
@@ -9,9 +9,9 @@ ghost use Rattle.lldp_engine.specs.AgentState.{names_of, name_of, IsPort, Allows
 ghost use Rattle.lldp_engine.specs.Configuration.{configured};
 ghost use Rattle.lldp_engine.specs.Place.{place_of};
 ghost use Rattle.lldp_engine.specs.Past.{Past, opened, with_event, past_of, marks_of};
-ghost use Rattle.lldp_engine.specs.Port.Past.{status_after, up_after, calls_after, counters_after};
+ghost use Rattle.lldp_engine.specs.Port.Past.{port_after, status_after, up_after, calls_after, counters_after};
 ghost use Rattle.lldp_engine.specs.Frames.{IsSent};
-ghost use Rattle.lldp_engine.specs.Sound.{AreSound, IsSoundPort};
+ghost use Rattle.lldp_engine.specs.Sound.{AreSound};
 ghost use Rattle.lldp_engine.specs.Standing.{Stands};
 ghost use Rattle.lldp_engine.specs.Code.Step.{agent_after, agent_marks};
 ghost use Rattle.lldp_engine.specs.Headline.{PromisedStep};
@@ -99,8 +99,12 @@ impl<A: Allocator> Agent<A> {
     /// The port of this number.
     fn port(&self, port: u8) -> &Port<A>
         requires { IsPort self.now port }
-        ensures place { result.now ≡ slice_index_or self.now.ports port result.now }
-        ensures sound { IsSoundPort self.now.configuration.capacity result.now }
+        ensures value { slice_get self.now.ports port ≡ Some result.now }
+        ensures some { 0 < length result.now.name }
+        ensures named { (past : Past) → Stands past self.now →
+            slice_get past.options.names port ≡ Some result.now.name }
+        ensures past { (past : Past) → Stands past self.now →
+            result.now ≡ port_after past.options (past_of past port) result.now.name }
     {
         self.ports.at(port as usize)
     }

@@ -11,7 +11,8 @@ use Rattle.std.proofs.lemmas.List.Sums.{AllPass-from_list_all, list_all-from_All
 use Rattle.std.proofs.lemmas.Slice.Eq.{bytes_eq-Decides}
 use Rattle.lldp_engine.specs.declared.agent.open_fault.OpenFault.{OpenFault}
 use Rattle.lldp_engine.specs.declared.agent.open_fault.OpenFault.TheVariants.{Memory, NoPorts, TooManyPorts, PortName, SamePort, Text}
-use Rattle.lldp_engine.specs.Options.{Options, is_name_octet, is_port_name, has_same, fault_of}
+use Rattle.lldp_engine.specs.Options.{Options, is_name_octet, is_port_name, has_same, checks, fault_of}
+use Rattle.lldp_pdu.specs.Check.{Check, first_fault}
 use Rattle.lldp_text.specs.Text.{is_text}
 use Rattle.lldp_engine.specs.FixedNumbers.{number_of_refusal}
 use Rattle.lldp_engine.specs.Laws.Opening.{IsName, IsText, Passes, IsFirstFault}
@@ -84,76 +85,7 @@ none_same : (names : List (List ℕ)) → AllPairs (λ a b. a ≢ b) names → h
 none_same [] h = refl
 none_same (name ∷ names) h = or_from _ _ (false_from_ne_true _ (not_apart name names h)) (none_same names (apart_behind name names h))
 
--- ## The first fault, by five tests
-
--- the fault of the first test that is true
-abbrev first_of : Bool → Bool → Bool → Bool → Bool → Option OpenFault
-first_of a b c d e =
-    if a then Some NoPorts
-    else if b then Some TooManyPorts
-    else if c then Some PortName
-    else if d then Some SamePort
-    else if e then Some Text
-    else None
-
--- the checks of smaller numbers than n are passed
-passed_below : (o : Options) (n : ℕ) → (2 < n → Passes o NoPorts) → (3 < n → Passes o TooManyPorts) → (4 < n → Passes o PortName) → (5 < n → Passes o SamePort) → (6 < n → Passes o Text)
-    → (other : OpenFault) → number_of_refusal other < n → Passes o other
-passed_below o n a b c d e Memory lt = tt
-passed_below o n a b c d e NoPorts lt = a lt
-passed_below o n a b c d e TooManyPorts lt = b lt
-passed_below o n a b c d e PortName lt = c lt
-passed_below o n a b c d e SamePort lt = d lt
-passed_below o n a b c d e Text lt = e lt
-
--- the test is true exactly if the check fails
-record Tests (failed : Bool) (Check : Type 0) : Type 0 where
-  fails : failed ≡ true → Check → ⊥
-  passes : failed ≡ false → Check
-
-record AreTests (o : Options) (a b c d e : Bool) : Type 0 where
-  ports : Tests a (Passes o NoPorts)
-  few : Tests b (Passes o TooManyPorts)
-  named : Tests c (Passes o PortName)
-  differ : Tests d (Passes o SamePort)
-  texts : Tests e (Passes o Text)
-
-same_fault : (f g : OpenFault) → Some f ≡ Some g → f ≡ g
-same_fault f g h = cc
-
-no_fault : (f : OpenFault) → (let N : Option OpenFault = None in N) ≡ Some f → ⊥
-no_fault f h = cc
-
-told : (o : Options) (a b c d e : Bool) → AreTests o a b c d e → (f : OpenFault) → first_of a b c d e ≡ Some f → IsFirstFault o f
-told o true b c d e t f h =
-    subst (IsFirstFault o) (same_fault NoPorts f h)
-    (record { fails = t.ports.fails refl; first = passed_below o 2 (λ l. absurd (omega arith)) (λ l. absurd (omega arith)) (λ l. absurd (omega arith)) (λ l. absurd (omega arith)) (λ l. absurd (omega arith)) })
-told o false true c d e t f h =
-    subst (IsFirstFault o) (same_fault TooManyPorts f h)
-    (record { fails = t.few.fails refl; first = passed_below o 3 (λ l. t.ports.passes refl) (λ l. absurd (omega arith)) (λ l. absurd (omega arith)) (λ l. absurd (omega arith)) (λ l. absurd (omega arith)) })
-told o false false true d e t f h =
-    subst (IsFirstFault o) (same_fault PortName f h)
-    (record { fails = t.named.fails refl; first = passed_below o 4 (λ l. t.ports.passes refl) (λ l. t.few.passes refl) (λ l. absurd (omega arith)) (λ l. absurd (omega arith)) (λ l. absurd (omega arith)) })
-told o false false false true e t f h =
-    subst (IsFirstFault o) (same_fault SamePort f h)
-    (record { fails = t.differ.fails refl; first = passed_below o 5 (λ l. t.ports.passes refl) (λ l. t.few.passes refl) (λ l. t.named.passes refl) (λ l. absurd (omega arith)) (λ l. absurd (omega arith)) })
-told o false false false false true t f h =
-    subst (IsFirstFault o) (same_fault Text f h)
-    (record { fails = t.texts.fails refl; first = passed_below o 6 (λ l. t.ports.passes refl) (λ l. t.few.passes refl) (λ l. t.named.passes refl) (λ l. t.differ.passes refl) (λ l. absurd (omega arith)) })
-told o false false false false false t f h = cc
-
-all_passed : (o : Options) (a b c d e : Bool) → AreTests o a b c d e → first_of a b c d e ≡ None → (f : OpenFault) → Passes o f
-all_passed o true b c d e t h f = cc
-all_passed o false true c d e t h f = cc
-all_passed o false false true d e t h f = cc
-all_passed o false false false true e t h f = cc
-all_passed o false false false false true t h f = cc
-all_passed o false false false false false t h Memory = tt
-all_passed o false false false false false t h NoPorts = t.ports.passes refl
-all_passed o false false false false false t h TooManyPorts = t.few.passes refl
-all_passed o false false false false false t h PortName = t.named.passes refl
-all_passed o false false false false false t h SamePort = t.differ.passes refl
-all_passed o false false false false false t h Text = t.texts.passes refl
+-- ## The numbers of the faults
 
 -- a fault has its number alone
 fault_at : ℕ → OpenFault
@@ -174,11 +106,67 @@ numbered PortName = refl
 numbered SamePort = refl
 numbered Text = refl
 
+at_most_6 : (f : OpenFault) → number_of_refusal f ≤ 6
+at_most_6 Memory = omega arith
+at_most_6 NoPorts = omega arith
+at_most_6 TooManyPorts = omega arith
+at_most_6 PortName = omega arith
+at_most_6 SamePort = omega arith
+at_most_6 Text = omega arith
+
+-- ## The first fault, by tests
+
+-- the test is true exactly if the check fails
+record Tests (failed : Bool) (P : Type 0) : Type 0 where
+  fails : failed ≡ true → P → ⊥
+  passes : failed ≡ false → P
+
+-- each check has a test, and the faults have the numbers from n to 6
+abbrev AreTests : Options → ℕ → List (Check OpenFault) → Type 0
+AreTests o n [] = 6 < n
+AreTests o n (c ∷ cs) = (number_of_refusal c.fault ≡ n) × (Tests c.fails (Passes o c.fault) × AreTests o (suc n) cs)
+
+-- the checks of smaller numbers than n are passed
+abbrev PassedBelow : Options → ℕ → Type 0
+PassedBelow o n = (f : OpenFault) → number_of_refusal f < n → Passes o f
+
+same_number : (f g : OpenFault) → number_of_refusal f ≡ number_of_refusal g → f ≡ g
+same_number f g same = sym (numbered f) ∙ ap fault_at same ∙ numbered g
+
+one_more : (o : Options) (n : ℕ) (g : OpenFault) → number_of_refusal g ≡ n → Passes o g → PassedBelow o n → PassedBelow o (suc n)
+one_more o n g e p below f lt =
+    elim (cases_order (number_of_refusal g) (number_of_refusal f)) [
+      | inl same ↦ subst (Passes o) (same_number g f same) p
+      | inr differ ↦ elim differ [ inl above ↦ absurd (omega (arith, e, lt, above)) | inr before ↦ below f (omega (arith, e, before)) ]
+    ]
+
+same_fault : (f g : OpenFault) → Some f ≡ Some g → f ≡ g
+same_fault f g h = cc
+
+first_or : (o : Options) (n : ℕ) (g : OpenFault) (b : Bool) (others : Option OpenFault) → number_of_refusal g ≡ n → Tests b (Passes o g) → PassedBelow o n
+    → (f : OpenFault) → (PassedBelow o (suc n) → others ≡ Some f → IsFirstFault o f) → (if b then Some g else others) ≡ Some f → IsFirstFault o f
+first_or o n g true others e t below f rest h =
+    subst (IsFirstFault o) (same_fault g f h) (record { fails = t.fails refl; first = λ other lt. below other (omega (arith, e, lt)) })
+first_or o n g false others e t below f rest h = rest (one_more o n g e (t.passes refl) below) h
+
+told : (o : Options) (n : ℕ) (cs : List (Check OpenFault)) → AreTests o n cs → PassedBelow o n → (f : OpenFault) → first_fault cs ≡ Some f → IsFirstFault o f
+told o n [] t below f h = cc
+told o n (c ∷ cs) t below f h = first_or o n c.fault c.fails (first_fault cs) t.0 t.1.0 below f (λ b e. told o (suc n) cs t.1.1 b f e) h
+
+passed_or : (o : Options) (n : ℕ) (g : OpenFault) (b : Bool) (others : Option OpenFault) → number_of_refusal g ≡ n → Tests b (Passes o g) → PassedBelow o n
+    → (f : OpenFault) → (PassedBelow o (suc n) → others ≡ None → Passes o f) → (if b then Some g else others) ≡ None → Passes o f
+passed_or o n g true others e t below f rest h = cc
+passed_or o n g false others e t below f rest h = rest (one_more o n g e (t.passes refl) below) h
+
+all_passed : (o : Options) (n : ℕ) (cs : List (Check OpenFault)) → AreTests o n cs → PassedBelow o n → first_fault cs ≡ None → (f : OpenFault) → Passes o f
+all_passed o n [] t below h f = below f (omega (arith, t, at_most_6 f))
+all_passed o n (c ∷ cs) t below h f = passed_or o n c.fault c.fails (first_fault cs) t.0 t.1.0 below f (λ b e. all_passed o (suc n) cs t.1.1 b e f) h
+
 -- there is one first fault
 one_first : (o : Options) (f g : OpenFault) → IsFirstFault o f → IsFirstFault o g → f ≡ g
 one_first o f g hf hg =
     elim (cases_order (number_of_refusal f) (number_of_refusal g)) [
-      | inl same ↦ sym (numbered f) ∙ ap fault_at same ∙ numbered g
+      | inl same ↦ same_number f g same
       | inr differ ↦ elim differ [ inl below ↦ absurd (hf.fails (hg.first f below)) | inr above ↦ absurd (hg.fails (hf.first g above)) ]
     ]
 
@@ -187,24 +175,27 @@ one_first o f g hf hg =
 negated : {P : Type 0} (b : Bool) → Decides b P → Tests (not b) P
 negated b d = record { fails = λ h p. both_ways b (not-true b h) (d.1 p); passes = λ h. d.0 (not-false b h) }
 
-fault_tests : (o : Options) → AreTests o (length o.names == 0) (nat_lt 64 (length o.names)) (not (list_all is_port_name o.names)) (has_same o.names) (not (is_text o.hostname))
+fault_tests : (o : Options) → AreTests o 2 (checks o)
 fault_tests o =
-    record {
-      ports = record { fails = λ h p. grind (arith, nat_tests); passes = λ h. grind (arith, nat_tests) };
-      few = record { fails = λ h p. grind (arith, nat_tests); passes = λ h. grind (arith, nat_tests) };
-      named = negated (list_all is_port_name o.names) (named_decided o.names);
-      differ = record { fails = λ h p. both_ways (has_same o.names) (none_same o.names p) h; passes = apart o.names };
-      texts = negated (is_text o.hostname) (text_decided o.hostname);
-    }
+    let ports : Tests (length o.names == 0) (Passes o NoPorts) = record { fails = λ h p. grind (arith, nat_tests); passes = λ h. grind (arith, nat_tests) } in
+    let few : Tests (nat_lt 64 (length o.names)) (Passes o TooManyPorts) = record { fails = λ h p. grind (arith, nat_tests); passes = λ h. grind (arith, nat_tests) } in
+    let differ : Tests (has_same o.names) (Passes o SamePort) = record { fails = λ h p. both_ways (has_same o.names) (none_same o.names p) h; passes = apart o.names } in
+    (refl, (ports, (refl, (few, (refl, (negated (list_all is_port_name o.names) (named_decided o.names), (refl, (differ, (refl, (negated (is_text o.hostname) (text_decided o.hostname), omega arith))))))))))
 
-is_first_of : (o : Options) → fault_of o ≡ first_of (length o.names == 0) (nat_lt 64 (length o.names)) (not (list_all is_port_name o.names)) (has_same o.names) (not (is_text o.hostname))
-is_first_of o = refl
+-- the check of no number below 2 fails: it is want of memory
+none_below : (o : Options) → PassedBelow o 2
+none_below o Memory lt = tt
+none_below o NoPorts lt = absurd (omega arith)
+none_below o TooManyPorts lt = absurd (omega arith)
+none_below o PortName lt = absurd (omega arith)
+none_below o SamePort lt = absurd (omega arith)
+none_below o Text lt = absurd (omega arith)
 
 pub fault_is_first : (o : Options) (f : OpenFault) → fault_of o ≡ Some f → IsFirstFault o f
-fault_is_first o f h = told o _ _ _ _ _ (fault_tests o) f h
+fault_is_first o f h = told o 2 (checks o) (fault_tests o) (none_below o) f h
 
 pub none_fails : (o : Options) → fault_of o ≡ None → (f : OpenFault) → Passes o f
-none_fails o h = all_passed o _ _ _ _ _ (fault_tests o) h
+none_fails o h = all_passed o 2 (checks o) (fault_tests o) (none_below o) h
 
 the_first : (o : Options) (f : OpenFault) → IsFirstFault o f → (r : Option OpenFault) → fault_of o ≡ r → r ≡ Some f
 the_first o f h None e = absurd (h.fails (none_fails o e f))

@@ -1,11 +1,7 @@
 use Rattle.std.proofs.Common.{◌∙◌}
 use Rattle.lldp_engine.specs.Past.{past_of}
-use Rattle.lldp_engine.proofs.Readers.{port_reads}
 use Rattle.lldp_engine.proofs.Headline.{links_read}
 use Rattle.lldp_engine.proofs.agent.Agent.is_up.Goals as goal
 
 pub returns-clause-past : goal.returns-clause-past
-returns-clause-past g c = λ past h.
-    let p = c.port.result.now in
-    let r = port_reads past c.args.self.now c.args.port p h c.requires c.port.ensures.place in
-    c.is_up.ensures ∙ links_read past.options (past_of past c.args.port) p r.is
+returns-clause-past g c = λ past h. c.is_up.ensures ∙ links_read past.options (past_of past c.args.port) _ (c.port.ensures.past past h)

@@ -1,11 +1,7 @@
 use Rattle.std.proofs.Common.{◌∙◌}
 use Rattle.lldp_engine.specs.Past.{past_of}
-use Rattle.lldp_engine.proofs.Readers.{port_reads}
 use Rattle.lldp_engine.proofs.Headline.{status_is}
 use Rattle.lldp_engine.proofs.agent.Agent.status.Goals as goal
 
 pub returns-clause-past : goal.returns-clause-past
-returns-clause-past g c = λ past h.
-    let p = c.port.result.now in
-    let r = port_reads past c.args.self.now c.args.port p h c.requires c.port.ensures.place in
-    c.status.ensures ∙ status_is past.options (past_of past c.args.port) p r.is
+returns-clause-past g c = λ past h. c.status.ensures ∙ status_is past.options (past_of past c.args.port) _ (c.port.ensures.past past h)
