@@ -86,6 +86,8 @@ refused_arguments() {
     ends 2 "lldpa: bad --management" 'lldpa --management 192.0.2.01 eth0'
     ends 2 "*--max-neighbors*" 'lldpa --max-neighbors 129 eth0'
     ends 2 "*cannot be used multiple times*" 'lldpa --hostname a --hostname a eth0'
+    ends 2 "*--listen*" 'lldpa --listen 0 eth0'
+    ends 2 "*--listen*" 'lldpa --listen 70000 eth0'
 }
 
 bad_openings() {
@@ -120,18 +122,6 @@ local-chassis.name=last
 local-chassis.descr=lldpa
 local-chassis.caps=Router:on"
     ends 2 "lldpa: bad port name" 'printf "tick\n" | { lldpa a.b; kept=$?; cat; exit $kept; }' tick
-}
-
-# Words of which the list of what is tried by name speaks, one by one.
-refused_arguments() {
-    echo "== words: refused, by name"
-    ends 2 "lldpa: same port twice" 'lldpa eth0 eth0'
-    ends 2 "lldpa: bad --mac" 'lldpa --mac 00:11 eth0'
-    ends 2 "lldpa: bad --management" 'lldpa --management 192.0.2.01 eth0'
-    ends 2 "*--max-neighbors*" 'lldpa --max-neighbors 129 eth0'
-    ends 2 "*cannot be used multiple times*" 'lldpa --hostname a --hostname a eth0'
-    ends 2 "*--listen*" 'lldpa --listen 0 eth0'
-    ends 2 "*--listen*" 'lldpa --listen 70000 eth0'
 }
 
 bad_addresses() {
@@ -284,8 +274,10 @@ manual_pages() {
 service() {
     echo "== the service"
     if command -v systemd-analyze > /dev/null; then
-        systemd-analyze security --offline=true --threshold=20 "$PWD/share/systemd/lldpa.service" > "$room/out" 2>&1
-        judge $? "systemd-analyze security: $(tail -n 1 "$room/out")"
+        for unit in lldpa lldpa-metrics; do
+            systemd-analyze security --offline=true --threshold=20 "$PWD/share/systemd/$unit.service" > "$room/out" 2>&1
+            judge $? "systemd-analyze security: $(tail -n 1 "$room/out")"
+        done
     else
         echo "skipped: systemd-analyze, which is not installed"
     fi
@@ -334,7 +326,6 @@ part "the library" python3 tools/check-library.py
 part "the package" tools/check-package.sh "$program"
 refused_arguments
 bad_openings
-refused_arguments
 bad_addresses
 bad_options
 misused_streams

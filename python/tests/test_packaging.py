@@ -110,6 +110,22 @@ class Installed(unittest.TestCase):
             self.assertEqual(done.returncode, status, done.stdout + done.stderr)
 
 
+class Metrics(unittest.TestCase):
+    """The unit that asks as root."""
+
+    def test_metrics_are_written_with_few_rights(self) -> None:
+        unit = (REPOSITORY / "share/systemd/lldpa-metrics.service").read_text().splitlines()
+        for line in ["CapabilityBoundingSet=CAP_DAC_OVERRIDE", "NoNewPrivileges=yes",
+                     "RestrictAddressFamilies=AF_UNIX", "PrivateNetwork=yes", "ProtectHome=yes",
+                     "ProtectSystem=strict", "SystemCallFilter=~@privileged @resources",
+                     "SystemCallFilter=~kill tkill tgkill pidfd_send_signal rt_sigqueueinfo "
+                     "rt_tgsigqueueinfo", "InaccessiblePaths=-/boot -/media -/mnt",
+                     "TemporaryFileSystem=/etc:ro /opt:ro /run:ro /srv:ro /var:ro",
+                     "BindReadOnlyPaths=-/etc/ld.so.cache -/run/lldpa",
+                     "BindPaths=/var/lib/prometheus/node-exporter", "TimeoutStartSec=45"]:
+            self.assertIn(line, unit)
+
+
 class Modules(unittest.TestCase):
     """The package where it stands."""
 
