@@ -62,6 +62,42 @@ reads() { lldpa-capture --show /usr/share/doc/lldpa/docs/lab.pcap | lldpa --rece
 
 notifies() { systemctl show -p Type -p StatusText lldpa | grep -c -x -e Type=notify -e 'StatusText=[0-9no]* neighbors\? on 1 port' | grep -x 2; }
 tells() { journalctl -u lldpa -g 'eth0 came: sender p1'; }
+# Runs a program in the place of the one that writes the metrics, with that unit's rights: 0 if each act is refused.
+confined() {
+    touch /boot/probe /home/probe
+    cat > /usr/probe.py <<'END'
+import os, socket, sys
+
+def refused(act):
+    try:
+        act()
+    except OSError:
+        return True
+    return False
+
+def look(folder):
+    if not os.listdir(folder):
+        raise OSError
+
+acts = [lambda: open("/etc/passwd"), lambda: open("/root/try.sh"), lambda: look("/boot"), lambda: look("/home"),
+        lambda: look("/var/lib/dpkg"), lambda: open("/run/systemd/private"), lambda: open("/usr/probe", "w"),
+        lambda: os.kill(1, 0), lambda: os.kill(os.getpid(), 0), lambda: socket.socket(socket.AF_INET),
+        lambda: socket.socket(socket.AF_PACKET, socket.SOCK_RAW)]
+allowed = [at for at, act in enumerate(acts) if not refused(act)]
+sys.exit(f"not refused: {allowed}" if allowed else 0)
+END
+    mkdir -p /run/systemd/system/lldpa-metrics.service.d
+    printf '%s\n' '[Service]' ExecStart= 'ExecStart=/usr/bin/python3 /usr/probe.py' \
+        > /run/systemd/system/lldpa-metrics.service.d/probe.conf
+    systemctl daemon-reload
+    systemctl start lldpa-metrics
+    local status
+    status=$(systemctl show -p ExecMainStatus --value lldpa-metrics)
+    rm -r /run/systemd/system/lldpa-metrics.service.d /usr/probe.py /boot/probe /home/probe
+    systemctl daemon-reload
+    journalctl -u lldpa-metrics -o cat -g 'not refused'
+    [ "$status" -eq 0 ]
+}
 published() { sleep 2 && grep -x "lldpa_up $1" /var/lib/prometheus/node-exporter/lldpa.prom; }
 stop_agent() { kill -STOP "$(cat "/proc/$(process)/task/$(process)/children" | tr ' ' '\n' | while read -r one; do
     [ "$(cat "/proc/$one/comm" 2> /dev/null)" = lldpa ] && echo "$one"; done)"; }
@@ -92,6 +128,7 @@ check "systemd is told how it goes" notifies
 check "the journal has who came" tells
 systemctl start lldpa-metrics
 check "its metrics are written" published 1
+check "what writes them may read, write, signal and connect no more than it needs" confined
 systemctl stop lldpa
 systemctl start lldpa-metrics
 check "metrics say that it does not answer" published 0
@@ -146,7 +183,7 @@ fi
 cat "$root/root/tried"
 passed=$(grep -c '^held: ' "$root/root/tried")
 failed=$(grep -c '^FAILED: ' "$root/root/tried")
-wanted=$((23 + $(wc -l < "$root/root/commands")))
-[ $((passed + failed)) -eq "$wanted" ] || failed=$((wanted - passed))
+wanted=$((24 + $(wc -l < "$root/root/commands")))
+[ $((passed + failed)) -eq "$wanted" ] || failed=$((failed + 1))
 echo "$passed passed, $failed failed"
 [ "$failed" -eq 0 ]
