@@ -1,6 +1,6 @@
 /*
- * Hears LLDP on an interface of Linux, and prints its neighbors whenever one comes or goes. It needs the right to open
- * packet sockets, and runs until it is ended.
+ * Hears LLDP on an interface of Linux, and prints every neighbor that comes, changes, leaves or ages out. It needs the
+ * right to open packet sockets, and runs until it gets SIGINT or SIGTERM.
  *     cc receive.c $(pkg-config --cflags --libs lldpa) -o receive && sudo ./receive eth0
  */
 #define _DEFAULT_SOURCE
@@ -9,12 +9,22 @@
 #include <linux/if_packet.h>
 #include <net/if.h>
 #include <poll.h>
+#include <signal.h>
 #include <stdio.h>
 #include <string.h>
 #include <sys/socket.h>
 #include <time.h>
+#include <unistd.h>
 
 #define ETHERTYPE_LLDP 0x88cc
+
+static volatile sig_atomic_t is_over;
+
+static void end(int number)
+{
+    (void)number;
+    is_over = 1;
+}
 
 /* A socket that hears what comes to the group address of LLDP on an interface, or -1. */
 static int open_socket(const char *interface)
@@ -30,58 +40,86 @@ static int open_socket(const char *interface)
     return heard;
 }
 
-static long milliseconds(void)
+static long seconds(void)
 {
     struct timespec now;
     clock_gettime(CLOCK_MONOTONIC, &now);
-    return now.tv_sec * 1000L + now.tv_nsec / 1000000;
+    return now.tv_sec;
 }
 
-/* Prints the neighbors where they are more or fewer than before: the first line of the show tells how many they are. */
-static void print_changes(lldpa_agent *agent)
+/* Prints what happened to a neighbor, by the bodies of its identifiers. */
+static void print_neighbor(const char *what, const uint8_t *octets, lldpa_place chassis, lldpa_place port)
 {
-    static uint8_t before[2048], room[2049];
-    static size_t length_before;
-    size_t length;
-    lldpa_lines lines = {0, 0, false};
-    if (lldpa_show_line(agent, LLDPA_SHOW_NEIGHBORS, 0, room, sizeof room, &length) != LLDPA_OK ||
-        (length == length_before && memcmp(room, before, length) == 0)) {
-        return;
+    printf("%s", what);
+    for (size_t at = 0; at < chassis.length; at++) {
+        printf("%c%02x", at == 0 ? ' ' : ':', octets[chassis.start + at]);
     }
-    memcpy(before, room, length_before = length);
-    while (!lines.done && lldpa_show_lines(agent, LLDPA_SHOW_NEIGHBORS, lines.next, room, sizeof room, &lines) == LLDPA_OK) {
-        fwrite(room, 1, lines.length, stdout);
+    for (size_t at = 0; at < port.length; at++) {
+        printf("%c%02x", at == 0 ? ' ' : ':', octets[port.start + at]);
     }
+    putchar('\n');
     fflush(stdout);
+}
+
+/* Prints the neighbors that the next second ends, or if none is asked for answers in how many seconds one does. */
+static uint32_t next_to_age_out(lldpa_agent *agent, bool is_printed)
+{
+    static uint8_t room[LLDPA_NEIGHBOR_ROOM];
+    lldpa_held held;
+    uint32_t least = 3600;
+    for (uint32_t at = 0; lldpa_neighbor(agent, 0, at, room, sizeof room, &held) == LLDPA_OK; at++) {
+        if (is_printed && held.left == 1) {
+            print_neighbor("aged out", room, held.pdu.chassis, held.pdu.port);
+        }
+        least = held.left < least ? held.left : least;
+    }
+    return least;
+}
+
+static void hear(lldpa_agent *agent, int heard)
+{
+    static const char *const words[] = {[LLDPA_NEWS_NEW] = "new", [LLDPA_NEWS_CHANGED] = "changed",
+                                        [LLDPA_NEWS_DROPPED] = "no room for", [LLDPA_NEWS_GONE] = "gone"};
+    static uint8_t frame[2048];
+    lldpa_marks marks; /* a port that only receives sends nothing */
+    lldpa_news news;
+    ssize_t length = recv(heard, frame, sizeof frame, 0);
+    if (length > 0 && lldpa_frame(agent, 0, frame, (size_t)length, &marks, &news) == LLDPA_OK &&
+        news.what < sizeof words / sizeof *words && words[news.what] != NULL) {
+        print_neighbor(words[news.what], frame, news.chassis, news.port);
+    }
 }
 
 int main(int count, char **words)
 {
-    static uint8_t frame[2048];
     const char *name = count == 2 ? words[1] : "";
-    lldpa_text port = {(const uint8_t *)name, strlen(name)}, hostname = {(const uint8_t *)"localhost", 9};
-    lldpa_options options = {.ports = &port, .port_count = 1, .hostname = hostname, .mac = {2, 0, 0, 0, 0, 1},
-        .receive_only = true, .role = LLDPA_STATION, .max_neighbors = 32, .credit_max = 5, .fast_init = 4, .reinit = 2};
+    lldpa_text port = {(const uint8_t *)name, strlen(name)};
+    lldpa_options options = LLDPA_OPTIONS_INIT;
     lldpa_agent agent = {0};
-    lldpa_marks marks; /* a port that only receives sends nothing */
+    lldpa_marks marks;
+    options.ports = &port;
+    options.port_count = 1;
+    options.receive_only = true;
     uint8_t fault = lldpa_open(&options, &agent);
     int heard = fault == LLDPA_OK ? open_socket(name) : -1;
     if (heard < 0) {
         fprintf(stderr, fault == LLDPA_OK ? "receive: no packet socket on %s\n" : "usage: receive INTERFACE\n", name);
+        lldpa_close(&agent);
         return 2;
     }
-    for (long next = milliseconds() + 1000;;) {
+    sigaction(SIGINT, &(struct sigaction){.sa_handler = end}, NULL);
+    sigaction(SIGTERM, &(struct sigaction){.sa_handler = end}, NULL);
+    for (long now = seconds(); !is_over;) {
         struct pollfd waited = {heard, POLLIN, 0};
-        long left = next - milliseconds();
-        if (poll(&waited, 1, left > 0 ? (int)left : 0) > 0) {
-            ssize_t length = recv(heard, frame, sizeof frame, 0);
-            if (length > 0) {
-                lldpa_frame(&agent, 0, frame, (size_t)length, &marks);
-            }
+        if (poll(&waited, 1, 1000 * (int)next_to_age_out(&agent, false)) > 0) {
+            hear(&agent, heard);
         }
-        for (; milliseconds() >= next; next += 1000) {
-            lldpa_tick(&agent, &marks);
+        for (; seconds() > now; now++) {
+            next_to_age_out(&agent, true);
+            lldpa_tick(&agent, &marks, NULL);
         }
-        print_changes(&agent);
     }
+    close(heard);
+    lldpa_close(&agent);
+    return 0;
 }

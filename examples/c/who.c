@@ -44,7 +44,7 @@ static int is_new(const uint8_t *pdu, size_t length)
 static void print_neighbor(const uint8_t *pdu, size_t length)
 {
     lldpa_examined told;
-    lldpa_kept walk = {0};
+    lldpa_kept walk = LLDPA_KEPT_INIT;
     if (lldpa_examine(pdu, length, &told) != LLDPA_OK || told.ttl == 0 ||
         !is_new(pdu, told.port.start + told.port.length)) {
         return;
@@ -67,8 +67,13 @@ int main(int count, char **words)
 {
     static uint8_t header[24], frame[65536];
     FILE *capture = count == 2 ? fopen(words[1], "rb") : NULL;
-    if (capture == NULL || fread(header, 1, 24, capture) != 24) {
+    if (capture == NULL) {
         fputs("usage: who FILE.pcap\n", stderr);
+        return 2;
+    }
+    if (fread(header, 1, 24, capture) != 24) {
+        fputs("who: no pcap file\n", stderr);
+        fclose(capture);
         return 2;
     }
     int is_little = header[3] == 0xa1;
@@ -82,5 +87,6 @@ int main(int count, char **words)
             print_neighbor(frame + pdu.start, pdu.length);
         }
     }
+    fclose(capture);
     return 0;
 }

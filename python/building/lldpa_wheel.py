@@ -13,11 +13,16 @@ from typing import Any, Dict, Iterator, Optional
 
 TOP = Path(__file__).resolve().parent.parent
 NAME = "lldpa"
-SUMMARY = "An LLDP agent as a library, and the programs that stand on it"
+SUMMARY = "An LLDP agent as a library, and the programs that stand on it; this wheel has "
+WITHOUT = "not the program lldpa, which they run"
 PYTHON = ">=3.9"
+# each package, and the folder that has it in the repository; in an archive all are beside this one
+PACKAGES = {"lldpa": "python", "lldpa_audit": "audit"}
 # lldpctl is none of them: it would stand before lldpd's program of that name
-PROGRAMS = {"lldpa-live": "live", "lldpa-ctl": "ctl", "lldpa-capture": "capture",
-            "lldpa-audit": "audit"}
+PROGRAMS = {"lldpa-live": "lldpa.commands.live", "lldpa-ctl": "lldpa.commands.ctl",
+            "lldpa-capture": "lldpa.commands.capture", "lldpa-audit": "lldpa_audit.command"}
+# the platform of a program by the machine that its head (ELF) names
+PLATFORMS = {62: "linux_x86_64", 183: "linux_aarch64"}
 MOMENT = (2026, 1, 1, 0, 0, 0)  # of each file in the wheel: the same sources give the same wheel
 
 
@@ -28,37 +33,57 @@ def version() -> str:
     return found[1]
 
 
-def package_files() -> Iterator[Path]:
-    """The files of the package."""
-    for path in sorted((TOP / NAME).rglob("*")):
-        if path.suffix == ".py" or path.name == "py.typed":
-            yield path
+def folders() -> Iterator[Path]:
+    """The folders that have the packages."""
+    for name, folder in PACKAGES.items():
+        yield TOP if (TOP / name).is_dir() else TOP.parent / folder
 
 
-def metadata() -> Dict[str, str]:
-    """The files that tell of the package."""
-    programs = "".join(f"{name} = {NAME}.commands.{module}:main\n"
+def package_files() -> Dict[str, Path]:
+    """The files of the packages by their names in a wheel."""
+    return {str(path.relative_to(folder)): path
+            for name, folder in zip(PACKAGES, folders())
+            for path in sorted((folder / name).rglob("*"))
+            if path.suffix == ".py" or path.name == "py.typed"}
+
+
+def platform_of(program: bytes) -> str:
+    """Returns the platform that a program is for. Raises ValueError if it is not a known one."""
+    machine = int.from_bytes(program[18:20], "little")
+    if program[:6] != b"\x7fELF\2\1" or machine not in PLATFORMS:
+        raise ValueError(f"not a program of {' or '.join(PLATFORMS.values())}")
+    return PLATFORMS[machine]
+
+
+def metadata(platform: str = "any") -> Dict[str, str]:
+    """The files that tell of the package; a wheel that holds the program is for a platform."""
+    has = WITHOUT if platform == "any" else "the program lldpa too"
+    programs = "".join(f"{name} = {module}:main\n"
                        for name, module in PROGRAMS.items())
     return {
         "METADATA": f"Metadata-Version: 2.1\nName: {NAME}\nVersion: {version()}\n"
-                    f"Summary: {SUMMARY}\nRequires-Python: {PYTHON}\n",
-        "WHEEL": f"Wheel-Version: 1.0\nGenerator: {NAME}\nRoot-Is-Purelib: true\n"
-                 "Tag: py3-none-any\n",
+                    f"Summary: {SUMMARY}{has}\nRequires-Python: {PYTHON}\n",
+        "WHEEL": f"Wheel-Version: 1.0\nGenerator: {NAME}\n"
+                 f"Root-Is-Purelib: {str(platform == 'any').lower()}\nTag: py3-none-{platform}\n",
         "entry_points.txt": f"[console_scripts]\n{programs}",
-        "top_level.txt": f"{NAME}\n"}
+        "top_level.txt": "".join(f"{name}\n" for name in PACKAGES)}
 
 
-def write_wheel(folder: str, files: Dict[str, bytes]) -> str:
-    """Writes a wheel of these files, and gives its name."""
-    about = f"{NAME}-{version()}.dist-info"
-    files = {**files, **{f"{about}/{name}": text.encode() for name, text in metadata().items()}}
+def write_wheel(folder: str, files: Dict[str, bytes], program: Optional[bytes] = None) -> str:
+    """Writes a wheel of these files, with the program or without, and gives its name."""
+    about, platform = f"{NAME}-{version()}.dist-info", "any"
+    if program is not None:
+        platform = platform_of(program)
+        files = {**files, f"{NAME}-{version()}.data/scripts/{NAME}": program}
+    told = metadata(platform)
+    files = {**files, **{f"{about}/{name}": text.encode() for name, text in told.items()}}
     record = "".join(f"{name},{sum_of(octets)},{len(octets)}\n" for name, octets in files.items())
     files[f"{about}/RECORD"] = f"{record}{about}/RECORD,,\n".encode()
-    name = f"{NAME}-{version()}-py3-none-any.whl"
+    name = f"{NAME}-{version()}-py3-none-{platform}.whl"
     with zipfile.ZipFile(Path(folder) / name, "w", zipfile.ZIP_DEFLATED) as wheel:
         for path, octets in files.items():
             entry = zipfile.ZipInfo(path, MOMENT)
-            entry.external_attr = 0o644 << 16
+            entry.external_attr = (0o100755 if "/scripts/" in path else 0o100644) << 16
             entry.compress_type = zipfile.ZIP_DEFLATED
             wheel.writestr(entry, octets)
     return name
@@ -72,22 +97,26 @@ def sum_of(octets: bytes) -> str:
 
 def build_wheel(wheel_directory: str, config_settings: Optional[Any] = None,
                 metadata_directory: Optional[str] = None) -> str:
-    """A wheel of the package."""
-    return write_wheel(wheel_directory, {str(path.relative_to(TOP)): path.read_bytes()
-                                         for path in package_files()})
+    """A wheel of the packages, with the program if the setting `program` has its path."""
+    program = (config_settings or {}).get("program")
+    return write_wheel(wheel_directory, {name: path.read_bytes()
+                                         for name, path in package_files().items()},
+                       None if program is None else Path(program).read_bytes())
 
 
 def build_editable(wheel_directory: str, config_settings: Optional[Any] = None,
                    metadata_directory: Optional[str] = None) -> str:
-    """A wheel that leads to the package where it stands (PEP 660)."""
-    return write_wheel(wheel_directory, {f"{NAME}.pth": f"{TOP}\n".encode()})
+    """A wheel that leads to the packages where they stand (PEP 660)."""
+    lines = "".join(f"{folder}\n" for folder in dict.fromkeys(folders()))
+    return write_wheel(wheel_directory, {f"{NAME}.pth": lines.encode()})
 
 
 def build_sdist(sdist_directory: str, config_settings: Optional[Any] = None) -> str:
     """An archive of what a wheel is built of."""
     front = f"{NAME}-{version()}"
-    files = {str(path.relative_to(TOP)): path.read_bytes()
-             for path in [*package_files(), TOP / "pyproject.toml", Path(__file__).resolve()]}
+    here = {str(path.relative_to(TOP)): path
+            for path in (TOP / "pyproject.toml", Path(__file__).resolve())}
+    files = {name: path.read_bytes() for name, path in {**package_files(), **here}.items()}
     files["PKG-INFO"] = metadata()["METADATA"].encode()
     with tarfile.open(Path(sdist_directory) / f"{front}.tar.gz", "w:gz") as archive:
         for path, octets in files.items():

@@ -13,21 +13,23 @@ from importlib import import_module
 from typing import TYPE_CHECKING
 
 from .agent.show import Counters, Neighbor, Port, Show, ShowFault, lines_of, read_show, unescaped
+from .faults import LldpaFault
 
 __version__ = "1.0.0"
 
 if TYPE_CHECKING:
-    from .agent.synchronous import Agent, AsyncAgent, Ended, Refused
+    from .agent.synchronous import Agent, AsyncAgent, Closed, Ended, Refused
     from .capture.packets import BadCapture, Packet, packets_of
     from .capture.trace import Source, Told, ports_of, trace_of
 
-__all__ = ["Agent", "AsyncAgent", "BadCapture", "Counters", "Ended", "Neighbor", "Packet", "Port",
-           "Refused", "Show", "ShowFault", "Source", "Told", "lines_of", "packets_of", "ports_of",
-           "__version__", "read_show", "trace_of", "unescaped"]
+__all__ = ["Agent", "AsyncAgent", "BadCapture", "Closed", "Counters", "Ended", "LldpaFault",
+           "Neighbor", "Packet", "Port", "Refused", "Show", "ShowFault", "Source", "Told",
+           "__version__", "lines_of", "packets_of", "ports_of", "read_show", "trace_of",
+           "unescaped"]
 
 
-# what is loaded when it is first used: asyncio takes 8 MB, and a bridge reads no captures
-LATER = {".agent.synchronous": ("Agent", "AsyncAgent", "Ended", "Refused"),
+# what is loaded when it is first used: asyncio takes 8 MB, and lldpa-live reads no captures
+LATER = {".agent.synchronous": ("Agent", "AsyncAgent", "Closed", "Ended", "Refused"),
          ".capture.packets": ("BadCapture", "Packet", "packets_of"),
          ".capture.trace": ("Source", "Told", "ports_of", "trace_of")}
 

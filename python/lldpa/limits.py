@@ -12,4 +12,3 @@ SHORTEST_FRAME, LONGEST_FRAME = 14, 1514
 NEAREST_BRIDGE = bytes.fromhex("0180c200000e")
 
 REFUSAL = "error: "  # an answer that begins so is a refused line
-CLOCK = "%Y-%m-%dT%H:%M:%SZ"  # the wall clock in logs and shows, in UTC

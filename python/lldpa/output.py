@@ -4,14 +4,17 @@ from __future__ import annotations
 import io
 import locale
 import os
+import select
 import sys
 from contextlib import suppress
 from typing import Any, Callable
 
+from .faults import LldpaFault
+
 INPUT, OUTPUT, ERRORS = 0, 1, 2
 
 
-class OutputFault(Exception):
+class OutputFault(LldpaFault):
     """Why standard output takes no more; empty where who reads it has gone."""
 
 
@@ -93,8 +96,11 @@ def missing_streams() -> set[int]:
 
 
 def complain(name: str, text: str) -> None:
-    """Writes a line on standard error, without what could act on a terminal; it may be lost."""
+    """Writes a line on standard error, without what could act on a terminal, and cut to what goes
+    there at once. It is lost where nobody reads it."""
     printable = "".join(letter if letter.isprintable() else "?" for letter in text)
-    octets = f"{name}: {printable}\n".encode(errors="backslashreplace")
+    line = f"{name}: {printable}" if name else printable
+    octets = line.encode(errors="backslashreplace")[:select.PIPE_BUF - 1]
     with suppress(OSError):
-        os.write(ERRORS, octets)
+        if select.select([], [ERRORS], [], 0)[1]:
+            os.write(ERRORS, octets + b"\n")

@@ -5,7 +5,7 @@ A neighbor's text is octets, mostly UTF-8. A show has them escaped; `shown_octet
 from __future__ import annotations
 
 import unicodedata
-from typing import NamedTuple, Optional
+from typing import Any, Dict, NamedTuple, Optional
 
 from .agent.escapes import shown_text
 from .agent.show import unescaped
@@ -31,6 +31,15 @@ def text_of(octets: bytes) -> Text:
         return Text(octets.decode("utf-8"), None)
     except UnicodeDecodeError:
         return Text(shown_text(octets), octets.hex())
+
+
+def with_text(key: str, octets: bytes, told: Dict[str, Any]) -> Dict[str, Any]:
+    """Adds a text to an object for JSON, and its octets if they are not UTF-8; returns it."""
+    text, digits = text_of(octets)
+    told[key] = text
+    if digits is not None:
+        told.setdefault("octets", {})[key] = digits
+    return told
 
 
 def shown_octets(shown: str) -> bytes:

@@ -11,7 +11,7 @@ HOSTILE = b"\x1b[31m\r\n\x9b2J\x07"
 
 
 class Program(unittest.TestCase):
-    """With a bridge's socket."""
+    """With lldpa-live's socket."""
 
     def setUp(self) -> None:
         self.served = Served()

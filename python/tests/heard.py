@@ -6,7 +6,6 @@ import os
 import select
 import socket
 import time
-from typing import Dict, List
 
 from patience import SECONDS
 
@@ -19,14 +18,14 @@ class Heard:
         self.socket = socket.socket(socket.AF_UNIX, socket.SOCK_DGRAM)
         self.socket.bind(self.path)
         os.chmod(self.path, 0o777)
-        self.datagrams: List[List[str]] = []
+        self.datagrams: list[list[str]] = []
 
-    def environment(self, seconds: float = 0) -> Dict[str, str]:
+    def environment(self, seconds: float = 0) -> dict[str, str]:
         """What a service is started with, which gives a sign of life within so many seconds."""
         watched = {"WATCHDOG_USEC": str(int(1e6 * seconds))} if seconds else {}
         return {**os.environ, "NOTIFY_SOCKET": self.path, **watched}
 
-    def next(self, seconds: float = SECONDS) -> List[str]:
+    def next(self, seconds: float = SECONDS) -> list[str]:
         """The lines of the next datagram; none where there comes none within that time."""
         if not select.select([self.socket], [], [], seconds)[0]:
             return []

@@ -4,12 +4,26 @@ from __future__ import annotations
 
 from typing import Any, Iterable, Iterator, List, NamedTuple, Tuple
 
-import by_lldpcli
-import by_tshark
-from lldpa import Agent, Neighbor
-from lldpa.organizational import LinkAggregation, Tlv, read_tlv
+import tlvs_dot1  # noqa: F401  the samples register themselves
+import tlvs_dot3  # noqa: F401
+import tlvs_med  # noqa: F401
+from by_tshark import compared, unknown_octets, wanted
+from encoding import SAMPLES
+from lldpa import Agent, Neighbor, Show
+from lldpa.agent.show import Port
+from lldpa.lldpcli_forms.shows import Depth, Told, neighbors
+from lldpa.lldpcli_forms.writing import whole
+from lldpa.organizational import read_tlv
 
 Pair = Tuple[str, Any]
+# the keys of lldpcli that are about TLVs of organizations
+PARTS = ("port.mfs", "port.aggregation", "port.auto-negotiation", "port.power", "vlan", "ppvid",
+         "pi", "lldp-med", "unknown-tlvs")
+# what lldpcli names otherwise than the standard, with the reason
+SLIPS = {
+    "port.power.source.value": "of a PSE it names the sources of a PD, and of a PD those of a PSE",
+    "port.power.power-type-ext.value": "it names other numbers than the standard, and tshark does",
+}
 
 
 class Judged(NamedTuple):
@@ -62,38 +76,29 @@ def compare(judged: Iterable[Judged], program: str) -> Tuple[int, List[str]]:
                 if told == wanted:
                     equal += max(len(told), 1)
                 else:
-                    differences.append(f"{one.name}: {where}: {told}, and read is {wanted}")
+                    only = [[pair for pair in these if pair not in those] if isinstance(these, list)
+                            else these for these, those in ((told, wanted), (wanted, told))]
+                    differences.append(f"{one.name}: {where}: {only[0]}, and read is {only[1]}")
     return equal, differences
 
 
 def of_frame(one: Judged, neighbor: Neighbor) -> Iterator[Tuple[Any, Any, str]]:
     """What both show of a frame, and what they should by what is read of it."""
-    tlvs = []
-    for kind, digits in neighbor.org:
+    tree = neighbors(Told(Show((Port("eth0", 1, 0, False, (neighbor,)),)), {}, {}, 0), None,
+                     Depth.DETAILS)
+    yield of_tlvs(one.lldpcli), of_tlvs(flat(whole(tree.nodes[0]))), "lldpcli"
+    yield [len(one.tshark)], [len(neighbor.org)], "tshark"
+    for (kind, digits), pairs in zip(neighbor.org, one.tshark):
         oui, _, subtype = kind.partition(".")
         octets = bytes.fromhex(digits)
-        tlvs.append(((oui, int(subtype)), octets, read_tlv(oui, int(subtype), octets)))
-    shown, read = by_lldpcli.compared(one.lldpcli), by_lldpcli.by_lldpcli(tlvs)
-    for key in sorted({*shown, *read}):
-        yield shown.get(key, []), read.get(key, []), f"lldpcli {key}"
-    yield [len(one.tshark)], [len(tlvs)], "tshark"
-    for (kind, octets, tlv), pairs in zip(tlvs, one.tshark):
+        tlv = read_tlv(oui, int(subtype), octets)
         if tlv is None:
             yield unknown_octets(pairs), octets.hex(":"), f"tshark {kind}"
             continue
-        shown_here = [tuple(pair) for pair in by_tshark.compared(pairs)]
-        yield shown_here, wanted(kind, tlv), f"tshark {kind}"
+        shown_here = [tuple(pair) for pair in compared(pairs)]
+        yield shown_here, wanted((oui, int(subtype)), tlv), f"tshark {kind}"
 
 
-def wanted(kind: Tuple[str, int], tlv: Tlv) -> List[Pair]:
-    """What tshark must show of a TLV of a kind."""
-    pairs = by_tshark.by_tshark(tlv)
-    if isinstance(tlv, LinkAggregation):
-        front = "lldp.ieee.802_1." if kind[0] == "0080c2" else "lldp.ieee.802_3."
-        return [(front + key, value) for key, value in pairs]
-    return pairs
-
-
-def unknown_octets(pairs: List[Any]) -> Any:
-    """The octets that tshark shows of a TLV that it does not know either."""
-    return dict(map(tuple, pairs)).get("lldp.unknown_subtype.content")
+def of_tlvs(pairs: Iterable[Pair]) -> List[Pair]:
+    """Returns what lldpcli shows of TLVs of organizations, in its order, and is compared."""
+    return [(key, value) for key, value in pairs if key.startswith(PARTS) and key not in SLIPS]

@@ -7,7 +7,6 @@ no XML where a name is no UTF-8.
 from __future__ import annotations
 
 from pathlib import Path
-from typing import List
 
 from served import frame, tlv
 
@@ -44,7 +43,7 @@ SETTINGS = [
     org("00120f", 1, b"\x03\x80\x36\0\x1e"), org("00120f", 3, b"\x03\0\0\0\x07"),
     org("00120f", 4, b"\x24\0"), org("001122", 9, b"abc")]
 
-CLEAN: List[bytes] = [
+CLEAN: list[bytes] = [
     frame(mac(1), b"\x05eth1", 120, tlv(4, b'to "x" \\ y'), name(b"ho\\01 st\xc3\xa9")),
     frame(mac(3), b"\x05eth3", 120, name(b"c"), tlv(6, b"line1\nlldp.swp9.via=LLDP\nline3\r\n")),
     frame(mac(4), b"\x05eth4", 120, tlv(4, b"port four"), name(b"d"), *SETTINGS),
@@ -62,7 +61,7 @@ CLEAN: List[bytes] = [
           org("00120f", 3, b"\x01\0\0\0\0")),
 ]
 
-ODD: List[bytes] = [
+ODD: list[bytes] = [
     frame(mac(2), b"\x05eth2", 120, name(b"caf\xe9")),
     frame(mac(13), b"\x05e\xff", 120, name(b"a\x01b"), tlv(4, b" spaces ")),
 ]

@@ -7,22 +7,29 @@ import subprocess
 from pathlib import Path
 from typing import Optional
 
-from bridged import Live
+from running_live import Live
 from served import PROGRAM
 
 
 class Moments:
-    """Asks a bridge for its tables, each time in words of their own, so that the log's line is
-    found again."""
+    """Asks an lldpa-live for its tables beside a command in words of their own, so that the log
+    has a line to find the moment by. (What is shown is not in the log.)"""
 
     def __init__(self, live: Live) -> None:
         self.live = live
         self.answers: dict[str, list[str]] = {}
+        self.count = 0
 
     def take(self) -> None:
-        """Takes the tables of now."""
-        line = f"show{' ' * (len(self.answers) + 2)}neighbors"
-        self.answers[line] = self.live.ask(line)
+        """Takes the tables of now: those that are the same before the command and behind it."""
+        self.count += 1
+        line = f"update{' ' * self.count}"
+        before = self.live.ask("show neighbors")
+        self.live.ask(line)
+        if self.live.ask("show neighbors") == before:
+            self.answers[line] = before
+        else:
+            self.take()
 
 
 def replayed(log: Path, line: str) -> Optional[list[str]]:
@@ -31,7 +38,7 @@ def replayed(log: Path, line: str) -> Optional[list[str]]:
     lines = log.read_text().split("\n")
     if line not in lines:
         return None
-    before = [one for one in lines[:lines.index(line)] if not one.startswith("show")]
+    before = lines[:lines.index(line)]
     words = shlex.split(lines[0][len("# lldpa "):])
     told = "\n".join([*before, "show neighbors", ""])
     run = subprocess.run([PROGRAM, *words], input=told, capture_output=True, text=True, check=True)
@@ -45,7 +52,7 @@ def differing(folder: Path, moments: Moments) -> list[str]:
         found = {log.name: tables for log in sorted(folder.iterdir())
                  if (tables := replayed(log, line)) is not None}
         if len(found) != 1:
-            wrong.append(f"moment {len(line)} is in {len(found)} files")
+            wrong.append(f"moment {line!r} is in {len(found)} files")
         wrong += [f"{name}: {lines}" for name, tables in found.items() if tables != answer
                   for lines in [[pair for pair in zip(tables, answer) if pair[0] != pair[1]][:4]]]
     return wrong

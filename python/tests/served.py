@@ -11,30 +11,33 @@ from pathlib import Path
 from typing import Any, Coroutine, Optional
 
 from lldpa import AsyncAgent
-from lldpa.control.connection import Client, Server
+from lldpa.client import Client
+from lldpa.live.server.server import Server
 
 REPOSITORY = Path(__file__).resolve().parents[2]
 PROGRAM = os.environ.get("LLDPA") or str(REPOSITORY / "crates" / "lldpa" / "out" / "lldpa")
+# lldpa-ctl reads its help
+os.environ["PATH"] = os.path.dirname(PROGRAM) + os.pathsep + os.environ.get("PATH", os.defpath)
 CTL = str(REPOSITORY / "bin" / "lldpa-ctl")
 GROUP_ADDRESS = bytes.fromhex("0180c200000e")
-BRIDGE_LINES = b"""\
-bridge.began=2026-11-25T09:30:00Z
-bridge.agent=running
-bridge.seconds=77
-bridge.log=on
-bridge.log-lines-lost=5
-bridge.eth0.interface=present
-bridge.eth0.link=up
-bridge.eth0.kernel-drops=7
-bridge.eth0.limit-drops=6
-bridge.eth0.unsent=4
-bridge.eth0.left-out=3
-bridge.eth1.interface=awaited
-bridge.eth1.link=down
-bridge.eth1.kernel-drops=0
-bridge.eth1.limit-drops=0
-bridge.eth1.unsent=0
-bridge.eth1.left-out=0
+LIVE_LINES = b"""\
+live.began=2026-11-25T09:30:00Z
+live.agent=running
+live.seconds=77
+live.log=on
+live.log-lines-lost=5
+live.eth0.interface=present
+live.eth0.link=up
+live.eth0.kernel-drops=7
+live.eth0.limit-drops=6
+live.eth0.unsent=4
+live.eth0.left-out=3
+live.eth1.interface=awaited
+live.eth1.link=down
+live.eth1.kernel-drops=0
+live.eth1.limit-drops=0
+live.eth1.unsent=0
+live.eth1.left-out=0
 """.splitlines()
 
 
@@ -70,16 +73,19 @@ class Served:
     async def open(self, group: Optional[str], options: Any) -> None:
         """Starts agent and server."""
         self.asked: list[bytes] = []
-        self.bridge_lines = BRIDGE_LINES
+        self.hidden: set[bytes] = set()  # questions that are answered with nothing
+        self.live_lines = LIVE_LINES
         self.agent = await AsyncAgent.start(["eth0", "eth1"], PROGRAM, receive_only=True, **options)
         self.server = Server(self.path, self.ask, group)
         await self.server.start()
 
     async def ask(self, line: bytes) -> list[bytes]:
-        """What a bridge does with a question."""
+        """What an lldpa-live does with a question."""
         self.asked.append(line)
-        if line == b"bridge":
-            return self.bridge_lines
+        if line in self.hidden:
+            return []
+        if line == b"live":
+            return self.live_lines
         return [answer.encode() for answer in await self.agent.ask(line)]
 
     def call(self, coroutine: Coroutine[Any, Any, Any]) -> Any:

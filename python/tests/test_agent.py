@@ -6,6 +6,8 @@ import os
 import signal
 import socket
 import subprocess
+import tempfile
+import tracemalloc
 import unittest
 from dataclasses import fields
 from pathlib import Path
@@ -13,8 +15,8 @@ from typing import List, Optional, Tuple
 from unittest import mock
 
 import lldpa
-from lldpa.agent.synchronous import MARK, MARK_ANSWER, Agent, Answers, Ended, Refused, checked
-from lldpa.agent.framing import command, ticks
+from lldpa.agent.synchronous import Agent, Closed, Ended, Refused
+from lldpa.agent.framing import NO_ANSWER
 from lldpa.agent.shown import Counters
 from lldpa.limits import LONGEST_LINE
 from made_captures import LLDP, OTHER
@@ -26,44 +28,13 @@ def started(*ports: str, **options: lldpa.agent.synchronous.Option) -> Agent:
     return Agent.start(ports or ["eth0"], PROGRAM, **options)
 
 
-class Framing(unittest.TestCase):
-    """Lines and answers without an agent."""
-
-    def test_lines_that_are_refused(self) -> None:
-        for line in ("tick\nshow", b"\n", "x" * (LONGEST_LINE + 1), b"#" * 5000):
-            with self.assertRaises(ValueError):
-                checked(line)
-
-    def test_lines_that_are_taken(self) -> None:
-        self.assertEqual(checked("tick"), b"tick")
-        self.assertEqual(checked(b"\xff\0"), b"\xff\0")
-        self.assertEqual(len(checked("x" * LONGEST_LINE)), LONGEST_LINE)
-
-    def test_the_mark_is_a_comment_one_octet_too_long(self) -> None:
-        self.assertEqual(MARK, b"#" * 4097)
-
-    def test_answers_are_whole_however_they_come(self) -> None:
-        stream = b"a\nb\n" + MARK_ANSWER + b"\n" + MARK_ANSWER + b"\nc\n" + MARK_ANSWER + b"\nd"
-        for size in (1, 2, 7, 1000):
-            answers = Answers()
-            pieces = [stream[at:at + size] for at in range(0, len(stream), size)]
-            got = [answer for piece in pieces for answer in answers.feed(piece)]
-            self.assertEqual(got, [[b"a", b"b"], [], [b"c"]])
-
-    def test_words_are_quoted_where_they_need_it(self) -> None:
-        line = command("configure", "system", "hostname", "sw 1")
-        self.assertEqual(line, 'configure system hostname "sw 1"')
-        self.assertEqual(command("x", "", "#y"), 'x "" "#y"')
-        with self.assertRaises(ValueError):
-            command('a"b')
-
-    def test_seconds_as_lines(self) -> None:
-        self.assertEqual(ticks(0), [])
-        self.assertEqual(ticks(1), ["tick"])
-        self.assertEqual(ticks(65535), ["tick 65535"])
-        self.assertEqual(ticks(131072), ["tick 65535", "tick 65535", "tick 2"])
-        with self.assertRaises(ValueError):
-            ticks(-1)
+def give_up_in_a_minute(test: unittest.TestCase) -> None:
+    """Lets a test fail that waits for an answer without end."""
+    def give_up(number: int, _: object) -> None:
+        raise TimeoutError(f"signal {number}: no answer comes")
+    test.addCleanup(signal.signal, signal.SIGALRM, signal.signal(signal.SIGALRM, give_up))
+    test.addCleanup(signal.alarm, 0)
+    signal.alarm(60)
 
 
 class Asked(unittest.TestCase):
@@ -129,11 +100,7 @@ class Asked(unittest.TestCase):
                              {"eth0": "rx-and-tx"})
 
     def test_much_is_told_and_answered_at_once(self) -> None:
-        def give_up(number: int, _: object) -> None:
-            raise TimeoutError(f"signal {number}: both sides wait for the other")
-        self.addCleanup(signal.signal, signal.SIGALRM, signal.signal(signal.SIGALRM, give_up))
-        self.addCleanup(signal.alarm, 0)
-        signal.alarm(60)
+        give_up_in_a_minute(self)
         lines = 20_000
         with started() as agent:
             told = agent.tell(["show chassis"] * lines)
@@ -176,9 +143,47 @@ class EndedAgents(unittest.TestCase):
                 Agent.start(ports, PROGRAM)  # type: ignore[arg-type]
 
     def test_a_program_that_does_not_answer(self) -> None:
-        with mock.patch("lldpa.agent.synchronous.PATIENCE", 0.2), self.assertRaises(Ended) as ended:
-            Agent.start(["60"], "sleep")
-        self.assertIsNone(ended.exception.status)
+        with self.assertRaises(Ended) as ended:
+            Agent.start(["60"], "sleep", timeout=0.2)
+        self.assertEqual((ended.exception.status, ended.exception.text), (None, NO_ANSWER))
+
+    def test_an_agent_that_stops_is_waited_for_no_longer_than_its_timeout(self) -> None:
+        give_up_in_a_minute(self)
+        with started(timeout=0.5) as agent:
+            assert agent.pid is not None
+            os.kill(agent.pid, signal.SIGSTOP)
+            with self.assertRaises(Ended) as ended:
+                agent.neighbors()
+            self.assertEqual(ended.exception.text, "the agent does not answer")
+            os.kill(agent.pid, signal.SIGCONT)
+
+    def test_a_program_that_talks_without_end(self) -> None:
+        self.addCleanup(tracemalloc.stop)
+        tracemalloc.start()
+        for stream, seconds, text in ((1, 60, "an answer of the agent has more than 64 MB"),
+                                      (2, 1, NO_ANSWER)):
+            with self.assertRaises(Ended) as ended:
+                Agent.start(["y"], self.program(f"yes >&{stream}"), timeout=seconds)
+            self.assertEqual(ended.exception.text, text)
+        _, most = tracemalloc.get_traced_memory()
+        self.assertLess(most, 200_000_000)
+
+    def program(self, text: str) -> str:
+        """The path of a program in the shell's language."""
+        folder = tempfile.TemporaryDirectory()
+        self.addCleanup(folder.cleanup)
+        path = Path(folder.name) / "program"
+        path.write_text(f"#!/bin/sh\n{text}\n")
+        path.chmod(0o755)
+        return str(path)
+
+    def test_an_agent_that_was_closed(self) -> None:
+        agent = started()
+        agent.close()
+        for call in (lambda: agent.ask("tick"), agent.neighbors, agent.update):
+            with self.assertRaisesRegex(Closed, "the agent was closed"):
+                call()
+        agent.close()
 
     def test_close_ends_the_child(self) -> None:
         agent = started()
@@ -218,8 +223,8 @@ class Listening(unittest.TestCase):
 
     def test_what_one_client_tells_the_next_one_is_shown(self) -> None:
         self.first.frame("eth0", LLDP)
-        with mock.patch("lldpa.agent.synchronous.PATIENCE", 0.2), self.assertRaises(Ended) as ended:
-            Agent.connect(self.number)
+        with self.assertRaises(Ended) as ended:
+            Agent.connect(self.number, timeout=0.2)
         self.assertIn("another client", ended.exception.text)
         self.first.close()
         with Agent.connect(self.number) as second:
@@ -230,7 +235,3 @@ class Listening(unittest.TestCase):
         with self.assertRaises(Ended) as ended:
             self.first.ask("tick")
         self.assertIsNone(ended.exception.status)
-
-
-if __name__ == "__main__":
-    unittest.main()

@@ -2,11 +2,11 @@
 from __future__ import annotations
 
 import asyncio
+import os
 import signal
 import unittest
-from typing import List, Tuple
 
-from lldpa.agent.synchronous import AsyncAgent, Ended, Refused
+from lldpa.agent.synchronous import AsyncAgent, Closed, Ended, Refused
 from made_captures import LLDP
 from support import DEFAULT_FRAME, PROGRAM, kill
 
@@ -24,7 +24,7 @@ class AskedByTasks(unittest.IsolatedAsyncioTestCase):
             self.assertEqual(told, [shows[what] for what in asked])
 
     async def test_the_calls(self) -> None:
-        frames: List[Tuple[str, bytes]] = []
+        frames: list[tuple[str, bytes]] = []
         async with await AsyncAgent.start(["eth0"], PROGRAM, max_neighbors=3,
                                           on_frame=lambda *frame: frames.append(frame)) as agent:
             await agent.frame("eth0", LLDP)
@@ -46,6 +46,18 @@ class AskedByTasks(unittest.IsolatedAsyncioTestCase):
                 await asyncio.wait_for(agent.tell(["show configuration"] * 20_000), 0.001)
             self.assertEqual(len(await agent.ask("show chassis")), 4)
 
+    async def test_one_that_stops_and_one_that_was_closed(self) -> None:
+        async with await AsyncAgent.start(["eth0"], PROGRAM, timeout=0.5) as agent:
+            assert agent.pid is not None
+            os.kill(agent.pid, signal.SIGSTOP)
+            with self.assertRaisesRegex(Ended, "the agent does not answer"):
+                await agent.neighbors()
+            os.kill(agent.pid, signal.SIGCONT)
+            agent.timeout = 10
+            self.assertEqual(len(await agent.ask("show chassis")), 4)
+        with self.assertRaisesRegex(Closed, "the agent was closed"):
+            await agent.update()
+
     async def test_ends(self) -> None:
         with self.assertRaises(Ended) as ended:
             await AsyncAgent.start(["a.b"], PROGRAM)
@@ -62,7 +74,3 @@ class AskedByTasks(unittest.IsolatedAsyncioTestCase):
                                  (-signal.SIGKILL, ended.exception.text))
         with self.assertRaisesRegex(TypeError, "list of names"):
             await AsyncAgent.start("eth0", PROGRAM)
-
-
-if __name__ == "__main__":
-    unittest.main()

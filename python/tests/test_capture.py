@@ -5,13 +5,12 @@ import gzip
 import io
 import random
 import unittest
-from typing import List
 
 from lldpa.capture.packets import BadCapture, Packet, interfaces_of, packets_of, reader_of
 from made_captures import (ETHERNET, FORMS, LLDP, NEAREST_BRIDGE, OTHER, SECOND, START, Frame,
                            block, interface, packet, pcap, pcapng, section, units_of, whole)
 
-FRAMES: List[Frame] = [whole(OTHER), whole(LLDP, START + 1000), (START + SECOND, LLDP[:30], 99),
+FRAMES: list[Frame] = [whole(OTHER), whole(LLDP, START + 1000), (START + SECOND, LLDP[:30], 99),
                        whole(b"", START + SECOND), whole(OTHER * 40, START + 9 * SECOND)]
 
 
@@ -29,7 +28,7 @@ class Dripping(io.RawIOBase):
         return octets
 
 
-def packets(octets: bytes) -> List[Packet]:
+def packets(octets: bytes) -> list[Packet]:
     """All packets of a capture."""
     return list(packets_of(io.BytesIO(octets)))
 
@@ -111,7 +110,7 @@ class Compressed(unittest.TestCase):
         packed = gzip.compress(file)
         for cut in (2, 10, 500, len(packed) - 1):
             self.assertEqual(fault_of(packed[:cut]), "what gzip compressed in it is cut short")
-        read: List[Packet] = []
+        read: list[Packet] = []
         with self.assertRaises(BadCapture):
             for one in packets_of(io.BytesIO(gzip.compress(file, 0)[:9000])):
                 read.append(one)
@@ -127,7 +126,7 @@ class Compressed(unittest.TestCase):
 class InPlace(unittest.TestCase):
     """What is passed over in place is what cannot matter."""
 
-    def random_frames(self, dice: random.Random) -> List[Frame]:
+    def random_frames(self, dice: random.Random) -> list[Frame]:
         """Frames, some of them LLDP's, at times that mostly go on."""
         time, frames = START, []
         for _ in range(dice.randrange(60)):
@@ -154,7 +153,7 @@ class InPlace(unittest.TestCase):
             self.assertEqual(looked[-1:], everything[-1:])
             self.assertEqual(self.steps_back(looked), self.steps_back(everything))
 
-    def steps_back(self, timed: "List[tuple[bytes, int]]") -> List["tuple[int, int]"]:
+    def steps_back(self, timed: "list[tuple[bytes, int]]") -> list["tuple[int, int]"]:
         """Each step back of the time: from where, and to where."""
         times = [time for _, time in timed]
         return [(one, other) for one, other in zip(times, times[1:]) if other < one]
@@ -216,7 +215,3 @@ class Damaged(unittest.TestCase):
                 file[dice.randrange(len(file))] = dice.choice([0, 1, 255, dice.randrange(256)])
             faults += fault_of(bytes(file)) != ""
         self.assertGreater(faults, 50)
-
-
-if __name__ == "__main__":
-    unittest.main()

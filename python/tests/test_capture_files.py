@@ -3,28 +3,41 @@ from __future__ import annotations
 
 import gzip
 import os
+import random
 import subprocess
 import sys
 import threading
 import time
 from pathlib import Path
-from typing import Tuple
 
-from made_captures import (LLDP, OTHER, SECOND, START, TAGGED, Frame, interface, packet, pcap,
-                           pcapng, section, whole)
+from lldpa import read_show
+from made_captures import (FORMS, LLDP, OTHER, SECOND, START, TAGGED, Frame, interface, lldp_frame,
+                           packet, pcap, pcapng, section, whole)
 from patience import by_the_clock
 from support import CAPTURE, PROGRAM, FilesCase, run_capture
 
 RX = f"rx eth0 {LLDP.hex()}\n"
+PORTS = [f"swp{number}" for number in range(1, 49)]
 
 
 class Files(FilesCase):
     """lldpa-capture on files."""
 
-    def ran(self, *words: str) -> Tuple[str, str, int]:
+    def ran(self, *words: str) -> tuple[str, str, int]:
         """What it writes, says and answers."""
         done = run_capture(list(words), None, self.folder)
         return done.stdout, done.stderr, done.returncode
+
+    def test_each_form(self) -> None:
+        padded = RX.replace("\n", "00\n")
+        frames = [whole(OTHER), whole(LLDP, START + 3 * SECOND + 100_000),
+                  whole(LLDP + b"\0", START + 4 * SECOND + 200_000),
+                  whole(OTHER, START + 60_004 * SECOND + 200_000)]
+        for name, form in FORMS.items():
+            with self.subTest(name):
+                self.file(form(frames), "a")
+                trace = f"tick 3\n{RX}tick\n{padded}tick 60000\n"
+                self.assertEqual(self.ran("a"), (trace, "", 0))
 
     def test_compressed(self) -> None:
         self.file(gzip.compress(pcap([whole(LLDP), whole(LLDP, START + SECOND)])), "a.gz")
@@ -93,17 +106,44 @@ class Clocks(FilesCase):
             self.assertEqual(done.stderr.count("\n"), seconds > 65535)
 
 
-class Interfaces(FilesCase):
-    """More interfaces than an agent has ports."""
+class Ports(FilesCase):
+    """48 ports, with a neighbor at each."""
 
-    def test_three_of_many_have_lldp(self) -> None:
-        file = section() + b"".join(interface(name=f"swp{number}") for number in range(200))
-        for place in (7, 64, 199):
-            file += packet(whole(LLDP, START + place * SECOND), place=place)
-        path = self.file(file)
-        done = run_capture([path])
-        self.assertEqual((done.returncode, done.stderr), (0, ""))
-        self.assertEqual(sorted(line.split()[1] for line in done.stdout.splitlines()
-                                if line.startswith("rx")), ["swp199", "swp64", "swp7"])
-        ports = run_capture(["--ports", path]).stdout.split()
-        self.assertEqual(ports, ["swp7", "swp64", "swp199"])
+    def setUp(self) -> None:
+        super().setUp()
+        self.neighbors = [(port, b"\x02\0\x5e\0\x53" + bytes([number]), f"eth{number % 4}")
+                          for number, port in enumerate(PORTS)]
+
+    def frames(self, mac: bytes, peer: str, begin: int) -> list[Frame]:
+        """Nine frames at a port, of which each fourth is of its neighbor."""
+        octets = lldp_frame(mac, peer.encode())
+        return [whole(OTHER if place % 4 else octets, START + (begin + place * 7) * SECOND)
+                for place in range(9)]
+
+    def compare(self, *words: str) -> None:
+        """Sees that an agent finds the neighbors in what lldpa-capture writes."""
+        done = run_capture(list(words))
+        self.assertEqual((done.stderr, done.returncode), ("", 0))
+        shown = subprocess.run([PROGRAM, "--receive-only", *PORTS], text=True, check=True,
+                               input=done.stdout + "show neighbors\n", capture_output=True).stdout
+        found = {(one.port, one.chassis.text, one.port_id.text)
+                 for one in read_show(shown.splitlines()).neighbors}
+        wanted: set[tuple[str, str, str]] = {(port, mac.hex(":"), peer)
+                                             for port, mac, peer in self.neighbors}
+        self.assertEqual(found, wanted)
+
+    def test_a_capture_of_each(self) -> None:
+        dice = random.Random(48)
+        self.compare(*(f"{port}={self.file(form(self.frames(mac, peer, dice.randrange(20))), port)}"
+                       for port, mac, peer in self.neighbors
+                       for form in [dice.choice(list(FORMS.values()))]))
+
+    def test_one_capture_of_all(self) -> None:
+        dice = random.Random(49)
+        frames = [(frame, place) for place, (_, mac, peer) in enumerate(self.neighbors)
+                  for frame in self.frames(mac, peer, dice.randrange(20))]
+        head = section() + b"".join(interface(name=port) for port in PORTS)
+        path = self.file(head + b"".join(packet(frame, place=place)
+                                         for frame, place in sorted(frames)))
+        self.compare(path)
+        self.assertEqual(run_capture(["--ports", path]).stdout.split(), PORTS)

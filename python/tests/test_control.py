@@ -13,9 +13,9 @@ import unittest
 from unittest import mock
 
 from lldpa import Refused, read_show
-from lldpa.control import connection as control
-from lldpa.control.connection import Gone
-from lldpa.control.places import KEPT, MOST_CLIENTS
+from lldpa.live.server import server as control
+from lldpa.client.connection import Gone
+from lldpa.live.server.places import KEPT, MOST_CLIENTS
 from patience import eventually
 from served import Served, numbered, tlv
 
@@ -92,7 +92,7 @@ class Questions(Answered):
                 self.assertEqual(refused.exception.text, text, line)
         self.assertNotIn(b"help", self.served.asked)
 
-    def test_what_the_bridge_alone_tells_never_reaches_the_agent(self) -> None:
+    def test_what_lldpa_live_alone_tells_never_reaches_the_agent(self) -> None:
         with self.served.client() as client:
             for word in ("tick", "rx", "up", "down"):
                 for line in (word, f"\t {word} eth0", f'"{word}" 3', f"{word}\t00", f'"{word}"x'):
@@ -232,7 +232,3 @@ class Clients(Answered):
             os.kill(self.served.agent.pid, signal.SIGKILL)
             with self.assertRaises(Gone):
                 client.ask("show chassis")
-
-
-if __name__ == "__main__":
-    unittest.main()

@@ -5,6 +5,7 @@ from __future__ import annotations
 import asyncio
 import grp
 import os
+import shutil
 import signal
 import socket
 import subprocess
@@ -12,7 +13,10 @@ import sys
 import tempfile
 import unittest
 
-from lldpa.control.connection import Client, Gone, InUse, Server
+from lldpa.client.connection import Client, Gone
+from lldpa.live.server.listening import InUse, Listening
+from lldpa.live.server.server import Server
+from patience import eventually
 from served import REPOSITORY, Served
 
 ASKER = """
@@ -28,7 +32,7 @@ for line in sys.stdin:
 """
 SERVING = """
 import asyncio, sys
-from lldpa.control.connection import Server
+from lldpa.live.server.server import Server
 async def ask(line):
     return [b"here"]
 async def serve():
@@ -74,7 +78,7 @@ class Paths(unittest.TestCase):
         with self.assertRaises(InUse):
             Server(self.path, self.nothing).bind()
 
-    def test_the_socket_of_a_killed_bridge_is_taken_over(self) -> None:
+    def test_the_socket_of_a_killed_lldpa_live_is_taken_over(self) -> None:
         other = self.other()
         other.kill()
         other.wait()
@@ -130,6 +134,21 @@ class Paths(unittest.TestCase):
             server = Server(self.path, self.nothing)
             server.bind()
             asyncio.run(server.close())
+
+
+class Removed(unittest.TestCase):
+    """A control socket that was removed is made anew."""
+
+    def test_it_is_there_again_also_with_its_folder(self) -> None:
+        with Served() as served:
+            for remove in (os.unlink, lambda path: shutil.rmtree(os.path.dirname(path))):
+                remove(served.path)
+                self.assertTrue(eventually(lambda: os.path.exists(served.path)))
+                self.assertEqual(os.stat(served.path).st_mode & 0o777, 0o600)
+                with Client(served.path) as client:
+                    self.assertTrue(client.ask("show chassis"))
+            with self.assertRaises(InUse):
+                Listening(served.path)
 
 
 @unittest.skipUnless(os.geteuid() == 0, "only root can ask as another user")
@@ -188,7 +207,3 @@ class Permission(unittest.TestCase):
             with served.client() as client:
                 self.assertIn("configuration.tx-hold=4", client.ask("show configuration"))
                 self.assertEqual(client.ask("configure lldp tx-hold 5"), [])
-
-
-if __name__ == "__main__":
-    unittest.main()

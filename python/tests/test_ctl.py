@@ -10,21 +10,23 @@ import re
 import socket
 import struct
 import subprocess
+import sys
 import termios
 import threading
-import unittest
 from contextlib import ExitStack
+from typing import Sequence
 
 from asked import HOSTILE, Program
-from lldpa.control import Client
-from served import BRIDGE_LINES, CTL, frame, numbered, tlv
+from lldpa.client import Client
+from lldpa.organizational import organizational_object, said_by
+from served import LIVE_LINES, CTL, REPOSITORY, frame, numbered, tlv
 
 
 class Answers(Program):
     """Questions, and what is printed."""
 
     def test_alone_it_prints_the_table(self) -> None:
-        self.assertEqual(self.run_ctl(), "no neighbors on 2 ports.\n")
+        self.assertEqual(self.run_ctl(), "no neighbors on 2 ports.\neth1: no such interface\n")
         name = tlv(5, b"n" * 255)
         self.served.frame("eth1", numbered(7, 120, name))
         lines = self.run_ctl().splitlines()
@@ -37,8 +39,22 @@ class Answers(Program):
                       ["show", "configuration"], ["show neighbors"]):
             answer = self.served.call(self.served.agent.ask(" ".join(words)))
             self.assertEqual(self.run_ctl(*words).splitlines(), answer)
-        lines = [one.decode() for one in BRIDGE_LINES]
-        self.assertEqual(self.run_ctl("bridge").splitlines(), lines)
+        lines = [one.decode() for one in LIVE_LINES]
+        self.assertEqual(self.run_ctl("live").splitlines(), lines)
+
+    def test_a_question_loads_what_it_needs_alone(self) -> None:
+        self.served.frame("eth0", numbered(1, 120, tlv(127, bytes.fromhex("0080c2010078"))))
+        text = (f"import sys; sys.path.insert(0, {str(REPOSITORY / 'python')!r})\n"
+                f"from lldpa.commands.ctl import main\nmain(['--control', {self.served.path!r}])\n"
+                "print(*sys.modules)")
+        told = subprocess.run([sys.executable, "-I", "-S", "-c", text], capture_output=True,
+                              text=True, check=True).stdout
+        *table, modules = told.splitlines()
+        self.assertIn("120", table[1])
+        self.assertEqual({*modules.split()} & {
+            "asyncio", "calendar", "datetime", "ipaddress", "json", "subprocess", "tempfile",
+            "textwrap", "lldpa.client.details", "lldpa.client.metrics", "lldpa.organizational.med"},
+            set())
 
     def test_a_port_alone(self) -> None:
         self.served.frame("eth1", numbered(1))
@@ -57,7 +73,7 @@ class Answers(Program):
         self.assertIn("descr=a  b#\n", self.run_ctl("show", "chassis"))
         self.assertEqual(self.run_ctl("update"), "")
         self.run_ctl("configure", "lldp", "tx-hold", "0", status=1,
-                     said="out of range: 0 (a number from 1 to 100)")
+                     said="out of range: 0 (intervals that peers keep a frame, 1 to 100)")
         self.run_ctl("tick", status=1, said="for lldpa-live alone")
 
     def test_json_tells_the_same(self) -> None:
@@ -77,10 +93,7 @@ class Answers(Program):
             "capabilities": {"Bridge": True, "Router": False}, "management": ["192.0.2.1"],
             "org": [{"kind": "00120f.1", "octets": "616263"}],
             "unknown": [{"type": 126, "octets": "ff"}],
-            "vlan": {"pvid": None, "names": [], "protocol_vlans": [], "protocols": [],
-                     "usage_digest": None, "management": None},
-            "max_frame_size": None, "link_aggregation": None, "mac_phy": None, "power": None,
-            "eee": None, "dcb": None, "med": None, "mud_url": None,
+            **organizational_object(said_by([])),
             "organizational": [{"oui": "00120f", "subtype": 1, "octets": "616263"}]}])
         eth1 = json.loads(self.run_ctl("show", "neighbors", "eth1", "--json"))
         self.assertEqual(eth1, {"ports": told["ports"][1:]})
@@ -91,8 +104,16 @@ class Answers(Program):
         chassis = json.loads(self.run_ctl("--json", "show", "chassis"))["chassis"]
         self.assertEqual(chassis["name"], "localhost")
         self.assertEqual(json.loads(self.run_ctl("--json", "update")), {})
-        self.assertEqual(json.loads(self.run_ctl("--json", "bridge"))["bridge.eth0.kernel-drops"],
+        self.assertEqual(json.loads(self.run_ctl("--json", "live"))["live.eth0.kernel-drops"],
                          "7")
+
+    def test_details_say_that_a_tlv_was_discarded(self) -> None:
+        self.served.frame("eth0", numbered(1, 120, tlv(6, b"d" * 255)))
+        self.assertNotIn("discarded", self.run_ctl("details"))
+        self.served.frame("eth1", numbered(2, 120, tlv(6, b"d" * 256)))
+        self.assertEqual(self.run_ctl("details").splitlines()[-1],
+                         "eth1: 1 TLV discarded since the start")
+        self.assertNotIn("discarded", self.run_ctl("details", "eth0"))
 
     def test_on_a_terminal_it_is_as_wide_and_nothing_is_raw(self) -> None:
         texts = [tlv(kind, HOSTILE) for kind in (4, 5, 6)]
@@ -108,11 +129,12 @@ class Answers(Program):
         self.assertEqual(max(map(len, lines)), max(len(lines[0]), len(lines[1])))
         self.assertTrue(55 < len(lines[1]) <= 60 and "…" in lines[1], lines[1])
 
-    def on_a_terminal(self, width: int, *words: str) -> bytes:
+    def on_a_terminal(self, width: int, *words: str, before: Sequence[str] = ()) -> bytes:
         """What lldpa-ctl writes to a terminal of that width."""
         ours, theirs = pty.openpty()
         fcntl.ioctl(theirs, termios.TIOCSWINSZ, struct.pack("HHHH", 24, width, 0, 0))
-        child = subprocess.Popen([CTL, "--control", self.served.path, *words], stdout=theirs)
+        command = [*before, CTL, "--control", self.served.path, *words]
+        child = subprocess.Popen(command, stdout=theirs)
         os.close(theirs)
         octets = b""
         while True:
@@ -129,7 +151,7 @@ class Answers(Program):
         environment = {"LC_ALL": "C", "PYTHONCOERCECLOCALE": "0", "PYTHONUTF8": "0"}
         os.environ.update(environment)
         self.addCleanup(lambda: [os.environ.pop(name) for name in environment])
-        self.assertIn(b"nnn?  p1", self.on_a_terminal(60))
+        self.assertIn(b"nnn?  p1", self.on_a_terminal(60, before=[sys.executable]))
 
 
 class Faults(Program):
@@ -142,7 +164,7 @@ class Faults(Program):
             left_behind.bind(self.served.path)
         self.run_ctl(status=1, said=f"nobody answers at {self.served.path}: is lldpa-live running?")
 
-    def test_a_silent_bridge_is_not_waited_for_without_end(self) -> None:
+    def test_a_silent_lldpa_live_is_not_waited_for_without_end(self) -> None:
         path = self.served.path + "-silent"
         with socket.socket(socket.AF_UNIX, socket.SOCK_STREAM) as silent:
             silent.bind(path)
@@ -166,7 +188,7 @@ class Faults(Program):
     def test_bad_words(self) -> None:
         self.run_ctl("configure", 'a"b', status=2, said='a word with a double quote in it: a"b')
         self.run_ctl("a\nb", status=2, said="a line has a line feed in it")
-        for words in (["watch", "x"], ["metrics", "x"], ["--json", "metrics"], ["--jso"]):
+        for words in (["metrics", "x"], ["--json", "metrics"], ["--jso"]):
             told = subprocess.run([CTL, *words], check=False, capture_output=True, text=True)
             self.assertEqual((told.returncode, told.stdout), (2, ""))
             self.assertRegex(told.stderr, r"(?s)^usage: lldpa-ctl .*lldpa-ctl: error: [^\n]*\n$")
@@ -178,13 +200,22 @@ class Faults(Program):
         told = subprocess.run(["bash", "-c", words], check=False, capture_output=True, text=True)
         self.assertEqual((told.stdout, told.stderr), ("lldp.eth0.neighbors=32\n", ""))
 
+    def test_words_may_be_shortened(self) -> None:
+        for words, full in (("d", "details"), ("n eth0", "neighbors eth0"),
+                            ("sh ne eth1", "show neighbors eth1"),
+                            ("sh conf", "show configuration")):
+            self.assertEqual(self.run_ctl(*words.split()), self.run_ctl(*full.split()))
+        self.run_ctl("st", "su", status=1, said="no such port: su (eth0, eth1)")
+        self.run_ctl("conf", "lldp", "tx-i", "9")
+        self.assertIn(b"configure lldp tx-interval 9", self.served.asked)
+        self.run_ctl("up", status=1, said="for lldpa-live alone")
+        self.run_ctl("s", status=1, said="unknown command: s (neighbors, details, interfaces, "
+                     "statistics, live, show, configure, update, watch, metrics, help)")
+
     def test_help_names_each_command(self) -> None:
         told = self.run_ctl("--help")
+        self.assertEqual(told, self.run_ctl("help"))
         for word in ("neighbors", "details", "interfaces", "statistics summary", "show neighbors",
-                     "configure", "update", "bridge", "watch", "metrics", "--json"):
+                     "configure", "update", "live", "watch", "metrics", "--json"):
             self.assertTrue(re.search(rf"\b{word.lstrip('-')}\b", told), word)
         self.assertLessEqual(max(map(len, told.splitlines())), 80)
-
-
-if __name__ == "__main__":
-    unittest.main()

@@ -10,9 +10,8 @@ import signal
 import subprocess
 import threading
 import time
-import unittest
 
-from bridged import Live, OnLinks, on_links
+from running_live import Live, OnLinks, on_links
 from patience import SECONDS, by_the_clock, eventually, mostly
 from served import CTL, numbered, tlv
 from wires import Peer
@@ -24,13 +23,13 @@ class OnARealLink(OnLinks):
 
     links = 2
 
-    def bridge(self, *words: str) -> Live:
-        """A bridge on both links."""
+    def start_live(self, *words: str) -> Live:
+        """An lldpa-live on both links."""
         return self.live("--stay", *words, "eth0", "eth1", "--", "--hostname", "lab-1")
 
-    def ctl(self, bridge: Live, *words: str) -> str:
+    def ctl(self, live: Live, *words: str) -> str:
         """What lldpa-ctl prints."""
-        return subprocess.run([CTL, "--control", bridge.control, *words], check=True,
+        return subprocess.run([CTL, "--control", live.control, *words], check=True,
                               capture_output=True, text=True).stdout
 
     def lines_of(self, watch: subprocess.Popen[str]) -> "queue.Queue[str]":
@@ -60,9 +59,9 @@ class OnARealLink(OnLinks):
 
     @by_the_clock
     def test_watch_tells_within_a_second(self) -> None:
-        bridge = self.bridge()
+        live = self.start_live()
         peer = self.peer("peer1")
-        watch = subprocess.Popen([CTL, "--control", bridge.control, "watch"],
+        watch = subprocess.Popen([CTL, "--control", live.control, "watch"],
                                  stdout=subprocess.PIPE, text=True)
         self.addCleanup(watch.communicate)
         lines = self.lines_of(watch)
@@ -79,20 +78,20 @@ class OnARealLink(OnLinks):
         self.assertRegex(lines.get(timeout=SECONDS), r" eth1 gone: .* p2\n$")
         times.append(time.monotonic() - began - 3)
         self.assertLess(mostly(times), 1, times)
-        bridge.signal(signal.SIGTERM)
-        self.assertEqual((bridge.ends(), watch.wait(SECONDS)), (0, 1))
+        live.signal(signal.SIGTERM)
+        self.assertEqual((live.ends(), watch.wait(SECONDS)), (0, 1))
 
     def test_the_table_and_the_metrics(self) -> None:
-        bridge = self.bridge()
+        live = self.start_live()
         sent = time.monotonic()
         self.peer("peer0").send(numbered(1, 300, tlv(5, b"\x1b[2Jswitch")))
-        self.assertTrue(eventually(lambda: bridge.neighbors("eth0")))
-        lines = self.ctl(bridge).splitlines()
+        self.assertTrue(eventually(lambda: live.neighbors("eth0")))
+        lines = self.ctl(live).splitlines()
         found = re.fullmatch(r"eth0  \\x1b\[2Jswitch  p1 +(\d+) s", lines[1])
         self.assertTrue(found, lines[1])
         self.assertTrue(300 >= int(found[1]) > 300 - (time.monotonic() - sent) - 1, lines[1])
         self.assertEqual(lines[2], "1 neighbor on 2 ports.")
-        metrics = self.ctl(bridge, "metrics")
+        metrics = self.ctl(live, "metrics")
         for sample in ('lldpa_neighbors{port="eth0"} 1', 'lldpa_received_total{port="eth0"} 1',
                        'lldpa_kernel_drops_total{port="eth0"} 0',
                        'lldpa_kernel_drops_total{port="eth1"} 0'):
@@ -101,40 +100,41 @@ class OnARealLink(OnLinks):
             checked = subprocess.run(["promtool", "check", "metrics"], input=metrics, check=False,
                                      capture_output=True, text=True)
             self.assertEqual((checked.returncode, checked.stdout, checked.stderr), (0, "", ""))
-        no_drops = re.compile("^bridge.eth1.kernel-drops=0$", re.M)
-        self.assertRegex(self.ctl(bridge, "bridge"), no_drops)
+        no_drops = re.compile("^live.eth1.kernel-drops=0$", re.M)
+        self.assertRegex(self.ctl(live, "live"), no_drops)
+
+    def test_why_a_port_has_no_neighbor(self) -> None:
+        live = self.start_live()
+        self.assertEqual(self.ctl(live), "no neighbors on 2 ports.\n")
+        self.peer("peer1").send(numbered(1, 300))
+        self.ctl(live, "configure", "ports", "eth0", "lldp", "status", "disabled")
+        self.wires.set_link("peer1", "down")
+
+        def says(*lines: str) -> bool:
+            return bool(eventually(lambda: self.ctl(live).splitlines()[-len(lines):] == [*lines]))
+        self.assertTrue(says("1 neighbor on 2 ports.", "eth0 is disabled", "eth1 has no link"))
+        self.ctl(live, "configure", "ports", "eth0", "lldp", "status", "rx-and-tx")
+        self.wires.set_link("peer0", "down")
+        self.assertTrue(says("1 neighbor on 2 ports.", "eth0, eth1 have no link"))
+        self.wires.remove_link("peer0")
+        self.assertTrue(says("1 neighbor on 2 ports.", "eth0: no such interface",
+                             "eth1 has no link"))
+
+    @by_the_clock
+    def test_a_silent_agent_is_not_waited_for(self) -> None:
+        live = self.start_live()
+        os.kill(live.agent(), signal.SIGSTOP)
+        began = time.monotonic()
+        told = subprocess.run([CTL, "--control", live.control], check=False, capture_output=True,
+                              text=True)
+        self.assertEqual((told.returncode, told.stdout, told.stderr),
+                         (1, "", "lldpa-ctl: the agent does not answer\n"))
+        self.assertLess(time.monotonic() - began, 10)
 
     def test_what_is_configured_goes_out(self) -> None:
         peer = self.peer("peer0")
-        bridge = self.bridge()
+        live = self.start_live()
         self.assertIsNotNone(peer.hears())
-        self.ctl(bridge, "configure", "system", "hostname", "of the room below")
+        self.ctl(live, "configure", "system", "hostname", "of the room below")
         is_told = lambda: b"of the room below" in (peer.hears(2) or b"")
         self.assertTrue(eventually(is_told, 15))  # the next would go after 30 all the same
-
-    def test_a_second_bridge_says_that_the_path_is_taken(self) -> None:
-        bridge = self.bridge()
-        second = self.live("--control", bridge.control, "--stay", "eth0", awaits=False)
-        self.assertEqual(second.ends(), 1)
-        self.assertIn("another lldpa-live answers at this control path", second.errors())
-        self.assertIn("bridge.eth0.interface=present", self.ctl(bridge, "bridge"))
-
-    @by_the_clock
-    def test_a_killed_bridge_is_followed_by_the_next(self) -> None:
-        bridge = self.bridge()
-        bridge.signal(signal.SIGKILL)
-        self.assertEqual(bridge.ends(), -signal.SIGKILL)
-        self.assertTrue(os.path.exists(bridge.control))
-        told = subprocess.run([CTL, "--control", bridge.control], check=False, capture_output=True,
-                              text=True)
-        self.assertEqual((told.returncode, told.stderr), (
-            1, f"lldpa-ctl: nobody answers at {bridge.control}: is lldpa-live running?\n"))
-        following = self.live("--control", bridge.control, "--stay", "eth0", awaits=False)
-        self.assertTrue(eventually(lambda: os.path.exists(bridge.control)))
-        self.assertTrue(eventually(lambda: bridge.ask_quietly()))
-        following.signal(signal.SIGTERM)
-        self.assertEqual(following.ends(), 0)
-
-
-if __name__ == "__main__":
-    unittest.main()

@@ -8,7 +8,7 @@ import select
 import signal
 import subprocess
 import time
-import unittest
+from typing import Sequence
 
 from asked import HOSTILE, Program
 from patience import SECONDS, by_the_clock, mostly
@@ -24,9 +24,9 @@ class Watching(Program):
         super().setUp()
         self.times: list[float] = []
 
-    def watch(self, *words: str) -> subprocess.Popen[str]:
+    def watch(self, *words: str, ports: Sequence[str] = ()) -> subprocess.Popen[str]:
         """A watch that has begun."""
-        words = (CTL, "--control", self.served.path, *words, "watch")
+        words = (CTL, "--control", self.served.path, *words, "watch", *ports)
         environment = {key: value for key, value in os.environ.items() if key != "PYTHONUNBUFFERED"}
         child = subprocess.Popen(words, stdout=subprocess.PIPE, stderr=subprocess.PIPE, text=True,
                                  env=environment)
@@ -63,6 +63,13 @@ class Watching(Program):
         self.assertRegex(self.line(child), rf"^{TIME} eth0 gone: b p2\n$")
         self.assertLess(mostly(self.times), 1)
 
+    def test_of_some_ports(self) -> None:
+        child = self.watch(ports=["eth1"])
+        for number, port in enumerate(("eth0", "eth1")):
+            self.served.frame(port, numbered(number))
+        self.assertRegex(self.line(child), r" eth1 came: [ -~]* p1\n$")
+        self.run_ctl("watch", "eth9", status=1, said="no such port: eth9 (eth0, eth1)")
+
     def test_as_json(self) -> None:
         child = self.watch("--json")
         self.served.frame("eth0", numbered(2))
@@ -82,7 +89,3 @@ class Watching(Program):
         self.assertEqual((said, child.returncode),
                          (("", "lldpa-ctl: lldpa-live has ended the connection\n"), 1))
         self.served.call(self.served.server.start())
-
-
-if __name__ == "__main__":
-    unittest.main()

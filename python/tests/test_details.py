@@ -3,18 +3,14 @@
 from __future__ import annotations
 
 import json
-import re
 import unittest
 from dataclasses import replace
-from typing import List
 
 from lldpa import Neighbor, Port
-from lldpa.control.as_json import neighbor_object
-from lldpa.control.details import MOST_LINES, details
+from lldpa.client.as_json import neighbor_object
+from lldpa.client.details import details
 from lldpa.agent.shown import Identifier
-from lldpa.texts import width_of
-from lldpa.control.watching import changes
-from test_organizational import SAMPLES
+from judges import SAMPLES
 
 ORG = tuple((f"org.{oui}.{sample.kind[1]}", bytes.fromhex(sample.octets).hex())
             for sample in SAMPLES for oui in (sample.kind[0],))
@@ -70,6 +66,14 @@ class ForPeople(unittest.TestCase):
         self.assertEqual(self.told["organizational"], [])
         self.assertEqual(self.told["org"],
                          [{"kind": key[4:], "octets": octets} for key, octets in EACH])
+
+    def test_nothing_is_said(self) -> None:
+        told = neighbor_object(replace(SWITCH, said=()))
+        self.assertEqual({key: told[key] for key in [*told][[*told].index("vlan"):]}, {
+            "vlan": {"pvid": None, "names": [], "protocol_vlans": [], "protocols": [],
+                     "usage_digest": None, "management": None},
+            "max_frame_size": None, "link_aggregation": None, "mac_phy": None, "power": None,
+            "eee": None, "dcb": None, "med": None, "mud_url": None, "organizational": []})
 
     def test_vlan(self) -> None:
         self.assertEqual(self.told["vlan"], {
@@ -151,7 +155,3 @@ class ForPeople(unittest.TestCase):
             "octets": {"country": "e941"}, "elements": [
                 {"type": 6, "name": "street", "text": "\\xe9", "octets": {"text": "e9"}}]}])
         self.assertEqual(json.dumps(told).encode("ascii").decode("utf-8"), json.dumps(told))
-
-
-if __name__ == "__main__":
-    unittest.main()

@@ -58,7 +58,3 @@ class Lines(unittest.TestCase):
         self.assertEqual(len(self.lines[0]), 1000)
         self.assertTrue(self.lines[0].endswith("n ..."))
         self.assertEqual(self.lines[1], r"eth0 came: a\x0ab\x1b swp2")
-
-
-if __name__ == "__main__":
-    unittest.main()

@@ -12,14 +12,15 @@ import time
 import unittest
 from pathlib import Path
 
+from lldpa.client import since_of
 from lldpa.live.identity import chassis_address, description, management_address
 from lldpa.live.links import LinkNews
-from lldpa.live.patterns import NoPorts, ports_of
+from lldpa.live.patterns import NoPorts, first_ports, ports_of
 
-from bridged import Live, OnLinks, on_links
+from running_live import Live, OnLinks, on_links
 from patience import eventually
-from served import PROGRAM
-from wires import inside, ip
+from served import numbered
+from wires import Peer, inside, ip
 
 LLDPD = shutil.which("lldpd")
 
@@ -81,19 +82,63 @@ class TestPatterns(unittest.TestCase):
         for parts, wanted in ((["swp*", "!swp3"], "swp1 swp2 swp4 swp5"), (["eth0"], "eth0"),
                               (["*", "!swp*", "!!swp2"], "swp2 eth0"), (["swp[12]"], "swp1 swp2"),
                               (["veth9", "*"], "veth9 swp1 swp2 swp3 swp4 swp5 eth0"),
-                              (["eth7", "swp?"], "eth7 swp1 swp2 swp3 swp4 swp5")):
+                              (["eth7", "swp?"], "eth7 swp1 swp2 swp3 swp4 swp5"),
+                              (["veth*"], "veth9"), (["[v]eth*"], "")):
             self.assertEqual(" ".join(ports_of(parts, self.found)), wanted, parts)
 
     def test_none_and_too_many(self) -> None:
-        with self.assertRaises(NoPorts):
-            ports_of(["veth*"], self.found)
+        self.assertEqual(first_ports(["lan*", "!lan3"], self.found, True), [])
+        for parts, may_wait in ((["lan*"], False), (["!swp*"], True)):
+            with self.assertRaises(NoPorts):
+                first_ports(parts, self.found, may_wait)
         with self.assertRaisesRegex(NoPorts, "65 ports, and 64 are the most.* second service"):
-            ports_of(["p*"], [one(number, f"p{number}") for number in range(65)])
+            first_ports(["p*"], [one(number, f"p{number}") for number in range(65)], True)
+
+
+@on_links
+class TestLaterPorts(OnLinks):
+    """Interfaces that come later, and are given by a pattern."""
+
+    def lan(self, number: int) -> Peer:
+        """Makes a link of another name, and gives its far end."""
+        ip("link", "add", f"lan{number}", "netns", self.wires.here, "type", "veth",
+           "peer", "name", f"far{number}", "netns", self.wires.there)
+        for name, end in ((self.wires.here, f"lan{number}"), (self.wires.there, f"far{number}")):
+            ip("-n", name, "link", "set", end, "up")
+        return self.peer(f"far{number}")
+
+    def test_a_pattern_waits_and_takes_what_comes_later(self) -> None:
+        live = self.live("lan*", "!lan7", awaits=False)
+        self.assertTrue(live.says("lan* !lan7: no such interface yet; waiting for it, and until"))
+        self.assertEqual(live.ask_refused("show neighbors"), "waiting for an interface")
+        first = self.lan(1)
+        self.assertTrue(eventually(live.ask_quietly))
+        first.send(numbered(1, 500))
+        self.assertTrue(eventually(lambda: live.neighbors("lan1") == 1))
+        self.assertEqual(live.ask("configure ports lan1 lldp status rx-only"), [])
+        since = since_of(live.ask("live"))
+        self.lan(7)
+        second = self.lan(2)
+        self.assertTrue(eventually(lambda: "live.lan2.link=up" in live.ask("live")))
+        second.send(numbered(2, 500))
+        self.assertTrue(eventually(lambda: live.neighbors("lan2") == 1))
+        self.assertIsNotNone(second.hears(5))
+        self.assertEqual(live.neighbors("lan1"), 1)
+        self.assertTrue(since.items() <= since_of(live.ask("live")).items())
+        self.assertEqual([line for line in live.ask("show configuration") if "status" in line],
+                         ["configuration.lan1.status=rx-only",
+                          "configuration.lan2.status=rx-and-tx"])
+
+    def test_a_wildcard_alone_takes_no_virtual_interface(self) -> None:
+        live = self.live("*", awaits=False)
+        self.assertTrue(live.says("*: no such interface yet"))
+        self.lan(1)
+        self.assertEqual(live.ask_refused("show neighbors"), "waiting for an interface")
 
 
 @on_links
 class TestLate(OnLinks):
-    """A bridge that is started before its interface."""
+    """An lldpa-live that is started before its interface."""
 
     links = 0
 
@@ -114,7 +159,7 @@ class TestLate(OnLinks):
         self.others()
         live = self.live("eth0", "eth1", awaits=False)
         self.assertTrue(live.says("no such interface yet; waiting for it"))
-        self.assertTrue(eventually(lambda: "bridge.agent=waiting" in asked(live, "bridge")))
+        self.assertTrue(eventually(lambda: "live.agent=waiting" in asked(live, "live")))
         self.assertEqual(asked(live, "show neighbors"), ["error: waiting for an interface"])
         time.sleep(0.5)
         self.assertEqual(live.errors().count("\n"), 1, live.errors())
@@ -126,9 +171,9 @@ class TestLate(OnLinks):
     def test_it_ends_while_it_waits(self) -> None:
         live = self.live("eth0", awaits=False)
         self.assertTrue(live.says("waiting for it"))
-        self.assertTrue(eventually(lambda: "bridge.agent=waiting" in asked(live, "bridge")))
+        self.assertTrue(eventually(lambda: "live.agent=waiting" in asked(live, "live")))
         live.signal(signal.SIGTERM)
-        self.assertEqual(live.ends(), 0)
+        self.assertEqual(live.ends(), 0, live.errors())
 
     @unittest.skipUnless(LLDPD, "it needs Debian's package lldpd")
     def test_two_late_hosts_are_two_neighbors(self) -> None:
@@ -166,7 +211,7 @@ class TestLate(OnLinks):
 
 
 def asked(live: Live, line: str) -> list[str]:
-    """What a bridge answers, the text of a refusal too, nothing while it does not answer."""
+    """What lldpa-live answers, the text of a refusal too, nothing while it does not answer."""
     try:
         return live.ask(line)
     except OSError:
@@ -244,9 +289,5 @@ def unsent(live: Live) -> int:
 
 
 def number_of(live: Live, name: str) -> int:
-    """A number of the bridge about its port."""
-    return int(dict(line.split("=") for line in live.ask("bridge"))[f"bridge.eth0.{name}"])
-
-
-if __name__ == "__main__":
-    unittest.main()
+    """A number of lldpa-live about its port."""
+    return int(dict(line.split("=") for line in live.ask("live"))[f"live.eth0.{name}"])

@@ -9,7 +9,7 @@ from lldpa.live.interface import Frame, Interface
 from lldpa.live.links import Links
 from lldpa.limits import LONGEST_FRAME
 
-from bridged import OnLinks, on_links
+from running_live import OnLinks, on_links
 from patience import SECONDS, eventually
 from served import numbered
 from wires import inside, ip

@@ -1,7 +1,7 @@
 """What is read of organizationally specific TLVs beside what lldpcli and tshark show of them.
 
 `judged.json` has frames of real senders and made ones, with what lldpcli 1.0.16 and tshark 4.0.17
-showed of each; `tools/try-details.py --save` asks them again.
+showed of each; `tools/by-hand/try-details.py --save` asks them again.
 """
 
 from __future__ import annotations
@@ -9,8 +9,6 @@ from __future__ import annotations
 import json
 import unittest
 
-import by_lldpcli
-import by_tshark
 from judges import Judged, compare
 from served import PROGRAM, REPOSITORY
 
@@ -43,11 +41,3 @@ class BesideOthers(unittest.TestCase):
             told = [[[name, "7" if name == key else value] for name, value in tlv]
                     for tlv in one.tshark]
             self.assertEqual(len(compare([one._replace(tshark=told)], PROGRAM)[1]), 1)
-
-    def test_what_is_left_out_has_a_reason(self) -> None:
-        for reason in (*by_lldpcli.LEFT_OUT.values(), *by_tshark.LEFT_OUT.values()):
-            self.assertTrue(reason)
-
-
-if __name__ == "__main__":
-    unittest.main()

@@ -9,7 +9,7 @@ import unittest
 from lldpa.live.links import Links, LinkNews
 from lldpa.live.ports import ran_and_later
 
-from bridged import OnLinks, on_links
+from running_live import OnLinks, on_links
 from patience import eventually
 from wires import inside, ip
 
@@ -95,6 +95,9 @@ class TestParted(unittest.TestCase):
                 one(1, False), one(2, False), one(0, False)]
         self.assertEqual(ran_and_later(news), (news[:3], news[3:]))
 
-
-if __name__ == "__main__":
-    unittest.main()
+    def test_the_order_holds_for_each_name(self) -> None:
+        down, up = (LinkNews(1, "eth0", True, up, True, b"") for up in (False, True))
+        gone = down._replace(is_there=False)
+        news = [up, down, gone, up._replace(number=2)]
+        self.assertEqual(ran_and_later(news), (news, []))
+        self.assertEqual(ran_and_later(news[:3]), (news[:1], news[1:3]))

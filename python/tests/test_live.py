@@ -13,7 +13,7 @@ from unittest import mock
 
 from lldpa.commands.live import options_of, the_parser, words_given
 
-from bridged import LIVE, PYTHON, OnLinks, on_links
+from running_live import LIVE, PYTHON, OnLinks, on_links
 from patience import SECONDS, eventually
 from served import PROGRAM, REPOSITORY, numbered, tlv
 from wires import inside
@@ -59,8 +59,9 @@ class TestWords(unittest.TestCase):
                           "role": "router"})
 
     def test_what_is_so_unless_it_is_given(self) -> None:
-        given, options = words_given(["eth0", "eth1"])
-        self.assertEqual((given.ports, given.control, given.log_most, given.program, options),
+        given = words_given(["eth0", "eth1"])
+        self.assertEqual((given.ports, given.control, given.log_most, given.program,
+                          given.options),
                          (["eth0", "eth1"], "/run/lldpa/control", 64, "lldpa", {}))
         self.assertFalse(given.stay or given.only_existing or given.forget_on_down)
 
@@ -121,12 +122,12 @@ class TestStart(OnLinks):
         shutil.copytree(REPOSITORY / "python" / "lldpa", os.path.join(folder, "python", "lldpa"))
         os.chmod(folder, 0o700)
         command = [PYTHON, os.path.join(folder, "bin", "lldpa-live")]
-        with mock.patch("bridged.LIVE", command):
+        with mock.patch("running_live.LIVE", command):
             live = self.live("eth0")
         self.assertIn("no neighbors on 1 port.", live.told("neighbors"))
         self.assertEqual(live.errors(), "")
 
-    def test_what_the_bridge_tells_is_refused_from_its_user(self) -> None:
+    def test_what_lldpa_live_tells_is_refused_from_its_user(self) -> None:
         live = self.live("eth0")
         for line in ("tick 5", " tick", '"tick" 5', "\tdown eth0", "up eth0", "rx eth0 00"):
             self.assertEqual(live.told(line), ["error: for lldpa-live alone"], line)
@@ -182,7 +183,3 @@ class TestTerminal(OnLinks):
         self.read("ends it")
         os.write(self.ours, b"\x04")
         self.assertEqual(self.begun.ends(), 0)
-
-
-if __name__ == "__main__":
-    unittest.main()

@@ -9,8 +9,8 @@ import subprocess
 import time
 from pathlib import Path
 
-from bridged import PYTHON, OnLinks, is_full, on_links
-from patience import Standstill, by_the_clock, eventually
+from running_live import PYTHON, OnLinks, is_full, on_links
+from patience import by_the_clock, eventually
 from served import PROGRAM, numbered
 
 
@@ -86,20 +86,6 @@ class TestEnds(OnLinks):
         self.assertEqual(live.ends(2), 0)
 
     @by_the_clock
-    def test_stopped_agent_does_not_hold_the_end(self) -> None:
-        live = self.live("eth0")
-        told = live.seconds_told()
-        os.kill(live.agent(), signal.SIGSTOP)
-        self.assertTrue(eventually(lambda: live.seconds_told() > told))  # a second is not answered
-        with Standstill() as standstill:
-            began = time.monotonic()
-            live.signal(signal.SIGTERM)
-            self.assertEqual(live.ends(), 1)
-            took = time.monotonic() - began
-        self.assertIn("the agent does not answer", live.errors())
-        self.assertLess(took - standstill.overslept, 3)
-
-    @by_the_clock
     def test_second_signal_ends_it_at_once(self) -> None:
         live = self.live("eth0")
         agent = live.agent()
@@ -114,13 +100,36 @@ class TestEnds(OnLinks):
     def test_killed_agent_is_told(self) -> None:
         live = self.live("eth0")
         os.kill(live.agent(), signal.SIGKILL)
+        self.assertTrue(live.says("another one takes its place"))
+        self.assertTrue(eventually(live.ask_quietly))
+        os.kill(live.agent(), signal.SIGKILL)
         self.assertEqual(live.ends(3), 1)
         self.assertIn(f"lldpa-live: {PROGRAM}: the agent was killed by SIGKILL\n", live.errors())
 
+    def test_killed_together_with_its_agent_and_log_it_takes_leave(self) -> None:
+        for number in (signal.SIGTERM, signal.SIGINT):
+            live = self.live("--log", os.path.join(self.wires.folder, "log"), "eth0", "--stay")
+            peer = self.peer()
+            self.assertIsNotNone(peer.hears())
+            pid = live.process.pid
+            children = Path(f"/proc/{pid}/task/{pid}/children").read_text().split()
+            names = [Path(f"/proc/{one}/comm").read_text() for one in (pid, *children)]
+            self.assertEqual(sorted(names), ["lldpa\n", "lldpa-live\n", "lldpa-live: log\n"])
+            for one in (*children, str(pid)):
+                os.kill(int(one), number)
+            self.assertIsNotNone(peer.hears(ttl=0))
+            self.assertEqual(live.ends(), 0)
+            self.assertEqual(live.errors(), "")
+
+    def test_its_agent_has_nothing_of_the_environment(self) -> None:
+        live = self.live("eth0", env={**os.environ, "SECRET": "of root"})
+        self.assertEqual(Path(f"/proc/{live.agent()}/environ").read_bytes(), b"LANG=C\0")
+
     def test_agent_that_refuses_its_words_is_told(self) -> None:
-        live = self.live("eth0", "--", "--max-neighbors", "0")
-        self.assertEqual(live.ends(), 1)
-        self.assertIn("--max-neighbors", live.errors())
+        for words in (["--max-neighbors", "0"], ["--tx-intervall", "7"]):
+            live = self.live("eth0", "--", *words)
+            self.assertEqual(live.ends(), 2)
+            self.assertIn(words[0], live.errors())
 
     @by_the_clock
     def test_fault_does_not_end_it_without_shutdown_frames(self) -> None:
@@ -156,18 +165,6 @@ def write_some(number: int) -> bool:
 class TestRights(OnLinks):
     """Nothing is left of root."""
 
-    def test_neither_bridge_nor_agent_has_any_right(self) -> None:
-        live = self.live("eth0")
-        for pid in (live.process.pid, live.agent()):
-            lines = dict(line.split(":\t", 1) for line in
-                         Path(f"/proc/{pid}/status").read_text().splitlines() if ":\t" in line)
-            for kind in ("CapInh", "CapPrm", "CapEff", "CapAmb"):
-                self.assertEqual(int(lines[kind], 16), 0, (pid, kind))
-            self.assertEqual(set(lines["Uid"].split()), {"65534"})
-            self.assertNotIn("0", lines["Gid"].split())
-            self.assertEqual(lines["Groups"].strip(), "")
-            self.assertEqual(lines["NoNewPrivs"].strip(), "1")
-
     def test_another_user_can_be_named(self) -> None:
         live = self.live("--user", "daemon", "eth0")
         self.assertIn("Uid:\t1\t1\t1\t1", Path(f"/proc/{live.process.pid}/status").read_text())
@@ -193,9 +190,9 @@ class TestRights(OnLinks):
 
 @on_links
 class TestControlPath(OnLinks):
-    """One bridge has one path."""
+    """One lldpa-live has one path."""
 
-    def test_second_bridge_on_a_path_says_so(self) -> None:
+    def test_second_lldpa_live_on_a_path_says_so(self) -> None:
         first = self.live("eth0")
         second = self.live("--control", first.control, "eth0")
         self.assertEqual(second.ends(), 1)
@@ -203,7 +200,7 @@ class TestControlPath(OnLinks):
         self.assertIn(text, second.errors())
         self.assertTrue(first.answers())
 
-    def test_path_is_free_again_behind_a_killed_bridge(self) -> None:
+    def test_path_is_free_again_behind_a_killed_lldpa_live(self) -> None:
         first = self.live("eth0")
         first.signal(signal.SIGKILL)
         first.ends()

@@ -9,9 +9,9 @@ import socket
 import time
 from pathlib import Path
 
-from lldpa.control import Client
+from lldpa.client import Client
 
-from bridged import Live, OnLinks, is_full, on_links
+from running_live import Live, OnLinks, is_full, on_links
 from patience import SECONDS, by_the_clock, eventually
 from served import numbered
 from wires import flood
@@ -34,14 +34,14 @@ def seconds_to_answer(client: Client, line: str) -> float:
 
 
 def resident(live: Live) -> int:
-    """The greatest resident set of the bridge, in KiB."""
+    """The greatest resident set of lldpa-live, in KiB."""
     status = Path(f"/proc/{live.process.pid}/status").read_text()
     return int(re.search(r"VmHWM:\s*(\d+)", status)[1])
 
 
 def numbers(live: Live) -> dict[str, int]:
     """How many frames were dropped, and how many were received."""
-    shown = "\n".join(live.ask("bridge") + live.ask("show statistics"))
+    shown = "\n".join(live.ask("live") + live.ask("show statistics"))
     return {name: int(re.search(rf"[.]{name}=(\d+)$", shown, re.M)[1])
             for name in ("kernel-drops", "limit-drops", "received")}
 
@@ -77,7 +77,7 @@ class TestFlood(OnLinks):
         self.assertTrue(live.says("frames were dropped that came faster than 64 a second at a port:"
                                   " eth0 ") or not told["limit-drops"])
 
-    def test_hundred_frames_find_room_while_the_bridge_sleeps(self) -> None:
+    def test_hundred_frames_find_room_while_lldpa_live_sleeps(self) -> None:
         live, peer = self.live("eth0", "--", "--receive-only"), self.peer()
         live.signal(signal.SIGSTOP)
         for number in range(100):
@@ -145,7 +145,7 @@ def is_connected(client: socket.socket) -> bool:
 
 @on_links
 class TestClients(OnLinks):
-    """Clients of the control socket, while the bridge works."""
+    """Clients of the control socket, while lldpa-live works."""
 
     @by_the_clock
     def test_64_clients_and_one_that_never_reads(self) -> None:

@@ -5,35 +5,33 @@ from __future__ import annotations
 import json
 import re
 import unittest
-from typing import Dict, Iterable, List, Tuple
+from typing import Dict, Iterable, Tuple
 
 import lldpd_heard
-from by_lldpcli import PARTS
-from judges import flat
+from judges import SLIPS, flat
 from lldpa import Agent
-from lldpa.control.arrivals import Arrivals, chassis_numbers_of, since_of
+from lldpa.client.live_lines import LiveLines
+from lldpa.live.senders import Senders
 from lldpa.agent.framing import Refused
-from lldpa.lldpcli_forms.fixed import fixed
 from lldpa.lldpcli_forms.shows import Depth, Told, age, neighbors
-from lldpa.lldpcli_forms.tree import Node
-from lldpa.lldpcli_forms.words import Question, of_lldpcli, of_lldpctl
+from lldpa.lldpcli_forms.words import Lines, Question, Watching, of_lldpcli, of_lldpctl
 from lldpa.lldpcli_forms.writing import FORMS, whole
-from served import PROGRAM, REPOSITORY, frame, tlv
+from lldpa.node import Node
+from lldpa.organizational.location import fixed
+from served import PROGRAM, frame, tlv
 
-# what lldpcli names otherwise than the standard
-SLIPS = ("port.power.source.value", "port.power.power-type-ext.value")
 AGE = re.compile(r"0 day, [0-9:]{8}")
 PORTS = ["swp1", "swp2"]
 
 
 def told_of(agent: Agent, frames: Iterable[Tuple[str, bytes]]) -> Told:
-    """What a bridge tells that hears frames at ports."""
-    arrivals = Arrivals(PORTS)
+    """What lldpa-live tells that hears frames at ports."""
+    senders = Senders()
     for port, octets in frames:
         agent.frame(port, octets)
-        arrivals.hear(port, octets)
-    about = arrivals.about()
-    return Told(agent.show("neighbors"), since_of(about), chassis_numbers_of(about), 1e10)
+        senders.hear(port, octets)
+    told = LiveLines(senders.about())
+    return Told(agent.show("neighbors"), told.since, told.numbers, 1e10)
 
 
 def tree_of(frames: Iterable[Tuple[str, bytes]]) -> Node:
@@ -79,19 +77,6 @@ class BesideLldpcli(unittest.TestCase):
     def test_odd_names(self) -> None:
         self.compare(tree_of([("swp1", one) for one in lldpd_heard.ODD]), "odd", ("json0",))
 
-    def test_each_judged_frame(self) -> None:
-        text = (REPOSITORY / "python" / "tests" / "judged.json").read_text()
-        equal = 0
-        with Agent.start(PORTS, PROGRAM, receive_only=True) as agent:
-            for one in json.loads(text):
-                agent.tick(65535)
-                tree = neighbors(told_of(agent, [("swp1", bytes.fromhex(one["frame"]))]), None,
-                                 Depth.DETAILS)
-                ours = self.compared(flat(whole(tree.nodes[0])))
-                self.assertEqual(ours, self.compared(map(tuple, one["lldpcli"])), one["name"])
-                equal += len(ours)
-        self.assertGreater(equal, 5000)
-
     def test_what_lldpcli_names_otherwise(self) -> None:
         for octets, source, kind in (("070104" "12" "00ff00c8", "Primary power source", None),
                                      ("070104" "22" "00ff00c8", "Backup source", None),
@@ -102,11 +87,7 @@ class BesideLldpcli(unittest.TestCase):
             power = tlv(127, bytes.fromhex("00120f02" + octets))
             octets_of = frame(b"\x04\x02\0\0\0\0\1", b"\x05p1", 120, power)
             told = dict(flat(whole(tree_of([("swp1", octets_of)]).nodes[0])))
-            self.assertEqual([told[SLIPS[0]], told.get(SLIPS[1])], [source, kind])
-
-    def compared(self, pairs: Iterable[Tuple[str, object]]) -> List[Tuple[str, object]]:
-        """The keys and values of organizationally specific TLVs, in their order."""
-        return [pair for pair in pairs if pair[0].startswith(PARTS) and pair[0] not in SLIPS]
+            self.assertEqual([told.get(key) for key in SLIPS], [source, kind])
 
 
 class Texts(unittest.TestCase):
@@ -186,6 +167,9 @@ class Commands(unittest.TestCase):
                 ("show neighbors hidden details", Question("neighbors", Depth.DETAILS, None)),
                 ("show interfaces ports a", Question("interfaces", Depth.NORMAL, ["a"])),
                 ("show chassis summary", Question("chassis", Depth.SUMMARY, None)),
+                ("sh conf", Question("configuration", Depth.NORMAL, None)),
+                ("wat det lim 2 ports a", Watching(Depth.DETAILS, ["a"], 2)),
+                ("u", Lines(["update"])),
                 ("show statistics summary ports a", Question("statistics", Depth.SUMMARY, ["a"]))):
             self.assertEqual(of_lldpcli(words.split()), wanted)
 
@@ -196,13 +180,10 @@ class Commands(unittest.TestCase):
         self.assertEqual(of_lldpctl(["show", "chassis"]), Question("chassis", Depth.NORMAL, None))
 
     def test_what_there_is_not(self) -> None:
-        for words in ("", "configure", "watch", "show", "show configuration", "show bogus",
+        for words in ("pause", "watch limit", "watch limit x", "show", "show configuration ports a",
+                      "show bogus", "watch ports", "update now",
                       "show neighbors details summary", "show neighbors ports",
                       "show chassis ports a", "show statistics details",
                       "show neighbors ports a ports b", "s x"):
             with self.assertRaises(Refused, msg=words):
                 of_lldpcli(words.split())
-
-
-if __name__ == "__main__":
-    unittest.main()

@@ -3,24 +3,27 @@
 from __future__ import annotations
 
 import json
+import os
+import pty
 import subprocess
 import unittest
 
-from served import BRIDGE_LINES, REPOSITORY, Served, numbered, tlv
+from patience import eventually
+from served import LIVE_LINES, REPOSITORY, Served, numbered, tlv
 
 LLDPCTL, LLDPCLI = str(REPOSITORY / "bin" / "lldpctl"), str(REPOSITORY / "bin" / "lldpcli")
 CHASSIS = "mac=02:00:00:00:00:07"
 
 
 class Program(unittest.TestCase):
-    """With a bridge's socket, and a neighbor at the second of two ports."""
+    """With lldpa-live's socket, and a neighbor at the second of two ports."""
 
     def setUp(self) -> None:
         self.served = Served(mac="02:00:00:00:00:99", hostname="here", management="192.0.2.1")
         self.addCleanup(self.served.close)
-        self.served.bridge_lines = BRIDGE_LINES + [
-            f"bridge.eth1.since.1=2020-01-01T00:00:00Z {CHASSIS} ifname=p7".encode(),
-            f"bridge.chassis.12={CHASSIS}".encode()]
+        self.served.live_lines = LIVE_LINES + [
+            f"live.eth1.since.1=2020-01-01T00:00:00Z {CHASSIS} ifname=p7".encode(),
+            f"live.chassis.12={CHASSIS}".encode()]
         vlan = tlv(127, bytes.fromhex("0080c2010078"))
         self.served.frame("eth1", numbered(7, 120, tlv(5, b"there"), vlan))
 
@@ -83,25 +86,94 @@ class Answers(Program):
                                 "lldp.summary.ageout_cnt.ageout_cnt=0"])
 
     def test_since_when_may_be_unknown(self) -> None:
-        self.served.bridge_lines = BRIDGE_LINES
+        self.served.live_lines = LIVE_LINES
         lines = self.run_it(LLDPCTL, "-f", "keyvalue").splitlines()
         self.assertEqual(lines[:2], ["lldp.eth1.via=LLDP",
                                      "lldp.eth1.chassis.mac=02:00:00:00:00:07"])
+
+
+class Handed(Program):
+    """What is handed to lldpa-live."""
+
+    def test_configuration(self) -> None:
+        for words in ("configure lldp tx-interval 20", "conf lldp tx-ho 3",
+                      "configure ports eth0,eth1 lldp status rx-only", "up"):
+            self.assertEqual(self.run_it(LLDPCLI, "-d", "-s", *words.split()), "")
+        self.run_it(LLDPCLI, "configure", "system", "hostname", "a b")
+        self.assertEqual(self.served.asked, [
+            b"configure lldp tx-interval 20", b"configure lldp tx-hold 3",
+            b"configure ports eth0 lldp status rx-only",
+            b"configure ports eth1 lldp status rx-only",
+            b"update", b'configure system hostname "a b"'])
+        lines = self.run_it(LLDPCTL, "-f", "keyvalue", "show", "configuration").splitlines()
+        self.assertEqual([line.partition("configuration.config.")[2] for line in lines], [
+            "tx-delay=20", "tx-delay-ms=20000", "tx-hold=3", "max-neighbors=32", "rx-only=yes"])
+
+    def test_watch(self) -> None:
+        self.served.frame("eth0", numbered(3))
+        words = [LLDPCLI, "-u", self.served.path, "-f", "keyvalue", "watch", "limit", "3", "ports",
+                 "eth1"]
+        with subprocess.Popen(words, stdout=subprocess.PIPE, text=True) as watch:
+            assert watch.stdout is not None
+            self.assertTrue(eventually(lambda: b"live" in self.served.asked))
+            self.served.frame("eth0", numbered(3, 0))
+            for name, ttl in (b"new", 120), (b"other", 120), (b"other", 0):
+                self.served.frame("eth1", numbered(8, ttl, tlv(5, name)))
+                while "port.ttl=120" not in watch.stdout.readline():
+                    pass
+            self.assertEqual(watch.wait(), 0)
+
+    def test_console(self) -> None:
+        told = subprocess.run(
+            [LLDPCLI, "-u", self.served.path, "-f", "keyvalue"], capture_output=True, text=True,
+            input='show chassis summary\nbogus\n\nconfigure system hostname "a b"\nhelp\n"\n'
+                  "show chassis summary\nexit\nupdate\n", check=False)
+        self.assertEqual(told.returncode, 0)
+        names = [line for line in told.stdout.splitlines() if "name=" in line]
+        self.assertEqual(names, ["local-chassis.chassis.name=here",
+                                 "local-chassis.chassis.name=a b"])
+        self.assertIn("usage: lldpcli ", told.stdout)
+        self.assertEqual(told.stderr.splitlines(), [
+            "lldpcli: unknown word: bogus (show, watch, configure, update)",
+            "lldpcli: No closing quotation"])
+        self.assertNotIn(b"update", self.served.asked)
+
+    def test_keys_and_values_on_a_terminal(self) -> None:
+        name = "\u202e\u200b\x1b[2J".encode()
+        self.served.frame("eth0", numbered(9, 120, tlv(5, name)))
+        words = [LLDPCTL, "-u", self.served.path, "-f", "keyvalue", "eth0"]
+        ours, theirs = pty.openpty()
+        with subprocess.Popen(words, stdout=theirs):
+            os.close(theirs)
+            shown = os.read(ours, 65536)
+        os.close(ours)
+        self.assertRegex(shown, rb"^[ -~\r\n]*$")
+        self.assertIn(rb"name=\xe2\x80\xae\xe2\x80\x8b\x1b[2J", shown)
 
 
 class Refusals(Program):
     """What it does not have: status 1 and a line."""
 
     def test_words(self) -> None:
-        shows = "neighbors, interfaces, chassis, statistics"
+        shows = "neighbors, interfaces, chassis, statistics, configuration"
         for words, said in (
                 (["show", "bogus"], f"unknown word: bogus ({shows})"),
                 (["show"], f"show what: {shows}"),
-                (["watch"], "unknown word: watch (show)"),
-                ([], "no command: show neighbors, interfaces, chassis or statistics"),
+                (["resume"], "unknown word: resume (show, watch, configure, update)"),
+                (["update", "x"], "unknown word: x (nothing follows)"),
+                (["watch", "limit", "0"], "not a number: 0"),
+                (["configure", "med", "x"], "unknown command: med (system or lldp or ports)"),
+                (["conf", "lldp", "tx-h", "0"],
+                 "out of range: 0 (intervals that peers keep a frame, 1 to 100)"),
                 (["-f", "xml"], "unknown form: xml (plain, keyvalue, json, json0)"),
                 (["-x"], "option -x not recognized")):
             self.assertEqual(self.run_it(LLDPCLI, *words, status=1, said=said), "")
+
+    def test_lldpcli_alone_shortens_its_first_word(self) -> None:
+        shown = self.run_it(LLDPCLI, "show", "statistics")
+        self.assertEqual(self.run_it(LLDPCLI, "sh", "stat"), shown)
+        self.assertEqual(self.run_it(LLDPCTL, "show", "stat"), shown)
+        self.run_it(LLDPCTL, "sh", "stat", status=1, said="no such port: sh, stat")
 
     def test_ports_that_are_not_there(self) -> None:
         told = self.run_it(LLDPCTL, "eth1", "eth9", "-f", "keyvalue", status=1,
@@ -116,11 +188,14 @@ class Refusals(Program):
             1, "", f"lldpctl: nobody answers at {self.served.path}: is lldpa-live running?\n"))
         self.served.path = self.served.path[:-len(".none")]
 
+    def test_a_configuration_that_is_not_told(self) -> None:
+        self.served.hidden = {b"show configuration", b"show chassis"}
+        of_host, numbers = "what this host says", "the configuration"
+        for word, what in (("interfaces", of_host), ("chassis", of_host),
+                           ("configuration", numbers)):
+            self.run_it(LLDPCTL, "show", word, status=1, said=f"lldpa-live does not tell {what}")
+
     def test_help(self) -> None:
         for program in (LLDPCTL, LLDPCLI):
             told = self.run_it(program, "-h")
             self.assertTrue(told.startswith(f"usage: {program.rpartition('/')[2]} "))
-
-
-if __name__ == "__main__":
-    unittest.main()

@@ -1,4 +1,4 @@
-"""The files of a log: each replays alone, together they stay in bounds, no disk holds a bridge."""
+"""The files of a log: each replays alone, all stay in bounds, and no disk stops lldpa-live."""
 
 from __future__ import annotations
 
@@ -7,10 +7,9 @@ import shutil
 import signal
 import subprocess
 import time
-import unittest
 from pathlib import Path
 
-from bridged import Live, OnLinks, on_links
+from running_live import Live, OnLinks, on_links
 from patience import by_the_clock, eventually
 from replays import Moments, differing
 from served import numbered, tlv
@@ -21,7 +20,7 @@ LONG = [numbered(number, 600 + number, tlv(5, b"n%d" % number)).ljust(1514, b"\0
 
 
 def log_process(live: Live) -> int:
-    """The process that writes a bridge's log."""
+    """The process that writes lldpa-live's log."""
     pid = live.process.pid
     children = Path(f"/proc/{pid}/task/{pid}/children").read_text().split()
     return next(int(one) for one in children if int(one) != live.agent())
@@ -60,7 +59,7 @@ class TestFiles(OnLinks):
         peer.send(numbered(0, ttl=0))
         moments.take()
         self.wires.set_link("eth1", "down")
-        self.assertTrue(eventually(lambda: "bridge.eth1.link=down" in live.ask("bridge")))
+        self.assertTrue(eventually(lambda: "live.eth1.link=down" in live.ask("live")))
         live.signal(signal.SIGTERM)
         self.assertEqual(live.ends(), 0)
         self.assertGreater(len(list(self.folder.iterdir())), 2)
@@ -88,10 +87,10 @@ class TestFiles(OnLinks):
         self.assertTrue(eventually(lambda: list(self.folder.iterdir())))
         shutil.rmtree(self.folder)
         self.assertTrue(live.says("its file was removed"))
-        self.assertIn("bridge.log=stalled", live.ask("bridge"))
-        self.assertTrue(eventually(lambda: "bridge.log-lines-lost=0" not in live.ask("bridge")))
+        self.assertIn("live.log=stalled", live.ask("live"))
+        self.assertTrue(eventually(lambda: "live.log-lines-lost=0" not in live.ask("live")))
         os.chmod(self.wires.folder, 0o777)
-        self.assertTrue(eventually(lambda: "bridge.log=on" in live.ask("bridge")))
+        self.assertTrue(eventually(lambda: "live.log=on" in live.ask("live")))
         self.assertEqual(len(list(self.folder.iterdir())), 1)
         self.assertTrue(live.says("the log goes on in"))
 
@@ -117,13 +116,13 @@ class TestFiles(OnLinks):
         self.addCleanup(lambda: os.path.exists(f"/proc/{writer}") and os.kill(writer, 9))
         os.kill(writer, signal.SIGSTOP)
         self.assertTrue(live.says("has stood still for 5 seconds"))
-        self.assertIn("bridge.log=stalled", live.ask("bridge"))
+        self.assertIn("live.log=stalled", live.ask("live"))
         peer.send(numbered(1))
         self.assertTrue(eventually(live.neighbors, 1))
         os.kill(writer, signal.SIGCONT)
         self.assertTrue(live.says("the log goes on in"))
         self.assertTrue(eventually(lambda: len(list(self.folder.iterdir())) == 2))
-        self.assertIn("bridge.log-lines-lost=0", live.ask("bridge"))
+        self.assertIn("live.log-lines-lost=0", live.ask("live"))
         os.kill(writer, signal.SIGSTOP)
         while peer.hears(0.1):
             pass
@@ -135,7 +134,7 @@ class TestFiles(OnLinks):
         live = self.live("--log", str(self.folder), "eth0")
         os.kill(log_process(live), signal.SIGKILL)
         self.assertTrue(live.says("its process has ended"))
-        self.assertTrue(eventually(lambda: "bridge.log=on" in live.ask("bridge")))
+        self.assertTrue(eventually(lambda: "live.log=on" in live.ask("live")))
         self.assertEqual(len(list(self.folder.iterdir())), 2)
 
 
@@ -181,7 +180,3 @@ class TestFrozenDisk(OnLinks):
         live.signal(signal.SIGTERM)
         self.assertIsNotNone(peer.hears(2, ttl=0))
         self.assertEqual(live.ends(2), 0)
-
-
-if __name__ == "__main__":
-    unittest.main()

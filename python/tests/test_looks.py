@@ -8,10 +8,11 @@ from typing import Sequence
 
 from lldpa import Agent
 from lldpa.agent.framing import rx
-from lldpa.live.looks import MOST_SENDERS, Looks, sender_of
+from lldpa.live.looks import Looks
+from lldpa.live.senders import Senders
 from lldpa.agent.show import Port
-from lldpa.control.watching import Watch
-from served import PROGRAM, frame, numbered, tlv
+from lldpa.client.watching import Watch
+from served import PROGRAM, numbered, tlv
 
 FOREVER = 1e9
 
@@ -23,8 +24,9 @@ class BesideAnAgent(unittest.TestCase):
         self.agent = Agent.start(["eth0", "eth1"], PROGRAM, receive_only=True, max_neighbors=3)
         self.addCleanup(self.agent.close)
         self.looks = Looks()
+        self.senders = Senders()
         self.watch = Watch(())
-        self.second = self.made = self.seen = 0
+        self.made = self.seen = 0
         self.look(self.ports())
 
     def ports(self) -> Sequence[Port]:
@@ -34,18 +36,24 @@ class BesideAnAgent(unittest.TestCase):
     def look(self, ports: Sequence[Port]) -> None:
         """Looks at the tables."""
         self.seen += len(list(self.watch.news(ports)))
-        self.looks.looked(ports, self.second, 0, 0)
+        self.senders.note_held(ports)
+        self.looks.looked(ports, self.senders.second, 0, 0)
         self.made += 1
 
     def tell(self, line: str) -> None:
         """Tells the agent and the looks a line, and looks if that is due. If not, nothing is new
         but what they are told again is theirs."""
-        self.agent.tell([line])
+        word, port, digits, *_ = [*line.split(" "), "", ""]
+        answer = self.agent.tell([line])
         self.looks.take_line(line.encode())
-        if line.startswith("tick"):
-            self.second += int(line[5:] or 1)
+        if word == "rx":
+            self.looks.may_differ |= self.senders.hear(port, bytes.fromhex(digits.strip('"')))
+        elif word == "tick":
+            self.senders.second += int(port or 1)
+        elif not answer:
+            self.senders.obey(line.encode())
         ports = self.ports()
-        if self.looks.is_due(self.second, FOREVER):
+        if self.looks.is_due(self.senders.second, FOREVER):
             self.look(ports)
         else:
             known = self.watch.known
@@ -89,7 +97,7 @@ def a_line(chance: random.Random) -> str:
 
 
 class Bounds(unittest.TestCase):
-    """What looks cost, and what they keep."""
+    """What looks cost."""
 
     def test_a_look_takes_no_more_than_a_twentieth_of_the_time(self) -> None:
         looks = Looks()
@@ -102,22 +110,3 @@ class Bounds(unittest.TestCase):
         looks.take_line(b"update")
         self.assertFalse(looks.is_due(0, 220.9))
         self.assertTrue(looks.is_due(0, 221.1))
-
-    def test_of_many_senders_few_are_kept(self) -> None:
-        looks = Looks()
-        for number in range(3 * MOST_SENDERS):
-            looks.take_line(b"rx eth0 " + numbered(1)[:18].hex().encode() + b"%08x" % number)
-            self.assertLessEqual(len(looks.frames[b"eth0"]), MOST_SENDERS)
-
-    def test_who_sends_is_told_by_chassis_and_port(self) -> None:
-        octets = frame(b"\x07chassis", b"\x05port", 9, tlv(5, b"name"))
-        sender = sender_of(octets.hex().encode())
-        self.assertEqual(bytes.fromhex(sender.decode()),
-                         tlv(1, b"\x07chassis") + tlv(2, b"\x05port"))
-        for end in range(len(octets)):
-            self.assertTrue(octets[14:end].hex().startswith(
-                sender_of(octets[:end].hex().encode()).decode()))
-
-
-if __name__ == "__main__":
-    unittest.main()

@@ -7,17 +7,16 @@ import shutil
 import subprocess
 import unittest
 from dataclasses import fields
-from typing import Dict, Tuple
 
 from lldpa import read_show
-from lldpa.control.exposition import escaped
-from lldpa.control.metrics import metrics
+from lldpa.client.exposition import escaped
+from lldpa.client.metrics import metrics
 from lldpa.agent.show import Counters
-from served import BRIDGE_LINES, CTL, Served, frame, numbered, tlv
+from served import LIVE_LINES, CTL, Served, frame, numbered, tlv
 
 SAMPLE = re.compile(r'([a-z_]+)(?:\{((?:[a-z_]+="(?:[^"\\\n]|\\["\\n])*",?)+)\})? ([0-9]+)')
 LABEL = re.compile(r'([a-z_]+)="((?:[^"\\\n]|\\["\\n])*)"')
-Series = Dict[Tuple[str, Tuple[Tuple[str, str], ...]], int]
+Series = dict[tuple[str, tuple[tuple[str, str], ...]], int]
 
 
 def read(value: str) -> str:
@@ -40,7 +39,7 @@ def series_of(lines: list[str]) -> Series:
 
 
 class Metrics(unittest.TestCase):
-    """What a bridge tells for Prometheus."""
+    """What lldpa-live tells for Prometheus."""
 
     def setUp(self) -> None:
         self.served = Served(max_neighbors=3)
@@ -50,7 +49,7 @@ class Metrics(unittest.TestCase):
         """The metrics as they are now."""
         with self.served.client() as client:
             lines = client.ask("show neighbors") + client.ask("show statistics")
-            return series_of(metrics(read_show(lines), client.ask("bridge")))
+            return series_of(metrics(read_show(lines), client.ask("live")))
 
     def test_ports_and_their_counters(self) -> None:
         for number in range(4):
@@ -77,13 +76,13 @@ class Metrics(unittest.TestCase):
             ("lldpa_left_out_total", "eth0"): 3, ("lldpa_left_out_total", "eth1"): 0})
 
     def own(self, *lines: bytes) -> Series:
-        """What a bridge that tells these lines as well has of itself."""
-        lines_by_key = {line.partition(b"=")[0]: line for line in (*BRIDGE_LINES, *lines)}
-        self.served.bridge_lines = list(lines_by_key.values())
+        """What an lldpa-live that tells these lines as well has of itself."""
+        lines_by_key = {line.partition(b"=")[0]: line for line in (*LIVE_LINES, *lines)}
+        self.served.live_lines = list(lines_by_key.values())
         return {(name, labels): value for (name, labels), value in self.shown().items()
                 if not {"port"} & dict(labels).keys()}
 
-    def test_the_bridge_itself(self) -> None:
+    def test_lldpa_live_itself(self) -> None:
         agent, log = "lldpa_agent_state", "lldpa_log_state"
         self.assertEqual(self.own(), {
             ("lldpa_up", ()): 1, ("lldpa_start_time_seconds", ()): 1795599000,
@@ -93,18 +92,18 @@ class Metrics(unittest.TestCase):
             (log, (("state", "on"),)): 1, (log, (("state", "stalled"),)): 0,
             ("lldpa_log_lines_lost_total", ()): 5})
         for state in ("off", "on", "stalled", "full"):
-            series = self.own(b"bridge.log=" + state.encode())
+            series = self.own(b"live.log=" + state.encode())
             self.assertEqual([labels[0][1] for (name, labels), value in series.items()
                               if name == log and value], [state])
         for state, is_up in (("running", 1), ("silent", 0), ("waiting", 0)):
-            series = self.own(b"bridge.agent=" + state.encode())
+            series = self.own(b"live.agent=" + state.encode())
             self.assertEqual(series["lldpa_up", ()], is_up)
             self.assertEqual([labels[0][1] for (name, labels), value in series.items()
                               if name == agent and value], [state])
 
-    def test_what_a_bridge_does_not_tell_is_left_out(self) -> None:
-        self.served.bridge_lines = [b"bridge.eth0.kernel-drops=1", b"bridge.eth0.1.since=2",
-                                    b"bridge.later=3"]
+    def test_what_lldpa_live_does_not_tell_is_left_out(self) -> None:
+        self.served.live_lines = [b"live.eth0.kernel-drops=1", b"live.eth0.1.since=2",
+                                    b"live.later=3"]
         names = {name for name, _ in self.shown() if not name.startswith("lldpa_neighbor")}
         counters = {f"lldpa_{counter.name}_total" for counter in fields(Counters)}
         self.assertEqual(names - counters,
@@ -163,7 +162,3 @@ class Metrics(unittest.TestCase):
                 text = b'"\\\n\r\x1b\xff' + bytes(range(60, 200))
                 self.served.frame("eth0", frame(bytes([kind]) + text, b"\x07" + text, 90,
                                                 tlv(5, text), tlv(4, text)))
-
-
-if __name__ == "__main__":
-    unittest.main()

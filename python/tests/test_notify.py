@@ -98,7 +98,3 @@ class Telling(unittest.TestCase):
         manager.ready()
         os.unlink(self.heard.path)
         manager.ready()
-
-
-if __name__ == "__main__":
-    unittest.main()

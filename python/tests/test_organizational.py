@@ -3,87 +3,12 @@
 from __future__ import annotations
 
 import unittest
-from typing import NamedTuple, Tuple
 
-from encoding import encoded
-from lldpa.organizational import (ApplicationPriorities, ApplicationPriority, CivicAddress,
-                                  Coordinates, Eee, Elin, Ets, EtsRecommendation, EtsTables,
-                                  Inventory, LinkAggregation, MacPhy, ManagementVlan, MaxFrameSize,
-                                  MedCapabilities, MedPower, MudUrl, NetworkPolicy, Pfc, PortVlan,
-                                  Power, PowerOfPairs, PowerRequest, ProtocolIdentity,
-                                  ProtocolVlan, Tlv, VidUsageDigest, VlanName, mau_of, read_tlv,
-                                  said_by)
-
-TABLES = EtsTables((0, 1, 2, 3, 4, 5, 6, 7), (10, 20, 30, 40, 0, 0, 0, 0),
-                   (2, 2, 2, 2, 0, 0, 1, 255))
-TABLES_HEX = "01234567 0a141e2800000000 02020202000001ff"
-REQUEST = PowerRequest(1, 1, 2, 255, 200)
-PAIRS = PowerOfPairs(100, 101, 102, 103, 2, 1, 3, 4, 5, 6, 3, True, 999, True, False, True, 29,
-                     60)
-
-
-class Sample(NamedTuple):
-    """A TLV and what it says. Of its octets with one of them changed, so many have its form too;
-    so have its fronts of these lengths. `ignored` are bits that mean nothing."""
-
-    kind: Tuple[str, int]
-    octets: str
-    tlv: Tlv
-    changed: int
-    fronts: Tuple[int, ...] = ()
-    ignored: str = ""
-
-
-SAMPLES = (
-    Sample(("0080c2", 1), "0078", PortVlan(120), 15 + 255),
-    Sample(("0080c2", 2), "06 0078", ProtocolVlan(True, True, 120), 255 + 15 + 255,
-           ignored="f9 0000"),
-    Sample(("0080c2", 3), "0078 06 6f6666696365", VlanName(120, b"office"), 15 + 255 + 6 * 255),
-    Sample(("0080c2", 4), "05 88cc000102", ProtocolIdentity(b"\x88\xcc\0\x01\x02"), 5 * 255),
-    Sample(("0080c2", 5), "01020304", VidUsageDigest(0x01020304), 4 * 255),
-    Sample(("0080c2", 6), "0001", ManagementVlan(1), 15 + 255),
-    Sample(("0080c2", 7), "03 00000007", LinkAggregation(True, True, 7), 5 * 255,
-           ignored="fc 00000000"),
-    Sample(("00120f", 3), "01 00010002", LinkAggregation(True, False, 65538), 5 * 255,
-           ignored="fc 00000000"),
-    Sample(("0080c2", 9), "c0" + TABLES_HEX, Ets(True, True, 8, TABLES), 21 * 255,
-           ignored="38" + "00" * 20),
-    Sample(("0080c2", 10), "00" + TABLES_HEX, EtsRecommendation(TABLES), 21 * 255,
-           ignored="ff" + "00" * 20),
-    Sample(("0080c2", 11), "84 09", Pfc(True, False, 4, (0, 3)), 2 * 255, ignored="30 00"),
-    Sample(("0080c2", 12), "00 618906 820cbc", ApplicationPriorities((
-        ApplicationPriority(3, 1, 0x8906), ApplicationPriority(4, 2, 3260))), 7 * 255, (1, 4),
-           "ff 180000 180000"),
-    Sample(("00120f", 1), "03 6c01 001e", MacPhy(True, True, 0x6c01, 30), 5 * 255,
-           ignored="fc 0000 0000"),
-    Sample(("00120f", 2), "0f 01 05", Power(True, True, True, True, 1, 5), 3 * 255,
-           ignored="f0 00 00"),
-    Sample(("00120f", 2), "06 02 04 52 00ff 00c8",
-           Power(False, True, True, False, 2, 4, REQUEST), 8 * 255, (3,),
-           "f0 00 00 0c 0000 0000"),
-    Sample(("00120f", 2), "06 02 04 52 00ff 00c8 0064 0065 0066 0067 9e56 07 03e7 05 74003c",
-           Power(False, True, True, False, 2, 4, REQUEST, PAIRS), 25 * 255, (3, 8),
-           "f0 00 00 0c 0000 0000 0000 0000 0000 0000 0000 f0 0000 f8 000000"),
-    Sample(("00120f", 4), "05f2", MaxFrameSize(1522), 2 * 255),
-    Sample(("00120f", 5), "0011 0012 0013 0014 0015", Eee(17, 18, 19, 20, 21), 10 * 255),
-    Sample(("0012bb", 1), "003f 03", MedCapabilities(63, 3), 3 * 255),
-    Sample(("0012bb", 2), "01 43e96e", NetworkPolicy(1, False, True, 500, 5, 46), 4 * 255,
-           ignored="00 200000"),
-    # changed, its resolutions are up to 34 and 30, and no place is beyond a pole or half the globe
-    Sample(("0012bb", 3), "01 48 61000000 48 04800000 12 40 00 2380 01",
-           Coordinates(18, 97 << 24, 18, 9 << 23, 1, 9, 0x2380, 1),
-           (35 * 2 - 1) + 180 + 3 * 255 + (35 * 3 - 1) + 4 * 255 + (16 * 8 - 1) + 5 * 255),
-    Sample(("0012bb", 3), "02 0c 02 4e4c 16 07 5261636b203132",
-           CivicAddress(2, b"NL", ((22, b"Rack 12"),)), 4 * 255 + 7 * 255),
-    Sample(("0012bb", 3), "03 39313135353531323132", Elin("9115551212"), 10 * 9,
-           tuple(range(2, 11))),
-    Sample(("0012bb", 4), "52 0032", MedPower(1, 1, 2, 50), 3 * 255),
-    *(Sample(("0012bb", subtype), b"rev B".hex(), Inventory(kind, b"rev B"), 5 * 255,
-             tuple(range(5))) for subtype, kind in (
-                 (5, "hardware"), (6, "firmware"), (7, "software"), (8, "serial"),
-                 (9, "manufacturer"), (10, "model"), (11, "asset"))),
-    Sample(("00005e", 1), b"https://x".hex(), MudUrl(b"https://x"), 9 * 255, tuple(range(1, 9))),
-)
+from encoding import Sample, encoded
+from judges import SAMPLES
+from lldpa.organizational import (Coordinates, LinkAggregation, MacPhy, PortVlan, Power, VlanName,
+                                  mau_of, read_tlv, said_by)
+from lldpa.organizational.kinds import READERS
 
 
 def changed(octets: bytes) -> list[bytes]:
@@ -102,10 +27,7 @@ class EachKind(unittest.TestCase):
             self.assertEqual(encoded(sample.tlv), octets)
 
     def test_each_kind_is_there(self) -> None:
-        kinds = {sample.kind for sample in SAMPLES}
-        subtypes = {"0080c2": (*range(1, 8), *range(9, 13)), "00120f": range(1, 6),
-                    "0012bb": range(1, 12), "00005e": (1,)}
-        self.assertEqual(kinds, {(oui, one) for oui, some in subtypes.items() for one in some})
+        self.assertEqual({sample.kind for sample in SAMPLES}, {*READERS})
 
     def test_each_front(self) -> None:
         for sample in SAMPLES:
@@ -222,7 +144,3 @@ class OfANeighbor(unittest.TestCase):
         for shown in (("0080c2.1", "007"), ("0080c2.1", "xx"), ("0080c2", "0078"),
                       ("0080c2.x", "0078"), ("0080c2.1", "00\u0660\u0660"), ("", "")):
             self.assertEqual(said_by([shown]).rest, (shown,))
-
-
-if __name__ == "__main__":
-    unittest.main()

@@ -10,34 +10,34 @@ import sys
 import tempfile
 import unittest
 from pathlib import Path
-from typing import List
 
 import lldpa
 from served import PROGRAM, REPOSITORY
 
+WHEEL = str(REPOSITORY / "tools" / "release" / "wheel.sh")
 PROGRAMS = ("lldpa-audit", "lldpa-capture", "lldpa-ctl", "lldpa-live")
 TYPED = """\
 from typing import List, Optional
 
 from lldpa import Agent, Neighbor
-from lldpa.control import Client
+from lldpa.client import Client
 from lldpa.organizational import said_by
 
 
-def names(ports: List[str]) -> List[Optional[str]]:
+def names(ports: list[str]) -> list[Optional[str]]:
     with Agent.start(ports, receive_only=True) as agent:
-        neighbors: List[Neighbor] = agent.neighbors()
+        neighbors: list[Neighbor] = agent.neighbors()
         return [one.name for one in neighbors if said_by(one.org).pvid == 120]
 
 
-def lines() -> List[str]:
+def lines() -> list[str]:
     with Client() as client:
         return client.ask("show neighbors")
 """
 FALSE = "from lldpa import Agent\nnumber: int = Agent.start(['eth0']).neighbors()\n"
 
 
-def without_network() -> List[str]:
+def without_network() -> list[str]:
     """What lets a command run without a network, where that is able."""
     able = os.geteuid() == 0 and shutil.which("unshare")
     return ["unshare", "-n"] if able else []
@@ -57,8 +57,9 @@ class Installed(unittest.TestCase):
                               capture_output=True, text=True, check=False)
         if made.returncode:
             raise unittest.SkipTest(f"no environment with pip: {made.stdout.splitlines()[:1]}")
-        shutil.copytree(REPOSITORY / "python", cls.folder / "python",
-                        ignore=shutil.ignore_patterns("tests", "__pycache__"))
+        for name in ("python", "audit"):
+            shutil.copytree(REPOSITORY / name, cls.folder / name,
+                            ignore=shutil.ignore_patterns("tests", "worked", "__pycache__"))
         plain = {key: value for key, value in os.environ.items() if not key.startswith("PIP_")}
         plain["PIP_NO_INDEX"] = "1"  # also where the network cannot be taken away
         done = subprocess.run(
@@ -93,11 +94,30 @@ class Installed(unittest.TestCase):
                          [version])
 
     def test_all_modules_are_there(self) -> None:
-        library = next((self.folder / "venv" / "lib").glob("python3*")) / "site-packages" / "lldpa"
-        ours = REPOSITORY / "python" / "lldpa"
-        self.assertEqual({path.relative_to(library) for path in library.rglob("*.py")},
-                         {path.relative_to(ours) for path in ours.rglob("*.py")})
-        self.assertTrue((library / "py.typed").exists())
+        packages = next((self.folder / "venv" / "lib").glob("python3*")) / "site-packages"
+        for ours in (REPOSITORY / "python" / "lldpa", REPOSITORY / "audit" / "lldpa_audit"):
+            library = packages / ours.name
+            self.assertEqual({path.relative_to(library) for path in library.rglob("*.py")},
+                             {path.relative_to(ours) for path in ours.rglob("*.py")})
+            self.assertTrue((library / "py.typed").exists())
+
+    def test_a_wheel_may_hold_the_program(self) -> None:
+        start = "from lldpa import Agent\nAgent.start(['eth0']).close()"
+        alone = subprocess.run([str(self.bin("python")), "-c", start], capture_output=True,
+                               env={"PATH": "/nonexistent"}, text=True, check=False)
+        self.assertIn("not on the path, and not in this wheel: 'lldpa'", alone.stderr)
+        self.assertIn("has not the program lldpa", self.run_it("pip", "show", "lldpa"))
+        name = subprocess.run([WHEEL, str(self.folder)], capture_output=True, text=True, check=True,
+                              env={**os.environ, "LLDPA": PROGRAM}).stdout.strip()
+        self.assertRegex(name, "^lldpa-.*-py3-none-linux_(x86_64|aarch64).whl$")
+        place = str(self.folder / "with")
+        self.run_it("python", "-m", "venv", place)
+        python = place + "/bin/python"
+        for words in (["-m", "pip", "install", "--no-index", str(self.folder / name)],
+                      ["-c", start]):
+            done = subprocess.run([python, *words], capture_output=True, text=True, check=False,
+                                  env={"PATH": "/nonexistent"})
+            self.assertEqual(done.returncode, 0, done.stderr)
 
     @unittest.skipUnless(shutil.which("mypy"), "there is no mypy")
     def test_its_types_are_seen(self) -> None:
@@ -110,34 +130,20 @@ class Installed(unittest.TestCase):
             self.assertEqual(done.returncode, status, done.stdout + done.stderr)
 
 
-class Metrics(unittest.TestCase):
-    """The unit that asks as root."""
-
-    def test_metrics_are_written_with_few_rights(self) -> None:
-        unit = (REPOSITORY / "share/systemd/lldpa-metrics.service").read_text().splitlines()
-        for line in ["CapabilityBoundingSet=CAP_DAC_OVERRIDE", "NoNewPrivileges=yes",
-                     "RestrictAddressFamilies=AF_UNIX", "PrivateNetwork=yes", "ProtectHome=yes",
-                     "ProtectSystem=strict", "SystemCallFilter=~@privileged @resources",
-                     "SystemCallFilter=~kill tkill tgkill pidfd_send_signal rt_sigqueueinfo "
-                     "rt_tgsigqueueinfo", "InaccessiblePaths=-/boot -/media -/mnt",
-                     "TemporaryFileSystem=/etc:ro /opt:ro /run:ro /srv:ro /var:ro",
-                     "BindReadOnlyPaths=-/etc/ld.so.cache -/run/lldpa",
-                     "BindPaths=/var/lib/prometheus/node-exporter", "TimeoutStartSec=45"]:
-            self.assertIn(line, unit)
-
-
 class Modules(unittest.TestCase):
     """The package where it stands."""
 
     def run_module(self, *words: str) -> str:
         """What a module prints."""
-        return subprocess.run([sys.executable, "-m", *words], cwd=REPOSITORY / "python",
-                              capture_output=True, text=True, check=True).stdout
+        path = os.pathsep.join(str(REPOSITORY / name) for name in ("python", "audit"))
+        return subprocess.run([sys.executable, "-m", *words], capture_output=True, text=True,
+                              check=True, env={**os.environ, "PYTHONPATH": path}).stdout
 
     def test_each_program_prints_help(self) -> None:
         for name in (*PROGRAMS, "lldpctl"):
             module = name.rpartition("-")[2]
-            told = self.run_module(f"lldpa.commands.{module}", "--help")
+            told = self.run_module(
+                "lldpa_audit" if module == "audit" else f"lldpa.commands.{module}", "--help")
             self.assertTrue(told.startswith(f"usage: {name} "), told)
 
     def test_the_package_tells_of_itself(self) -> None:
@@ -150,7 +156,3 @@ class Modules(unittest.TestCase):
     def test_its_version_is_the_program_s(self) -> None:
         told = subprocess.run([PROGRAM, "--version"], capture_output=True, text=True, check=True)
         self.assertEqual(told.stdout, f"lldpa {lldpa.__version__}\n")
-
-
-if __name__ == "__main__":
-    unittest.main()

@@ -85,7 +85,3 @@ class Awaited(unittest.TestCase):
         values = iter((0, "", 7, 8))
         self.assertEqual(eventually(lambda: next(values)), 7)
         self.assertEqual(eventually(lambda: [], 0.01), [])
-
-
-if __name__ == "__main__":
-    unittest.main()

@@ -6,7 +6,7 @@ import re
 import unittest
 
 from lldpa import Neighbor, Port, read_show
-from lldpa.control.people import summary, table
+from lldpa.client.people import summary, table
 from lldpa.agent.shown import Identifier
 from lldpa.texts import cut
 from served import Served, frame, numbered, tlv
@@ -147,7 +147,3 @@ class Escapes(unittest.TestCase):
         self.assertEqual(len(lines), 22)
         self.assertEqual({len(line) for line in lines[:21]}, {len(lines[0])})
         self.assertTrue(all(re.search(r"120 s$", line) for line in lines[1:21]))
-
-
-if __name__ == "__main__":
-    unittest.main()

@@ -14,7 +14,7 @@ from pathlib import Path
 from typing import Any, List
 
 from patience import SECONDS
-from served import BRIDGE_LINES, CTL, Served, numbered
+from served import LIVE_LINES, CTL, Served, numbered
 
 DOWN = """\
 # HELP lldpa_up Whether lldpa-live answers and its agent does, 1 or 0.
@@ -24,7 +24,7 @@ lldpa_up 0
 
 
 class Publishing(unittest.TestCase):
-    """With a bridge's socket, and a folder for the file."""
+    """With lldpa-live's socket, and a folder for the file."""
 
     def setUp(self) -> None:
         self.served = Served()
@@ -68,21 +68,21 @@ class Publishing(unittest.TestCase):
 
     def test_an_agent_that_does_not_answer_is_not_waited_for(self) -> None:
         for state in ("silent", "waiting"):
-            self.served.bridge_lines = [*BRIDGE_LINES, b"bridge.agent=" + state.encode()]
+            self.served.live_lines = [*LIVE_LINES, b"live.agent=" + state.encode()]
             self.served.asked.clear()
             printed = self.ctl(said=f"the agent is {state}", status=1)
-            self.assertEqual(self.served.asked, [b"bridge"])
+            self.assertEqual(self.served.asked, [b"live"])
             self.assertIn("\nlldpa_up 0\n", printed)
             self.assertIn(f'\nlldpa_agent_state{{state="{state}"}} 1\n', printed)
             self.assertIn('\nlldpa_link_up{port="eth0"} 1\n', printed)
             self.assertNotIn("lldpa_neighbors", printed)
 
-    def test_a_bridge_that_ends_or_answers_nonsense_is_down(self) -> None:
+    def test_lldpa_live_that_ends_or_answers_nonsense_is_down(self) -> None:
         answers = {b"": "lldpa-live has ended the connection",
                    b"=1\n": "lldpa-live has ended the connection",
                    b"hello\n": "no answer of lldpa-live: 'hello'",
-                   b"=1\nbridge.began=now\n=0\n=0\n": "no answer of lldpa-live: time data 'now' "
-                                                       "does not match format",
+                   b"=1\nlive.began=now\n=0\n=0\n": "no answer of lldpa-live: not a time as "
+                   "lldpa-live writes it: 'now'",
                    b"=0\n=1\nx\n=0\n": "line 1"}
         for answer, said in answers.items():
             path = os.path.join(self.served.folder, f"other-{len(answer)}")
@@ -132,7 +132,7 @@ class Publishing(unittest.TestCase):
             asking = subprocess.Popen([CTL, "--control", path, "metrics", "--output",
                                        str(self.file)])
             with silent.accept()[0] as connection:
-                self.assertEqual(connection.recv(4096), b"bridge\n")
+                self.assertEqual(connection.recv(4096), b"live\n")
                 asking.kill()
                 self.assertEqual(asking.wait(SECONDS), -signal.SIGKILL)
         self.assertEqual((self.names(), self.file.read_text()), (["lldpa.prom"], "before\n"))
@@ -155,7 +155,3 @@ def answer_once(listener: socket.socket, answer: bytes) -> None:
         connection.shutdown(socket.SHUT_WR)
         while connection.recv(4096):
             pass
-
-
-if __name__ == "__main__":
-    unittest.main()

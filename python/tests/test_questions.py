@@ -3,35 +3,33 @@
 from __future__ import annotations
 
 import json
-import re
 import subprocess
 import unittest
 from dataclasses import fields
-from typing import List
 
-from bridged import OnLinks, on_links
-from lldpa.control.answering import HELP, answered
+from running_live import OnLinks, on_links
+from lldpa.live.server.answering import HELP, answered
 from lldpa.agent.framing import Refused
-from lldpa.control.questions import COMMANDS, explanation, listed, question
+from lldpa.client.questions import COMMANDS, explanation, listed, question
 from lldpa.agent.shown import Counters
 from patience import eventually
-from served import CTL, REPOSITORY, Served, numbered, tlv
+from served import CTL, Served, numbered, tlv
 
-BRIDGE = [b"bridge.began=2026-11-23T19:40:00Z", b"bridge.eth0.interface=present",
-          b"bridge.eth0.link=up", b"bridge.eth1.interface=awaited", b"bridge.eth1.link=down",
-          b"bridge.eth0.since.1=2026-11-23T19:45:02Z mac=02:00:00:00:00:01 ifname=p1"]
+LIVE = [b"live.began=2026-11-23T19:40:00Z", b"live.eth0.interface=present",
+          b"live.eth0.link=up", b"live.eth1.interface=awaited", b"live.eth1.link=down",
+          b"live.eth0.since.1=2026-11-23T19:45:02Z mac=02:00:00:00:00:01 ifname=p1"]
 
 
 class Told(Served):
-    """A socket with a bridge that tells more of itself."""
+    """A socket with an lldpa-live that tells more of itself."""
 
-    async def ask(self, line: bytes) -> List[bytes]:
-        """The bridge's lines, or the agent's answer."""
-        return BRIDGE if line == b"bridge" else await super().ask(line)
+    async def ask(self, line: bytes) -> list[bytes]:
+        """lldpa-live's lines, or the agent's answer."""
+        return LIVE if line == b"live" else await super().ask(line)
 
 
 class Words(unittest.TestCase):
-    """With a bridge's socket: what both print."""
+    """With lldpa-live's socket: what both print."""
 
     def setUp(self) -> None:
         self.served = Told()
@@ -39,7 +37,7 @@ class Words(unittest.TestCase):
         self.served.frame("eth0", numbered(1, 120, tlv(5, b"sw"), tlv(127, b"\0\x80\xc2\1\0\x78")))
         self.served.frame("eth1", numbered(2, 60))
 
-    def ctl(self, *words: str, status: int = 0) -> List[str]:
+    def ctl(self, *words: str, status: int = 0) -> list[str]:
         """What lldpa-ctl prints, or what it says where its status is another."""
         told = subprocess.run([CTL, "--control", self.served.path, *words], check=False,
                               capture_output=True, text=True)
@@ -47,9 +45,9 @@ class Words(unittest.TestCase):
         self.assertEqual(told.stderr if not status else told.stdout, "")
         return (told.stderr if status else told.stdout).splitlines()
 
-    def console(self, line: str) -> List[str]:
-        """What the console answers to a line, as a bridge's."""
-        async def ask(asked: bytes) -> List[bytes]:
+    def console(self, line: str) -> list[str]:
+        """What the console answers to a line, as lldpa-live's."""
+        async def ask(asked: bytes) -> list[bytes]:
             try:
                 return await self.served.ask(asked)
             except Refused as refused:
@@ -57,7 +55,7 @@ class Words(unittest.TestCase):
         lines = self.served.call(answered(ask, line.encode("latin-1")))
         return [one.decode() for one in lines]
 
-    def both(self, line: str) -> List[str]:
+    def both(self, line: str) -> list[str]:
         """What both print, which is the same."""
         lines = self.ctl(*line.split())
         self.assertEqual(self.console(line), lines, line)
@@ -149,28 +147,35 @@ class Words(unittest.TestCase):
                 ("interfaces x", "no such port: x (eth0, eth1)"),
                 ("statistics x", "no such port: x (eth0, eth1)"),
                 ("show statistics x", "no such port: x (eth0, eth1)"),
-                ("bridge x", "extra word: x (nothing follows)"),
+                ("live x", "extra word: x (nothing follows)"),
                 ("update x", "extra word: x (nothing follows)"),
                 ("show chassis x", "extra word: x (nothing follows)"),
                 ("show neighbour", "unknown command: neighbour (neighbors, statistics, chassis, "
                  "configuration, interfaces)"),
                 ("show", "unknown command: nothing follows (neighbors, statistics, chassis, "
                  "configuration, interfaces)"),
-                ("configure lldp tx-hold 0", "out of range: 0 (a number from 1 to 100)"),
-                ("configure lldp tx-hold x", "not a number: x (a number from 1 to 100)"),
-                ("configure lldp tx-interval 3601", "out of range: 3601 (a number from 1 to 3600)"),
+                ("configure lldp tx-hold 0",
+                 "out of range: 0 (intervals that peers keep a frame, 1 to 100)"),
+                ("configure lldp tx-hold x",
+                 "not a number: x (intervals that peers keep a frame, 1 to 100)"),
+                ("configure lldp tx-interval 3601",
+                 "out of range: 3601 (seconds between frames, 1 to 3600)"),
                 ("configure ports eth0,eth1 lldp status off",
-                 "unknown command: off (rx-and-tx, rx-only, tx-only or disabled)")):
+                 "unknown command: off (rx-and-tx, rx-only, tx-only, disabled)")):
             self.assertEqual(self.refused(line), said)
         said, = self.ctl("configure", "ports", "eth9", "lldp", "status", "disabled", status=1)
         self.assertEqual(said, "lldpa-ctl: no such port: eth9 (eth0, eth1)")
         said, = self.ctl("neighbours", status=1)
         self.assertEqual(said, "lldpa-ctl: unknown command: neighbours (neighbors, details, "
-                         "interfaces, statistics, bridge, show, configure, update, watch, metrics)")
+                         "interfaces, statistics, live, show, configure, update, watch, metrics, "
+                         "help)")
         self.assertEqual(self.ctl("tick", status=1), ["lldpa-ctl: for lldpa-live alone"])
 
     def test_other_lines_of_the_console_go_to_the_agent_as_they_are(self) -> None:
-        self.assertEqual(self.console("nonsense"), ["error: unknown command"])
+        self.assertEqual(self.console("foo"), [
+            "error: unknown command: foo (neighbors, details, interfaces, statistics, live, show, "
+            "configure, update, help)"])
+        self.assertEqual(self.console("n eth1"), self.console("neighbors eth1"))
         self.assertEqual(self.console('show "neighbors'), ["error: bad quote"])
         self.assertEqual(self.console(""), [])
         self.assertEqual(self.console("# a comment"), [])
@@ -181,17 +186,6 @@ class Words(unittest.TestCase):
 
 class WhatIsKnown(unittest.TestCase):
     """The commands that are known here, and what the agent has."""
-
-    def test_ranges_are_those_of_the_agents_help(self) -> None:
-        text = (REPOSITORY / "examples" / "help.txt").read_text()
-        ranges = {"tx-interval": "1 to 3600", "tx-hold": "1 to 100"}
-        for name, range_of in ranges.items():
-            shown = re.search(rf"configure lldp {name} N .*?(1 to [0-9]+)", text, re.DOTALL)
-            assert shown is not None
-            self.assertEqual(shown[1], range_of)
-            words = ["configure", "lldp", name, "0"]
-            self.assertEqual(explanation(words, "out of range"),
-                             f"out of range: 0 (a number from {range_of})")
 
     def test_each_first_word_asks_something(self) -> None:
         for word in COMMANDS:
@@ -219,8 +213,4 @@ class Console(OnLinks):
                          ["eth0", "present", "up", "rx-only", "1"])
         self.assertEqual(len(live.told("statistics summary")), 2)
         self.assertEqual(live.told("configure lldp tx-hold 0"),
-                         ["error: out of range: 0 (a number from 1 to 100)"])
-
-
-if __name__ == "__main__":
-    unittest.main()
+                         ["error: out of range: 0 (intervals that peers keep a frame, 1 to 100)"])

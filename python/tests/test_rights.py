@@ -1,4 +1,4 @@
-"""What is left to who takes over the bridge: LLDP frames, and no right."""
+"""What is left to who takes over lldpa-live: LLDP frames, and no right."""
 
 from __future__ import annotations
 
@@ -10,20 +10,22 @@ import socket
 import struct
 import subprocess
 import sys
-import unittest
 from pathlib import Path
 
 from lldpa.live.interface import IS_OURS, SO_ATTACH_FILTER, filter_program
+from lldpa.live.outbox import is_lldp
 
-from bridged import Live, OnLinks, on_links
+from running_live import Live, OnLinks, on_links
 from patience import eventually
-from served import REPOSITORY, numbered
+from served import PROGRAM, REPOSITORY, numbered
 from wires import inside
 
 SO_DETACH_FILTER, SO_LOCK_FILTER = 27, 44
+SOL_PACKET, PACKET_ADD_MEMBERSHIP, PACKET_RX_RING = 263, 1, 5
+PACKET_MR_PROMISC = 1
 SYS_PIDFD_OPEN, SYS_PIDFD_GETFD = 434, 438
 
-# opens a port as the bridge does, gives up all rights, and tries to get more out of its socket
+# opens a port as lldpa-live does, gives up all rights, and tries to get more out of its socket
 WITHIN = """
 import socket, sys
 sys.path.insert(0, sys.argv[1])
@@ -53,7 +55,7 @@ def what_is_refused(packets: socket.socket) -> list[str]:
 
 
 def sockets_of(live: Live) -> list[socket.socket]:
-    """The packet sockets of a bridge, the very ones."""
+    """The packet sockets of an lldpa-live, the very ones."""
     libc = ctypes.CDLL(None, use_errno=True)
     pid = libc.syscall(SYS_PIDFD_OPEN, live.process.pid, 0)
     found = []
@@ -92,7 +94,7 @@ class TestFilter(OnLinks):
                                  env={**os.environ, "PYTHONPATH": os.path.dirname(__file__)})
         self.assertEqual(run.stdout.strip(), "['detach', 'attach', 'unlock']", run.stderr)
 
-    def test_kernel_refuses_on_the_sockets_of_a_running_bridge(self) -> None:
+    def test_kernel_refuses_on_the_sockets_of_a_running_lldpa_live(self) -> None:
         live = self.live("eth0", "eth1")
         found = sockets_of(live)
         self.assertEqual(len(found), 2)
@@ -140,10 +142,22 @@ class TestFilter(OnLinks):
         one.send(no_lldp)
         self.assertEqual(listener.recv(2000), no_lldp)
 
+    def test_what_is_left_is_a_packet_ring_and_promiscuous_mode(self) -> None:
+        one = sockets_of(self.live("eth0", "--", "--receive-only"))[0]
+        self.addCleanup(one.close)
+        with inside(self.wires.here):
+            number = socket.if_nametoindex("eth1")
+            show = ["ip", "-d", "link", "show", "dev", "eth1"]
+            self.assertIn("promiscuity 0", subprocess.check_output(show, text=True))
+            one.setsockopt(SOL_PACKET, PACKET_ADD_MEMBERSHIP,
+                           struct.pack("iHH8s", number, PACKET_MR_PROMISC, 0, b""))
+            self.assertIn("promiscuity 1", subprocess.check_output(show, text=True))
+        one.setsockopt(SOL_PACKET, PACKET_RX_RING, struct.pack("IIII", 4096, 1024, 2048, 2048))
+
 
 @on_links
 class TestSets(OnLinks):
-    """Capabilities and groups of the bridge, its agent and the process of its log."""
+    """Capabilities and groups of lldpa-live, its agent and the process of its log."""
 
     def test_bounding_set_is_empty(self) -> None:
         live = self.live("--log", os.path.join(self.wires.folder, "log"), "eth0")
@@ -157,6 +171,7 @@ class TestSets(OnLinks):
             self.assertEqual(status["Groups"].strip(), "")
             self.assertEqual(status["NoNewPrivs"].strip(), "1")
             self.assertEqual(set(status["Uid"].split()), {"65534"})
+            self.assertNotIn("0", status["Gid"].split())
 
     def test_groups_are_dropped_where_it_is_not_root(self) -> None:
         Path(self.wires.folder).chmod(0o777)
@@ -177,5 +192,29 @@ class TestSets(OnLinks):
             self.assertIn("PermissionError", looked.stderr, name)
 
 
-if __name__ == "__main__":
-    unittest.main()
+@on_links
+class Sending(OnLinks):
+    """Of what an agent wants to send, LLDP frames of this host go alone."""
+
+    def test_what_is_an_lldp_frame_of_this_host(self) -> None:
+        own, other = bytes.fromhex("02000000000a"), bytes.fromhex("02000000000b")
+        good = numbered(1)
+        self.assertEqual(good[6:12], own)
+        for octets in (good, good[:14], good + bytes(1514 - len(good))):
+            self.assertTrue(is_lldp(octets, own, other))
+        for octets in (good[:13], b"", good + bytes(1515 - len(good)), b"\xff" * 6 + good[6:],
+                       good[:12] + b"\x08\x06" + good[14:], good[:6] + bytes(6) + good[12:]):
+            self.assertFalse(is_lldp(octets, own, b""))
+
+    def test_a_frame_from_a_foreign_address_is_not_sent(self) -> None:
+        program = Path(self.wires.folder, "lldpa")
+        foreign = numbered(7).hex()
+        program.write_text(f"#!/bin/sh\n(sleep 1; echo tx eth0 {foreign}) &\nexec {PROGRAM} \"$@\"")
+        program.chmod(0o755)
+        Path(self.wires.folder).chmod(0o755)
+        peer, live = self.peer(), self.live("eth0", program=str(program))
+        self.assertTrue(live.says("the agent wanted to send what is not an LLDP frame of eth0: "
+                                  f"{foreign[:28]}; another one takes its place"))
+        self.assertEqual(live.ends(), 1)
+        while (heard := peer.hears(0.2)) is not None:
+            self.assertNotEqual(heard.hex(), foreign)

@@ -39,7 +39,3 @@ class Rules(unittest.TestCase):
             told = subprocess.run(["promtool", *words], check=False, capture_output=True, text=True)
             self.assertEqual(told.returncode, 0, told.stdout + told.stderr)
             self.assertIn("SUCCESS", told.stdout)
-
-
-if __name__ == "__main__":
-    unittest.main()

@@ -6,6 +6,7 @@ import time
 import unittest
 from unittest import mock
 
+from lldpa import clock
 from lldpa.live.seconds import Seconds
 
 
@@ -24,7 +25,7 @@ class TestSeconds(unittest.TestCase):
 
     def setUp(self) -> None:
         self.clock = At(1000.25)
-        patch = mock.patch.object(Seconds, "now", self.clock)
+        patch = mock.patch.object(clock, "now", self.clock)
         patch.start()
         self.addCleanup(patch.stop)
         self.seconds = Seconds()
@@ -74,9 +75,5 @@ class TestNow(unittest.TestCase):
 
     def test_it_is_the_one_that_goes_on_in_sleep(self) -> None:
         before = time.clock_gettime(time.CLOCK_BOOTTIME)
-        now = Seconds.now()
+        now = clock.now()
         self.assertTrue(before <= now <= time.clock_gettime(time.CLOCK_BOOTTIME))
-
-
-if __name__ == "__main__":
-    unittest.main()

@@ -9,7 +9,7 @@ import subprocess
 import time
 from typing import Any
 
-from bridged import Live, OnLinks, on_links
+from running_live import Live, OnLinks, on_links
 from heard import Heard
 from patience import Standstill, by_the_clock, eventually
 from served import CTL, numbered, tlv
@@ -17,7 +17,7 @@ from served import CTL, numbered, tlv
 
 @on_links
 class Service(OnLinks):
-    """A bridge that is watched."""
+    """An lldpa-live that is watched."""
 
     def setUp(self) -> None:
         super().setUp()
@@ -26,7 +26,7 @@ class Service(OnLinks):
         self.addCleanup(self.heard.close)
 
     def service(self, *words: str, seconds: float = 4, **options: Any) -> Live:
-        """A bridge that tells the test how it goes, with a sign of life in so many seconds."""
+        """An lldpa-live that tells the test how it goes, with a sign of life in so many seconds."""
         return self.live("--stay", *words, env=self.heard.environment(seconds), **options)
 
     def metrics(self, live: Live) -> str:
@@ -38,15 +38,16 @@ class Service(OnLinks):
 class Systemd(Service):
     """Datagrams."""
 
-    def test_it_is_ready_when_the_agent_is_open(self) -> None:
+    def test_it_is_ready_also_while_it_waits_and_says_for_what(self) -> None:
         live = self.service("eth1", awaits=False)
-        self.assertEqual(self.heard.next(), ["STATUS=waiting for an interface"])
-        self.assertIn("bridge.agent=waiting", live.ask("bridge"))
+        self.assertEqual(self.heard.next(), ["READY=1"])
+        self.assertEqual(self.heard.next(), ["STATUS=waiting for an interface: eth1"])
+        self.assertIn("live.agent=waiting", live.ask("live"))
         self.assertIn("\nlldpa_agent_state{state=\"waiting\"} 1\n", self.metrics(live))
         self.assertEqual(self.heard.next(1.5), [])
         self.wires.add_link(1)
         self.assertTrue(self.heard.hears("READY=1"))
-        self.assertIn("bridge.agent=running", live.ask("bridge"))
+        self.assertIn("live.agent=running", live.ask("live"))
         self.assertTrue(self.heard.hears("STATUS=no neighbors on 1 port"))
 
     def test_its_status_has_ports_and_neighbors(self) -> None:
@@ -93,7 +94,7 @@ class Systemd(Service):
             self.assertTrue(live.says("the agent has not answered for 5 seconds"))
             took = time.monotonic() - began
         self.assertLess(took - standstill.overslept, 6)
-        self.assertIn("bridge.agent=silent", live.ask("bridge"))
+        self.assertIn("live.agent=silent", live.ask("live"))
         self.assertIn("\nlldpa_up 0\n", self.metrics(live))
         self.heard.forget()
         self.assertFalse(self.heard.hears("WATCHDOG=1", 4))
@@ -154,13 +155,36 @@ class Events(Service):
         self.assertTrue(eventually(lambda: live.seconds_told() >= second + 2))
         self.assertEqual(len(self.told(live)), 100)
 
+    def test_links_and_want_of_room_are_told(self) -> None:
+        live, peer = self.live("--stay", "--events", "eth0", "--", "--receive-only",
+                               "--max-neighbors", "1"), self.peer()
+        for number in (1, 2):
+            peer.send(numbered(number, 60))
+        self.assertTrue(live.says("lldpa-live: eth0 has no room for a neighbor\n"))
+        self.wires.set_link("eth0", "down")
+        self.assertTrue(live.says("lldpa-live: eth0: the link is down\n"))
+        self.wires.set_link("eth0", "up")
+        self.assertTrue(live.says("lldpa-live: eth0: the link is up\n"))
+        self.assertEqual(live.errors().count("no room"), 1)
+
+    def test_the_journal_is_told_levels_in_place_of_the_name(self) -> None:
+        journal = ["sh", "-c", 'JOURNAL_STREAM=$(stat -L -c %d:%i /dev/fd/2) exec "$@"', "sh"]
+        live = self.live("--stay", "--events", "eth0", "--", "--receive-only", before=journal)
+        self.peer().send(numbered(1, 60, tlv(5, b"a")))
+        self.assertTrue(live.says("<6>eth0 came: a p1\n"))
+        os.kill(live.agent(), signal.SIGKILL)
+        self.assertTrue(live.says("<4>the agent was killed by SIGKILL; another one takes"))
+        self.assertTrue(eventually(live.ask_quietly))
+        live.signal(signal.SIGHUP)
+        self.assertTrue(live.says("<5>the settings were read anew\n"))
+        os.kill(live.agent(), signal.SIGKILL)
+        self.assertEqual(live.ends(), 1)
+        last = live.errors().splitlines()[-1]
+        self.assertRegex(last, "^<3>.*the agent was killed by SIGKILL$")
+        self.assertNotIn("lldpa-live", live.errors())
+
     def test_a_name_that_would_write_to_a_terminal_is_escaped(self) -> None:
         live, peer = self.live("--stay", "--events", "eth0", "--", "--receive-only"), self.peer()
         peer.send(numbered(1, 60, tlv(5, b"\x1b[2J\nlldpa-live: eth0 gone: all")))
         self.assertTrue(live.says(r"eth0 came: \x1b[2J\x0alldpa-live: eth0 gone: all p1"))
         self.assertEqual(live.errors().count("\n"), 1)
-
-
-if __name__ == "__main__":
-    import unittest
-    unittest.main()

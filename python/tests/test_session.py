@@ -12,12 +12,12 @@ import time
 import unittest
 from pathlib import Path
 
+from lldpa.clock import now
 from lldpa.live.batch import Entry
-from lldpa.live.logbook import MOST_WAITING, Logbook
-from lldpa.live.logfiles import LogFiles, open_folder, sizes_of
-from lldpa.live.logprocess import answer, answers_in
-from lldpa.live.seconds import Seconds
-from lldpa.live.session import MOST_SECONDS_KEPT, Session
+from lldpa.live.log.book import MOST_WAITING, Logbook
+from lldpa.live.log.files import LogFiles, open_folder, sizes_of
+from lldpa.live.log.process import answer, answers_in
+from lldpa.live.log.session import MOST_SECONDS_KEPT, Session
 
 from patience import eventually
 
@@ -58,9 +58,9 @@ class TestSession(InFolder):
     async def test_lines_and_the_clock_before_them(self) -> None:
         session = await self.session()
         session.begin(["--hostname=a b", "--", "eth0"], ["up eth0"])
-        now = Seconds.now()
-        before = now - 3600
-        session.write([Entry(before, b"tick"), Entry(before, b"up eth0"), Entry(now, b"tick")])
+        last = now()
+        before = last - 3600
+        session.write([Entry(before, b"tick"), Entry(before, b"up eth0"), Entry(last, b"tick")])
         await session.close(5)
         lines = self.logs()[0].read_text().splitlines()
         self.assertEqual(lines[:2], ["# lldpa '--hostname=a b' -- eth0", "up eth0"])
@@ -72,10 +72,10 @@ class TestSession(InFolder):
     async def test_seconds_alone_wait_for_company_and_nothing_else_does(self) -> None:
         session = await self.session()
         session.begin(["eth0"])
-        tick, frame = Entry(Seconds.now(), b"tick"), Entry(Seconds.now(), b"rx eth0 00")
+        tick, frame = Entry(now(), b"tick"), Entry(now(), b"rx eth0 00")
         session.write([tick])
         self.assertEqual(session.book.size, len("# lldpa eth0\n"))
-        for entries in ([frame], [tick] * MOST_SECONDS_KEPT, [Entry(Seconds.now(), b"tick 6")]):
+        for entries in ([frame], [tick] * MOST_SECONDS_KEPT, [Entry(now(), b"tick 6")]):
             session.write(entries)
             self.assertEqual(session.kept, [])
         session.write([tick])
@@ -193,6 +193,3 @@ class TestLogbook(InFolder):
         os.kill(process, signal.SIGSTOP)
         status = Path(f"/proc/{process}/stat")
         self.assertTrue(eventually(lambda: status.read_text().rpartition(")")[2].split()[0] == "T"))
-
-if __name__ == "__main__":
-    unittest.main()

@@ -2,14 +2,16 @@
 
 from __future__ import annotations
 
+import codecs
+import os
 import signal
 import unittest
 from pathlib import Path
 
-from bridged import OnLinks, on_links
-from lldpa.control.refused import explained
+from running_live import OnLinks, on_links
+from lldpa.client.refused import explained
 from patience import eventually
-from served import numbered
+from served import PROGRAM, numbered
 
 
 class TestExplained(unittest.TestCase):
@@ -18,20 +20,24 @@ class TestExplained(unittest.TestCase):
     def test_words_and_ranges(self) -> None:
         for line, text, wanted in (
                 ("configure lldp tx-interval 0", "out of range",
-                 "out of range: 0 (a number from 1 to 3600)"),
+                 "out of range: 0 (seconds between frames, 1 to 3600)"),
                 ("configure lldp tx-hold x", "not a number",
-                 "not a number: x (a number from 1 to 100)"),
+                 "not a number: x (intervals that peers keep a frame, 1 to 100)"),
                 ("configure lldp max-neighbors 99", "out of range",
-                 "out of range: 99 (a number from 1 to that of --max-neighbors)"),
+                 "out of range: 99 (1 to the number of --max-neighbors)"),
                 ("configure ports eth9 lldp status disabled", "no such port",
                  "no such port: eth9 (a port of this agent)"),
                 ("configure ports eth0 lldp status on", "unknown command",
-                 "unknown command: on (rx-and-tx, rx-only, tx-only or disabled)"),
+                 "unknown command: on (rx-and-tx, rx-only, tx-only, disabled)"),
                 ("configure lldp", "unknown command",
                  "unknown command: nothing follows (tx-interval or tx-hold or max-neighbors)"),
                 ("configure lldp tx-hold 4 5", "extra word", "extra word: 5 (nothing follows)"),
+                ("configure system description \t", "bad text", "bad text: nothing follows "
+                 "(up to 255 printable characters, in quotes where they have spaces)"),
                 ('configure system hostname "a', "bad quote", "bad quote")):
-            self.assertEqual(explained(line, text), wanted)
+            self.assertEqual(explained(line, text, PROGRAM), wanted)
+        self.assertEqual(explained("configure lldp tx-hold x", "not a number", "/no/lldpa"),
+                         "not a number")
 
 
 @on_links
@@ -48,7 +54,7 @@ class TestSettings(OnLinks):
         Path(self.wires.folder).chmod(0o755)
 
     def words(self) -> list[str]:
-        """The words of a bridge with both."""
+        """The words of an lldpa-live with both."""
         return ["--stay", "--config", str(self.file), "--config", str(self.folder)]
 
     def test_they_are_told_before_any_frame_goes_and_outlive_a_restart(self) -> None:
@@ -81,7 +87,7 @@ class TestSettings(OnLinks):
         self.assertEqual(live.ends(), 2)
         self.assertEqual(live.errors().splitlines(), [
             f"lldpa-live: {self.file}:3: configure lldp tx-interval 3601: "
-            "out of range: 3601 (a number from 1 to 3600)",
+            "out of range: 3601 (seconds between frames, 1 to 3600)",
             f"lldpa-live: {self.file}:4: show neighbors: show is not `configure`",
             f"lldpa-live: {self.file}:5: configure ports eth9 lldp status disabled: "
             "no such port: eth9 (a port of this agent)"])
@@ -109,17 +115,57 @@ class TestSettings(OnLinks):
         self.assertIn("lldp.eth0.received=200", live.ask("show statistics"))
         self.assertIn("configuration.tx-interval=29", live.ask("show configuration"))
         self.assertIn(f"{self.file}:2: configure lldp tx-hold 101: out of range: 101 "
-                      "(a number from 1 to 100)", live.errors())
+                      "(intervals that peers keep a frame, 1 to 100)", live.errors())
         self.assertIn("configuration.tx-hold=4", live.ask("show configuration"))
         self.assertIsNone(live.process.poll())
 
-    def test_file_that_cannot_be_read_is_told(self) -> None:
-        self.file.write_text("configure lldp tx-hold 3\n")
-        self.file.chmod(0o600)
+    def test_what_cannot_be_read_is_told_and_the_rest_is_taken(self) -> None:
+        self.file.write_bytes(codecs.BOM_UTF8 + b"configure lldp tx-hold 3\n")
+        for name in ("10-locked.conf", "30.conf", ".#hidden.conf"):
+            (self.folder / name).write_text("configure lldp tx-interval 9\n")
+        (self.folder / "10-locked.conf").chmod(0)
+        (self.folder / ".#hidden.conf").chmod(0)
+        (self.folder / "11-dangling.conf").symlink_to("/no/such/file")
+        (self.folder / "12-folder.conf").mkdir()
+        os.mkfifo(self.folder / "13-pipe.conf")
+        (self.folder / "14-device.conf").symlink_to("/dev/zero")
+        told = [f"lldpa-live: {self.folder}/{name}.conf: {why}" for name, why in (
+            ("10-locked", "Permission denied"), ("11-dangling", "No such file or directory"),
+            ("12-folder", "not a file"), ("13-pipe", "not a file"), ("14-device", "not a file"))]
+        live = self.live(*self.words(), "eth0")
+        self.assertEqual(live.errors().splitlines(), told)
+        self.assertIn("configuration.tx-hold=3", live.ask("show configuration"))
+        self.assertIn("configuration.tx-interval=9", live.ask("show configuration"))
+        live.signal(signal.SIGHUP)
+        self.assertTrue(live.says("5 settings were not taken"))
+        self.assertEqual(live.errors().splitlines()[5:10], told)
+        self.assertIn("live.settings-refused=5", live.ask("live"))
+        self.assertNotIn("read anew", live.errors())
+        for path in self.folder.glob("1*.conf"):
+            path.rmdir() if path.is_dir() else path.unlink()
+        live.signal(signal.SIGHUP)
+        self.assertTrue(live.says("the settings were read anew"))
+        self.assertIn("live.settings-refused=0", live.ask("live"))
+        live.signal(signal.SIGTERM)
+        self.assertEqual(live.ends(), 0)
+
+    def test_refused_lines_are_escaped_and_cut(self) -> None:
+        self.file.write_bytes(b"configure \x1b[31m" + b"x" * 300 + b"\n\xff\x07\n")
         live = self.live(*self.words(), "eth0")
         self.assertEqual(live.ends(), 2)
-        self.assertIn(f"{self.file}: Permission denied", live.errors())
+        self.assertTrue(live.errors().isascii() and live.errors().replace("\n", "").isprintable())
+        self.assertIn("configure \\x1b[31mxxx", live.errors())
+        self.assertIn(":2: \\xff\\x07: ", live.errors())
+        self.assertLess(max(map(len, live.errors().splitlines())), 500)
 
-
-if __name__ == "__main__":
-    unittest.main()
+    def test_of_many_reloads_one_runs_and_one_waits(self) -> None:
+        self.file.write_text("configure lldp tx-hold 3\n")
+        live = self.live(*self.words(), "eth0")
+        agent = live.agent()
+        os.kill(agent, signal.SIGSTOP)
+        for _ in range(3000):
+            live.signal(signal.SIGHUP)
+        os.kill(agent, signal.SIGCONT)
+        self.assertTrue(live.says("read anew"))
+        live.ask("show chassis")
+        self.assertIn(live.errors().count("read anew"), (1, 2))

@@ -13,7 +13,7 @@ from lldpa.agent.show import (Configuration, Counters, Identifier, Neighbor, Sho
 from support import PROGRAM, REPOSITORY
 
 sys.dont_write_bytecode = True
-sys.path.insert(1, str(REPOSITORY / "tools"))
+sys.path[1:1] = [str(REPOSITORY / "tools" / folder) for folder in ("model", "gate")]
 import fuzz  # type: ignore[import-not-found]  # noqa: E402
 from examples import transcripts  # type: ignore[import-not-found]  # noqa: E402
 from model import SHOWS  # type: ignore[import-not-found]  # noqa: E402
@@ -245,7 +245,3 @@ class Refused(unittest.TestCase):
             with self.subTest(end=end), self.assertRaises(ShowFault) as fault:
                 read_show(ALL[:end])
             self.assertIn("the end", str(fault.exception))
-
-
-if __name__ == "__main__":
-    unittest.main()

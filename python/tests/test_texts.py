@@ -93,7 +93,3 @@ class ForPrograms(unittest.TestCase):
                 self.assertEqual(text.encode("utf-8"), octets if digits is None else text.encode())
                 self.assertEqual(unescaped(shown_text(octets)), octets)
                 self.assertEqual(shown_octets(shown_text(octets)), octets)
-
-
-if __name__ == "__main__":
-    unittest.main()

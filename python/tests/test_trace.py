@@ -6,7 +6,6 @@ import random
 import select
 import subprocess
 import sys
-import unittest
 from typing import Dict, List, Optional, Sequence, Tuple
 
 from lldpa import Source, Told, ports_of, trace_of
@@ -235,7 +234,3 @@ class Program(FilesCase):
         keys: Dict[str, str] = dict(line.split("=", 1) for line in shown.splitlines())
         self.assertEqual(keys["lldp.swp1.1.port.ifname"], "a")
         self.assertEqual(keys["lldp.swp2.1.port.ifname"], "b")
-
-
-if __name__ == "__main__":
-    unittest.main()

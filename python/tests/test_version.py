@@ -37,8 +37,5 @@ class Programs(unittest.TestCase):
             text = said(name, "--help")
             self.assertIn(f"example: {name} ", text)
             self.assertIn(f"{name}({section})", text)
-            self.assertTrue((REPOSITORY / "man" / f"{name}.{section}").is_file())
-
-
-if __name__ == "__main__":
-    unittest.main()
+            folder = "audit" if name == "lldpa-audit" else "man"
+            self.assertTrue((REPOSITORY / folder / f"{name}.{section}").is_file())

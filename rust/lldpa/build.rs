@@ -10,15 +10,12 @@ const ARCHIVE: &str = "liblldpa.a";
 fn named() -> Option<PathBuf> {
     let folder = PathBuf::from(env::var_os("LLDPA_LIB_DIR")?);
     if !folder.join(ARCHIVE).is_file() {
-        missing(&format!(
-            "LLDPA_LIB_DIR is {}, which has no {ARCHIVE}",
-            folder.display()
-        ));
+        missing(&format!("LLDPA_LIB_DIR is {}, which has no {ARCHIVE}", folder.display()));
     }
     Some(folder)
 }
 
-/// The folder in this repository to which tools/library.sh writes.
+/// The folder in this repository to which tools/library/library.sh writes.
 fn built() -> Option<PathBuf> {
     let top = Path::new(env!("CARGO_MANIFEST_DIR")).join("../..");
     let folder = top.join("crates/lldpa_c/out/lib").canonicalize().ok()?;
@@ -27,10 +24,7 @@ fn built() -> Option<PathBuf> {
 
 /// The folder that pkg-config knows.
 fn installed() -> Option<PathBuf> {
-    let asked = Command::new("pkg-config")
-        .args(["--variable=libdir", "lldpa"])
-        .output()
-        .ok()?;
+    let asked = Command::new("pkg-config").args(["--variable=libdir", "lldpa"]).output().ok()?;
     let folder = PathBuf::from(String::from_utf8(asked.stdout).ok()?.trim());
     folder.join(ARCHIVE).is_file().then_some(folder)
 }
@@ -38,7 +32,7 @@ fn installed() -> Option<PathBuf> {
 /// Ends the build, with what is to be done.
 fn missing(what: &str) -> ! {
     eprintln!("lldpa: {what}.");
-    eprintln!("lldpa: tools/library.sh of lldpa's repository builds {ARCHIVE}, and the package lldpa-dev has it.");
+    eprintln!("lldpa: tools/library/library.sh of lldpa's repository builds {ARCHIVE}, and the package lldpa-dev has it.");
     eprintln!("lldpa: Set LLDPA_LIB_DIR to the folder that it stands in.");
     std::process::exit(1);
 }

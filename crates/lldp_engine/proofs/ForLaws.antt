@@ -16,3 +16,7 @@ pub mod InUse
 pub mod Sayings
 pub mod OnlyForms
 pub mod Numbering
+pub mod Places
+pub mod Shows
+pub mod FirstFault
+pub mod FrameOctets

@@ -1,12 +1,8 @@
 pub mod OnePort
+pub mod AllPorts
 pub mod Standing
-pub mod Opened
 pub mod Readers
-pub mod EachPort
-pub mod Step
 pub mod Headline
-pub mod Answered
 pub mod ForLaws
-pub mod Sound
 pub mod Lines
 pub mod Frames

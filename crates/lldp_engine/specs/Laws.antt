@@ -1,14 +1,18 @@
 -- What only laws say: the definitions of the calls in other words, by positions, by octets and by counts.
 pub mod CauseOf
 pub mod Deaf
+pub mod FirstFault
 pub mod FixedKeys
 pub mod FixedTexts
+pub mod FrameOctets
 pub mod InUse
 pub mod LastSet
 pub mod Neighbors
 pub mod Numbering
 pub mod OnlyForms
 pub mod Opening
+pub mod Places
 pub mod PortAt
 pub mod Sayings
+pub mod Shows
 pub mod Tally

@@ -16,11 +16,13 @@ pub mod counting;
 pub mod deafness;
 pub mod fixed;
 pub mod forms;
+pub mod frames;
 pub mod in_use;
 pub mod local_changes;
 pub mod opening;
 pub mod sayings;
 pub mod sending;
+pub mod shows;
 pub mod tables;
 pub mod whose;
 

@@ -172,7 +172,7 @@ cut_end : cut (spelling end_of_lldpdu) ≡ record { tlvs = end_of_lldpdu ∷ [];
 unfolding cut cut_within
 cut_end = refl
 
-later_from : (octets : List ℕ) (us : List TlvUnit) → (cut octets).tlvs ≡ us → later_tlvs octets ≡ drop 3 (before_end us)
+pub later_from : (octets : List ℕ) (us : List TlvUnit) → (cut octets).tlvs ≡ us → later_tlvs octets ≡ drop 3 (before_end us)
 unfolding later_tlvs
 later_from octets us e = ap (λ (us : List TlvUnit). drop 3 (before_end us)) e
 

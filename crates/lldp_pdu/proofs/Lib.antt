@@ -6,6 +6,8 @@ pub mod Telling
 pub mod Whole
 pub mod Drafts
 pub mod Addresses
+pub mod CapsSpelled
+pub mod SoundForms
 pub mod Framing
 pub mod FrameForms
 pub mod Vectors

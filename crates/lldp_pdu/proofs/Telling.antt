@@ -124,7 +124,7 @@ pub msap_tlvs : (octets : List ℕ) → msap_of octets ≡ record { chassis = (t
 unfolding msap_of
 msap_tlvs octets = refl
 
-fault_tlvs : (octets : List ℕ) → first_fault (checks (cut octets).tlvs (ttl_of octets) (later_tlvs octets)) ≡ fault_of octets
+pub fault_tlvs : (octets : List ℕ) → first_fault (checks (cut octets).tlvs (ttl_of octets) (later_tlvs octets)) ≡ fault_of octets
 unfolding fault_of
 fault_tlvs octets = refl
 
@@ -169,7 +169,7 @@ record IsLater (u : TlvUnit) : Type 0 where
   pub not_end : is_end u ≡ false
   pub not_mandatory : is_mandatory u ≡ false
 
-later_kind : (kind : ℕ) → eqb kind 0 ≡ false → (leb 1 kind && leb kind 3) ≡ false → 4 ≤ kind
+pub later_kind : (kind : ℕ) → eqb kind 0 ≡ false → (leb 1 kind && leb kind 3) ≡ false → 4 ≤ kind
 later_kind zero h k = absurd (true≢false h)
 later_kind (suc zero) h k = absurd (true≢false k)
 later_kind (suc (suc zero)) h k = absurd (true≢false k)
@@ -242,7 +242,7 @@ few_unrecognized : (us : List TlvUnit) → count_unrecognized us ≤ length us
 few_unrecognized [] = omega arith
 few_unrecognized (u ∷ us) = grind (arith, common_steps, few_unrecognized us)
 
-sound_last : (us : List TlvUnit) (ttl : ℕ) (later : List TlvUnit) → first_fault (checks us ttl later) ≡ None → 0 < ttl → list_any is_mandatory later ≡ false
+pub sound_last : (us : List TlvUnit) (ttl : ℕ) (later : List TlvUnit) → first_fault (checks us ttl later) ≡ None → 0 < ttl → list_any is_mandatory later ≡ false
 sound_last us ttl later h l = grind (arith, common_steps, all_pass, lt-ltb)
 
 -- The octets of what a sound LLDPDU tells tell the same.

@@ -9,9 +9,15 @@ ghost use Rattle.lldp_pdu.specs.Fault.{fault_of};
 ghost use Rattle.lldp_pdu.specs.Lldpdu.{extent, ttl_of};
 ghost use Rattle.lldp_pdu.specs.Info.{info_of, IsInfo, TellsItself};
 ghost use Rattle.lldp_pdu.specs.Draft.{Draft, CanPut, CanBuild, IsReadBack, put_fault, lldpdu_octets};
+ghost use Rattle.lldp_pdu.specs.declared.fields.Caps.{Caps};
+ghost use Rattle.lldp_pdu.specs.Msap.{IsIdentifier};
+ghost use Rattle.lldp_pdu.specs.Capabilities.{caps_of};
 ghost use Rattle.lldp_pdu.specs.ManagementAddress.{Address, address_of, IsSpelled};
 ghost use Rattle.lldp_pdu.specs.Frame.{nearest_bridge, lldp_ethertype, lldpdu_of};
+ghost use Rattle.lldp_pdu.specs.Laws.CapsSpelling.{AreSpelled};
 ghost use Rattle.lldp_pdu.specs.Laws.FrameForm.{HasForm};
+ghost use Rattle.lldp_pdu.specs.Laws.KeptOnce.{AreKeptOnce, AreCounted};
+ghost use Rattle.lldp_pdu.specs.Laws.SoundForm.{IsSound, HasFaults};
 ghost use Rattle.lldp_pdu.specs.WellFormed.{is_well_formed};
 ghost use Rattle.lldp_pdu.specs.declared.frame.TheConstants.{MOST_OCTETS};
 ghost use Rattle.lldp_pdu.specs.declared.tlv_type.TheConstants as code;
@@ -30,6 +36,24 @@ pub fn tlvs_give_the_cut()
         YieldsThen GivesFirstTlv octets given None left → map tlv_view given ≡ (cut octets).tlvs }
     ensures rest { (octets left : List ℕ) (given : List Tlv) →
         YieldsThen GivesFirstTlv octets given None left → left ≡ (cut octets).rest }
+{}
+
+/// An LLDPDU is sound exactly if it begins with a Chassis ID and a Port ID of 2 to 256 octets each
+/// and a Time To Live of 2 or more, and its TTL is 0 or no other TLV before its End Of LLDPDU is of
+/// these types. Any other has the fault of the first of these three that is not as it should be, or
+/// else Repeated.
+pub fn sound_lldpdus_have_their_form()
+    ensures sound { (octets : List ℕ) → (fault_of octets ≡ None) ↔ IsSound octets }
+    ensures faults { (octets chassis port ttl : List ℕ) (u : TlvUnit) (us : List TlvUnit) →
+        HasFaults octets chassis port ttl u us }
+{}
+
+/// A later TLV is kept exactly if it is well formed and, if its type is 4 to 7, no earlier one is well
+/// formed and of its type. The kept ones stand in their order; all others are discarded, and so is
+/// a TLV that is not complete.
+pub fn later_tlvs_are_kept_once()
+    ensures kept { (earlier us : List TlvUnit) (u : TlvUnit) → AreKeptOnce earlier u us }
+    ensures counted { (octets : List ℕ) → AreCounted octets }
 {}
 
 /// The extent of a sound LLDPDU with a TTL above 0 tells the same as the LLDPDU, with no more
@@ -94,12 +118,35 @@ pub fn tlv_types_are_the_standards()
         ≡ standard.organizationally_specific_type }
 {}
 
-/// The body of an End Of LLDPDU, and that of a reserved type, 9 to 126, is well formed whatever it
-/// holds.
-pub fn reserved_bodies_are_well_formed()
+/// A body is a well-formed System Capabilities with these fields exactly if it is their spelling:
+/// four octets, with no bit enabled that is not available.
+pub fn capabilities_are_spelled()
+    ensures { (body : List ℕ) (caps : Caps) → AreOctets body →
+        (caps_of body ≡ Some caps) ↔ AreSpelled body caps }
+{}
+
+/// Which bodies are well formed, and no others: those of a Chassis ID and a Port ID have 2 to 256
+/// octets, a Time To Live has 2 or more, the three texts have at most 255, System Capabilities and a
+/// Management Address are spelled as their laws say, an organizationally specific body has 4 octets
+/// or more, and those of an End Of LLDPDU and of the reserved types, 9 to 126, may be any.
+pub fn types_decide_which_bodies_are_well_formed()
     ensures end { (body : List ℕ) → is_well_formed (record { kind = 0; body = body }) ≡ true }
+    ensures identifiers { (kind : ℕ) (body : List ℕ) → 1 ≤ kind → kind ≤ 2 →
+        (is_well_formed (record { kind = kind; body = body }) ≡ true) ↔ IsIdentifier body }
+    ensures ttl { (body : List ℕ) →
+        (is_well_formed (record { kind = 3; body = body }) ≡ true) ↔ 2 ≤ length body }
+    ensures texts { (kind : ℕ) (body : List ℕ) → 4 ≤ kind → kind ≤ 6 →
+        (is_well_formed (record { kind = kind; body = body }) ≡ true) ↔ length body ≤ 255 }
+    ensures capabilities { (body : List ℕ) → AreOctets body →
+        (is_well_formed (record { kind = 7; body = body }) ≡ true)
+        ↔ ((caps : Caps) × AreSpelled body caps) }
+    ensures addresses { (body : List ℕ) → AreOctets body →
+        (is_well_formed (record { kind = 8; body = body }) ≡ true)
+        ↔ ((address : Address) × IsSpelled body address) }
     ensures reserved { (kind : ℕ) (body : List ℕ) → 9 ≤ kind → kind ≤ 126 →
         is_well_formed (record { kind = kind; body = body }) ≡ true }
+    ensures specific { (body : List ℕ) →
+        (is_well_formed (record { kind = 127; body = body }) ≡ true) ↔ 4 ≤ length body }
 {}
 
 /// An LLDPDU that is built has at most 1,500 octets: this is the room of a `Builder`.

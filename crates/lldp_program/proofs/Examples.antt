@@ -1,8 +1,8 @@
 -- Lines of small inputs, and the line of a small frame, computed.
 use Rattle.std.proofs.Common.{◌≡◌, [], ◌∷◌, ◌++◌, refl, codes}
 use Rattle.hex.specs.Hex.{encode_with}
-use Rattle.lldp_program.specs.Lines.{lines_of, ended_lines}
-use Rattle.lldp_program.specs.Sent.{sent_line}
+use Rattle.lldp_program.specs.Trace.Lines.{lines_of, ended_lines}
+use Rattle.lldp_program.specs.Trace.Sent.{sent_line}
 
 no_line : lines_of [] ≡ []
 no_line = refl

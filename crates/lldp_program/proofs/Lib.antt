@@ -4,5 +4,5 @@ pub mod Runs
 pub mod Serving
 pub mod Words
 mod Examples
-mod Sayings
+pub mod ForLaws
 pub mod Statuses

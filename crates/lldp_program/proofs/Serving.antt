@@ -3,8 +3,8 @@ use Rattle.std.proofs.Common.{suc, length, add-one, add-zero, ◌≡◌, ◌≤�
 use Rattle.lldp_engine.specs.AgentState.{AgentState}
 use Rattle.lldp_engine.specs.Past.{Past}
 use Rattle.lldp_engine.specs.Standing.{Stands}
-use Rattle.lldp_program.specs.Runs.{KeepsOn, followed}
-use Rattle.lldp_program.specs.Acceptors.{Call, accepted, ran, Visit, logged}
+use Rattle.lldp_program.specs.Trace.Runs.{KeepsOn, followed}
+use Rattle.lldp_program.specs.Devices.Acceptors.{Call, accepted, ran, Visit, logged}
 use Rattle.std.specs.Prelude.{is_err}
 use Rattle.std.specs.List.{filter}
 use Rattle.lldp_program.specs.Serving.{faults_in, faults_of, calls_of}

@@ -1,13 +1,24 @@
 -- What a flush behind a run leaves, and what an agent that was just opened has run.
-use Rattle.std.proofs.Common.{ℕ, List, ◌++◌, Option, Result, Ok, Err, inl, inr}
+use Rattle.std.proofs.Common.{◌≡◌, ◌∙◌, ap, subst, Bool, true, false, refl, sym, arith, Some, None, ◌⊎◌, ℕ, List, ◌++◌, Option, Result, Ok, Err, inl, inr}
+use Rattle.std.specs.Prelude.{◌≢◌, is_ok}
+use Rattle.clap.specs.Walk.{Text}
+use Rattle.clap.specs.declared.error.kind.ErrorKind.{ErrorKind}
+use Rattle.clap.specs.declared.error.kind.ErrorKind.TheVariants.{DisplayHelp, DisplayVersion, OutOfMemory}
+use Rattle.lldp_program.specs.CommandLine.Usage.{AskForHelp, MayFail}
 use Rattle.std.specs.Io.KnownBytes.{Keeps}
 use Rattle.lldp_engine.specs.AgentState.{AgentState}
 use Rattle.lldp_engine.specs.Options.{Options}
 use Rattle.lldp_engine.specs.Past.{Past, opened}
 use Rattle.lldp_engine.specs.Standing.{Stands}
-use Rattle.lldp_program.specs.Lines.{lines_of, ended_lines}
-use Rattle.lldp_program.specs.Items.{Item, text_of_all, items_of_lines}
-use Rattle.lldp_program.specs.Runs.{Done, Failed, Ends, HasRun, StoppedAt}
+use Rattle.lldp_program.specs.Trace.Lines.{lines_of, ended_lines}
+use Rattle.lldp_program.specs.Trace.Items.{Item, text_of_all, items_of_lines}
+use Rattle.lldp_program.specs.Trace.Runs.{Done, Failed, Ends, HasRun, StoppedAt}
+use Rattle.lldp_program.specs.Code.Output.{WrittenBy}
+use Rattle.lldp_program.specs.Faults.ProgramFault.{line_of, status_of, fault_of_run, ended_by}
+use Rattle.lldp_program.specs.Faults.Told.{IsTold, EndsBy, EndsWellOr}
+use Rattle.lldp_program.specs.declared.device.DeviceFault.{DeviceFault}
+use Rattle.lldp_program.specs.declared.fault.ProgramFault.{ProgramFault}
+use Rattle.lldp_program.specs.declared.fault.ProgramFault.TheVariants as ending
 use Rattle.lldp_program.specs.Program.{RanStreams, RanBy}
 use Rattle.lldp_program.specs.declared.trace.RunFault.{RunFault}
 use Rattle.lldp_program.specs.declared.trace.RunFault.TheVariants.{Read, Write, InputTooLong}
@@ -53,9 +64,9 @@ run_kept to_come left old mid new before after r h k =
     }
 
 -- an agent that was just opened ran the streams
-pub opened_ran : (options : Options) (to_come left old new : Option (List ℕ)) (before after : AgentState) (status : ℕ)
-    → Stands (opened options) before → RanStreams to_come left old new before after status → RanBy options to_come left old new status
-opened_ran options to_come left old new before after status stands ran =
+pub opened_ran : (options : Options) (to_come left old new told_before told_after : Option (List ℕ)) (before after : AgentState) (status : ℕ)
+    → Stands (opened options) before → RanStreams to_come left old new told_before told_after before after status → RanBy options to_come left old new told_before told_after status
+opened_ran options to_come left old new told_before told_after before after status stands ran =
     record {
       result = ran.result;
       ran = record {
@@ -66,4 +77,44 @@ opened_ran options to_come left old new before after status stands ran =
         ends = ran.run.ends (opened options) stands;
       };
       done = ran.done;
+      flushed = ran.flushed;
+      ended = ran.ended;
     }
+
+-- what was written of the line of a fault is what is told of it
+pub told_by : (fault : ProgramFault) (answer : Result (Unit {0}) DeviceFault) (old mid left new : Option (List ℕ)) → mid ≡ old → left ≡ new → WrittenBy answer (line_of fault) mid left → IsTold fault old new
+told_by fault (Ok done) old mid left new o n written = inl (rw (← o, ← n) written)
+told_by fault (Err _) old mid left new o n written = inr (rw (← o, ← n) written)
+
+-- the run failed, and its fault was told
+pub failed_end : (r : Result (Unit {0}) RunFault) (fault : RunFault) (told : ProgramFault) (flushed : Result (Unit {0}) DeviceFault) (old new : Option (List ℕ)) (status : ℕ)
+    → r ≡ Err fault → told ≡ fault_of_run fault → status ≡ status_of told → IsTold told old new → EndsBy (ended_by r flushed) old new status
+failed_end r fault told flushed old new status e is answered t = rw e record { ends = answered ∙ ap status_of is; told = subst (λ f. IsTold f old new) is t }
+
+-- the run went well, and the flush decides
+pub flushed_end : (r : Result (Unit {0}) RunFault) (flushed : Result (Unit {0}) DeviceFault) (passed : Bool) (old new : Option (List ℕ)) (status : ℕ)
+    → r ≡ Ok tt → passed ≡ is_ok flushed → (passed ≡ true → EndsBy (Ok tt) old new status) → (passed ≡ false → EndsBy (Err ending.Write) old new status) → EndsBy (ended_by r flushed) old new status
+flushed_end r (Ok done) passed old new status e is well failed = rw e (well is)
+flushed_end r (Err fault) passed old new status e is well failed = rw e (failed is)
+
+-- ## Words that are refused
+
+-- an error asks for help or the version, or does not
+pub asked_for : (kind : ErrorKind) → ((kind ≡ DisplayHelp) ⊎ (kind ≡ DisplayVersion)) ⊎ ((kind ≢ DisplayHelp) × (kind ≢ DisplayVersion))
+asked_for DisplayHelp = inl (inl refl)
+asked_for DisplayVersion = inl (inr refl)
+asked_for kind = inr ((λ e. cc), (λ e. cc))
+
+pub asks_for_help : (words : List Text) (kind : ErrorKind) → (kind ≡ DisplayHelp) ⊎ (kind ≡ DisplayVersion) → (kind ≡ OutOfMemory) ⊎ MayFail words kind → AskForHelp words
+asks_for_help words kind (inl help) (inl memory) = let bad : DisplayHelp ≡ OutOfMemory = sym help ∙ memory in cc
+asks_for_help words kind (inr version) (inl memory) = let bad : DisplayVersion ≡ OutOfMemory = sym version ∙ memory in cc
+asks_for_help words kind (inl help) (inr fails) = inl (subst (MayFail words) help fails)
+asks_for_help words kind (inr version) (inr fails) = inr (subst (MayFail words) version fails)
+
+pub ends_below_two : (old new : Option (List ℕ)) (status : ℕ) → EndsWellOr ending.Write old new status → status ≡ 2 → ⊥
+ends_below_two old new status (inl well) two = omega (arith, well.ends, two)
+ends_below_two old new status (inr told) two = omega (arith, told.ends, two)
+
+pub keeps_same : (octets : Option (List ℕ)) → Keeps octets octets
+keeps_same None = tt
+keeps_same (Some octets) = refl

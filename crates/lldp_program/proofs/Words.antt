@@ -2,4 +2,3 @@
 pub mod Addresses
 pub mod Parsed
 pub mod Usage
-pub mod Listening

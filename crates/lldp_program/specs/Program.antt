@@ -1,19 +1,31 @@
--- What a run of the program over its streams leaves.
-use Rattle.std.specs.Prelude.{◌≡◌, ◌<◌, ◌≤◌, ◌⊎◌, ℕ, true, List, Option, Some, None, Result, is_ok, codes}
+-- What a run of the program leaves, over its streams or refused.
+use Rattle.std.specs.Prelude.{◌≡◌, ◌≢◌, ◌<◌, ◌≤◌, ◌⊎◌, ℕ, List, true, Option, Some, None, Result, is_ok, codes}
 use Rattle.std.specs.Io.KnownBytes.{Consumes, Keeps}
 use Rattle.clap.specs.Walk.{Row, Text, one_of}
+use Rattle.clap.specs.declared.error.kind.ErrorKind.{ErrorKind}
+use Rattle.clap.specs.declared.error.kind.ErrorKind.TheVariants.{DisplayHelp, DisplayVersion}
 use Rattle.lldp_engine.specs.AgentState.{AgentState}
-use Rattle.lldp_engine.specs.Options.{Options, fault_of}
+use Rattle.lldp_engine.specs.declared.agent.open_fault.OpenFault.{OpenFault}
+use Rattle.lldp_engine.specs.Options.{IsRefusal, Options, fault_of}
 use Rattle.lldp_engine.specs.Past.{opened}
-use Rattle.lldp_program.specs.Runs.{HasRun, HasRead, Ends}
-use Rattle.lldp_program.specs.Usage.{AskForHelp, IsParse, Asks}
+use Rattle.lldp_program.specs.Faults.ProgramFault.{ended_by, fault_of_address, fault_of_opening}
+use Rattle.lldp_program.specs.Faults.Told.{EndsBy, EndsWellOr, IsTold}
+use Rattle.lldp_program.specs.Trace.Runs.{HasRun, HasRead, Ends}
+use Rattle.lldp_program.specs.CommandLine.Usage.{AskForHelp, Asks, HasBadAddress, IsParse, MayFail}
+use Rattle.lldp_program.specs.declared.arguments.AddressFault.{AddressFault}
+use Rattle.lldp_program.specs.declared.device.DeviceFault.{DeviceFault}
+use Rattle.lldp_program.specs.declared.fault.ProgramFault.TheVariants as program
 use Rattle.lldp_program.specs.declared.trace.RunFault.{RunFault}
 
--- The agent ran the trace that came: with status 0 all of it, and with another status it may have stopped at a fault.
-pub record RanStreams (to_come left old new : Option (List ℕ)) (before after : AgentState) (status : ℕ) : Type 0 where
+-- The agent ran the trace that came, and what was written was flushed: with status 0 all of it, and with another status
+-- it may have stopped at a fault. The status is that of the first fault of the two, which was told.
+pub record RanStreams (to_come left old new told_before told_after : Option (List ℕ)) (before after : AgentState)
+    (status : ℕ) : Type 0 where
   pub result : Result (Unit {0}) RunFault
   pub run : HasRun to_come left old new before after result
   pub done : status ≡ 0 → is_ok result ≡ true
+  pub flushed : Result (Unit {0}) DeviceFault
+  pub ended : EndsBy (ended_by result flushed) told_before told_after status
 
 -- a read failed, or a write or a flush did, or there were as many reads as a run makes at most
 abbrev pub FailedBy : ℕ → ℕ → ℕ → Type 0
@@ -28,36 +40,69 @@ pub record Ran (options : Options) (to_come left old new : Option (List ℕ)) (r
   pub agent : AgentState
   pub ends : Ends (opened options) input left old new agent result
 
--- the same by the status of the program
-pub record RanBy (options : Options) (to_come left old new : Option (List ℕ)) (status : ℕ) : Type 0 where
+-- the same by the status of the program and the line that it told
+pub record RanBy (options : Options) (to_come left old new told_before told_after : Option (List ℕ)) (status : ℕ) :
+    Type 0 where
   pub result : Result (Unit {0}) RunFault
   pub ran : Ran options to_come left old new result
   pub done : status ≡ 0 → is_ok result ≡ true
+  pub flushed : Result (Unit {0}) DeviceFault
+  pub ended : EndsBy (ended_by result flushed) told_before told_after status
 
 -- What became of reader and writer, by the text of `--listen`: if there is none, the trace of the reader was run;
--- if there is one, nothing was read and nothing written.
-abbrev pub RanBut : Option Text → Options → Option (List ℕ) → Option (List ℕ) → Option (List ℕ) → Option (List ℕ) → ℕ →
-    Type 0
-RanBut None options to_come left old new status = RanBy options to_come left old new status
-RanBut (Some port) options to_come left old new status = Keeps to_come left × Keeps old new
+-- if there is one, nothing was read and nothing written, and the status is 0 or that of a socket, which was told.
+abbrev pub RanBut : Option Text → Options → Option (List ℕ) → Option (List ℕ) → Option (List ℕ) → Option (List ℕ) →
+    Option (List ℕ) → Option (List ℕ) → ℕ → Type 0
+RanBut None options to_come left old new told_before told_after status =
+    RanBy options to_come left old new told_before told_after status
+RanBut (Some port) options to_come left old new told_before told_after status =
+    Keeps to_come left × Keeps old new × EndsWellOr program.Socket told_before told_after status
 
 -- the same by the words
-abbrev pub RanAs : List Row → Options → Option (List ℕ) → Option (List ℕ) → Option (List ℕ) → Option (List ℕ) → ℕ →
-    Type 0
-RanAs rows options to_come left old new status =
-    RanBut (one_of (codes "listen") rows) options to_come left old new status
+abbrev pub RanAs : List Row → Options → Option (List ℕ) → Option (List ℕ) → Option (List ℕ) → Option (List ℕ) →
+    Option (List ℕ) → Option (List ℕ) → ℕ → Type 0
+RanAs rows options to_come left old new told_before told_after status =
+    RanBut (one_of (codes "listen") rows) options to_come left old new told_before told_after status
 
 -- The words have no fault by `clap`'s own specification; their options, of which each is the value of its words, have
 -- no fault either; and the program did as they ask.
-pub record HasRunWords (words : List Text) (to_come left old new : Option (List ℕ)) (status : ℕ) : Type 0 where
+pub record HasRunWords (words : List Text) (to_come left old new told_before told_after : Option (List ℕ)) (status : ℕ) :
+    Type 0 where
   pub rows : List Row
   pub parse : IsParse words rows
   pub options : Options
   pub asks : Asks rows options
   pub sound : fault_of options ≡ None
-  pub ran : RanAs rows options to_come left old new status
+  pub ran : RanAs rows options to_come left old new told_before told_after status
 
--- What a status other than 2 means: the words ask for help or the version, and nothing was read, or they were run.
-abbrev pub HasAnswered : List Text → Option (List ℕ) → Option (List ℕ) → Option (List ℕ) → Option (List ℕ) → ℕ → Type 0
-HasAnswered words to_come left old new status =
-    (AskForHelp words × Keeps to_come left) ⊎ HasRunWords words to_come left old new status
+-- What a status other than 2 means: the words ask for help or the version, nothing was read, and the status is 0 or that
+-- of a write, which was told; or they were run.
+abbrev pub HasAnswered : List Text → Option (List ℕ) → Option (List ℕ) → Option (List ℕ) → Option (List ℕ) →
+    Option (List ℕ) → Option (List ℕ) → ℕ → Type 0
+HasAnswered words to_come left old new told_before told_after status =
+    (AskForHelp words × Keeps to_come left × EndsWellOr program.Write told_before told_after status)
+    ⊎ HasRunWords words to_come left old new told_before told_after status
+
+-- An address among the words cannot be read, and that was told.
+abbrev pub RefusesAddress : List Row → Option (List ℕ) → Option (List ℕ) → Type 0
+RefusesAddress rows told_before told_after =
+    (fault : AddressFault) × HasBadAddress rows fault × IsTold (fault_of_address fault) told_before told_after
+
+-- The options of the words open no agent, for the first check that fails or for want of memory, and that was told.
+abbrev pub RefusesOpening : List Row → Option (List ℕ) → Option (List ℕ) → Type 0
+RefusesOpening rows told_before told_after =
+    (options : Options) × (fault : OpenFault) × Asks rows options × IsRefusal options fault
+    × IsTold (fault_of_opening fault) told_before told_after
+
+-- The words have a fault by `clap`'s own specification, other than that they ask for help or the version.
+abbrev pub AreWrong : List Text → Type 0
+AreWrong words = (kind : ErrorKind) × MayFail words kind × (kind ≢ DisplayHelp) × (kind ≢ DisplayVersion)
+
+-- What status 2 means: the words are wrong; there was no memory to read them, and that was told; or they were read, and
+-- an address or the opening was refused.
+abbrev pub HasRefused : List Text → Option (List ℕ) → Option (List ℕ) → Type 0
+HasRefused words told_before told_after =
+    AreWrong words
+    ⊎ (IsTold program.Memory told_before told_after
+    ⊎ ((rows : List Row) × IsParse words rows
+    × (RefusesAddress rows told_before told_after ⊎ RefusesOpening rows told_before told_after)))

@@ -1,8 +1,8 @@
 -- What serving connections leaves.
 use Rattle.std.specs.Prelude.{◌≡◌, ◌<◌, ◌⊎◌, ℕ, ◌+◌, ◌==◌, if◌then◌else◌, List, [], ◌∷◌, length, Option, Result, Ok, Err}
-use Rattle.lldp_program.specs.Acceptors.{Call, accepted, bound, refused, ran, unbound, Visit, logged}
+use Rattle.lldp_program.specs.Devices.Acceptors.{Call, accepted, bound, refused, ran, unbound, Visit, logged}
 use Rattle.lldp_engine.specs.AgentState.{AgentState}
-use Rattle.lldp_program.specs.Runs.{HasRun}
+use Rattle.lldp_program.specs.Trace.Runs.{HasRun}
 use Rattle.lldp_program.specs.declared.arguments.Listening.{Listening}
 use Rattle.lldp_program.specs.declared.device.DeviceFault.{DeviceFault}
 use Rattle.lldp_program.specs.declared.device.DeviceFault.TheVariants.{Failed}

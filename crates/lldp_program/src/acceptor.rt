@@ -2,8 +2,8 @@
 ghost use Rattle.std.specs.Prelude.{◌≡◌, [], ◌∷◌, ℕ, List, Option};
 ghost use Rattle.lldp_engine.specs.Past.{Past};
 ghost use Rattle.lldp_engine.specs.Standing.{Stands};
-ghost use Rattle.lldp_program.specs.Acceptors.{Call, RanOver, logged, accepting, binding};
-ghost use Rattle.lldp_program.specs.Runs.{HasRun, KeepsOn};
+ghost use Rattle.lldp_program.specs.Devices.Acceptors.{Call, RanOver, logged, accepting, binding};
+ghost use Rattle.lldp_program.specs.Trace.Runs.{HasRun, KeepsOn};
 
 use crate::device::{DeviceFault, FromReader, ToWriter};
 use crate::trace::{RunFault, run_trace};

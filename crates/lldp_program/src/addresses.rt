@@ -1,7 +1,7 @@
 //! Addresses as the program's options give them.
 ghost use Rattle.std.specs.Prelude.{ℕ, List, MatchOption};
 ghost use Rattle.std.specs.Net.Grammar.{IsDotted};
-ghost use Rattle.lldp_program.specs.Addresses.{IsMac};
+ghost use Rattle.lldp_program.specs.CommandLine.Addresses.{IsMac};
 
 use std::net::Ipv4Addr;
 

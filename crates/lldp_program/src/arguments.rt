@@ -4,9 +4,9 @@ ghost use Rattle.std.specs.Borrow.{Bor};
 ghost use Rattle.clap.specs.Words.{app_of, first_value, found_of, kind_of, one_text, rows_of, rule_of};
 ghost use Rattle.clap.specs.Walk.{byte_or_zero};
 ghost use Rattle.clap.specs.declared.error.kind.ErrorKind.TheVariants as ErrorKind;
-ghost use Rattle.lldp_program.specs.Usage.{AreRoles, Asks, AsksListening, AsksManagement, HasBadAddress, IsParse, WritesNoIpv4, WritesNumber, MayFail, listen_rule, management_rule, number_rule, ports_rule, program, receive_only_rule, role_named, role_rule, text_rule, valued_rule};
+ghost use Rattle.lldp_program.specs.CommandLine.Usage.{AreRoles, Asks, AsksListening, AsksManagement, HasBadAddress, IsParse, WritesNoIpv4, WritesNumber, MayFail, listen_rule, management_rule, number_rule, ports_rule, program, receive_only_rule, role_named, role_rule, text_rule, valued_rule};
 ghost use Rattle.lldp_engine.specs.Options.{InRange, options_of};
-ghost use Rattle.lldp_program.specs.Arguments.{GivesNumber, GivesText, IsProgramParse};
+ghost use Rattle.lldp_program.specs.CommandLine.Arguments.{GivesNumber, GivesText, IsProgramParse};
 
 use crate::addresses::{read_ipv4, read_mac};
 use crate::help::{ABOUT, MORE, USAGE, VERSION};

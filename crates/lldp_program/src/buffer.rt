@@ -1,7 +1,7 @@
 //! The buffer that a trace is read into. Its first octets are held: what has come of the line that
 //! isn't ended.
 ghost use Rattle.std.specs.Prelude.{◌≡◌, ◌<◌, ◌≤◌, ◌+◌, ◌-◌, length, take, drop, IfOk, min};
-ghost use Rattle.lldp_program.specs.Devices.{one_more, failures_after, ends_after, ReadsMore};
+ghost use Rattle.lldp_program.specs.Devices.Counts.{one_more, failures_after, ends_after, ReadsMore};
 
 use crate::device::{DeviceFault, Source};
 use crate::line::LONGEST;

@@ -3,7 +3,7 @@
 ghost use Rattle.std.specs.Prelude.{◌≡◌, ◌<◌, ◌≤◌, ℕ, Bool, true, List, Option, length, IfOk};
 ghost use Rattle.std.specs.Io.KnownBytes.{ReadConsumes, WriteAppends, Keeps};
 ghost use Rattle.std.specs.Borrow.{GName};
-ghost use Rattle.lldp_program.specs.Devices.{one_more, failures_after, ends_after};
+ghost use Rattle.lldp_program.specs.Devices.Counts.{one_more, failures_after, ends_after};
 
 use std::io::{Read, Write};
 
@@ -84,7 +84,7 @@ pub struct FromReader<'a, R> {
 
 impl<'a, R: Read> FromReader<'a, R> {
     ghost use Rattle.std.specs.Prelude.{◌≡◌};
-    ghost use Rattle.lldp_program.specs.Adapters.{source_to_come, source_calls, source_failures, source_ends, source_place};
+    ghost use Rattle.lldp_program.specs.Devices.Adapters.{source_to_come, source_calls, source_failures, source_ends, source_place};
 
     /// A source that tells what the reader tells, with no call, no failure and no end yet.
     pub fn new(reader: &'a mut R) -> Self
@@ -141,7 +141,7 @@ pub struct ToWriter<'a, W> {
 
 impl<'a, W: Write> ToWriter<'a, W> {
     ghost use Rattle.std.specs.Prelude.{◌≡◌};
-    ghost use Rattle.lldp_program.specs.Adapters.{sink_taken, sink_failures, sink_place};
+    ghost use Rattle.lldp_program.specs.Devices.Adapters.{sink_taken, sink_failures, sink_place};
 
     /// A sink that tells what the writer tells, with no failure yet.
     pub fn new(writer: &'a mut W) -> Self

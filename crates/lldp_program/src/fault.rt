@@ -1,6 +1,6 @@
 //! Why the program ends with another status than 0, and the line that tells it.
 ghost use Rattle.std.specs.Prelude.{◌≡◌};
-ghost use Rattle.lldp_program.specs.ProgramFault.{fault_of_address, fault_of_opening, fault_of_run, line_of, status_of};
+ghost use Rattle.lldp_program.specs.Faults.ProgramFault.{fault_of_address, fault_of_opening, fault_of_run, line_of, status_of};
 
 use crate::arguments::AddressFault;
 use crate::trace::RunFault;

@@ -4,9 +4,9 @@ ghost use Rattle.std.specs.List.{AllByRecursion};
 ghost use Rattle.hex.specs.Hex.{decode_of};
 ghost use Rattle.lldp_engine.specs.AgentState.{AgentState, IsPort};
 ghost use Rattle.lldp_text.specs.Answer.{on_ok};
-ghost use Rattle.lldp_program.specs.FaultNumber.{number_of_line_fault};
-ghost use Rattle.lldp_program.specs.Forms.{fault_text, is_skipped, or_hex, tick_form, frame_form, link_form, work_given};
-ghost use Rattle.lldp_program.specs.Work.{frame, work_of, AllowsWork};
+ghost use Rattle.lldp_program.specs.Faults.FaultNumber.{number_of_line_fault};
+ghost use Rattle.lldp_program.specs.Trace.Forms.{fault_text, is_skipped, or_hex, tick_form, frame_form, link_form, work_given};
+ghost use Rattle.lldp_program.specs.Trace.Work.{frame, work_of, AllowsWork};
 
 use lldp_engine::{
     Agent, Command, CommandFault, Words, decode_digits, end_words, next_port, next_word, number,
@@ -90,7 +90,7 @@ fn is_skipped_line(line: &[u8]) -> bool
 }
 
 /// `tick` and `tick N`, behind their first word.
-#[tactic(auto, unfolding(crate::specs::Forms::tick_form))]
+#[tactic(auto, unfolding(crate::specs::Trace::Forms::tick_form))]
 fn read_tick<'l>(mut words: Words<'_>) -> Result<Work<'l>, LineFault>
     ensures read { on_ok work_of result ≡ tick_form words.entry }
     ensures allowed { (agent : AgentState) →
@@ -122,7 +122,7 @@ fn decode<'l>(digits: &[u8], room: &'l mut [u8]) -> Result<&'l [u8], LineFault>
 }
 
 /// `rx PORT HEX`, behind its first word. The octets go into the room.
-#[tactic(auto, unfolding(crate::specs::Forms::frame_form))]
+#[tactic(auto, unfolding(crate::specs::Trace::Forms::frame_form))]
 fn read_frame<'l>(
     agent: &Agent,
     mut words: Words<'_>,
@@ -140,7 +140,7 @@ fn read_frame<'l>(
 }
 
 /// `up PORT` and `down PORT`, behind their first word.
-#[tactic(auto, unfolding(crate::specs::Forms::link_form))]
+#[tactic(auto, unfolding(crate::specs::Trace::Forms::link_form))]
 fn read_link<'l>(agent: &Agent, mut words: Words<'_>, up: bool) -> Result<Work<'l>, LineFault>
     ensures read { on_ok work_of result ≡ link_form agent.now up words.entry }
     ensures allowed { IfOk result (λ work. AllowsWork agent.now (work_of work)) }
@@ -187,7 +187,7 @@ fn plain_frame<'l>(agent: &Agent, line: &'l [u8]) -> Option<(u8, &'l [u8])>
 
 /// What a line, without its LF, asks of the agent, or its first fault. The agent accepts the events
 /// of what was read. The octets of a frame stand in the room; else nothing is promised of the room.
-#[tactic(auto, unfolding(crate::specs::Forms::work_given, crate::specs::Forms::form_of))]
+#[tactic(auto, unfolding(crate::specs::Trace::Forms::work_given, crate::specs::Trace::Forms::form_of))]
 pub fn read_line<'l>(
     agent: &Agent,
     line: &'l [u8],

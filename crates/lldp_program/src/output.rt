@@ -5,10 +5,10 @@ ghost use Rattle.lldp_engine.specs.AgentState.{names_of, IsPort};
 ghost use Rattle.lldp_engine.specs.Frames.{IsSent};
 ghost use Rattle.lldp_engine.specs.Lines.{lines_of};
 ghost use Rattle.lldp_text.specs.declared.writing.TheConstants.{ROOM};
-ghost use Rattle.lldp_program.specs.Devices.{failures_after};
-ghost use Rattle.lldp_program.specs.Lines.{ended};
+ghost use Rattle.lldp_program.specs.Devices.Counts.{failures_after};
+ghost use Rattle.lldp_program.specs.Trace.Lines.{ended};
 ghost use Rattle.lldp_program.specs.Code.Output.{WrittenBy, Puts, Flushes, Writes, begun};
-ghost use Rattle.lldp_program.specs.Sent.{sent_line, mark_line};
+ghost use Rattle.lldp_program.specs.Trace.Sent.{sent_line, mark_line};
 ghost use Rattle.lldp_program.specs.Code.Parts.{output_state, Between};
 
 use crate::device::{DeviceFault, Sink};

@@ -1,15 +1,16 @@
 //! The program, over arguments and streams that are handed in.
-ghost use Rattle.std.specs.Prelude.{◌≡◌, ◌≢◌, ◌≤◌, true, None, map, if◌then◌else◌};
+ghost use Rattle.std.specs.Prelude.{◌≡◌, ◌≢◌, ◌≤◌, ◌⊎◌, true, false, None, Ok, Err, map, if◌then◌else◌};
 ghost use Rattle.std.specs.Io.KnownBytes.{Keeps};
 ghost use Rattle.clap.specs.Values.{kind_of};
 ghost use Rattle.clap.specs.Words.{found_of, rows_of};
 ghost use Rattle.lldp_engine.specs.Options.{Options, fault_of};
-ghost use Rattle.lldp_program.specs.Arguments.{IsProgramParse};
+ghost use Rattle.lldp_program.specs.CommandLine.Arguments.{IsProgramParse};
 ghost use Rattle.lldp_program.specs.Code.Output.{WrittenBy};
-ghost use Rattle.lldp_program.specs.Devices.{failures_after};
-ghost use Rattle.lldp_program.specs.ProgramFault.{line_of, status_of};
-ghost use Rattle.lldp_program.specs.Program.{FailedBy, HasAnswered, RanAs, RanStreams};
-ghost use Rattle.lldp_program.specs.Usage.{Asks};
+ghost use Rattle.lldp_program.specs.Devices.Counts.{failures_after};
+ghost use Rattle.lldp_program.specs.Faults.ProgramFault.{line_of, status_of};
+ghost use Rattle.lldp_program.specs.Faults.Told.{EndsBy, EndsWellOr, IsTold};
+ghost use Rattle.lldp_program.specs.Program.{FailedBy, HasAnswered, HasRefused, RanAs, RanStreams, RefusesAddress, RefusesOpening};
+ghost use Rattle.lldp_program.specs.CommandLine.Usage.{Asks};
 
 use crate::acceptor::AtPort;
 use crate::arguments::{Listening, listening_of, parse, read_options};
@@ -33,22 +34,28 @@ const DONE: u8 = 0;
 const REFUSED: u8 = 2;
 
 /// Runs the program on its arguments, of which the first is its name, and answers its status, 0, 1
-/// or 2. It is the only call of this crate that takes memory: for its arguments
-/// (`arguments::parse`) and for opening.
+/// or 2. Of the public calls of this crate it and `arguments::parse`, which it calls, take memory:
+/// for the arguments and for opening.
 ///
-/// The clauses say: with status 2 nothing was read and nothing written, so for wrong arguments, an
-/// address that cannot be read and options that opening refuses. With another status the arguments
-/// ask for help or the version, by `clap`'s own specification of the command line, and nothing was
-/// read; or they have no fault by it, each option, the MAC and the management address included, is
-/// the value of its argument or its default and in its range, and opening finds no fault in them.
+/// The clauses say: with status 2 nothing was read and nothing written. Then the arguments are
+/// wrong by `clap`'s own specification of the command line, or there was no memory for them, or an
+/// address cannot be read, or opening refuses the options, for the first check that fails or for
+/// want of memory; and the line of that fault was told on `faults`, but for wrong arguments, whose
+/// text is `clap`'s. With another status the arguments ask for help or the version, and nothing was
+/// read; or they have no fault, each option, the MAC and the management address included, is the
+/// value of its argument or its default and in its range, and opening finds no fault in them.
 /// Without `--listen` the trace of the reader was then run over an agent so opened, as `run_trace`
-/// says, all of it if the status is 0. With `--listen` nothing was read and nothing written;
-/// what is listened to is the port given by it, and the number of connections given by
-/// `--connections`, or its default 1.
+/// says, all of it if the status is 0. With `--listen` nothing was read and nothing written; what
+/// is listened to is the port given by it, and the number of connections given by `--connections`,
+/// or its default 1. The status is 0 and nothing was told on `faults`, or it is that of the fault
+/// whose line was told: of the run, else of the flush behind it; of the socket with `--listen`; of
+/// the write of help or the version.
 ///
-/// What is meant besides, and seen by tests: 1 is a stream or a socket that failed, or a trace that
-/// was too long; 2 is a wrong argument, a refused opening, or no memory; each is told by a line on
-/// `faults`, and the traces of those who listen come over connections to 127.0.0.1.
+/// Of a line that was told all was written, or what comes before a write that failed.
+///
+/// What is meant besides, and seen by tests: that a write, a flush, a socket or memory whose fault
+/// is told did fail; the texts of help, of the version and of wrong arguments; and that the traces
+/// of those who listen come over connections to 127.0.0.1.
 pub fn run_program<S: AsStr, R: Read, W: Write, E: Write>(
     rt: &impl Net<Listener = TcpListener, Stream = TcpStream>,
     alloc: Global,
@@ -62,8 +69,11 @@ pub fn run_program<S: AsStr, R: Read, W: Write, E: Write>(
     // their options.
     ensures answered { result ≢ 2 → HasAnswered (map S.text words.now)
         (R.remaining reader.old) (R.remaining reader.new)
-        (W.contents writer.old) (W.contents writer.new) result }
-    // Refused, it has read nothing and written nothing.
+        (W.contents writer.old) (W.contents writer.new)
+        (E.contents faults.old) (E.contents faults.new) result }
+    // Refused, it has told why, and has read nothing and written nothing.
+    ensures refused { result ≡ 2 → HasRefused (map S.text words.now)
+        (E.contents faults.old) (E.contents faults.new) }
     ensures silent { result ≡ 2 →
         Keeps (R.remaining reader.old) (R.remaining reader.new)
         × Keeps (W.contents writer.old) (W.contents writer.new) }
@@ -90,7 +100,13 @@ fn run_matches<R: Read, W: Write, E: Write>(
         × (fault_of options ≡ None)
         × RanAs (rows_of (found_of matches.now)) options
         (R.remaining reader.old) (R.remaining reader.new)
-        (W.contents writer.old) (W.contents writer.new) result }
+        (W.contents writer.old) (W.contents writer.new)
+        (E.contents faults.old) (E.contents faults.new) result }
+    ensures refused { result ≡ 2 →
+        RefusesAddress (rows_of (found_of matches.now))
+        (E.contents faults.old) (E.contents faults.new)
+        ⊎ RefusesOpening (rows_of (found_of matches.now))
+        (E.contents faults.old) (E.contents faults.new) }
     ensures silent { result ≡ 2 →
         Keeps (R.remaining reader.old) (R.remaining reader.new)
         × Keeps (W.contents writer.old) (W.contents writer.new) }
@@ -113,6 +129,11 @@ fn answer_words<W: Write, E: Write>(error: &Error, writer: &mut W, faults: &mut 
     ensures refused { (kind_of error.now ≢ ErrorKind.DisplayHelp) →
         (kind_of error.now ≢ ErrorKind.DisplayVersion) →
         (result ≡ 2) × Keeps (W.contents writer.old) (W.contents writer.new) }
+    ensures memory { (kind_of error.now ≡ ErrorKind.OutOfMemory) →
+        IsTold ProgramFault.Memory (E.contents faults.old) (E.contents faults.new) }
+    ensures answered { ((kind_of error.now ≡ ErrorKind.DisplayHelp)
+        ⊎ (kind_of error.now ≡ ErrorKind.DisplayVersion)) →
+        EndsWellOr ProgramFault.Write (E.contents faults.old) (E.contents faults.new) result }
     ensures status { result ≤ 2 }
     ensures silent { result ≡ 2 → Keeps (W.contents writer.old) (W.contents writer.new) }
 {
@@ -138,7 +159,8 @@ fn run_streams<R: Read, W: Write, E: Write>(
 ) -> u8
     ensures status { result ≤ 1 }
     ensures ran { RanStreams (R.remaining reader.old) (R.remaining reader.new)
-        (W.contents writer.old) (W.contents writer.new) agent.old agent.new result }
+        (W.contents writer.old) (W.contents writer.new)
+        (E.contents faults.old) (E.contents faults.new) agent.old agent.new result }
 {
     let mut source = FromReader::new(reader);
     let mut sink = ToWriter::new(writer);
@@ -156,7 +178,8 @@ fn run_devices<S: Source, W: Flush, E: Write>(
 ) -> u8
     ensures status { result ≤ 1 }
     ensures ran { RanStreams (S.to_come source.old) (S.to_come source.new)
-        (W.taken sink.old) (W.taken sink.new) agent.old agent.new result }
+        (W.taken sink.old) (W.taken sink.new)
+        (E.contents faults.old) (E.contents faults.new) agent.old agent.new result }
     // Status 0 says that no read, write or flush failed, and status 1 that one did or that the
     // trace was too long.
     ensures done { result ≡ 0 → (S.failures source.new ≡ S.failures source.old)
@@ -185,6 +208,8 @@ fn run_sockets<E: Write>(
     faults: &mut E,
 ) -> u8
     ensures status { result ≤ 1 }
+    ensures ended { EndsWellOr ProgramFault.Socket
+        (E.contents faults.old) (E.contents faults.new) result }
 {
     let mut acceptor = AtPort {
         network: rt,
@@ -198,7 +223,11 @@ fn run_sockets<E: Write>(
 
 /// The status behind a flush at the end, of which a fault is told.
 fn finish<E: Write>(flushed: bool, faults: &mut E) -> u8
-    ensures { result ≡ (if flushed then 0 else 1) }
+    ensures status { result ≡ (if flushed then 0 else 1) }
+    ensures well { flushed ≡ true → EndsBy (Ok tt)
+        (E.contents faults.old) (E.contents faults.new) result }
+    ensures failed { flushed ≡ false → EndsBy (Err ProgramFault.Write)
+        (E.contents faults.old) (E.contents faults.new) result }
 {
     if flushed {
         return DONE;
@@ -208,14 +237,16 @@ fn finish<E: Write>(flushed: bool, faults: &mut E) -> u8
 
 /// Tells that there was no memory, and answers the status 2.
 pub fn no_memory<E: Write>(faults: &mut E) -> u8
-    ensures { result ≡ 2 }
+    ensures status { result ≡ 2 }
+    ensures told { IsTold ProgramFault.Memory (E.contents faults.old) (E.contents faults.new) }
 {
     tell(ProgramFault::Memory, faults)
 }
 
 /// The status of a fault, whose line is told. That it cannot be written changes no status.
 fn tell<E: Write>(fault: ProgramFault, faults: &mut E) -> u8
-    ensures { result ≡ status_of fault }
+    ensures status { result ≡ status_of fault }
+    ensures told { IsTold fault (E.contents faults.old) (E.contents faults.new) }
 {
     let _ = tell_at(fault, &mut ToWriter::new(faults));
     fault.status()
@@ -225,6 +256,7 @@ fn tell<E: Write>(fault: ProgramFault, faults: &mut E) -> u8
 fn tell_at<E: Sink>(fault: ProgramFault, sink: &mut E) -> Result<(), DeviceFault>
     ensures written { WrittenBy result (line_of fault) (E.taken sink.old) (E.taken sink.new) }
     ensures failures { E.failures sink.new ≡ failures_after (E.failures sink.old) result }
+    ensures place { E.place sink.new ≡ E.place sink.old }
 {
     send(sink, fault.line())
 }

@@ -2,8 +2,8 @@
 ghost use Rattle.std.specs.Prelude.{◌≡◌, ◌≤◌, IfOk};
 ghost use Rattle.lldp_engine.specs.Past.{Past};
 ghost use Rattle.lldp_engine.specs.Standing.{Stands};
-ghost use Rattle.lldp_program.specs.FaultNumber.{number_of_serve_fault};
-ghost use Rattle.lldp_program.specs.Runs.{KeepsOn};
+ghost use Rattle.lldp_program.specs.Faults.FaultNumber.{number_of_serve_fault};
+ghost use Rattle.lldp_program.specs.Trace.Runs.{KeepsOn};
 ghost use Rattle.lldp_program.specs.Serving.{HasAsked, HasListened, faults_in};
 
 use crate::acceptor::{Acceptor, AtListener, Bind};

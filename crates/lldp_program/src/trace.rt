@@ -5,12 +5,12 @@ ghost use Rattle.lldp_text.specs.Answer.{on_ok};
 ghost use Rattle.lldp_engine.specs.Event.{tick, event_of};
 ghost use Rattle.lldp_engine.specs.Past.{Past};
 ghost use Rattle.lldp_engine.specs.Standing.{Stands};
-ghost use Rattle.lldp_program.specs.FaultNumber.{number_of_run_fault};
-ghost use Rattle.lldp_program.specs.Lines.{ended_lines, unfinished, if_any};
-ghost use Rattle.lldp_program.specs.Work.{work_of, AllowsWork};
-ghost use Rattle.lldp_program.specs.Items.{happens, items_of_work, items_of, items_of_lines};
+ghost use Rattle.lldp_program.specs.Faults.FaultNumber.{number_of_run_fault};
+ghost use Rattle.lldp_program.specs.Trace.Lines.{ended_lines, unfinished, if_any};
+ghost use Rattle.lldp_program.specs.Trace.Work.{work_of, AllowsWork};
+ghost use Rattle.lldp_program.specs.Trace.Items.{happens, items_of_work, items_of, items_of_lines};
 ghost use Rattle.lldp_program.specs.Code.Parts.{RunsItems, Between};
-ghost use Rattle.lldp_program.specs.Runs.{EndsTold, HasRun, KeepsOn, read_failures_after, write_failures_after};
+ghost use Rattle.lldp_program.specs.Trace.Runs.{EndsTold, HasRun, KeepsOn, read_failures_after, write_failures_after};
 
 use crate::buffer::{hold, read_more};
 use crate::device::{DeviceFault, Sink, Source};

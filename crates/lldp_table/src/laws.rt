@@ -16,14 +16,16 @@ ghost use Rattle.lldp_table.specs.Standing.{Stands, ForEachCalls, IsPossible, Ar
 ghost use Rattle.lldp_table.specs.Positions.{IsLastStored, IsLive, HasRoom, IsNewBefore, WasDropped};
 ghost use Rattle.lldp_table.specs.declared.limits.TheConstants.{MOST_NEIGHBORS};
 
-/// What a table that stands for a list of calls makes of one more stands for the list with it.
+/// What a table that stands for a list of calls makes of one more call stands for the list with it,
+/// if that call is possible (`IsPossible`).
 pub fn calls_carry_standing()
     ensures { (table : Contents) (call : Call) → IsPossible table call →
         ForEachCalls table (λ opened calls. Stands opened (call ∷ calls) (table_after table call)) }
 {}
 
-/// A table that stands for a list of calls is the one that they leave, an empty one if there was
-/// none; and it answers as the definitions do of the list.
+/// A table opened with a limit of 1 to 128 stands for no calls. A table that stands for a list of
+/// calls answers as the definitions do of the list. Each call is one event more, and a tick ages out
+/// as many neighbors as are live before it and not after it.
 pub fn calls_tell_standing_tables()
     ensures opened { (opened : ℕ) → 0 < opened → opened ≤ 128 →
         Stands opened [] (newly_opened opened) }
@@ -37,7 +39,8 @@ pub fn calls_tell_standing_tables()
         aged_out past + length (neighbors (ticked ∷ past)) ≡ length (neighbors past) }
 {}
 
-/// An empty table is sound, and each call leaves a sound table sound.
+/// A table opened with a limit of 1 to 128 is sound, and each possible call leaves a sound table
+/// sound.
 pub fn calls_leave_sound_tables()
     ensures opened { (limit : ℕ) → 0 < limit → limit ≤ 128 →
         IsSound (newly_opened limit) }
@@ -45,8 +48,8 @@ pub fn calls_leave_sound_tables()
         IsSound (table_after table call) }
 {}
 
-/// The extent of a sound LLDPDU with a TTL above 0 and at most 1,500 octets can be stored, and a
-/// stored one has few kept TLVs.
+/// The extent of a sound LLDPDU with a TTL above 0 and at most 1,500 octets can be stored. A stored
+/// one has twelve octets and two more for each kept TLV, or more.
 pub fn extents_can_be_stored()
     ensures stored { (pdu : List ℕ) → AreOctets pdu → fault_of pdu ≡ None → 0 < ttl_of pdu →
         length pdu ≤ 1500 →
@@ -67,8 +70,8 @@ pub fn tables_hold_last_stored_frames()
     ensures sound { (table : Contents) → ForEachCalls table (λ opened calls. IsSound table) }
 {}
 
-/// The same of the list of calls itself, and that there is a table for each list of calls that
-/// could be given.
+/// The same of the list of calls itself. If the table was opened with a limit of 1 to 128 and each
+/// call was possible, the table that they leave is sound and stands for the list.
 pub fn calls_leave_last_stored_frames()
     ensures held { (opened : ℕ) (calls : List Call) (neighbor : Neighbor) →
         Contains (neighbors (events_of opened calls)) neighbor
@@ -97,7 +100,7 @@ pub fn live_neighbors_decide_answers()
 {}
 
 /// What is left of the too-many timer is the most that any frame dropped since the last purge has
-/// left of its TTL.
+/// left of its TTL, and 0 if none has anything left.
 pub fn timers_keep_the_greatest_dropped()
     ensures one { (events : List TableEvent) → 0 < too_many_left events →
         WasDropped events (too_many_left events) }
@@ -110,7 +113,8 @@ pub fn timers_keep_the_greatest_dropped()
         WasDropped (events_of opened calls) left → left ≤ table.too_many_left) }
 {}
 
-/// A name that takes leave, by a TTL of 0, goes and no other does; nothing else changes.
+/// A name that is forgotten, as by a frame with a TTL of 0, goes and no other does; nothing else
+/// changes.
 pub fn forgotten_names_go_alone()
     ensures held { (opened : ℕ) (calls : List Call) (name : MsapId) (neighbor : Neighbor) →
         Contains (table_of opened (forget name ∷ calls)).neighbors neighbor
@@ -133,8 +137,8 @@ pub fn ticks_take_expired_neighbors_alone()
         (table_of opened (tick ∷ calls)).limit ≡ (table_of opened calls).limit }
 {}
 
-/// A stored frame is held with all of its TTL left, in place of what its name had; nothing else
-/// changes.
+/// A frame with a TTL above 0 that is not dropped is held with all of its TTL left, in place of what
+/// its name had; nothing else changes.
 pub fn stored_frames_replace_their_name_alone()
     ensures held { (opened : ℕ) (calls : List Call) (name : MsapId) (ttl : ℕ) (octets : List ℕ)
         (neighbor : Neighbor) → 0 < ttl → ¬ (answer opened name (events_of opened calls) ≡ Dropped) →

@@ -14,7 +14,7 @@ ghost use Rattle.lldp_transmit.specs.Windows.{AreTimely, with_marks, WindowsHold
 ghost use Rattle.lldp_transmit.specs.declared.event.Cause.{Cause};
 ghost use Rattle.lldp_transmit.specs.declared.event.Mark.{Mark};
 
-/// A machine as it is opened stands for no events.
+/// A machine as it is opened, with settings in their ranges (`AreSettings`), stands for no events.
 pub fn opened_machines_stand()
     ensures { (s : Settings) → AreSettings s → Stands s [] (opened s) }
 {}
@@ -37,9 +37,10 @@ pub fn causeless_events_change_nothing()
         Stands s past t → mark_at s (event Cause.Nothing interval ∷ past) ≡ Mark.Quiet }
 {}
 
-/// Whatever a port has seen, its windows hold: no run of events has more ordinary frames than
-/// txCreditMax and the ticks after its first event, nor more stops than one and one for each
-/// reinitDelay ticks; and up to no event has another choice of due and open events had more frames.
+/// Whatever a port has seen, if its settings are in their ranges, its windows hold: no run of events
+/// has more ordinary frames than txCreditMax and the ticks after its first event, nor more stops than
+/// one and one for each reinitDelay ticks; and up to no event has another choice of due and open
+/// events had more frames.
 pub fn windows_hold()
     ensures { (s : Settings) (h : History) → AreSettings s → WindowsHold s h }
 {}
@@ -84,8 +85,10 @@ pub fn positions_tell_signals()
 
 /// Waiting, due, open, sent and the credit, said of positions: a frame waits if a signal since
 /// the start has had none, and is due if the port is active too, also by the frames of another
-/// choice (`chosen`); a window is open if, with one frame more, each run that ends now is within
-/// its bound; the credit is the least that any run leaves of its bound, and no other number is.
+/// choice (`chosen`) whose marks are timely. If the settings are in their ranges, a window is open if,
+/// with one frame more, each run that ends now is within its bound; the credit is the least that any
+/// run leaves of its bound, and no other number is; and a frame goes if it is due and the window
+/// open.
 pub fn positions_tell_sending()
     ensures waiting { (ms : List Moment) → IsTrue (is_waiting ms) ↔ HasWanted ms }
     ensures due { (s : Settings) (h : History) (e : Event) →
@@ -116,8 +119,8 @@ pub fn causes_tell_allowed_and_up()
     ensures up { (s : Settings) (h : History) → IsTrue (is_up (moments s h)) ↔ IsLinked h }
 {}
 
-/// Ordinary frames go at ticks, local changes and new neighbors alone, on a port that is active,
-/// may transmit and has its link up.
+/// If the settings are in their ranges, ordinary frames go at ticks, local changes and new neighbors
+/// alone, on a port that is active, may transmit and has its link up.
 pub fn ordinary_frames_go_on_active_ports()
     ensures { (s : Settings) (past : History) (e : Event) → AreSettings s →
         mark_at s (e ∷ past) ≡ Mark.Ordinary → CanSend s e past }
@@ -135,8 +138,8 @@ pub fn moments_keep_their_events()
         map (λ m. event m.cause m.interval) (moments s h) ≡ h }
 {}
 
-/// The constants are the greatest numbers that a port can be opened with, as the definitions write
-/// them out.
+/// The constants are the greatest numbers that a port can be opened with, all three at once, as the
+/// definitions write them out.
 pub fn constants_are_the_greatest_settings()
     ensures allowed { (allowed : Bool) →
         AreSettings (settings MOST_CREDIT MOST_FAST MOST_REINIT allowed) }

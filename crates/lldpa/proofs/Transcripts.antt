@@ -1,4 +1,4 @@
--- The transcripts of examples/, computed from the definitions alone. tools/transcripts.py writes this file.
+-- The transcripts of examples/, computed from the definitions alone. tools/write/transcripts.py writes this file.
 use Rattle.std.proofs.Common.{◌≡◌, ℕ, List, [], ◌∷◌, ◌++◌, true, false, Some, None, refl, ap, ◌∙◌, codes, Bor, arith, Bool, ◌||◌, nat_eq, map, filter, flat_map}
 use Rattle.std.specs.Fmt.{digits}
 use Rattle.std.specs.Prelude.{decimal}
@@ -24,10 +24,10 @@ use Rattle.lldp_engine.specs.Port.Past.{port_after}
 use Rattle.lldp_engine.specs.Past.{Past, opened, agent_of}
 use Rattle.lldp_engine.specs.Frames.{frame_of}
 use Rattle.lldp_text.specs.Words.{words_from}
-use Rattle.lldp_program.specs.Forms.{tick_form, frame_form, link_form, form_of, work_given}
-use Rattle.lldp_program.specs.Lines.{lines_of, ended_lines, ended}
-use Rattle.lldp_program.specs.Items.{items_of, items_of_lines, after_all, text_of_all, text}
-use Rattle.lldp_program.specs.Usage.{Asks, program}
+use Rattle.lldp_program.specs.Trace.Forms.{tick_form, frame_form, link_form, form_of, work_given}
+use Rattle.lldp_program.specs.Trace.Lines.{lines_of, ended_lines, ended}
+use Rattle.lldp_program.specs.Trace.Items.{items_of, items_of_lines, after_all, text_of_all, text}
+use Rattle.lldp_program.specs.CommandLine.Usage.{Asks, program}
 use Rattle.lldp_program.proofs.Runs.Items.{text_of_all-append}
 
 -- the text of each line, each read after all before it

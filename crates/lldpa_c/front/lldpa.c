@@ -1,7 +1,7 @@
 /*
  * The functions that programs call. Each looks whether a pointer is NULL that must not be, and says so. Else it calls
  * the proved function, with the same arguments; for NULL with a length of 0 that one is given an address, as its
- * contract asks. tools/library.sh puts `proved_` before the names of the proved functions.
+ * contract asks. tools/library/library.sh puts `proved_` before the names of the proved functions.
  */
 #include "lldpa.h"
 
@@ -18,14 +18,22 @@ PROVED(lldpa_transmit_event);
 PROVED(lldpa_transmit_credit);
 PROVED(lldpa_open);
 PROVED(lldpa_tick);
-PROVED(lldpa_frame);
+PROVED(lldpa_ticks);
 PROVED(lldpa_link);
+PROVED(lldpa_neighbor_count);
+PROVED(lldpa_neighbor);
 PROVED(lldpa_command);
 PROVED(lldpa_command_text);
 PROVED(lldpa_show_lines);
 PROVED(lldpa_show_line);
 PROVED(lldpa_frame_of);
 PROVED(lldpa_close);
+
+/* One that tells no news, and one that tells them. */
+extern uint8_t proved_lldpa_frame(lldpa_agent *agent, uint32_t port, const uint8_t *octets, size_t length,
+                                  lldpa_marks *marks);
+extern uint8_t proved_lldpa_frame_news(lldpa_agent *agent, uint32_t port, const uint8_t *octets, size_t length,
+                                       lldpa_marks *marks, lldpa_news *news);
 
 /* Of more names of ports the proved function does not look at the others. */
 #define MOST_NAMES 65
@@ -49,6 +57,11 @@ static const uint8_t *octets(const uint8_t *at)
 static uint8_t *room_at(uint8_t *at)
 {
     return at != NULL ? at : (uint8_t *)&nowhere;
+}
+
+uint32_t lldpa_version(void)
+{
+    return LLDPA_VERSION;
 }
 
 /* ---- Reading ---------------------------------------------------------------------------------------------------- */
@@ -124,13 +137,13 @@ uint8_t lldpa_build(const uint8_t *chassis, size_t chassis_length, const uint8_t
 
 /* ---- The transmit machine --------------------------------------------------------------------------------------- */
 
-uint8_t lldpa_transmit_new(lldpa_machine *machine, uint8_t credit_max, uint8_t fast_init, uint8_t reinit,
+uint8_t lldpa_transmit_new(lldpa_machine *machine, uint32_t credit_max, uint32_t fast_init, uint32_t reinit,
                            bool allowed)
 {
     return machine == NULL ? LLDPA_NULL : proved_lldpa_transmit_new(machine, credit_max, fast_init, reinit, allowed);
 }
 
-uint8_t lldpa_transmit_event(lldpa_machine *machine, uint8_t cause, uint16_t interval, uint8_t *mark)
+uint8_t lldpa_transmit_event(lldpa_machine *machine, uint32_t cause, uint32_t interval, uint8_t *mark)
 {
     if (machine == NULL || mark == NULL) {
         return LLDPA_NULL;
@@ -158,7 +171,13 @@ static bool is_copied(lldpa_text *to, const lldpa_text *from)
 uint8_t lldpa_open(const lldpa_options *options, lldpa_agent *agent)
 {
     lldpa_text names[MOST_NAMES];
-    if (options == NULL || agent == NULL || is_missing(options->ports, options->port_count)) {
+    if (options == NULL || agent == NULL) {
+        return LLDPA_NULL;
+    }
+    if (options->size != sizeof *options) {
+        return LLDPA_OUT_OF_RANGE;
+    }
+    if (is_missing(options->ports, options->port_count)) {
         return LLDPA_NULL;
     }
     lldpa_options given = *options;
@@ -177,25 +196,51 @@ uint8_t lldpa_open(const lldpa_options *options, lldpa_agent *agent)
     return proved_lldpa_open(&given, agent);
 }
 
-uint8_t lldpa_tick(lldpa_agent *agent, lldpa_marks *marks)
+uint8_t lldpa_tick(lldpa_agent *agent, lldpa_marks *marks, uint32_t *aged_out)
 {
-    return agent == NULL || marks == NULL ? LLDPA_NULL : proved_lldpa_tick(agent, marks);
+    uint32_t unasked = 0;
+    if (agent == NULL || marks == NULL) {
+        return LLDPA_NULL;
+    }
+    return proved_lldpa_tick(agent, marks, aged_out != NULL ? aged_out : &unasked);
 }
 
-uint8_t lldpa_frame(lldpa_agent *agent, uint8_t port, const uint8_t *frame, size_t length, lldpa_marks *marks)
+uint8_t lldpa_ticks(lldpa_agent *agent, uint32_t count, lldpa_marks *marks, lldpa_ticks_taken *told)
+{
+    return agent == NULL || marks == NULL || told == NULL ? LLDPA_NULL
+                                                          : proved_lldpa_ticks(agent, count, marks, told);
+}
+
+uint8_t lldpa_frame(lldpa_agent *agent, uint32_t port, const uint8_t *frame, size_t length, lldpa_marks *marks,
+                    lldpa_news *news)
 {
     if (agent == NULL || is_missing(frame, length) || marks == NULL) {
         return LLDPA_NULL;
     }
-    return proved_lldpa_frame(agent, port, octets(frame), length, marks);
+    return news == NULL ? proved_lldpa_frame(agent, port, octets(frame), length, marks)
+                        : proved_lldpa_frame_news(agent, port, octets(frame), length, marks, news);
 }
 
-uint8_t lldpa_link(lldpa_agent *agent, uint8_t port, bool up, lldpa_marks *marks)
+uint8_t lldpa_link(lldpa_agent *agent, uint32_t port, bool up, lldpa_marks *marks)
 {
     return agent == NULL || marks == NULL ? LLDPA_NULL : proved_lldpa_link(agent, port, up, marks);
 }
 
-uint8_t lldpa_command(lldpa_agent *agent, const uint8_t *line, size_t length, uint8_t *show, lldpa_marks *marks)
+uint8_t lldpa_neighbor_count(lldpa_agent *agent, uint32_t port, uint32_t *count)
+{
+    return agent == NULL || count == NULL ? LLDPA_NULL : proved_lldpa_neighbor_count(agent, port, count);
+}
+
+uint8_t lldpa_neighbor(lldpa_agent *agent, uint32_t port, uint32_t index, uint8_t *room, size_t room_length,
+                       lldpa_held *told)
+{
+    if (agent == NULL || is_missing(room, room_length) || told == NULL) {
+        return LLDPA_NULL;
+    }
+    return proved_lldpa_neighbor(agent, port, index, room_at(room), room_length, told);
+}
+
+uint8_t lldpa_command(lldpa_agent *agent, const uint8_t *line, size_t length, uint32_t *show, lldpa_marks *marks)
 {
     if (agent == NULL || is_missing(line, length) || show == NULL || marks == NULL) {
         return LLDPA_NULL;
@@ -203,7 +248,7 @@ uint8_t lldpa_command(lldpa_agent *agent, const uint8_t *line, size_t length, ui
     return proved_lldpa_command(agent, octets(line), length, show, marks);
 }
 
-uint8_t lldpa_command_text(uint8_t fault, uint8_t *room, size_t room_length, size_t *length)
+uint8_t lldpa_command_text(uint32_t fault, uint8_t *room, size_t room_length, size_t *length)
 {
     if (is_missing(room, room_length) || length == NULL) {
         return LLDPA_NULL;
@@ -211,7 +256,7 @@ uint8_t lldpa_command_text(uint8_t fault, uint8_t *room, size_t room_length, siz
     return proved_lldpa_command_text(fault, room_at(room), room_length, length);
 }
 
-uint8_t lldpa_show_lines(lldpa_agent *agent, uint8_t show, uint32_t from, uint8_t *room, size_t room_length,
+uint8_t lldpa_show_lines(lldpa_agent *agent, uint32_t show, uint32_t from, uint8_t *room, size_t room_length,
                          lldpa_lines *told)
 {
     if (agent == NULL || is_missing(room, room_length) || told == NULL) {
@@ -220,7 +265,7 @@ uint8_t lldpa_show_lines(lldpa_agent *agent, uint8_t show, uint32_t from, uint8_
     return proved_lldpa_show_lines(agent, show, from, room_at(room), room_length, told);
 }
 
-uint8_t lldpa_show_line(lldpa_agent *agent, uint8_t show, uint32_t line, uint8_t *room, size_t room_length,
+uint8_t lldpa_show_line(lldpa_agent *agent, uint32_t show, uint32_t line, uint8_t *room, size_t room_length,
                         size_t *length)
 {
     if (agent == NULL || is_missing(room, room_length) || length == NULL) {
@@ -229,7 +274,7 @@ uint8_t lldpa_show_line(lldpa_agent *agent, uint8_t show, uint32_t line, uint8_t
     return proved_lldpa_show_line(agent, show, line, room_at(room), room_length, length);
 }
 
-uint8_t lldpa_frame_of(lldpa_agent *agent, uint8_t port, uint8_t mark, uint8_t *room, size_t room_length,
+uint8_t lldpa_frame_of(lldpa_agent *agent, uint32_t port, uint32_t mark, uint8_t *room, size_t room_length,
                        size_t *length)
 {
     if (agent == NULL || is_missing(room, room_length) || length == NULL) {

@@ -5,8 +5,9 @@
  * C99.
  *
  * What the caller must keep, everywhere:
- *  - A pointer that is not NULL points to memory of its type that is there, aligned and initialized. A pointer and the
- *    length behind it are one thing: so many elements stand there. No length is over SIZE_MAX / 2.
+ *  - A pointer that is not NULL points to memory of its type that is there and aligned. What a call reads is
+ *    initialized; what it only writes need not be. A pointer and the length behind it are one thing: so many elements
+ *    stand there. No length is over SIZE_MAX / 2.
  *  - What a call writes to overlaps nothing else that it is given, and nobody else reads or writes it meanwhile.
  *  - A bool is 0 or 1.
  * A number or a place out of its range is the caller's to give: the answer says so, and nothing is done.
@@ -15,11 +16,14 @@
  * is LLDPA_NULL, or false or 0 where a function answers a bool or a number of frames, whatever else is given; nothing is
  * written, and lldpa_close does nothing.
  *
+ * Stack: lldpa_show_line takes at most 28 KB, every other call at most 12.
+ *
  * Memory: no function takes any but lldpa_open, and only lldpa_close gives it back. Nothing that a call was given is
  * kept once it has returned. Places are offsets in the octets that the caller gave.
  *
  * Threads: no function has any state of its own, waits, or starts a thread. Calls over different memory may run at the
- * same time. Two calls over the same lldpa_machine or lldpa_agent may not.
+ * same time. Two calls over the same lldpa_machine or lldpa_agent may not. An agent is used and closed on the thread that
+ * opened it. From a signal handler, or in the child of a fork of a process with threads, call no function of an agent.
  */
 #ifndef LLDPA_H
 #define LLDPA_H
@@ -32,7 +36,16 @@
 extern "C" {
 #endif
 
-/* ---- Answers. 0 is well. The numbers of faults, from 1 on, stand at the function that answers them. ------------- */
+/* The version of this header, 10000 times the first number, 100 times the second and the third. */
+#define LLDPA_VERSION 10000
+
+/* The version of the library, as LLDPA_VERSION. */
+uint32_t lldpa_version(void);
+
+/*
+ * ---- Answers. 0 is well. Each kind of fault has numbers of its own, which stand at the function that answers them: 1 to
+ * 8 of LLDPDUs, 11 to 13 of TLVs that are put, 21 to 26 of openings, 31 to 38 of commands.
+ */
 
 #define LLDPA_OK 0
 #define LLDPA_OUT_OF_RANGE 100 /* a number, or the length of an identifier, is not in its range */
@@ -41,6 +54,14 @@ extern "C" {
 #define LLDPA_NO_PORT 103      /* the agent has no port of that number */
 #define LLDPA_IS_OPEN 104      /* the agent is open already */
 #define LLDPA_NULL 105         /* a pointer is NULL that must not be */
+
+/* ---- Rooms that are always large enough, in octets ----------------------------------------------------------------- */
+
+#define LLDPA_PDU_ROOM 1500      /* for lldpa_build */
+#define LLDPA_FRAME_ROOM 1514    /* for lldpa_frame_of */
+#define LLDPA_NEIGHBOR_ROOM 1500 /* for lldpa_neighbor */
+#define LLDPA_LINE_ROOM 2049     /* for lldpa_show_line, and for one line of lldpa_show_lines */
+#define LLDPA_TEXT_ROOM 22       /* for lldpa_command_text */
 
 /* ---- Reading ---------------------------------------------------------------------------------------------------- */
 
@@ -85,13 +106,15 @@ typedef struct lldpa_examined {
  */
 uint8_t lldpa_examine(const uint8_t *pdu, size_t length, lldpa_examined *told);
 
-/* A walk over the kept TLVs. Begin with one that is all 0. */
+/* A walk over the kept TLVs. Begin with LLDPA_KEPT_INIT, which is all 0. */
 typedef struct lldpa_kept {
     size_t next;      /* where the walk goes on; 0: at the first TLV behind the three mandatory ones */
     lldpa_place body; /* the body of the TLV that was given last */
     bool met[4];      /* of which of the types 4 to 7 a well-formed TLV was met */
     uint8_t kind;     /* the type of the TLV that was given last, 4 to 127 */
 } lldpa_kept;
+
+#define LLDPA_KEPT_INIT { 0, { 0, 0 }, { false, false, false, false }, 0 }
 
 /*
  * The next kept TLV of an extent: well formed for its type, and the first of its type where that is 4 to 7.
@@ -141,21 +164,21 @@ typedef struct lldpa_tlv {
 } lldpa_tlv;
 
 /* Why a TLV is not put. They are looked for in the order Kind, Body, Full. */
-#define LLDPA_FULL 1 /* it and the End Of LLDPDU do not fit in 1500 octets */
-#define LLDPA_KIND 2 /* its type is not 4 to 127, or one of 4 to 7 that was put before, or the TTL is 0 */
-#define LLDPA_BODY 3 /* its body is over 511 octets, or not well formed for its type */
+#define LLDPA_FULL 11 /* it and the End Of LLDPDU do not fit in 1500 octets */
+#define LLDPA_KIND 12 /* its type is not 4 to 127, or one of 4 to 7 that was put before, or the TTL is 0 */
+#define LLDPA_BODY 13 /* its body is over 511 octets, or not well formed for its type */
 
 /*
  * Builds an LLDPDU in the caller's room.
  *   chassis, port  the bodies of the Chassis ID and the Port ID, their subtypes first, 2 to 256 octets each
  *   ttl            in seconds; 0 makes a shutdown LLDPDU, which has no other TLVs
  *   tlvs           the TLVs to put, in their order, any number
- *   faults         one for each TLV (as many as tlvs has): 0 where it was put, else 1 to 3, and it is left out
- *   room           1500 octets are always enough
+ *   faults         one for each TLV (as many as tlvs has): 0 where it was put, else 11 to 13, and it is left out
+ *   room           LLDPA_PDU_ROOM octets are always enough
  *   length         how many octets the LLDPDU has, its End Of LLDPDU included
- * Answers 0; or LLDPA_OUT_OF_RANGE for the length of an identifier; or LLDPA_NO_ROOM where faults has fewer elements
- * than tlvs, or where the room is too small. After LLDPA_OUT_OF_RANGE nothing is written, after LLDPA_NO_ROOM only
- * faults may be.
+ * Answers the first of these: LLDPA_OUT_OF_RANGE for the length of an identifier; LLDPA_NO_ROOM if faults has fewer
+ * elements than tlvs; LLDPA_NO_ROOM if the LLDPDU is longer than the room, and the faults are told; else 0. If it is not
+ * 0, no more than that is written.
  */
 uint8_t lldpa_build(const uint8_t *chassis, size_t chassis_length, const uint8_t *port, size_t port_length,
                     uint16_t ttl, const lldpa_tlv *tlvs, size_t tlv_count, uint8_t *faults, size_t fault_count,
@@ -201,7 +224,7 @@ typedef struct lldpa_machine {
  *   allowed     whether the port may transmit from the start
  * Answers 0; or LLDPA_OUT_OF_RANGE, and the machine stays as it was.
  */
-uint8_t lldpa_transmit_new(lldpa_machine *machine, uint8_t credit_max, uint8_t fast_init, uint8_t reinit,
+uint8_t lldpa_transmit_new(lldpa_machine *machine, uint32_t credit_max, uint32_t fast_init, uint32_t reinit,
                            bool allowed);
 
 /*
@@ -212,7 +235,7 @@ uint8_t lldpa_transmit_new(lldpa_machine *machine, uint8_t credit_max, uint8_t f
  * Answers 0; or LLDPA_OUT_OF_RANGE for a cause or an interval, or for a machine whose credit is above its credit_max,
  * and nothing is written.
  */
-uint8_t lldpa_transmit_event(lldpa_machine *machine, uint8_t cause, uint16_t interval, uint8_t *mark);
+uint8_t lldpa_transmit_event(lldpa_machine *machine, uint32_t cause, uint32_t interval, uint8_t *mark);
 
 /* How many ordinary frames may go before the next tick, 0 to 10. */
 uint8_t lldpa_transmit_credit(const lldpa_machine *machine);
@@ -232,6 +255,7 @@ typedef struct lldpa_text {
 
 /* What an agent is opened with. */
 typedef struct lldpa_options {
+    size_t size;             /* sizeof(lldpa_options) */
     const lldpa_text *ports; /* the names of the ports in order: 1 to 15 letters, digits, '-', '_', '/' and ':' */
     size_t port_count;       /* 1 to 64 */
     lldpa_text hostname;     /* at most 255 octets, printable ASCII */
@@ -239,12 +263,17 @@ typedef struct lldpa_options {
     uint8_t management[4];   /* the IPv4 address under which the agent can be managed */
     bool managed;            /* whether there is one; where not, management may hold anything */
     bool receive_only;       /* whether each port begins with the status rx-only */
-    uint8_t role;            /* LLDPA_STATION, LLDPA_BRIDGE or LLDPA_ROUTER */
-    uint8_t max_neighbors;   /* how many neighbors each port may hold, 1 to 128 */
-    uint8_t credit_max;      /* txCreditMax, 1 to 10 */
-    uint8_t fast_init;       /* txFastInit, 1 to 8 */
-    uint8_t reinit;          /* reinitDelay in seconds, 1 to 10 */
+    uint32_t role;           /* LLDPA_STATION, LLDPA_BRIDGE or LLDPA_ROUTER */
+    uint32_t max_neighbors;  /* how many neighbors each port may hold, 1 to 128 */
+    uint32_t credit_max;     /* txCreditMax, 1 to 10 */
+    uint32_t fast_init;      /* txFastInit, 1 to 8 */
+    uint32_t reinit;         /* reinitDelay in seconds, 1 to 10 */
 } lldpa_options;
+
+/* Begin with these: no ports, no hostname, the MAC address 00:00:00:00:00:00, and the program's defaults. */
+#define LLDPA_OPTIONS_INIT                                                                                              \
+    { sizeof(lldpa_options), NULL, 0, { NULL, 0 }, { 0, 0, 0, 0, 0, 0 }, { 0, 0, 0, 0 }, false, false, LLDPA_STATION,   \
+      32, 5, 4, 2 }
 
 /*
  * A handle. Begin with one that is all 0: lldpa_agent agent = {0}. Its fields are not the caller's to read or change,
@@ -255,19 +284,19 @@ typedef struct lldpa_agent {
     bool open;
 } lldpa_agent;
 
-/* Why an agent is not opened, in the order of the checks from 2 on. */
-#define LLDPA_MEMORY 1         /* there was no memory for it */
-#define LLDPA_NO_PORTS 2       /* no port was named */
-#define LLDPA_TOO_MANY_PORTS 3 /* more than 64 ports were named */
-#define LLDPA_PORT_NAME 4      /* the name of a port is none */
-#define LLDPA_SAME_PORT 5      /* two ports have the same name */
-#define LLDPA_TEXT 6           /* the hostname is over 255 octets, or has one that is not printable */
+/* Why an agent is not opened, in the order of the checks from 22 on. */
+#define LLDPA_MEMORY 21         /* there was no memory for it */
+#define LLDPA_NO_PORTS 22       /* no port was named */
+#define LLDPA_TOO_MANY_PORTS 23 /* more than 64 ports were named */
+#define LLDPA_PORT_NAME 24      /* the name of a port is none */
+#define LLDPA_SAME_PORT 25      /* two ports have the same name */
+#define LLDPA_TEXT 26           /* the hostname is over 255 octets, or has one that is not printable */
 
 /*
  * Opens an agent. All memory that it will ever need is taken here: about 1.6 KB for each of max_neighbors on each port.
- * Answers 0, and the agent is open. Or LLDPA_IS_OPEN; or LLDPA_OUT_OF_RANGE for role, one of the four numbers, or a text
- * that is not UTF-8; or the first fault, 1 to 6. Then the handle stays as it was. Of more than 65 names only the first
- * 65 are looked at.
+ * Answers the first of these: LLDPA_OUT_OF_RANGE for another size; LLDPA_IS_OPEN; LLDPA_OUT_OF_RANGE for role, one of the
+ * four numbers, or a text that is not UTF-8; the first fault, 22 to 26; LLDPA_MEMORY; else 0, and the agent is open. If it
+ * is not 0, the handle stays as it was. Of more than 65 names only the first 65 are looked at.
  */
 uint8_t lldpa_open(const lldpa_options *options, lldpa_agent *agent);
 
@@ -285,20 +314,80 @@ typedef struct lldpa_marks {
 
 /*
  * One second has passed. Answers 0 or LLDPA_NOT_OPEN.
- *   marks  which ports send, where the answer is 0
+ *   marks     which ports send, if the answer is 0
+ *   aged_out  how many neighbors aged out, if the answer is 0; or NULL. They are those that had 1 second left before.
  */
-uint8_t lldpa_tick(lldpa_agent *agent, lldpa_marks *marks);
+uint8_t lldpa_tick(lldpa_agent *agent, lldpa_marks *marks, uint32_t *aged_out);
+
+/* What several ticks did. */
+typedef struct lldpa_ticks_taken {
+    uint32_t taken;    /* how many were taken */
+    uint32_t aged_out; /* how many neighbors aged out at the last of them */
+} lldpa_ticks_taken;
+
+/*
+ * Up to `count` seconds have passed: takes as many ticks, but stops behind the first at which a port sends or a neighbor
+ * ages out. It does what so many calls of lldpa_tick do. Answers 0 or LLDPA_NOT_OPEN.
+ *   marks  which ports send at the last tick, if the answer is 0
+ *   told   written if the answer is 0. If fewer were taken than count, send the frames of marks and call it again for the
+ *          others.
+ */
+uint8_t lldpa_ticks(lldpa_agent *agent, uint32_t count, lldpa_marks *marks, lldpa_ticks_taken *told);
+
+/* What a frame does. */
+#define LLDPA_NEWS_NOT_LLDP 1 /* it is no LLDP frame */
+#define LLDPA_NEWS_DEAF 2     /* the port does not receive, or its link is down: nobody looked at the frame */
+#define LLDPA_NEWS_REFUSED 3  /* its LLDPDU has a fault */
+#define LLDPA_NEWS_NEW 4      /* a neighbor that was not held is stored */
+#define LLDPA_NEWS_CHANGED 5  /* a neighbor that is held says something else, which is stored */
+#define LLDPA_NEWS_SAME 6     /* a neighbor that is held says the same again; its time begins anew */
+#define LLDPA_NEWS_DROPPED 7  /* there is no room for a neighbor that is not held */
+#define LLDPA_NEWS_GONE 8     /* a neighbor that was held leaves */
+#define LLDPA_NEWS_UNKNOWN 9  /* a neighbor that is not held leaves */
+
+/*
+ * What a frame did. The two places together are the key of the neighbor: no two neighbors of a port have the same
+ * octets there.
+ */
+typedef struct lldpa_news {
+    lldpa_place chassis; /* in the frame: the body of the Chassis ID, from LLDPA_NEWS_NEW on; else 0 and 0 */
+    lldpa_place port;    /* in the frame: the body of the Port ID, likewise */
+    uint32_t what;       /* LLDPA_NEWS_NOT_LLDP to LLDPA_NEWS_UNKNOWN */
+    uint32_t fault;      /* of LLDPA_NEWS_REFUSED the fault of the LLDPDU, 1 to 8; else 0 */
+} lldpa_news;
 
 /*
  * A frame came on a port: any octets; what is no LLDP frame changes nothing. Answers 0, LLDPA_NOT_OPEN or
  * LLDPA_NO_PORT.
  *   port   its number, from 0, in the order of the options
- *   marks  which ports send, where the answer is 0
+ *   marks  which ports send, if the answer is 0
+ *   news   what the frame did, if the answer is 0; or NULL
  */
-uint8_t lldpa_frame(lldpa_agent *agent, uint8_t port, const uint8_t *octets, size_t length, lldpa_marks *marks);
+uint8_t lldpa_frame(lldpa_agent *agent, uint32_t port, const uint8_t *octets, size_t length, lldpa_marks *marks,
+                    lldpa_news *news);
 
 /* The link of a port came up, or went down. The rest as of lldpa_frame. */
-uint8_t lldpa_link(lldpa_agent *agent, uint8_t port, bool up, lldpa_marks *marks);
+uint8_t lldpa_link(lldpa_agent *agent, uint32_t port, bool up, lldpa_marks *marks);
+
+/* How many neighbors a port holds. Answers 0, LLDPA_NOT_OPEN or LLDPA_NO_PORT; count is written if it is 0. */
+uint8_t lldpa_neighbor_count(lldpa_agent *agent, uint32_t port, uint32_t *count);
+
+/* A neighbor that a port holds. */
+typedef struct lldpa_held {
+    lldpa_examined pdu; /* what its last stored LLDPDU tells; its places are in the octets that were written */
+    uint32_t left;      /* seconds until it ages out */
+} lldpa_held;
+
+/*
+ * A neighbor of a port, in the order in which they were last new. lldpa_next_kept reads its TLVs from the octets.
+ *   index  its place, from 0
+ *   room   told->pdu.extent octets are written to its front: the neighbor's LLDPDU without the End Of LLDPDU.
+ *          LLDPA_NEIGHBOR_ROOM octets are always enough
+ *   told   written if the answer is 0
+ * Answers the first of these: LLDPA_NOT_OPEN, LLDPA_NO_PORT, LLDPA_OUT_OF_RANGE for the index, LLDPA_NO_ROOM; else 0.
+ */
+uint8_t lldpa_neighbor(lldpa_agent *agent, uint32_t port, uint32_t index, uint8_t *room, size_t room_length,
+                       lldpa_held *told);
 
 /* What a command shows. */
 #define LLDPA_SHOW_NOTHING 0 /* the command changed something */
@@ -308,31 +397,31 @@ uint8_t lldpa_link(lldpa_agent *agent, uint8_t port, bool up, lldpa_marks *marks
 #define LLDPA_SHOW_CONFIGURATION 4
 
 /* Why a command is refused: the first in reading order. */
-#define LLDPA_UNKNOWN 1      /* a word is missing, or no form has it there */
-#define LLDPA_NO_SUCH_PORT 2 /* no port has that name */
-#define LLDPA_NUMBER 3       /* a word is not one or more decimal digits */
-#define LLDPA_RANGE 4        /* a number is not in its range */
-#define LLDPA_BAD_TEXT 5     /* a text is over 255 octets, or has one that is not printable */
-#define LLDPA_EXTRA 6        /* a word follows a complete command */
-#define LLDPA_QUOTE 7        /* a quote is wrong */
-#define LLDPA_IN_USE 8       /* some port holds more neighbors than the limit */
+#define LLDPA_UNKNOWN 31      /* a word is missing, or no form has it there */
+#define LLDPA_NO_SUCH_PORT 32 /* no port has that name */
+#define LLDPA_NUMBER 33       /* a word is not one or more decimal digits */
+#define LLDPA_RANGE 34        /* a number is not in its range */
+#define LLDPA_BAD_TEXT 35     /* a text is over 255 octets, or has one that is not printable */
+#define LLDPA_EXTRA 36        /* a word follows a complete command */
+#define LLDPA_QUOTE 37        /* a quote is wrong */
+#define LLDPA_IN_USE 38       /* some port holds more neighbors than the limit */
 
 /*
  * Takes a line of a command, "configure ..", "update" or "show ..", without its line feed. A setting is carried out, a
  * show is only read: lldpa_show_lines gives its lines.
  *   show   LLDPA_SHOW_NOTHING, or which show it is, where the answer is 0
  *   marks  which ports send, where the answer is 0
- * Answers 0; or 1 to 8, LLDPA_NOT_OPEN, and nothing is changed.
+ * Answers 0; or 31 to 38, LLDPA_NOT_OPEN, and nothing is changed.
  */
-uint8_t lldpa_command(lldpa_agent *agent, const uint8_t *line, size_t length, uint8_t *show, lldpa_marks *marks);
+uint8_t lldpa_command(lldpa_agent *agent, const uint8_t *line, size_t length, uint32_t *show, lldpa_marks *marks);
 
 /*
  * The line that tells a refusal of a command, without its line feed, as "error: unknown command".
- *   fault   1 to 8
- *   length  how many octets it has, at most 22
+ *   fault   31 to 38
+ *   length  how many octets it has, at most LLDPA_TEXT_ROOM
  * Answers 0, LLDPA_OUT_OF_RANGE or LLDPA_NO_ROOM; only where it is 0 anything is written.
  */
-uint8_t lldpa_command_text(uint8_t fault, uint8_t *room, size_t room_length, size_t *length);
+uint8_t lldpa_command_text(uint32_t fault, uint8_t *room, size_t room_length, size_t *length);
 
 /* What was written of a show. */
 typedef struct lldpa_lines {
@@ -345,33 +434,34 @@ typedef struct lldpa_lines {
  * Lines of a show: as many whole ones as fit, from one of them on.
  *   show  LLDPA_SHOW_NEIGHBORS to LLDPA_SHOW_CONFIGURATION
  *   from  the first line that is wanted, from 0
- *   room  of 2049 octets each line fits
+ *   room  of LLDPA_LINE_ROOM octets each line fits
  *   told  written where the answer is 0
- * Answers 0, LLDPA_NOT_OPEN, LLDPA_OUT_OF_RANGE for the show, or LLDPA_NO_ROOM where not even the first line fits.
- * Whoever goes on with `next` gets all lines, as long as the agent is told nothing meanwhile. A call goes through the
- * lines before `from` too, so a room for the whole show costs least.
+ * Answers the first of these: LLDPA_OUT_OF_RANGE for the show, LLDPA_NOT_OPEN, LLDPA_NO_ROOM if not even the first line
+ * fits; else 0. If it is not 0, nothing is written. Who goes on with `next` gets all lines, as long as the agent is told
+ * nothing meanwhile. A call goes through the lines before `from` too, so a room for the whole show costs least.
  */
-uint8_t lldpa_show_lines(lldpa_agent *agent, uint8_t show, uint32_t from, uint8_t *room, size_t room_length,
+uint8_t lldpa_show_lines(lldpa_agent *agent, uint32_t show, uint32_t from, uint8_t *room, size_t room_length,
                          lldpa_lines *told);
 
 /*
  * One line of a show, without its line feed.
  *   line    its number, from 0
- *   room    of 2048 octets each line fits
+ *   room    of LLDPA_LINE_ROOM octets each line fits
  *   length  how many octets it has, where the answer is 0
- * Answers 0, LLDPA_NOT_OPEN, LLDPA_OUT_OF_RANGE for the show, or where it has no such line, or LLDPA_NO_ROOM.
+ * Answers the first of these: LLDPA_OUT_OF_RANGE for the show, LLDPA_NOT_OPEN, LLDPA_OUT_OF_RANGE if the show has no such
+ * line, LLDPA_NO_ROOM; else 0.
  */
-uint8_t lldpa_show_line(lldpa_agent *agent, uint8_t show, uint32_t line, uint8_t *room, size_t room_length,
+uint8_t lldpa_show_line(lldpa_agent *agent, uint32_t show, uint32_t line, uint8_t *room, size_t room_length,
                         size_t *length);
 
 /*
  * The frame that a port sends, with the present configuration.
  *   mark    LLDPA_ORDINARY or LLDPA_SHUTDOWN
- *   room    1514 octets are always enough
+ *   room    LLDPA_FRAME_ROOM octets are always enough
  *   length  how many octets it has, where the answer is 0
- * Answers 0, LLDPA_NOT_OPEN, LLDPA_NO_PORT, LLDPA_OUT_OF_RANGE for the mark, or LLDPA_NO_ROOM.
+ * Answers the first of these: LLDPA_OUT_OF_RANGE for the mark, LLDPA_NOT_OPEN, LLDPA_NO_PORT, LLDPA_NO_ROOM; else 0.
  */
-uint8_t lldpa_frame_of(lldpa_agent *agent, uint8_t port, uint8_t mark, uint8_t *room, size_t room_length,
+uint8_t lldpa_frame_of(lldpa_agent *agent, uint32_t port, uint32_t mark, uint8_t *room, size_t room_length,
                        size_t *length);
 
 /* Closes an agent, and gives its memory back. Of one that is not open nothing happens. */

@@ -1,15 +1,17 @@
 -- What is in a room once lines have come.
-use Rattle.std.proofs.Common.{◌≡◌, ℕ, zero, suc, ◌+◌, ◌%◌, ◌^◌, ◌<◌, ◌≤◌, Bool, true, false, not, List, [], ◌∷◌, ◌++◌, length, take, drop, None, refl, sym, ap, subst, ◌∙◌, append-nil, append_assoc, arith}
-use Rattle.std.specs.Prelude.{slice_get, nat_le}
+use Rattle.std.proofs.Common.{◌≡◌, ℕ, zero, suc, ◌+◌, ◌-◌, ◌%◌, ◌^◌, ◌<◌, ◌≤◌, Bool, true, false, not, List, [], ◌∷◌, ◌++◌, length, take, drop, Some, None, refl, sym, ap, subst, ◌∙◌, append-nil, append_assoc, arith}
+use Rattle.std.specs.Prelude.{Option, slice_get, nat_le}
+use Rattle.std.specs.Option.{option_map}
 use Rattle.std.specs.List.{flat_map}
-use Rattle.std.proofs.lemmas.Bool.{leb-true, leb-false}
-use Rattle.std.proofs.lemmas.List.{length-append, length-drop}
+use Rattle.std.proofs.lemmas.Bool.{leb-true, leb-false, lt-ltb, le-ltb}
+use Rattle.std.proofs.lemmas.List.{length-append, length-drop, drop-drop}
 use Rattle.std.proofs.lemmas.Option.{slice_get_past}
 use Rattle.std.proofs.Math.Nat.{mod-eq_of_lt}
 use Rattle.lldp_engine.specs.Takes.{Takes}
 use Rattle.lldp_text.specs.Text.{ended}
 use Rattle.lldpa_c.specs.declared.lines.Filling.{Filling}
-use Rattle.lldpa_c.specs.Filling.{View, begun, put_if, put_unless, come_at, come, come_all, view, TakesLine}
+use Rattle.lldpa_c.specs.Filling.{View, begun, put_if, put_unless, come_at, come, come_all, view, LeavesRest, TakesLine}
+use Rattle.lldpa_c.specs.Answer.{is_over}
 use Rattle.lldpa_c.specs.Filled.{Fills, IsFull}
 
 -- From what was written on, so many of these lines were written too: all, or the next does not fit.
@@ -54,7 +56,7 @@ one_comes true size v line lines is skip room within few others =
       text = c.text ∙ append_assoc v.text text (flat_map ended (take c.count lines));
       within = c.within;
       done = c.done;
-      full = c.full;
+      full = λ full. let f = c.full full in record { line = f.line; is = f.is; over = f.over };
     }
 one_comes false size v line lines is skip room within few others =
     let w : View = put_if false v (ended line) in
@@ -64,11 +66,8 @@ one_comes false size v line lines is skip room within few others =
       text = sym (append-nil v.text);
       within = within;
       done = λ no. absurd cc;
-      full = λ _ other h. let e : line ≡ other = cc in too_long other e;
+      full = λ _. record { line = line; is = refl; over = omega (arith, leb-false _ _ is, length-append line (10 ∷ [])) };
     }
-  where
-    too_long : (other : List ℕ) → line ≡ other → size < v.used + length other + 1
-    too_long other e = omega (arith, leb-false _ _ is, length-append line (10 ∷ []), ap length e)
 
 come_open : (size : ℕ) (lines : List (List ℕ)) (v : View) → v.skip ≡ 0 → v.is_full ≡ false → v.used ≤ size → v.next + length lines < 2 ^ 32 → Comes size v (come_all size v lines) lines
 come_open size [] v skip room within few = none_comes size v within room
@@ -107,6 +106,23 @@ taken size a b (line ∷ lines) e h =
     let others = taken size h.0 b lines (t.size ∙ e) h.2 in
     (others.0 ∙ ap (λ (v : View). come_all size v lines) (t.view ∙ ap (λ (n : ℕ). come (view a).is_full n (view a) (ended line)) e), others.1, others.2 ∙ t.same)
 
+further : (u k : ℕ) (xs ys : List ℕ) → u ≤ k → drop u xs ≡ drop u ys → drop k xs ≡ drop k ys
+further u k xs ys h e =
+    let n : u + (k - u) ≡ k = omega arith in
+    ap (λ (m : ℕ). drop m xs) (sym n) ∙ sym (drop-drop (k - u) u xs) ∙ ap (drop (k - u)) e ∙ drop-drop (k - u) u ys ∙ ap (λ (m : ℕ). drop m ys) n
+
+-- lines write nothing behind what they use
+pub rest_left : (a b : Filling) (lines : List (List ℕ)) → Takes TakesLine a b lines → LeavesRest a b
+unfolding Takes
+rest_left a b [] h = record { grows = omega (arith, ap (λ (f : Filling). f.used) h); rest = ap (λ (f : Filling). drop b.used f.room.now) (sym h) }
+rest_left a b (line ∷ lines) h =
+    let t = h.1.rest in
+    let others = rest_left h.0 b lines h.2 in
+    record { grows = omega (arith, t.grows, others.grows); rest = others.rest ∙ further h.0.used b.used _ _ others.grows t.rest }
+
+pub both_leave : (a b c : Filling) → LeavesRest a b → LeavesRest b c → LeavesRest a c
+both_leave a b c f g = record { grows = omega (arith, f.grows, g.grows); rest = g.rest ∙ further b.used c.used _ _ g.grows f.rest }
+
 -- ---- what was written of a show
 
 get_behind : {X : Type 0} (k n : ℕ) (xs : List X) → slice_get (drop k xs) n ≡ slice_get xs (k + n)
@@ -126,7 +142,9 @@ pub no_more : (lines : List (List ℕ)) (from size : ℕ) (r : View) → Comes s
 no_more lines from size r c room = ap (slice_get lines) c.next ∙ sym (get_behind from c.count lines) ∙ c.done room
 
 pub is_full : (lines : List (List ℕ)) (from size : ℕ) (r : View) → Comes size (begun from) r (drop from lines) → r.is_full ≡ true → IsFull lines r.next size r.used
-is_full lines from size r c full line h = c.full full line (get_behind from c.count lines ∙ ap (slice_get lines) (sym c.next) ∙ h)
+is_full lines from size r c full =
+    let f = c.full full in
+    record { line = f.line; is = ap (slice_get lines) c.next ∙ sym (get_behind from c.count lines) ∙ f.is; over = f.over }
 
 pub is_open : (full : Bool) → not full ≡ true → full ≡ false
 is_open true h = absurd cc
@@ -135,3 +153,23 @@ is_open false h = refl
 pub is_not_open : (full : Bool) → not full ≡ false → full ≡ true
 is_not_open true h = refl
 is_not_open false h = absurd cc
+
+-- ---- whether the first line that is wanted fits
+
+pub first_over : (lines : List (List ℕ)) (from next room used : ℕ) → IsFull lines next room used → next ≡ from → used ≡ 0 → is_over room (option_map ended (slice_get lines from)) ≡ true
+first_over lines from next room used f e z =
+    let is : slice_get lines from ≡ Some f.line = ap (slice_get lines) (sym e) ∙ f.is in
+    rw is (lt-ltb _ _ (omega (arith, f.over, z, length-append f.line (10 ∷ []))))
+
+pub none_over : (lines : List (List ℕ)) (from room : ℕ) → slice_get lines from ≡ None → is_over room (option_map ended (slice_get lines from)) ≡ false
+none_over lines from room e = rw e refl
+
+first_within : (lines : List (List ℕ)) (n room : ℕ) → 0 < n → length (flat_map ended (take n lines)) ≤ room → is_over room (option_map ended (slice_get lines 0)) ≡ false
+first_within [] n room some within = refl
+first_within (line ∷ lines) zero room some within = absurd (omega arith)
+first_within (line ∷ lines) (suc n) room some within = le-ltb _ _ (omega (arith, length-append (ended line) (flat_map ended (take n lines))))
+
+pub some_within : (lines : List (List ℕ)) (from next room : ℕ) (octets : List ℕ) → Fills lines from next octets → from < next → length octets ≤ room → is_over room (option_map ended (slice_get lines from)) ≡ false
+some_within lines from next room octets f more within =
+    let here : slice_get (drop from lines) 0 ≡ slice_get lines from = get_behind from 0 lines ∙ ap (slice_get lines) (omega arith) in
+    subst (λ (o : Option (List ℕ)). is_over room (option_map ended o) ≡ false) here (first_within (drop from lines) (next - from) room (omega arith) (omega (arith, ap length f.are)))

@@ -2,3 +2,5 @@ pub mod Places
 pub mod Walking
 pub mod AsBox
 pub mod Coming
+pub mod Ticking
+pub mod Newly

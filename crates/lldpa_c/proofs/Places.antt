@@ -27,6 +27,13 @@ behind_header frame pdu h = at (is_lldp_frame frame) refl h
     at true e h = grind (arith, common_steps, has_fourteen, length-drop)
     at false e h = absurd cc
 
+pub header_off : (frame pdu : List ℕ) → Some pdu ≡ lldpdu_of frame → pdu ≡ drop 14 frame
+header_off frame pdu h = at (is_lldp_frame frame) refl h
+  where
+    at : (b : Bool) → is_lldp_frame frame ≡ b → Some pdu ≡ cond b (Some (drop 14 frame)) None → pdu ≡ drop 14 frame
+    at true e h = cc
+    at false e h = absurd cc
+
 -- ---- the front of an LLDPDU
 
 abbrev body_of : Option (TlvUnit × List ℕ) → List ℕ

@@ -3,15 +3,22 @@ use Rattle.std.specs.Prelude.{◌≡◌, ℕ, true, false, List, map}
 use Rattle.std.specs.List.{AllByRecursion}
 use Rattle.lldp_transmit.specs.declared.event.Mark.{Mark}
 use Rattle.lldp_engine.specs.AgentState.{AgentState, IsPort, Allows}
-use Rattle.lldp_engine.specs.Event.{Event}
+use Rattle.lldp_engine.specs.Event.{Event, frame, link}
 use Rattle.lldp_engine.specs.Frames.{IsSent}
 use Rattle.lldp_engine.specs.Past.{Past, with_event, marks_of}
 use Rattle.lldp_engine.specs.Standing.{Stands}
 use Rattle.lldp_engine.specs.Headline.{PromisedStep}
 use Rattle.lldp_engine.specs.Code.Step.{agent_after, agent_marks}
+use Rattle.lldpa_c.specs.declared.agent.Happening.{Happening}
+use Rattle.lldpa_c.specs.declared.agent.Happening.TheVariants.{Frame, Link}
 use Rattle.lldpa_c.specs.declared.holder.LldpaAgent.{LldpaAgent}
 use Rattle.lldpa_c.specs.declared.marks.LldpaMarks.{LldpaMarks}
 use Rattle.lldpa_c.specs.Marks.{numbered, marks_told}
+
+-- what happens on a port, as an event of it
+abbrev pub happening_on : ℕ → Happening → Event
+happening_on port (Frame octets) = frame port octets.now
+happening_on port (Link up) = link port up
 
 -- The clauses of an agent's step: from this agent, by this event, to that one, with these ports that send.
 pub record Steps (agent : AgentState) (event : Event) (after : AgentState) (sent : List (ℕ × Mark)) : Type 0 where

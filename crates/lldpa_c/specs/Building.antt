@@ -1,10 +1,10 @@
 -- TLVs that are put one after another.
 use Rattle.std.specs.Prelude.{ℕ, List, [], ◌∷◌, Option, Some, None}
 use Rattle.lldp_pdu.specs.declared.fault.BuildFault.{BuildFault}
-use Rattle.lldp_pdu.specs.FaultNumber.{build_fault_number}
 use Rattle.lldp_pdu.specs.Tlv.{TlvUnit}
 use Rattle.lldp_pdu.specs.Draft.{Draft, with_tlv, put_fault}
 use Rattle.lldpa_c.specs.declared.build.LldpaTlv.{LldpaTlv}
+use Rattle.lldpa_c.specs.Faults.{tlv_fault_number}
 
 -- a TLV without where it lies in memory
 abbrev pub tlv_of : LldpaTlv → TlvUnit
@@ -13,7 +13,7 @@ tlv_of t = record { kind = t.kind; body = t.body.now }
 -- the number of a fault, or 0
 abbrev pub fault_number : Option BuildFault → ℕ
 fault_number None = 0
-fault_number (Some fault) = build_fault_number fault
+fault_number (Some fault) = tlv_fault_number fault
 
 -- an LLDPDU with its mandatory TLVs alone
 abbrev pub begun : List ℕ → List ℕ → ℕ → Draft

@@ -2,7 +2,6 @@
 use Rattle.std.specs.Prelude.{◌≡◌, ℕ, ◌==◌, true, false, List, [], map, Option, Some, None, Result, Ok, Err, if◌then◌else◌}
 use Rattle.lldp_transmit.specs.declared.event.Mark.{Mark}
 use Rattle.lldp_text.specs.declared.fault.CommandFault.{CommandFault}
-use Rattle.lldp_text.specs.Fault.{number_of_fault}
 use Rattle.lldp_engine.specs.declared.command.Show.{Show}
 use Rattle.lldp_engine.specs.declared.command.Show.TheVariants.{Neighbors, Statistics, Chassis, Configuration}
 use Rattle.lldp_engine.specs.AgentState.{AgentState}
@@ -12,6 +11,7 @@ use Rattle.lldp_engine.specs.Given.{command_given}
 use Rattle.lldpa_c.specs.declared.holder.LldpaAgent.{LldpaAgent}
 use Rattle.lldpa_c.specs.declared.marks.LldpaMarks.{LldpaMarks}
 use Rattle.lldpa_c.specs.Marks.{numbered, marks_told}
+use Rattle.lldpa_c.specs.Faults.{command_fault_number}
 use Rattle.lldpa_c.specs.Agent.{Steps}
 
 -- the numbers of shows
@@ -40,7 +40,7 @@ pub record CarriesOut (setting : event.Setting) (agent after : AgentState) (told
 -- no port sends; a setting is carried out.
 abbrev pub Obeys : Result command.Command CommandFault → AgentState → ℕ → LldpaMarks → ℕ → AgentState → ℕ → LldpaMarks → Type 0
 Obeys (Err fault) agent show told answer after show_after told_after =
-    (answer ≡ number_of_fault fault) × (after ≡ agent) × (show_after ≡ show) × (told_after ≡ told)
+    (answer ≡ command_fault_number fault) × (after ≡ agent) × (show_after ≡ show) × (told_after ≡ told)
 Obeys (Ok (command.show what)) agent show told answer after show_after told_after =
     (answer ≡ 0) × (after ≡ agent) × (show_after ≡ show_number what) × (marks_told told_after ≡ [])
 Obeys (Ok (command.set setting)) agent show told answer after show_after told_after =

@@ -13,9 +13,11 @@ pub record Fills (lines : List (List ℕ)) (from next : ℕ) (octets : List ℕ)
   pub order : from ≤ next
   pub are : octets ≡ flat_map ended (take (next - from) (drop from lines))
 
--- the line to go on with does not fit into so many octets behind those that are used
-abbrev pub IsFull : List (List ℕ) → ℕ → ℕ → ℕ → Type 0
-IsFull lines next room used = (line : List ℕ) → slice_get lines next ≡ Some line → room < used + length line + 1
+-- there is a line to go on with, which does not fit into so many octets behind those that are used
+pub record IsFull (lines : List (List ℕ)) (next room used : ℕ) : Type 0 where
+  pub line : List ℕ
+  pub is : slice_get lines next ≡ Some line
+  pub over : room < used + length line + 1
 
 -- What was written of a show by its number, to the front of a room: the lines from one on up to another. No line is left
 -- if that is said; else at least one was written, and the next does not fit.

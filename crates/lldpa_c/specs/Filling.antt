@@ -1,5 +1,5 @@
 -- Lines on their way into the caller's room.
-use Rattle.std.specs.Prelude.{◌≡◌, ℕ, zero, suc, ◌+◌, ◌%◌, ◌^◌, Bool, true, false, nat_le, List, [], ◌∷◌, ◌++◌, length, take}
+use Rattle.std.specs.Prelude.{◌≡◌, ℕ, zero, suc, ◌+◌, ◌≤◌, ◌%◌, ◌^◌, Bool, true, false, nat_le, List, [], ◌∷◌, ◌++◌, length, take, drop}
 use Rattle.lldp_text.specs.Text.{ended}
 use Rattle.lldpa_c.specs.declared.lines.Filling.{Filling}
 
@@ -51,8 +51,14 @@ with_waiting false f = settled f
 abbrev pub view : Filling → View
 view f = with_waiting f.is_wanted f
 
+-- no octet behind those that are used is another
+pub record LeavesRest (old new : Filling) : Type 0 where
+  pub grows : old.used ≤ new.used
+  pub rest : drop new.used new.room.now ≡ drop new.used old.room.now
+
 -- a line came
 pub record TakesLine (old new : Filling) (line : List ℕ) : Type 0 where
   pub view : view new ≡ come (view old).is_full (length old.room.now) (view old) (ended line)
+  pub rest : LeavesRest old new
   pub size : length new.room.now ≡ length old.room.now
   pub same : new.room.ghost_name ≡ old.room.ghost_name

@@ -1,3 +1,5 @@
+pub mod Answer
+pub mod Faults
 pub mod Place
 pub mod Examined
 pub mod Walk
@@ -14,3 +16,7 @@ pub mod Show
 pub mod Filled
 pub mod Filling
 pub mod Texts
+pub mod News
+pub mod Ticks
+pub mod Held
+pub mod Numbers

@@ -1,11 +1,11 @@
 -- What C opens an agent with.
-use Rattle.std.specs.Prelude.{◌≡◌, ℕ, ◌==◌, ◌⊎◌, map, Option, Some, None, if◌then◌else◌}
+use Rattle.std.specs.Prelude.{◌≡◌, ℕ, ◌==◌, map, take, Option, Some, None, IsSome, if◌then◌else◌}
+use Rattle.std.specs.List.{All}
+use Rattle.std.specs.Str.{IsUtf8}
 use Rattle.lldp_engine.specs.declared.agent.options.Role.{Role}
 use Rattle.lldp_engine.specs.declared.agent.options.Role.TheVariants.{Station, Bridge, Router}
 use Rattle.lldp_engine.specs.AgentState.{AgentState}
-use Rattle.lldp_engine.specs.declared.agent.open_fault.OpenFault.{OpenFault}
-use Rattle.lldp_engine.specs.FixedNumbers.{number_of_refusal}
-use Rattle.lldp_engine.specs.Options.{Options, InRange, IsRefusal, fault_of}
+use Rattle.lldp_engine.specs.Options.{Options, InRange, fault_of}
 use Rattle.lldp_engine.specs.Past.{opened}
 use Rattle.lldp_engine.specs.Standing.{Stands}
 use Rattle.lldpa_c.specs.declared.options.LldpaOptions.{LldpaOptions}
@@ -34,12 +34,16 @@ asked o = record {
   receive_only = o.receive_only;
 }
 
--- An agent is opened: its options have no fault, their numbers are in their ranges, and it stands for no events yet.
-pub record Opens (o : Options) (agent : AgentState) : Type 0 where
-  pub range : InRange o
-  pub checked : fault_of o ≡ None
-  pub stands : Stands (opened o) agent
+-- What is asked for can be read: the role is that of a number, the first 65 names and the hostname are UTF-8, and the
+-- four numbers are in their ranges.
+pub record IsRead (o : LldpaOptions) : Type 0 where
+  pub role : IsSome (role_numbered o.role)
+  pub names : All (λ text. IsUtf8 text.octets.now) (take 65 o.ports.now)
+  pub hostname : IsUtf8 o.hostname.octets.now
+  pub range : InRange (asked o)
 
--- the number of the first fault, or 100 for what stands in no range and for a text that is not UTF-8
-abbrev pub Refuses : Options → ℕ → Type 0
-Refuses o answer = (answer ≡ 100) ⊎ ((fault : OpenFault) × (answer ≡ number_of_refusal fault) × IsRefusal o fault)
+-- An agent is opened: its options are read and have no fault, and it stands for no events yet.
+pub record Opens (o : LldpaOptions) (agent : AgentState) : Type 0 where
+  pub read : IsRead o
+  pub checked : fault_of (asked o) ≡ None
+  pub stands : Stands (opened (asked o)) agent

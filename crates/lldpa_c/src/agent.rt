@@ -1,37 +1,81 @@
 //! What happens to an agent behind a handle.
 ghost use Rattle.std.specs.Prelude.{◌≡◌, false};
 ghost use Rattle.lldp_engine.specs.Event.{event_of, tick, frame, link};
-ghost use Rattle.lldpa_c.specs.Agent.{Answers};
+ghost use Rattle.lldpa_c.specs.Agent.{Answers, happening_on};
+ghost use Rattle.lldpa_c.specs.News.{ReportsAt};
+ghost use Rattle.lldpa_c.specs.Ticks.{AgesOut};
 
 use crate::answer::{NO_PORT, NOT_OPEN, OK};
 use crate::holder::LldpaAgent;
 use crate::marks::{LldpaMarks, tell};
+use crate::news::{LldpaNews, news_of};
+use crate::ticks::tick_once;
 use lldp_engine::Event;
 use std::alloc::Global;
 
-/// The agent takes an event, if it allows it, and the ports that send are told.
-fn step(alloc: Global, handle: &mut LldpaAgent, event: Event<'_>, marks: &mut LldpaMarks) -> u8
-    ensures { Answers handle.old (event_of event.entry) marks.old result handle.new marks.new }
+/// What happens on a port.
+#[derive(Clone, Copy)]
+enum Happening<'a> {
+    Frame(&'a [u8]),
+    Link(bool),
+}
+
+impl<'a> Happening<'a> {
+    /// The same as an event of the port of this number.
+    fn on(self, port: u8) -> Event<'a>
+        ensures { event_of result ≡ happening_on port self.entry }
+    {
+        match self {
+            Happening::Frame(octets) => Event::Frame { port, octets },
+            Happening::Link(up) => Event::Link { port, up },
+        }
+    }
+}
+
+/// The agent takes what happens on a port, if it has that one, and the ports that send are told.
+fn take_on(
+    alloc: Global,
+    handle: &mut LldpaAgent,
+    port: u32,
+    happening: Happening<'_>,
+    marks: &mut LldpaMarks,
+) -> u8
+    ensures { Answers handle.old (happening_on port happening.entry) marks.old result handle.new marks.new }
 {
     let Some(mut agent) = handle.take(alloc) else {
         return NOT_OPEN;
     };
-    if !agent.allows(&event) {
+    if port >= u32::from(agent.ports()) {
         handle.put(agent);
         return NO_PORT;
     }
-    let sent = agent.step(event);
+    let sent = agent.step(happening.on(port as u8));
     handle.put(agent);
     tell(&sent, marks);
     OK
 }
 
-/// One second has passed.
+/// One second has passed. Tells which ports send, and how many neighbors aged out.
 #[unsafe(no_mangle)]
-pub extern "C" fn lldpa_tick(alloc: Global, agent: &mut LldpaAgent, marks: &mut LldpaMarks) -> u8
-    ensures { Answers agent.old tick marks.old result agent.new marks.new }
+pub extern "C" fn lldpa_tick(
+    alloc: Global,
+    agent: &mut LldpaAgent,
+    marks: &mut LldpaMarks,
+    aged_out: &mut u32,
+) -> u8
+    ensures answer { Answers agent.old tick marks.old result agent.new marks.new }
+    ensures aged_out { result ≡ 0 →
+        AgesOut agent.old.held.agent agent.new.held.agent aged_out.new }
+    ensures refused { ¬ (result ≡ 0) → aged_out.new ≡ aged_out.old }
 {
-    step(alloc, agent, Event::Tick, marks)
+    let Some(mut held) = agent.take(alloc) else {
+        return NOT_OPEN;
+    };
+    let (sent, gone) = tick_once(&mut held);
+    agent.put(held);
+    tell(&sent, marks);
+    *aged_out = gone;
+    OK
 }
 
 /// These octets came on a port.
@@ -39,13 +83,42 @@ pub extern "C" fn lldpa_tick(alloc: Global, agent: &mut LldpaAgent, marks: &mut 
 pub extern "C" fn lldpa_frame(
     alloc: Global,
     agent: &mut LldpaAgent,
-    port: u8,
+    port: u32,
     octets: &[u8],
     marks: &mut LldpaMarks,
 ) -> u8
     ensures { Answers agent.old (frame port octets.now) marks.old result agent.new marks.new }
 {
-    step(alloc, agent, Event::Frame { port, octets }, marks)
+    take_on(alloc, agent, port, Happening::Frame(octets), marks)
+}
+
+/// These octets came on a port. Tells what they do, too.
+#[unsafe(no_mangle)]
+pub extern "C" fn lldpa_frame_news(
+    alloc: Global,
+    agent: &mut LldpaAgent,
+    port: u32,
+    octets: &[u8],
+    marks: &mut LldpaMarks,
+    news: &mut LldpaNews,
+) -> u8
+    ensures answer { Answers agent.old (frame port octets.now) marks.old result agent.new marks.new }
+    ensures news { result ≡ 0 → ReportsAt agent.old.held.agent port octets.now news.new }
+    ensures refused { ¬ (result ≡ 0) → news.new ≡ news.old }
+{
+    let Some(mut held) = agent.take(alloc) else {
+        return NOT_OPEN;
+    };
+    if port >= u32::from(held.ports()) {
+        agent.put(held);
+        return NO_PORT;
+    }
+    let port = port as u8;
+    *news = news_of(&held, port, octets);
+    let sent = held.step(Event::Frame { port, octets });
+    agent.put(held);
+    tell(&sent, marks);
+    OK
 }
 
 /// The link of a port came up, or went down.
@@ -53,13 +126,13 @@ pub extern "C" fn lldpa_frame(
 pub extern "C" fn lldpa_link(
     alloc: Global,
     agent: &mut LldpaAgent,
-    port: u8,
+    port: u32,
     up: bool,
     marks: &mut LldpaMarks,
 ) -> u8
     ensures { Answers agent.old (link port up) marks.old result agent.new marks.new }
 {
-    step(alloc, agent, Event::Link { port, up }, marks)
+    take_on(alloc, agent, port, Happening::Link(up), marks)
 }
 
 /// Closes an agent, and gives its memory back.

@@ -1,10 +1,11 @@
 //! A builder over the caller's room.
-ghost use Rattle.std.specs.Prelude.{◌≡◌, ◌≤◌, ◌<◌, ◌↔◌, ℕ, [], ◌∷◌, length, map, take, slice_index_or, IsTrue};
+ghost use Rattle.std.specs.Prelude.{◌≡◌, ◌≤◌, ◌<◌, ◌↔◌, ℕ, [], ◌∷◌, length, map, take, drop, slice_index_or, IsTrue};
 ghost use Rattle.lldp_pdu.specs.Msap.{IsIdentifier};
 ghost use Rattle.lldp_pdu.specs.Draft.{IsReadBack, lldpdu_octets, put_fault};
 ghost use Rattle.lldpa_c.specs.Building.{tlv_of, fault_number, put_all, put_faults, begun};
 
 use crate::answer::{NO_ROOM, OUT_OF_RANGE};
+use crate::faults::tlv_fault_number;
 use crate::giving::give;
 use lldp_pdu::Builder;
 
@@ -30,7 +31,7 @@ fn put_one(builder: &mut Builder, tlv: &LldpaTlv<'_>) -> u8
 {
     match builder.put(tlv.kind, tlv.body) {
         Ok(()) => 0,
-        Err(fault) => fault.number(),
+        Err(fault) => tlv_fault_number(fault),
     }
 }
 
@@ -40,6 +41,7 @@ fn put_each(builder: &mut Builder, tlvs: &[LldpaTlv<'_>], faults: &mut [u8])
     ensures put { builder.new ≡ put_all builder.old (map tlv_of tlvs.now) }
     ensures faults { (i : ℕ) → i < length tlvs.now → slice_index_or faults.new i 0
         ≡ slice_index_or (put_faults builder.old (map tlv_of tlvs.now)) i 0 }
+    ensures rest { drop (length tlvs.now) faults.new ≡ drop (length tlvs.now) faults.old }
 {
     for (i, tlv) in tlvs.iter().enumerate() {
         faults[i] = put_one(builder, tlv);
@@ -68,10 +70,21 @@ pub extern "C" fn lldpa_build(
     ensures back { result ≡ 0 →
         IsReadBack (put_all (begun chassis.now port.now ttl) (map tlv_of tlvs.now))
         (take written.new room.new) }
-    ensures faults { result ≡ 0 → (i : ℕ) → i < length tlvs.now → slice_index_or faults.new i 0
+    ensures room { IsIdentifier chassis.now → IsIdentifier port.now →
+        length tlvs.now ≤ length faults.old → length room.old
+        < length (lldpdu_octets (put_all (begun chassis.now port.now ttl) (map tlv_of tlvs.now))) →
+        result ≡ 101 }
+    ensures faults { IsIdentifier chassis.now → IsIdentifier port.now →
+        length tlvs.now ≤ length faults.old → (i : ℕ) → i < length tlvs.now →
+        slice_index_or faults.new i 0
         ≡ slice_index_or (put_faults (begun chassis.now port.now ttl) (map tlv_of tlvs.now)) i 0 }
+    ensures rest_of_faults { drop (length tlvs.now) faults.new ≡ drop (length tlvs.now) faults.old }
+    ensures rest_of_room { result ≡ 0 →
+        drop written.new room.new ≡ drop written.new room.old }
     ensures range { ¬ (IsIdentifier chassis.now × IsIdentifier port.now) →
         (result ≡ 100) × (faults.new ≡ faults.old) }
+    ensures short { IsIdentifier chassis.now → IsIdentifier port.now →
+        length faults.old < length tlvs.now → (result ≡ 101) × (faults.new ≡ faults.old) }
     ensures refused { ¬ (result ≡ 0) → (room.new ≡ room.old) × (written.new ≡ written.old) }
 {
     if !is_identifier(chassis) || !is_identifier(port) {

@@ -4,13 +4,14 @@ ghost use Rattle.lldp_engine.specs.Given.{command_given};
 ghost use Rattle.lldpa_c.specs.Command.{show_number, Obeys, Obeyed};
 
 use crate::answer::{NOT_OPEN, OK};
+use crate::faults::command_fault_number;
 use crate::holder::LldpaAgent;
 use crate::marks::{LldpaMarks, tell};
 use lldp_engine::{Agent, Command, Event, Marks, Show};
 use std::alloc::Global;
 
 /// The number of a show.
-fn show_number(show: Show) -> u8
+fn show_number(show: Show) -> u32
     ensures { result ≡ show_number show }
 {
     match show {
@@ -22,12 +23,12 @@ fn show_number(show: Show) -> u8
 }
 
 /// Does what a line asks for, if it is no show.
-fn obey(agent: &mut Agent, line: &[u8], show: &mut u8, marks: &mut LldpaMarks) -> u8
+fn obey(agent: &mut Agent, line: &[u8], show: &mut u32, marks: &mut LldpaMarks) -> u8
     ensures { Obeys (command_given agent.old line.now) agent.old show.old marks.old result
         agent.new show.new marks.new }
 {
     match agent.read_command(line) {
-        Err(fault) => fault.number(),
+        Err(fault) => command_fault_number(fault),
         Ok(Command::Show(what)) => {
             *show = show_number(what);
             tell(&Marks::new(), marks);
@@ -48,7 +49,7 @@ pub extern "C" fn lldpa_command(
     alloc: Global,
     agent: &mut LldpaAgent,
     line: &[u8],
-    show: &mut u8,
+    show: &mut u32,
     marks: &mut LldpaMarks,
 ) -> u8
     ensures { Obeyed agent.old line.now show.old marks.old result agent.new show.new marks.new }

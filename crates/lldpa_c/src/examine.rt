@@ -26,7 +26,7 @@ pub struct LldpaExamined {
 }
 
 /// How many octets of a TLV stand before its body.
-const TLV_HEADER: usize = 2;
+pub(crate) const TLV_HEADER: usize = 2;
 
 /// Where the body of the first TLV lies.
 fn chassis_place(msap: &Msap<'_>) -> LldpaPlace
@@ -93,10 +93,9 @@ fn alive(info: &Info<'_>) -> LldpaExamined
     }
 }
 
-/// What an LLDPDU of any length tells, or the number of its fault, 1 to 8, and 0 if it has none.
-/// If it has one, the struct stays as it was.
-#[unsafe(no_mangle)]
-pub extern "C" fn lldpa_examine(pdu: &[u8], told: &mut LldpaExamined) -> u8
+/// Tells what an LLDPDU of any length does, or answers the number of its fault, 1 to 8, and 0 if it
+/// has none. If it has one, the struct stays as it was.
+pub(crate) fn tell_examined(pdu: &[u8], told: &mut LldpaExamined) -> u8
     ensures fault { result ≡ fault_number (fault_of pdu.now) }
     ensures told { fault_of pdu.now ≡ None → Tells pdu.now told.new }
     ensures refused { IsSome (fault_of pdu.now) → told.new ≡ told.old }
@@ -112,4 +111,14 @@ pub extern "C" fn lldpa_examine(pdu: &[u8], told: &mut LldpaExamined) -> u8
             0
         }
     }
+}
+
+/// What an LLDPDU of any length tells, or the number of its fault, as `tell_examined`.
+#[unsafe(no_mangle)]
+pub extern "C" fn lldpa_examine(pdu: &[u8], told: &mut LldpaExamined) -> u8
+    ensures fault { result ≡ fault_number (fault_of pdu.now) }
+    ensures told { fault_of pdu.now ≡ None → Tells pdu.now told.new }
+    ensures refused { IsSome (fault_of pdu.now) → told.new ≡ told.old }
+{
+    tell_examined(pdu, told)
 }

@@ -7,7 +7,7 @@ use crate::place::LldpaPlace;
 use lldp_pdu::frame_pdu;
 
 /// How many octets stand before the LLDPDU of a frame.
-const HEADER: usize = 14;
+pub(crate) const HEADER: usize = 14;
 
 /// Whether the octets are an LLDP frame, and where its LLDPDU lies. Where they are none, the place
 /// stays as it was.

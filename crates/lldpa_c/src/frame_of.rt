@@ -1,9 +1,12 @@
 //! The frame that a port sends.
-ghost use Rattle.std.specs.Prelude.{◌≡◌, ◌≤◌, true, false, length, take, Some, IfSome, IsSome};
+ghost use Rattle.std.specs.Prelude.{◌≡◌, ◌<◌, ◌≤◌, length, take, drop, Some, IfSome};
 ghost use Rattle.lldp_transmit.specs.declared.event.Mark.{Mark};
 ghost use Rattle.lldp_engine.specs.AgentState.{IsPort};
 ghost use Rattle.lldp_engine.specs.Frames.{IsSent};
-ghost use Rattle.lldpa_c.specs.Frame.{mark_numbered, Writes, Keeps};
+ghost use Rattle.lldp_engine.specs.AgentState.{name_of};
+ghost use Rattle.lldp_engine.specs.Frames.{frame_of};
+ghost use Rattle.lldpa_c.specs.Answer.{answer_of};
+ghost use Rattle.lldpa_c.specs.Frame.{mark_numbered, frame_checks, Writes, Keeps};
 
 use crate::answer::{NO_PORT, NOT_OPEN, OUT_OF_RANGE};
 use crate::giving::give;
@@ -12,7 +15,7 @@ use lldp_engine::{Agent, Mark};
 use std::alloc::Global;
 
 /// The mark of that number, of a frame that goes.
-fn mark_numbered(number: u8) -> Option<Mark>
+fn mark_numbered(number: u32) -> Option<Mark>
     ensures value { result ≡ mark_numbered number }
     ensures sent { IfSome result IsSent }
 {
@@ -27,19 +30,23 @@ fn mark_numbered(number: u8) -> Option<Mark>
 // Its frame is over a page. Inlined, LLVM has moved a branch of the export before the loop that
 // probes the pages, which overwrote the register that it needed.
 #[inline(never)]
-fn write(agent: &Agent, port: u8, mark: Mark, room: &mut [u8], written: &mut usize) -> u8
+fn write(agent: &Agent, port: u32, mark: Mark, room: &mut [u8], written: &mut usize) -> u8
     requires { IsSent mark }
     ensures written { result ≡ 0 → Writes agent.now port mark (take written.new room.new) }
     ensures within { result ≡ 0 → written.new ≤ length room.new }
-    ensures port { result ≡ 0 → IsPort agent.now port }
-    ensures answers { IsPort agent.now port → 1514 ≤ length room.old → result ≡ 0 }
-    ensures refused { ¬ (result ≡ 0) → (room.new ≡ room.old) × (written.new ≡ written.old) }
+    ensures rest { result ≡ 0 → drop written.new room.new ≡ drop written.new room.old }
+    ensures answers { IsPort agent.now port →
+        length (frame_of agent.now.configuration (name_of agent.now port) mark) ≤ length room.old →
+        result ≡ 0 }
+    ensures room { IsPort agent.now port → length room.old
+        < length (frame_of agent.now.configuration (name_of agent.now port) mark) → result ≡ 101 }
     ensures none { ¬ (IsPort agent.now port) → result ≡ 103 }
+    ensures refused { ¬ (result ≡ 0) → (room.new ≡ room.old) × (written.new ≡ written.old) }
 {
-    if port >= agent.ports() {
+    if port >= u32::from(agent.ports()) {
         return NO_PORT;
     }
-    give(agent.frame(port, mark).as_slice(), room, written)
+    give(agent.frame(port as u8, mark).as_slice(), room, written)
 }
 
 /// The frame that a port sends, with the present configuration.
@@ -47,19 +54,18 @@ fn write(agent: &Agent, port: u8, mark: Mark, room: &mut [u8], written: &mut usi
 pub extern "C" fn lldpa_frame_of(
     alloc: Global,
     agent: &mut LldpaAgent,
-    port: u8,
-    mark: u8,
+    port: u32,
+    mark: u32,
     room: &mut [u8],
     written: &mut usize,
 ) -> u8
     ensures written { result ≡ 0 → (m : Mark) × (mark_numbered mark ≡ Some m)
         × Writes agent.old.held.agent port m (take written.new room.new) }
     ensures within { result ≡ 0 → written.new ≤ length room.new }
-    ensures answers { agent.old.is_open ≡ true → IsSome (mark_numbered mark) →
-        IsPort agent.old.held.agent port → 1514 ≤ length room.old → result ≡ 0 }
+    ensures rest { result ≡ 0 → drop written.new room.new ≡ drop written.new room.old }
+    ensures answer { result ≡ answer_of (frame_checks agent.old port mark (length room.old)) }
     ensures kept { Keeps agent.old agent.new }
     ensures refused { ¬ (result ≡ 0) → (room.new ≡ room.old) × (written.new ≡ written.old) }
-    ensures closed { agent.old.is_open ≡ false → ¬ (result ≡ 0) }
 {
     let Some(mark) = mark_numbered(mark) else {
         return OUT_OF_RANGE;

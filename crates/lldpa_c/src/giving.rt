@@ -1,5 +1,5 @@
 //! Octets that are written into the caller's room.
-ghost use Rattle.std.specs.Prelude.{◌≡◌, ◌≤◌, length, take, drop};
+ghost use Rattle.std.specs.Prelude.{◌≡◌, ◌<◌, ◌≤◌, length, take, drop};
 
 use crate::answer::{NO_ROOM, OK};
 
@@ -9,7 +9,7 @@ pub(crate) fn give(octets: &[u8], room: &mut [u8], written: &mut usize) -> u8
     ensures within { result ≡ 0 → written.new ≤ length room.new }
     ensures octets { result ≡ 0 → take written.new room.new ≡ octets.now }
     ensures rest { result ≡ 0 → drop written.new room.new ≡ drop written.new room.old }
-    ensures answer { ¬ (result ≡ 0) → result ≡ 101 }
+    ensures over { length room.old < length octets.now → result ≡ 101 }
     ensures refused { ¬ (result ≡ 0) → (room.new ≡ room.old) × (written.new ≡ written.old) }
 {
     if octets.len() > room.len() {

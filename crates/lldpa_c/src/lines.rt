@@ -1,9 +1,11 @@
 //! Lines of a show, as many as fit into the caller's room.
-ghost use Rattle.std.specs.Prelude.{◌≡◌, ◌+◌, ◌≤◌, ◌<◌, ◌++◌, true, false, length, take, None, slice_get, IfSome, IfNone};
+ghost use Rattle.std.specs.Prelude.{◌≡◌, ◌+◌, ◌≤◌, ◌<◌, ◌++◌, true, false, length, take, drop, None, slice_get, IfSome, IfNone};
 ghost use Rattle.lldp_engine.specs.Lines.{lines_of};
 ghost use Rattle.lldpa_c.specs.Frame.{Keeps};
+ghost use Rattle.lldpa_c.specs.Answer.{answer_of};
 ghost use Rattle.lldpa_c.specs.Filled.{Fills, IsFull, Filled};
-ghost use Rattle.lldpa_c.specs.Filling.{view, settled, begun, come_all, TakesLine};
+ghost use Rattle.lldpa_c.specs.Show.{lines_checks};
+ghost use Rattle.lldpa_c.specs.Filling.{view, settled, begun, come_all, TakesLine, LeavesRest};
 
 use crate::answer::{NO_ROOM, NOT_OPEN, OK, OUT_OF_RANGE};
 use crate::holder::LldpaAgent;
@@ -28,6 +30,7 @@ fn append(room: &mut [u8], used: usize, text: &[u8]) -> Option<usize>
     ensures end { IfSome result (λ end. end ≡ used + length text.now) }
     ensures within { IfSome result (λ end. end ≤ length room.new) }
     ensures octets { IfSome result (λ end. take end room.new ≡ take used room.old ++ text.now) }
+    ensures rest { IfSome result (λ end. drop end room.new ≡ drop end room.old) }
     ensures none { IfNone result (length room.new < used + length text.now) }
     ensures kept { IfNone result (room.new ≡ room.old) }
     ensures size { length room.new ≡ length room.old }
@@ -59,6 +62,7 @@ impl<'a> Filling<'a> {
         ensures room { result.room.now ≡ room.old }
         ensures same { result.room.ghost_name ≡ room.entry.ghost_name }
         ensures view { view result ≡ begun from }
+        ensures unused { result.used ≡ 0 }
     {
         Filling {
             room,
@@ -74,6 +78,7 @@ impl<'a> Filling<'a> {
     /// Writes the line that waits into the room, if it is wanted and fits.
     fn settle(&mut self)
         ensures moved { settled self.new ≡ view self.old }
+        ensures rest { LeavesRest self.old self.new }
         ensures unwanted { self.new.is_wanted ≡ false }
         ensures size { length self.new.room.now ≡ length self.old.room.now }
         ensures same { self.new.room.ghost_name ≡ self.old.room.ghost_name }
@@ -96,6 +101,7 @@ impl<'a> Filling<'a> {
     fn take(&mut self, agent: &Agent, show: Show)
         ensures lines { settled self.new
             ≡ come_all (length self.old.room.now) (view self.old) (lines_of show agent.now) }
+        ensures rest { LeavesRest self.old self.new }
         ensures few { length (lines_of show agent.now) ≤ 6127808 }
         ensures size { length self.new.room.now ≡ length self.old.room.now }
         ensures same { self.new.room.ghost_name ≡ self.old.room.ghost_name }
@@ -135,6 +141,7 @@ fn fill(agent: &Agent, show: Show, from: u32, room: &mut [u8]) -> LldpaLines
     ensures within { result.length ≤ length room.new }
     ensures octets { Fills (lines_of show agent.now) from result.next
         (take result.length room.new) }
+    ensures rest { drop result.length room.new ≡ drop result.length room.old }
     ensures done { result.done ≡ true → slice_get (lines_of show agent.now) result.next ≡ None }
     ensures full { result.done ≡ false →
         IsFull (lines_of show agent.now) result.next (length room.new) result.length }
@@ -153,16 +160,17 @@ fn fill(agent: &Agent, show: Show, from: u32, room: &mut [u8]) -> LldpaLines
 pub extern "C" fn lldpa_show_lines(
     alloc: Global,
     agent: &mut LldpaAgent,
-    show: u8,
+    show: u32,
     from: u32,
     room: &mut [u8],
     told: &mut LldpaLines,
 ) -> u8
     ensures filled { result ≡ 0 → Filled agent.old.held.agent show from told.new room.new }
     ensures within { result ≡ 0 → told.new.length ≤ length room.new }
+    ensures rest { result ≡ 0 → drop told.new.length room.new ≡ drop told.new.length room.old }
+    ensures answer { result ≡ answer_of (lines_checks agent.old show from (length room.old)) }
     ensures kept { Keeps agent.old agent.new }
-    ensures refused { ¬ (result ≡ 0) → told.new ≡ told.old }
-    ensures closed { agent.old.is_open ≡ false → ¬ (result ≡ 0) }
+    ensures refused { ¬ (result ≡ 0) → (room.new ≡ room.old) × (told.new ≡ told.old) }
 {
     let Some(show) = show_numbered(show) else {
         return OUT_OF_RANGE;

@@ -14,10 +14,10 @@ use crate::answer::{OK, OUT_OF_RANGE};
 use lldp_transmit::{Cause, MOST_CREDIT, MOST_FAST, MOST_REINIT, Mark, Parts, Transmit};
 
 /// The greatest tx-interval, in seconds.
-const MOST_INTERVAL: u16 = 3600;
+const MOST_INTERVAL: u32 = 3600;
 
 /// The cause of that number.
-fn cause_numbered(number: u8) -> Option<Cause>
+fn cause_numbered(number: u32) -> Option<Cause>
     ensures { result ≡ cause_numbered number }
 {
     match number {
@@ -45,12 +45,12 @@ pub(crate) fn mark_number(mark: Mark) -> u8
 }
 
 /// Whether a machine can be opened with these.
-fn are_settings(credit_max: u8, fast_init: u8, reinit: u8, allowed: bool) -> bool
+fn are_settings(credit_max: u32, fast_init: u32, reinit: u32, allowed: bool) -> bool
     ensures { IsTrue result ↔ AreSettings (settings credit_max fast_init reinit allowed) }
 {
-    (1..=MOST_CREDIT).contains(&credit_max)
-        && (1..=MOST_FAST).contains(&fast_init)
-        && (1..=MOST_REINIT).contains(&reinit)
+    (1..=u32::from(MOST_CREDIT)).contains(&credit_max)
+        && (1..=u32::from(MOST_FAST)).contains(&fast_init)
+        && (1..=u32::from(MOST_REINIT)).contains(&reinit)
 }
 
 /// Makes a machine with full credit, on a port whose link is up and that is not active. A number
@@ -58,9 +58,9 @@ fn are_settings(credit_max: u8, fast_init: u8, reinit: u8, allowed: bool) -> boo
 #[unsafe(no_mangle)]
 pub extern "C" fn lldpa_transmit_new(
     machine: &mut Parts,
-    credit_max: u8,
-    fast_init: u8,
-    reinit: u8,
+    credit_max: u32,
+    fast_init: u32,
+    reinit: u32,
     allowed: bool,
 ) -> u8
     ensures made { AreSettings (settings credit_max fast_init reinit allowed) → result ≡ 0 }
@@ -74,7 +74,7 @@ pub extern "C" fn lldpa_transmit_new(
     if !are_settings(credit_max, fast_init, reinit, allowed) {
         return OUT_OF_RANGE;
     }
-    *machine = Transmit::new(credit_max, fast_init, reinit, allowed).parts();
+    *machine = Transmit::new(credit_max as u8, fast_init as u8, reinit as u8, allowed).parts();
     OK
 }
 
@@ -83,11 +83,12 @@ pub extern "C" fn lldpa_transmit_new(
 #[unsafe(no_mangle)]
 pub extern "C" fn lldpa_transmit_event(
     machine: &mut Parts,
-    cause: u8,
-    interval: u16,
+    cause: u32,
+    interval: u32,
     mark: &mut u8,
 ) -> u8
-    ensures taken { CanTake machine.old interval → IsSome (cause_numbered cause) → result ≡ 0 }
+    ensures taken { machine.old.credit ≤ machine.old.credit_max → 1 ≤ interval → interval ≤ 3600 →
+        IsSome (cause_numbered cause) → result ≡ 0 }
     ensures step { result ≡ 0 → (c : Cause) × (m : Mark) × (cause_numbered cause ≡ Some c)
         × (mark.new ≡ mark_number m)
         × Takes (machine_of_parts machine.old) c interval (machine_of_parts machine.new) m }
@@ -104,7 +105,7 @@ pub extern "C" fn lldpa_transmit_event(
     let Some(mut transmit) = Transmit::of_parts(machine) else {
         return OUT_OF_RANGE;
     };
-    let answer = transmit.event(cause, interval);
+    let answer = transmit.event(cause, interval as u16);
     *machine = transmit.parts();
     *mark = mark_number(answer);
     OK

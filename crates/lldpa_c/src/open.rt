@@ -1,9 +1,15 @@
 //! Opening and closing an agent.
-ghost use Rattle.std.specs.Prelude.{◌≡◌, true, false, length, map, min, take, IfSome, IfOk, IfErr};
-ghost use Rattle.lldpa_c.specs.Opening.{role_numbered, asked, Opens, Refuses};
+ghost use Rattle.std.specs.Prelude.{◌≡◌, ◌⊎◌, ◌<◌, ◌↔◌, IsTrue, true, false, length, map, min, take, Some, None, IfSome, IfNone, IfOk, IfErr};
+ghost use Rattle.std.specs.List.{All};
+ghost use Rattle.std.specs.Str.{IsUtf8};
+ghost use Rattle.lldp_engine.specs.declared.agent.open_fault.OpenFault.{OpenFault as Fault};
+ghost use Rattle.lldp_engine.specs.Options.{InRange, fault_of};
+ghost use Rattle.lldpa_c.specs.Faults.{refusal_number};
+ghost use Rattle.lldpa_c.specs.Opening.{role_numbered, asked, IsRead, Opens};
 ghost use Rattle.lldpa_c.specs.Frame.{Keeps};
 
 use crate::answer::{IS_OPEN, OK, OUT_OF_RANGE};
+use crate::faults::refusal_number;
 use crate::holder::LldpaAgent;
 use crate::options::{LldpaOptions, LldpaText};
 use arrayvec::ArrayVec;
@@ -11,7 +17,7 @@ use lldp_engine::{Agent, OpenFault, Options, Role};
 use std::alloc::Global;
 
 /// The role of that number.
-fn role_numbered(number: u8) -> Option<Role>
+fn role_numbered(number: u32) -> Option<Role>
     ensures { result ≡ role_numbered number }
 {
     match number {
@@ -24,8 +30,10 @@ fn role_numbered(number: u8) -> Option<Role>
 
 /// The first 65 names, which is one more than an agent has ports. None if one is not UTF-8.
 fn names_of<'a>(ports: &'a [LldpaText<'a>]) -> Option<ArrayVec<&'a str, 65>>
-    ensures { IfSome result (λ names. map (λ name. name.now) names.items
+    ensures names { IfSome result (λ names. map (λ name. name.now) names.items
         ≡ map (λ text. text.octets.now) (take (min (length ports.now) 65) ports.now)) }
+    ensures read { IfSome result (λ _. All (λ text. IsUtf8 text.octets.now) (take 65 ports.now)) }
+    ensures none { IfNone result (¬ (All (λ text. IsUtf8 text.octets.now) (take 65 ports.now))) }
 {
     let first = &ports[..ports.len().min(65)];
     let mut names = ArrayVec::new();
@@ -38,10 +46,25 @@ fn names_of<'a>(ports: &'a [LldpaText<'a>]) -> Option<ArrayVec<&'a str, 65>>
     Some(names)
 }
 
+/// Whether the four numbers are in their ranges.
+fn are_in_range(options: &LldpaOptions<'_>) -> bool
+    ensures { IsTrue result ↔ InRange (asked options.now) }
+{
+    (1..=128).contains(&options.max_neighbors)
+        && (1..=10).contains(&options.credit_max)
+        && (1..=8).contains(&options.fast_init)
+        && (1..=10).contains(&options.reinit)
+}
+
 /// An agent of these options in a box, or the number that says why not.
 fn opened(alloc: Global, options: &LldpaOptions<'_>) -> Result<Box<Agent>, u8>
-    ensures ok { IfOk result (λ agent. Opens (asked options.now) agent.value) }
-    ensures err { IfErr result (Refuses (asked options.now)) }
+    ensures ok { IfOk result (λ agent. Opens options.now agent.value) }
+    ensures range { ¬ (IsRead options.now) → IfErr result (λ number. number ≡ 100) }
+    ensures fault { IsRead options.now → (fault : Fault) → fault_of (asked options.now) ≡ Some fault →
+        IfErr result (λ number. number ≡ refusal_number fault) }
+    ensures some { IfErr result (λ number. 0 < number) }
+    ensures memory { IsRead options.now → fault_of (asked options.now) ≡ None →
+        IfErr result (λ number. number ≡ 21) }
 {
     let Some(role) = role_numbered(options.role) else {
         return Err(OUT_OF_RANGE);
@@ -52,6 +75,9 @@ fn opened(alloc: Global, options: &LldpaOptions<'_>) -> Result<Box<Agent>, u8>
     let Ok(hostname) = std::str::from_utf8(options.hostname.octets) else {
         return Err(OUT_OF_RANGE);
     };
+    if !are_in_range(options) {
+        return Err(OUT_OF_RANGE);
+    }
     let given = Options {
         ports: names.as_slice(),
         mac: options.mac,
@@ -62,21 +88,18 @@ fn opened(alloc: Global, options: &LldpaOptions<'_>) -> Result<Box<Agent>, u8>
             None
         },
         role,
-        max_neighbors: options.max_neighbors,
-        credit_max: options.credit_max,
-        fast_init: options.fast_init,
-        reinit: options.reinit,
+        max_neighbors: options.max_neighbors as u8,
+        credit_max: options.credit_max as u8,
+        fast_init: options.fast_init as u8,
+        reinit: options.reinit as u8,
         receive_only: options.receive_only,
     };
-    if !given.in_range() {
-        return Err(OUT_OF_RANGE);
-    }
     match Agent::open(alloc, &given) {
         Ok(agent) => match Box::new(alloc, agent) {
             Ok(held) => Ok(held),
-            Err(_) => Err(OpenFault::Memory.number()),
+            Err(_) => Err(refusal_number(OpenFault::Memory)),
         },
-        Err(fault) => Err(fault.number()),
+        Err(fault) => Err(refusal_number(fault)),
     }
 }
 
@@ -87,13 +110,15 @@ pub extern "C" fn lldpa_open(
     options: &LldpaOptions<'_>,
     agent: &mut LldpaAgent,
 ) -> u8
-    ensures closed { result ≡ 0 → agent.old.is_open ≡ false }
     ensures is_open { result ≡ 0 → agent.new.is_open ≡ true }
-    ensures opened { result ≡ 0 → Opens (asked options.now) agent.new.held.agent }
+    ensures opened { result ≡ 0 → Opens options.now agent.new.held.agent }
     ensures refused { ¬ (result ≡ 0) → Keeps agent.old agent.new }
     ensures again { agent.old.is_open ≡ true → result ≡ 104 }
-    ensures why { ¬ (result ≡ 0) → agent.old.is_open ≡ false →
-        Refuses (asked options.now) result }
+    ensures range { agent.old.is_open ≡ false → ¬ (IsRead options.now) → result ≡ 100 }
+    ensures fault { agent.old.is_open ≡ false → IsRead options.now → (fault : Fault) →
+        fault_of (asked options.now) ≡ Some fault → result ≡ refusal_number fault }
+    ensures opens { agent.old.is_open ≡ false → IsRead options.now →
+        fault_of (asked options.now) ≡ None → (result ≡ 0) ⊎ (result ≡ 21) }
 {
     if agent.is_open {
         return IS_OPEN;

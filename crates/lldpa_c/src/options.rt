@@ -11,15 +11,17 @@ pub struct LldpaText<'a> {
 #[repr(C)]
 #[derive(Clone, Copy)]
 pub struct LldpaOptions<'a> {
+    /// How many octets the struct has. The front looks at it.
+    pub size: usize,
     pub ports: &'a [LldpaText<'a>],
     pub hostname: LldpaText<'a>,
     pub mac: [u8; 6],
     pub management: [u8; 4],
     pub managed: bool,
     pub receive_only: bool,
-    pub role: u8,
-    pub max_neighbors: u8,
-    pub credit_max: u8,
-    pub fast_init: u8,
-    pub reinit: u8,
+    pub role: u32,
+    pub max_neighbors: u32,
+    pub credit_max: u32,
+    pub fast_init: u32,
+    pub reinit: u32,
 }

@@ -1,8 +1,10 @@
 //! The lines of shows.
-ghost use Rattle.std.specs.Prelude.{◌≡◌, ◌≤◌, false, length, take};
+ghost use Rattle.std.specs.Prelude.{◌≡◌, ℕ, List, ◌<◌, ◌≤◌, length, take, drop, Some, None, slice_get};
 ghost use Rattle.lldpa_c.specs.Command.{show_numbered};
 ghost use Rattle.lldpa_c.specs.Frame.{Keeps};
-ghost use Rattle.lldpa_c.specs.Show.{IsLine, Shows};
+ghost use Rattle.lldp_engine.specs.Lines.{lines_of};
+ghost use Rattle.lldpa_c.specs.Answer.{answer_of};
+ghost use Rattle.lldpa_c.specs.Show.{IsLine, Shows, line_checks};
 
 use crate::answer::{NOT_OPEN, OUT_OF_RANGE};
 use crate::giving::give;
@@ -11,7 +13,7 @@ use lldp_engine::{Agent, Show};
 use std::alloc::Global;
 
 /// The show of that number.
-pub(crate) fn show_numbered(number: u8) -> Option<Show>
+pub(crate) fn show_numbered(number: u32) -> Option<Show>
     ensures { result ≡ show_numbered number }
 {
     match number {
@@ -30,6 +32,12 @@ pub(crate) fn show_numbered(number: u8) -> Option<Show>
 fn write(agent: &Agent, show: Show, line: u32, room: &mut [u8], written: &mut usize) -> u8
     ensures given { result ≡ 0 → IsLine agent.now show line (take written.new room.new) }
     ensures within { result ≡ 0 → written.new ≤ length room.new }
+    ensures rest { result ≡ 0 → drop written.new room.new ≡ drop written.new room.old }
+    ensures none { slice_get (lines_of show agent.now) line ≡ None → result ≡ 100 }
+    ensures fits { (octets : List ℕ) → slice_get (lines_of show agent.now) line ≡ Some octets →
+        length octets ≤ length room.old → result ≡ 0 }
+    ensures over { (octets : List ℕ) → slice_get (lines_of show agent.now) line ≡ Some octets →
+        length room.old < length octets → result ≡ 101 }
     ensures refused { ¬ (result ≡ 0) → (room.new ≡ room.old) × (written.new ≡ written.old) }
 {
     match agent.show_line(&show, line) {
@@ -43,7 +51,7 @@ fn write(agent: &Agent, show: Show, line: u32, room: &mut [u8], written: &mut us
 pub extern "C" fn lldpa_show_line(
     alloc: Global,
     agent: &mut LldpaAgent,
-    show: u8,
+    show: u32,
     line: u32,
     room: &mut [u8],
     written: &mut usize,
@@ -51,9 +59,10 @@ pub extern "C" fn lldpa_show_line(
     ensures given { result ≡ 0 →
         Shows agent.old.held.agent show line (take written.new room.new) }
     ensures within { result ≡ 0 → written.new ≤ length room.new }
+    ensures rest { result ≡ 0 → drop written.new room.new ≡ drop written.new room.old }
+    ensures answer { result ≡ answer_of (line_checks agent.old show line (length room.old)) }
     ensures kept { Keeps agent.old agent.new }
     ensures refused { ¬ (result ≡ 0) → (room.new ≡ room.old) × (written.new ≡ written.old) }
-    ensures closed { agent.old.is_open ≡ false → ¬ (result ≡ 0) }
 {
     let Some(show) = show_numbered(show) else {
         return OUT_OF_RANGE;

@@ -5,11 +5,12 @@ import asyncio
 import time
 from collections import deque
 from contextlib import suppress
-from typing import Deque, Iterable, List, Mapping, Optional, Sequence
+from functools import partial
+from typing import Callable, Deque, Iterable, List, Mapping, Optional, Sequence
 
-from .child import PATIENCE, Child, Ended, Option, words_of
-from .framing import (AT_ONCE, HOST, NO_ANSWER, NO_CONNECTION, Answers, FrameCallback, Line,
-                      accepted, command, hand_over, rx, ticks, with_mark)
+from .child import PATIENCE, PROGRAM, Child, Closed, Ended, Option, words_of
+from .framing import (AT_ONCE, HOST, NO_ANSWER, NO_CONNECTION, SILENCE, Answers, FrameCallback,
+                      Line, accepted, command, hand_over, rx, ticks, with_mark)
 from .show import Counters, Neighbor, Show, read_show
 
 
@@ -17,12 +18,14 @@ class AsyncAgent:
     """An agent for asyncio. Tasks may use it at the same time: they are answered one by one.
 
     Frames that its ports send go to `on_frame(port, octets)`, before the call that made them ends.
+    Calls raise what those of Agent do; the seconds of `timeout` go by while others are answered.
     """
 
     def __init__(self, reader: asyncio.StreamReader, writer: asyncio.StreamWriter,
-                 child: Optional[Child],
-                 on_frame: Optional[FrameCallback]) -> None:
+                 child: Optional[Child], on_frame: Optional[FrameCallback],
+                 timeout: Optional[float] = PATIENCE) -> None:
         """Takes the streams of the agent's trace; `start` and `connect` make them."""
+        self.timeout = timeout
         self._reader = reader
         self._writer = writer
         self._child = child
@@ -31,22 +34,28 @@ class AsyncAgent:
         self._whole: Deque[List[bytes]] = deque()
         self._written = self._read = 0
         self._turn = asyncio.Lock()
-        self._over: Optional[Ended] = None
+        self._over: Optional[Callable[[], Ended]] = None
 
     @classmethod
-    async def start(cls, ports: Sequence[str], program: str = "lldpa", *,
-                    on_frame: Optional[FrameCallback] = None, **options: Option) -> AsyncAgent:
+    async def start(cls, ports: Sequence[str], program: str = PROGRAM, *,
+                    on_frame: Optional[FrameCallback] = None, timeout: Optional[float] = PATIENCE,
+                    **options: Option) -> AsyncAgent:
         """As Agent.start."""
-        child = Child(words_of(ports, program, options))
-        reader, writer = await asyncio.open_connection(sock=child.socket)
-        return await cls(reader, writer, child, on_frame)._answering()
+        return await cls.of_child(Child(words_of(ports, program, options)), on_frame, timeout)
 
     @classmethod
-    async def connect(cls, number: int, *,
-                      on_frame: Optional[FrameCallback] = None) -> AsyncAgent:
+    async def of_child(cls, child: Child, on_frame: Optional[FrameCallback] = None,
+                       timeout: Optional[float] = PATIENCE) -> AsyncAgent:
+        """Takes the agent that a child is, as `start` does."""
+        reader, writer = await asyncio.open_connection(sock=child.socket)
+        return await cls(reader, writer, child, on_frame, timeout)._answering()
+
+    @classmethod
+    async def connect(cls, number: int, *, on_frame: Optional[FrameCallback] = None,
+                      timeout: Optional[float] = PATIENCE) -> AsyncAgent:
         """As Agent.connect."""
         reader, writer = await asyncio.open_connection(HOST, number)
-        return await cls(reader, writer, None, on_frame)._answering()
+        return await cls(reader, writer, None, on_frame, timeout)._answering()
 
     @property
     def pid(self) -> Optional[int]:
@@ -60,9 +69,18 @@ class AsyncAgent:
     async def tell(self, lines: Iterable[Line]) -> List[str]:
         """As Agent.tell. A caller that is cancelled meanwhile has told the lines all the same."""
         octets = with_mark(lines)
+        if self.timeout is None:
+            return await self._answer_to(octets)
+        try:
+            return await asyncio.wait_for(self._answer_to(octets), self.timeout)
+        except asyncio.TimeoutError:
+            raise Ended(None, SILENCE) from None
+
+    async def _answer_to(self, octets: bytes) -> List[str]:
+        """Writes, and reads up to the answer."""
         async with self._turn:
             if self._over is not None:
-                raise Ended(self._over.status, self._over.text)
+                raise self._over()
             self._writer.write(octets)
             self._written += 1
             while True:
@@ -107,6 +125,7 @@ class AsyncAgent:
 
     async def close(self, patience: float = PATIENCE) -> None:
         """As Agent.close. A child that has not ended after so many seconds is killed."""
+        self._over = Closed
         with suppress(OSError, RuntimeError, asyncio.TimeoutError):
             self._writer.write_eof()
             await asyncio.wait_for(self._pass_over_rest(), patience)
@@ -128,7 +147,8 @@ class AsyncAgent:
     async def _answering(self) -> AsyncAgent:
         """Itself, once it answers."""
         try:
-            await asyncio.wait_for(self.tell([]), PATIENCE)
+            seconds = PATIENCE if self.timeout is None else self.timeout
+            await asyncio.wait_for(self._answer_to(with_mark([])), seconds)
         except BaseException as fault:
             await self.close(patience=0)
             if isinstance(fault, asyncio.TimeoutError):
@@ -147,8 +167,8 @@ class AsyncAgent:
         if self._whole:
             return self._whole.popleft()
         end = await self._ended()
-        self._over = Ended(end.status, end.text)
-        raise end
+        self._over = self._over or partial(Ended, end.status, end.text)
+        raise self._over()
 
     async def _pass_over_rest(self) -> None:
         """Reads what the agent still writes, to its end."""

@@ -1,23 +1,23 @@
 """lldpa as a child process whose trace goes over a socket."""
 from __future__ import annotations
 
+import errno
+import os
+import select
 import signal
 import socket
 import subprocess
+import sys
+import time
 from typing import List, Mapping, Optional, Sequence, Union
+
+from .framing import Closed as Closed, Ended as Ended
 
 Option = Union[bool, int, str, None]
 
+PROGRAM = "lldpa"
 PATIENCE = 10.0
-
-
-class Ended(Exception):
-    """An agent that is no more: its status (negative for a signal, None where unknown), and why."""
-
-    def __init__(self, status: Optional[int], text: str) -> None:
-        super().__init__(text)
-        self.status = status
-        self.text = text
+MOST_SAID = 64 * 1024  # octets of standard error that are kept
 
 
 def words_of(ports: Sequence[str], program: str, options: Mapping[str, Option]) -> List[str]:
@@ -27,7 +27,7 @@ def words_of(ports: Sequence[str], program: str, options: Mapping[str, Option]) 
     """
     if isinstance(ports, (str, bytes)):
         raise TypeError(f"ports are a list of names, such as ['eth0'], and not {ports!r}")
-    words = [program]
+    words = [path_of(program)]
     for name, value in options.items():
         option = "--" + name.replace("_", "-")
         if value is True:
@@ -37,19 +37,39 @@ def words_of(ports: Sequence[str], program: str, options: Mapping[str, Option]) 
     return [*words, "--", *ports]
 
 
+def path_of(program: str) -> str:
+    """Returns the program; that of a wheel if the search path has no `lldpa`.
+
+    Raises FileNotFoundError if there is neither.
+    """
+    if program != PROGRAM or any(os.access(os.path.join(folder, program), os.X_OK)
+                                 for folder in os.get_exec_path()):
+        return program
+    beside = os.path.join(os.path.dirname(sys.executable), program)
+    if not os.access(beside, os.X_OK):
+        raise FileNotFoundError(errno.ENOENT, "not on the path, and not in this wheel", program)
+    return beside
+
+
 class Child:
     """A process that was started with these words. Ctrl-C is not for it: it ends with its input."""
 
-    def __init__(self, words: List[str]) -> None:
+    def __init__(self, words: List[str], environment: Optional[Mapping[str, str]] = None,
+                 blocked: Sequence[signal.Signals] = ()) -> None:
+        """Starts it, with this environment unless it is to have that of its parent; the blocked
+        signals never reach it. Raises OSError if there is no such program."""
         self.socket, theirs = socket.socketpair()
+        mask = signal.pthread_sigmask(signal.SIG_BLOCK, blocked)
         try:
             with theirs:
                 self._process = subprocess.Popen(
                     words, stdin=theirs.fileno(), stdout=theirs.fileno(), stderr=subprocess.PIPE,
-                    start_new_session=True)
+                    start_new_session=True, env=environment)
         except OSError:
             self.socket.close()
             raise
+        finally:
+            signal.pthread_sigmask(signal.SIG_SETMASK, mask)
         self._end: Optional[Ended] = None
 
     @property
@@ -66,15 +86,31 @@ class Child:
         self._process.kill()
 
     def end(self, patience: float = PATIENCE) -> Ended:
-        """Waits for its end, kills it where it does not come, and says how that was."""
+        """Waits for its end, kills it if that does not come in time, and says how that was."""
         if self._end is None:
+            last = time.monotonic() + patience
+            said = self._read_errors(last)
             try:
-                _, said = self._process.communicate(timeout=patience)
+                status = self._process.wait(max(last - time.monotonic(), 0))
             except subprocess.TimeoutExpired:
                 self._process.kill()
-                _, said = self._process.communicate()
-            self._end = told_end(self._process.returncode, said.decode("utf-8", "replace").strip())
+                status = self._process.wait()
+            self._end = told_end(status, said.decode("utf-8", "replace").strip())
         return self._end
+
+    def _read_errors(self, last: float) -> bytes:
+        """Reads standard error to its end, or until that time, and keeps the beginning."""
+        assert self._process.stderr is not None
+        said = b""
+        with self._process.stderr as errors:
+            poller = select.poll()
+            poller.register(errors, select.POLLIN)
+            while poller.poll(max(1000 * (last - time.monotonic()), 0)):
+                octets = os.read(errors.fileno(), MOST_SAID)
+                said = (said + octets)[:MOST_SAID]
+                if not octets or time.monotonic() >= last:
+                    break
+        return said
 
 
 def told_end(status: int, said: str) -> Ended:

@@ -8,20 +8,40 @@ from __future__ import annotations
 
 from typing import Callable, Iterable, List, Optional, Sequence, Union
 
+from ..faults import LldpaFault
 from ..limits import LONGEST_LINE, MOST_TICKS, REFUSAL
 
 MARK = b"#" * (LONGEST_LINE + 1)
 MARK_ANSWER = b"error: line too long"
+END = b"\n" + MARK_ANSWER + b"\n"
+MOST_OCTETS = 64 * 1024 * 1024  # of one answer
 HOST = "127.0.0.1"
 AT_ONCE = 65536
 NO_ANSWER = "the agent does not answer: another client may be connected to it"
+SILENCE = "the agent does not answer"
 NO_CONNECTION = "the agent ended the connection"
 
 Line = Union[bytes, str]
 FrameCallback = Callable[[str, bytes], object]
 
 
-class Refused(Exception):
+class Ended(LldpaFault):
+    """An agent that is no more: its status (negative for a signal, None where unknown), and why."""
+
+    def __init__(self, status: Optional[int], text: str) -> None:
+        super().__init__(text)
+        self.status = status
+        self.text = text
+
+
+class Closed(Ended):
+    """An agent that was closed before this call."""
+
+    def __init__(self) -> None:
+        super().__init__(None, "the agent was closed")
+
+
+class Refused(LldpaFault):
     """A line that the agent refused: the text behind `error: `."""
 
     def __init__(self, text: str) -> None:
@@ -52,6 +72,20 @@ def command(*words: str) -> str:
     return " ".join(f'"{word}"' if not word or set(" \t#") & set(word) else word for word in words)
 
 
+def words_of(line: str) -> List[str]:
+    """The words of a line, what stands in quotes as one."""
+    words: List[str] = []
+    rest = line.strip(" \t")
+    while rest:
+        if rest.startswith('"'):
+            word, _, rest = rest[1:].partition('"')
+        else:
+            word, rest = (rest.replace("\t", " ").split(" ", 1) + [""])[:2]
+        words.append(word)
+        rest = rest.lstrip(" \t")
+    return words
+
+
 def rx(port: str, octets: bytes) -> str:
     """The line of a frame that came in at a port."""
     return f'rx {port} {octets.hex()}' if octets else f'rx {port} ""'
@@ -72,19 +106,21 @@ class Answers:
     """Makes whole answers of the octets that an agent writes."""
 
     def __init__(self) -> None:
-        self._begun: List[bytes] = []
-        self._rest = b""
+        self._octets = bytearray(b"\n")  # so that each line, the first one too, stands behind an LF
 
     def feed(self, octets: bytes) -> List[List[bytes]]:
-        """The answers that end in these octets, each as its lines without the mark."""
-        whole = []
-        *lines, self._rest = (self._rest + octets).split(b"\n")
-        for line in lines:
-            if line == MARK_ANSWER:
-                whole.append(self._begun)
-                self._begun = []
-            else:
-                self._begun.append(line)
+        """Returns the answers that end in these octets, each as its lines without the mark.
+
+        Raises Ended if more than 64 MB of an answer came and its end did not.
+        """
+        begin, whole = max(len(self._octets) - len(END), 0), []
+        self._octets += octets
+        while (end := self._octets.find(END, begin)) >= 0:
+            whole.append(bytes(self._octets[1:end]).split(b"\n") if end else [])
+            del self._octets[:end + len(END) - 1]
+            begin = 0
+        if len(self._octets) > MOST_OCTETS:
+            raise Ended(None, "an answer of the agent has more than 64 MB")
         return whole
 
 

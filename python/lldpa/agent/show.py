@@ -6,8 +6,9 @@ from __future__ import annotations
 
 import re
 from dataclasses import fields
-from typing import Iterable, Iterator, List, Optional, Tuple
+from typing import Iterable, Iterator, List, Tuple
 
+from ..faults import LldpaFault
 from .shown import SAID_KEY, Configuration, Counters, Identifier, LocalChassis, Neighbor, Port, Show
 
 __all__ = ["Configuration", "Counters", "Identifier", "LocalChassis", "Neighbor", "Port", "Show",
@@ -25,7 +26,7 @@ SAID = re.compile(SAID_KEY)
 ESCAPE = re.compile(r"\\(\\|x[0-9a-f]{2})".encode())
 
 
-class ShowFault(ValueError):
+class ShowFault(LldpaFault, ValueError):
     """Lines that are no show: which line it is, and what was expected in its place."""
 
 

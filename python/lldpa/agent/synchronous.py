@@ -6,60 +6,67 @@ from __future__ import annotations
 
 import select
 import socket
+import time
 from contextlib import suppress
-from typing import Iterable, List, Mapping, Optional, Sequence
+from functools import partial
+from typing import Callable, Iterable, List, Mapping, Optional, Sequence
 
 from .asynchronous import AsyncAgent
-from .child import PATIENCE, Child, Ended, Option, words_of
-from .framing import (AT_ONCE, HOST, MARK, MARK_ANSWER, NO_ANSWER, NO_CONNECTION, Answers,
+from .child import PATIENCE, PROGRAM, Child, Closed, Ended, Option, words_of
+from .framing import (AT_ONCE, HOST, MARK, MARK_ANSWER, NO_ANSWER, NO_CONNECTION, SILENCE, Answers,
                       FrameCallback, Line, Refused, accepted, checked, command, hand_over, rx,
                       ticks, with_mark)
 from .show import Counters, Neighbor, Show, read_show
 from ..limits import LONGEST_LINE
 
-__all__ = ["LONGEST_LINE", "MARK", "MARK_ANSWER", "Agent", "Answers", "AsyncAgent", "Ended",
-           "Refused", "checked"]
+__all__ = ["LONGEST_LINE", "MARK", "MARK_ANSWER", "Agent", "Answers", "AsyncAgent", "Closed",
+           "Ended", "Refused", "checked"]
 
 
 class Agent:
     """An agent that is asked, and answers. One thread at a time may use it.
 
     Frames that its ports send go to `on_frame(port, octets)`, before the call that made them ends.
+    Each call raises Ended if the agent has ended, has not answered within `timeout` seconds (None
+    for no bound), or answers with more than 64 MB; Closed after `close`.
     """
 
     def __init__(self, connection: socket.socket, child: Optional[Child],
-                 on_frame: Optional[FrameCallback]) -> None:
+                 on_frame: Optional[FrameCallback], timeout: Optional[float] = PATIENCE) -> None:
         """Takes the socket of the agent's trace; `start` and `connect` make one."""
+        self.timeout = timeout
         self._socket = connection
         self._child = child
         self._on_frame = on_frame
         self._answers = Answers()
         self._is_whole = True
-        self._over: Optional[Ended] = None
+        self._over: Optional[Callable[[], Ended]] = None
         connection.setblocking(False)
         try:
-            self._exchange(with_mark([]), PATIENCE)
+            self._exchange(with_mark([]), PATIENCE if timeout is None else timeout, NO_ANSWER)
         except BaseException:
             self.close(patience=0)
             raise
 
     @classmethod
-    def start(cls, ports: Sequence[str], program: str = "lldpa", *,
-              on_frame: Optional[FrameCallback] = None, **options: Option) -> Agent:
+    def start(cls, ports: Sequence[str], program: str = PROGRAM, *,
+              on_frame: Optional[FrameCallback] = None, timeout: Optional[float] = PATIENCE,
+              **options: Option) -> Agent:
         """Runs an agent with these ports. Options are the program's: `max_neighbors=4`.
 
-        Raises OSError where there is no such program, and Ended where it refuses its words.
+        Raises OSError if there is no such program, and Ended if it refuses its words.
         """
         child = Child(words_of(ports, program, options))
-        return cls(child.socket, child, on_frame)
+        return cls(child.socket, child, on_frame, timeout)
 
     @classmethod
-    def connect(cls, number: int, *, on_frame: Optional[FrameCallback] = None) -> Agent:
+    def connect(cls, number: int, *, on_frame: Optional[FrameCallback] = None,
+                timeout: Optional[float] = PATIENCE) -> Agent:
         """Takes the agent that listens on this port of 127.0.0.1.
 
-        Raises OSError where none listens, and Ended where it does not answer within 10 seconds.
+        Raises OSError if none listens, and Ended if it does not answer within `timeout` seconds.
         """
-        return cls(socket.create_connection((HOST, number)), None, on_frame)
+        return cls(socket.create_connection((HOST, number), timeout), None, on_frame, timeout)
 
     @property
     def pid(self) -> Optional[int]:
@@ -72,7 +79,7 @@ class Agent:
 
     def tell(self, lines: Iterable[Line]) -> List[str]:
         """The lines that these are answered together, those of refused ones among them."""
-        return hand_over(self._exchange(with_mark(lines)), self._on_frame)
+        return hand_over(self._exchange(with_mark(lines), self.timeout), self._on_frame)
 
     def frame(self, port: str, octets: bytes) -> None:
         """A frame came in at a port. One that is no LLDP frame changes nothing."""
@@ -113,13 +120,16 @@ class Agent:
         A port that is to take leave of its peers is disabled before:
         `configure("ports", "eth0", "lldp", "status", "disabled")`.
         """
+        self._over = Closed
+        last = time.monotonic() + patience
         with self._socket, suppress(OSError):
             self._socket.shutdown(socket.SHUT_WR)
-            self._socket.settimeout(patience)
-            while self._socket.recv(AT_ONCE):
-                pass
+            while (left := last - time.monotonic()) > 0:
+                self._socket.settimeout(left)
+                if not self._socket.recv(AT_ONCE):
+                    break
         if self._child is not None:
-            self._child.end(patience)
+            self._child.end(max(last - time.monotonic(), 0))
 
     def __enter__(self) -> Agent:
         return self
@@ -127,17 +137,19 @@ class Agent:
     def __exit__(self, *_: object) -> None:
         self.close()
 
-    def _exchange(self, octets: bytes, patience: Optional[float] = None) -> List[bytes]:
+    def _exchange(self, octets: bytes, seconds: Optional[float],
+                  silence: str = SILENCE) -> List[bytes]:
         """Writes, and gives the answer; reads meanwhile, so that neither side blocks the other."""
         if self._over is not None:
-            raise Ended(self._over.status, self._over.text)
+            raise self._over()
         if not self._is_whole:
             raise Ended(None, "an answer was not read to its end, so no further line can be asked")
         self._is_whole = False
         unsent = memoryview(octets)
+        last = None if seconds is None else time.monotonic() + seconds
         try:
             while True:
-                event = self._wait(bool(unsent), patience)
+                event = self._wait(bool(unsent), last, silence)
                 if event & select.POLLOUT:
                     unsent = unsent[self._socket.send(unsent):]
                 if event & ~select.POLLOUT:
@@ -150,17 +162,18 @@ class Agent:
         except ConnectionError:
             raise self._ended() from None
 
-    def _wait(self, wants_to_write: bool, patience: Optional[float]) -> int:
-        """What the socket is ready for."""
+    def _wait(self, wants_to_write: bool, last: Optional[float], silence: str) -> int:
+        """What the socket is ready for. Raises Ended if that is nothing until a time."""
         poller = select.poll()
         poller.register(self._socket, select.POLLIN | (select.POLLOUT if wants_to_write else 0))
-        ready = poller.poll(None if patience is None else 1000 * patience)
+        left = None if last is None else 1000 * (last - time.monotonic())
+        ready = poller.poll(left) if left is None or left > 0 else []
         if not ready:
-            raise Ended(None, NO_ANSWER)
+            raise Ended(None, silence)
         return ready[0][1]
 
     def _ended(self) -> Ended:
         """Why there is no agent any more, which each later call says too."""
         end = Ended(None, NO_CONNECTION) if self._child is None else self._child.end()
-        self._over = Ended(end.status, end.text)
+        self._over = partial(Ended, end.status, end.text)
         return end

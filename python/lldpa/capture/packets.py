@@ -6,7 +6,7 @@
 from __future__ import annotations
 
 from contextlib import suppress
-from typing import BinaryIO, Iterator, List
+from typing import BinaryIO, Iterator, List, Optional
 
 from .packet import ETHERNET, SECOND, CaptureInterface, Look, Packet, link_type_text
 from .pcap import PcapReader, form_of
@@ -22,14 +22,15 @@ COMPRESSED = {b"\xfd7": "xz", b"\x28\xb5": "zstd", b"BZ": "bzip2"}
 NO_PACKET = b"\0" * 1024
 
 
-def reader_of(file: BinaryIO) -> Reader:
-    """What reads a capture from its begin, which gzip may have compressed.
+def reader_of(file: BinaryIO, most_unpacked: Optional[int] = None) -> Reader:
+    """What reads a capture from its begin, which gzip may have compressed; of what gzip unpacks up
+    to so many octets.
 
     Raises BadCapture where that is none of a capture.
     """
     window = Window(file)
     if window.move(0, 2) and window.octets.startswith(MAGIC):
-        window = Window(Unzipped(file, window.octets))
+        window = Window(Unzipped(file, window.octets, most_unpacked))
     if not window.move(0, 4):
         raise BadCapture("it is empty")
     magic = window.octets[:4]
@@ -51,11 +52,12 @@ def packets_of(file: BinaryIO) -> Iterator[Packet]:
         yield Packet(interface, time, reader.window.octets[begin:end], length)
 
 
-def interfaces_of(file: BinaryIO) -> List[CaptureInterface]:
+def interfaces_of(file: BinaryIO, most_unpacked: Optional[int] = None
+                  ) -> List[CaptureInterface]:
     """The interfaces that a pcapng file describes, as far as it can be read; pcap has none."""
     described: List[CaptureInterface] = []
     with suppress(BadCapture):
-        reader = reader_of(file)
+        reader = reader_of(file, most_unpacked)
         if isinstance(reader, PcapngReader):
             described = reader.described
             for _ in reader.looks(NO_PACKET):

@@ -108,19 +108,19 @@ class PcapngReader(Reader):
         self.described.append(interface)
         if link_type == ETHERNET and self._passable == len(self._interfaces) - 1:
             self._passable += 1
-        clocks = {(one.units, one.offset) for one in self._interfaces}
-        self._has_one_clock = len(clocks) == 1
+        first = self._interfaces[0]
+        self._has_one_clock &= first[2:4] == interface[2:4]
         self.latest = UNKNOWN
 
     def _options(self, octets: bytes) -> Dict[int, bytes]:
         """The options of a block by their codes."""
-        options = {}
-        while len(octets) >= 4:
-            code, length = struct.unpack_from(self._order + "HH", octets)
+        options, at, unpack = {}, 0, struct.Struct(self._order + "HH").unpack_from
+        while at + 4 <= len(octets):
+            code, length = unpack(octets, at)
             if code == 0:
                 break
-            options[code] = octets[4:4 + length]
-            octets = octets[4 + (length + 3 & ~3):]
+            options[code] = octets[at + 4:at + 4 + length]
+            at += 4 + (length + 3 & ~3)
         return options
 
     def _packet(self, fields: str, begin: int, end: int) -> Look:

@@ -25,6 +25,7 @@ class Reader:
         self.at = 0
         self.number = 0
         self.latest = UNKNOWN
+        self._found = self._searched = -1
 
     def record_size(self) -> int:
         """The size of the next record, whose head is in the window."""
@@ -46,7 +47,7 @@ class Reader:
             size = self._reach_record()
             if not size:
                 return
-            found = self.window.octets.find(prefix, self.at)
+            found = self._next(prefix)
             passed = None
             if found != self.at + self.OCTETS_AT:
                 passed = self.pass_over(found if found >= 0 else len(self.window.octets))
@@ -58,6 +59,16 @@ class Reader:
                 self.at += size
             if look is not None:
                 yield look
+
+    def _next(self, prefix: bytes) -> int:
+        """Where these octets stand next in the window, -1 for nowhere. They are looked for once in
+        each stretch of the file: many records may stand in front of them."""
+        here, end = self.window.begin + self.at, self.window.begin + len(self.window.octets)
+        if self._searched != end or 0 <= self._found < here:
+            found = self.window.octets.find(prefix, self.at)
+            self._found = found + self.window.begin if found >= 0 else -1
+            self._searched = end
+        return self._found - self.window.begin if self._found >= 0 else -1
 
     def _reach_record(self) -> int:
         """Has the whole next record in the window; answers its size, 0 at the end of the file."""

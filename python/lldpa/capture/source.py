@@ -19,11 +19,13 @@ STANDARD_INPUT = "-"
 class Source(NamedTuple):
     """A capture's file, `-` for standard input, and the port of all its frames where one is given.
 
-    Else `names` has the ports of interfaces that are to have another name than their own.
+    Else `names` has the ports of interfaces that are to have another name than their own. Of a file
+    that gzip compressed up to `most_unpacked` octets are read.
     """
     file: str
     port: Optional[str] = None
     names: Mapping[str, str] = {}
+    most_unpacked: Optional[int] = None
 
 
 def port_of(source: Source, interface: CaptureInterface) -> str:

@@ -7,6 +7,7 @@ from contextlib import suppress
 from heapq import merge
 from typing import Callable, Dict, Iterator, List, NamedTuple, Optional, Sequence
 
+from ..faults import LldpaFault
 from .packets import (ETHERNET, SECOND, BadCapture, CaptureInterface, Reader, interfaces_of,
                       link_type_text, reader_of)
 from ..agent.framing import rx, ticks
@@ -20,14 +21,16 @@ ETHERTYPE = bytes.fromhex("88cc")
 TAGS = (b"\x81\x00", b"\x88\xa8", b"\x91\x00")
 
 
-class TooManyPorts(Exception):
+class TooManyPorts(LldpaFault):
     """Captures with frames for more ports than an agent has."""
 
 
 class Told(NamedTuple):
-    """Who is told what is passed over (`note`), and what makes the trace incomplete (`fault`)."""
+    """Who is told what is passed over (`note`), what makes the trace incomplete (`fault`), and the
+    last time stamp of each capture that has one, in seconds since 1970 (`end`)."""
     note: Tell
     fault: Tell
+    end: Callable[[float], None] = lambda _: None
 
 
 class Moment(NamedTuple):
@@ -124,18 +127,21 @@ class Recording:
         self._told = told
         self._notes = Notes(told.note, source.file)
         self._latest: Optional[int] = None
+        self._last_stamp: Optional[int] = None
         self._ports: Dict[CaptureInterface, str] = {}
 
     def moments(self) -> Iterator[Moment]:
         """The moments, at times that never go back."""
         try:
             with opened(self._source.file) as file:
-                yield from self._frames(reader_of(file))
+                yield from self._frames(reader_of(file, self._source.most_unpacked))
         except BadCapture as why:
             self._fault(str(why))
         except OSError as error:
             self._fault(error.strerror or str(error))
         self._notes.end()
+        if self._last_stamp is not None:
+            self._told.end(self._last_stamp / SECOND)
         yield Moment(self._latest, "", self._notes)
 
     def _frames(self, reader: Reader) -> Iterator[Moment]:
@@ -146,7 +152,7 @@ class Recording:
                 interface_before = interface
                 self._need_ethernet(interface)
             if stamp is not None:
-                time = stamp + shift
+                self._last_stamp, time = stamp, stamp + shift
                 if self._latest is None:
                     yield Moment(time, "", self._notes)
                 elif time < self._latest:

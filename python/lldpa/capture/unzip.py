@@ -2,42 +2,89 @@
 from __future__ import annotations
 
 import zlib
+from typing import Optional
 
 from .window import AT_ONCE, BadCapture, Readable
 
 MAGIC = b"\x1f\x8b"
 GZIP = 31  # zlib's number for a stream with the head of gzip
+# how much of the file a part is handed at first: zlib copies what is left behind the part's end
+FIRST = 256
 
 
 class Unzipped:
-    """Reads a compressed file of which the first octets were taken already."""
+    """Reads a compressed file of which the first octets were taken already, up to `most` octets of
+    what is in it."""
 
-    def __init__(self, file: Readable, begun: bytes) -> None:
+    def __init__(self, file: Readable, begun: bytes, most: Optional[int] = None) -> None:
         self._file = file
         self._packed = begun
+        self._at = 0
+        self._left = most
+        self._handed = FIRST
+        self._fault: Optional[BadCapture] = None
         self._inflate = zlib.decompressobj(GZIP)
 
     def read(self, size: int) -> bytes:
         """Some octets, at most so many; none at the end. Raises BadCapture behind what is whole."""
+        parts: list[bytes] = []
+        missing = size
+        while missing and not (parts and self._at == len(self._packed)):
+            octets = self._some_or_fault(missing)
+            if not octets:
+                break
+            parts.append(octets)
+            missing -= len(octets)
+        if self._fault is not None and not parts:
+            raise self._fault
+        return b"".join(parts)
+
+    def _some_or_fault(self, size: int) -> bytes:
+        """Some octets; none at the end, and behind a fault, which is remembered."""
+        if self._fault is None:
+            try:
+                return self._some(size)
+            except BadCapture as fault:
+                self._fault = fault
+        return b""
+
+    def _some(self, size: int) -> bytes:
+        """Some octets; none at the end. Raises BadCapture where no more can be read."""
+        octets = self._unpacked(size)
+        if self._left is not None:
+            self._left -= len(octets)
+            if self._left < 0:
+                raise BadCapture("gzip unpacks it to more than is read")
+        return octets
+
+    def _unpacked(self, size: int) -> bytes:
+        """Some octets; none at the end. Raises BadCapture where it is damaged or cut short."""
         while True:
-            self._packed = self._packed or self._file.read(AT_ONCE)
+            if self._at == len(self._packed):
+                self._packed, self._at = self._file.read(AT_ONCE), 0
             if self._inflate.eof:
                 self._begin_part()
-            if not self._packed:
-                return self._rest()
+            if self._at == len(self._packed):
+                if not self._packed:
+                    return self._rest()
+                continue
+            handed = self._packed[self._at:self._at + self._handed]
             try:
-                octets = self._inflate.decompress(self._packed, size)
+                octets = self._inflate.decompress(handed, size)
             except zlib.error:
                 raise BadCapture("what gzip compressed in it is damaged") from None
-            self._packed = self._inflate.unconsumed_tail or self._inflate.unused_data
+            left = self._inflate.unconsumed_tail or self._inflate.unused_data
+            self._at += len(handed) - len(left)
+            self._handed = min(2 * self._handed, AT_ONCE)
             if octets:
                 return octets
 
     def _begin_part(self) -> None:
         """A file may have several compressed parts, and zeros behind them."""
-        self._packed = self._packed.lstrip(b"\0")
-        if self._packed:
-            self._inflate = zlib.decompressobj(GZIP)
+        while self._packed[self._at:self._at + 1] == b"\0":
+            self._at += 1
+        if self._at < len(self._packed):
+            self._inflate, self._handed = zlib.decompressobj(GZIP), FIRST
 
     def _rest(self) -> bytes:
         """What is left where the file is at its end."""

@@ -3,11 +3,13 @@ from __future__ import annotations
 
 from typing import Protocol
 
+from ..faults import LldpaFault
+
 AT_ONCE = 1 << 17
 MOST_OCTETS = 1 << 24
 
 
-class BadCapture(Exception):
+class BadCapture(LldpaFault):
     """Why a capture cannot be read on, and at which octet from its begin."""
 
 

@@ -92,9 +92,19 @@ def run(given: argparse.Namespace) -> int:
     if [source.file for source in sources].count(STANDARD_INPUT) > 1:
         raise ValueError("standard input can be read once")
     if given.ports:
-        print("\n".join(ports_of(sources)), flush=True)
+        print("\n".join(ports_for_words(sources)), flush=True)
         return 0
     return write_trace(sources, not given.no_seconds, given.show)
+
+
+def ports_for_words(sources: Sequence[Source]) -> List[str]:
+    """The ports of captures, none of which another program takes for an option. Raises ValueError.
+    """
+    ports = ports_of(sources)
+    for port in ports:
+        if port.startswith("-"):
+            raise ValueError(f"a port is named {port!r}: write --port='{port}=NAME'")
+    return ports
 
 
 def main(words: Optional[Sequence[str]] = None) -> int:

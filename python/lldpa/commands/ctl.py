@@ -3,29 +3,24 @@
 from __future__ import annotations
 
 import argparse
-import json
 import socket
 import sys
-import time
-from typing import Optional, Sequence
+from typing import Callable, Optional, Sequence
 
 from .. import output
-from ..control.arrivals import Since, since_of
-from ..control.as_json import neighbor_object
-from ..control.connection import DEFAULT_PATH, Client, Gone
-from ..agent.framing import Refused
-from ..control.people import terminal_width
-from ..control.publishing import NotWritten, publish
-from ..control.questions import COMMANDS, check, explanation, question
-from ..control.refused import words_of
-from ..agent.show import ShowFault, read_show
+from ..client.connection import DEFAULT_PATH, Client, give_up_root
+from ..client.people import terminal_width
+from ..client.questions import (COMMANDS, Question, check, completed, explanation, listed,
+                                question)
+from ..agent.framing import Refused, command, words_of
+from ..agent.show import read_show
+from ..faults import LldpaFault
 from ..texts import printable
 from ..version import add_version
-from ..control.watching import NeighborNews, Watch, news_line
 
-SECONDS_BETWEEN_LOOKS = 0.5
-NO_PORT = "no such port"
-ALONE = ("watch", "metrics")  # the commands that only this program has
+# what only some questions need is loaded where it is used, since a question is to be quick
+NO_PORT, UNKNOWN = "no such port", "unknown command"
+ALONE = ("watch", "metrics", "help")  # the commands that only this program has
 
 EPILOG = """\
 commands, none for a table of the neighbors:
@@ -40,43 +35,24 @@ commands, none for a table of the neighbors:
   show configuration       the numbers in force, and the status of each port
   configure ...            changes the agent, see lldpa(1)
   update                   sends the present state
-  bridge                   what lldpa-live tells of itself
-  watch                    a line when a neighbor comes, changes or goes
+  live                     what lldpa-live tells of itself
+  watch [PORT..]           a line when a neighbor comes, changes or goes
   metrics                  all of it for Prometheus
-ports are parted by blanks or commas, also in configure ports
+  help                     this
+ports are parted by blanks or commas, also in configure ports; words may be
+shortened if no other begins so
 
 example: lldpa-ctl --json show neighbors eth0,eth1
 lldpa-ctl(8) has the metrics, the keys of JSON and the control socket.
 """
 
 
-
-
-def watch(client: Client, as_json: bool) -> None:
-    """A line for each neighbor that comes, changes or goes, without end."""
-    neighbors = Watch(read_show(client.ask("show neighbors")).ports)
-    while True:
-        time.sleep(SECONDS_BETWEEN_LOOKS)
-        ports = read_show(client.ask("show neighbors")).ports
-        now = time.strftime("%Y-%m-%dT%H:%M:%S%z")
-        for news in neighbors.news(ports):
-            since = since_of(client.ask("bridge")) if as_json else {}
-            line = news_object(news, now, since) if as_json else f"{now} {news_line(news)}"
-            print(line, flush=True)
-
-
-def news_object(news: NeighborNews, now: str, since: Since) -> str:
-    """What happened to a neighbor, as JSON in one line."""
-    told = {"time": now, "what": news.what, "changes": list(news.changes)}
-    return json.dumps({**told, "neighbor": neighbor_object(news.neighbor, since)})
-
-
-def print_answer(client: Client, words: Sequence[str], as_json: bool) -> None:
+def print_answer(client: Client, asked: Question, as_json: bool) -> None:
     """What is told for a command."""
-    asked = question(words)
     answers = [answer(client, line) for line in asked.lines]
     if as_json:
         answers += [answer(client, line) for line in asked.further]
+        import json
         print(json.dumps(asked.object(answers), indent=2))
     elif lines := asked.text(answers, terminal_width()):
         print("\n".join(lines))
@@ -88,6 +64,11 @@ def answer(client: Client, line: str) -> list[str]:
         return client.ask(line)
     except Refused as refused:
         words, text = words_of(line), refused.text
+    if text == UNKNOWN and words[0] == "configure":
+        from ..client.refused import forms_of, in_full
+        full = in_full(words, forms_of("lldpa"))
+        if full != words:
+            return answer(client, command(*full))
     if text == NO_PORT and len(words) > 2:
         configuration = read_show(client.ask("show configuration")).configuration
         check(words[2:3], [*configuration.statuses] if configuration else [])
@@ -113,8 +94,13 @@ def read_words(words: Optional[Sequence[str]]) -> argparse.Namespace:
     given = parser.parse_intermixed_args(words)
     if len(given.words) == 1:
         given.words = words_of(given.words[0])
-    if given.words and given.words[0] in ALONE and len(given.words) > 1:
-        parser.error(f"nothing can stand behind {given.words[0]}")
+    if given.words:
+        given.words[0] = completed(given.words[0], (*COMMANDS, *ALONE))
+    if given.words == ["help"]:
+        parser.print_help()
+        parser.exit()
+    if given.words[:1] == ["metrics"] and len(given.words) > 1:
+        parser.error("nothing can stand behind metrics")
     if given.words == ["metrics"] and given.json:
         parser.error("metrics have a form of their own, which is not JSON")
     if given.words != ["metrics"] and given.output is not None:
@@ -122,12 +108,22 @@ def read_words(words: Optional[Sequence[str]]) -> argparse.Namespace:
     return given
 
 
-def run(given: argparse.Namespace, client: Client) -> None:
-    """Asks and prints what was asked for."""
-    if given.words == ["watch"]:
-        watch(client, given.json)
-    else:
-        print_answer(client, given.words or ["neighbors"], given.json)
+def work_of(given: argparse.Namespace) -> Callable[[Client], None]:
+    """Returns what asks and prints what was asked for, with all loaded that it needs: nobody, which
+    root becomes, may not be able to read it."""
+    words = given.words or ["neighbors"]
+    if given.json:
+        import json  # noqa: F401
+        from ..client import as_json  # noqa: F401
+        from ..organizational.kinds import load
+        load()
+    if words[0] == "watch":
+        from ..client.watching import watch
+        from ..organizational.kinds import load
+        load()
+        return lambda client: watch(client, listed(words[1:]), given.json)
+    asked = question(words)
+    return lambda client: print_answer(client, asked, given.json)
 
 
 def said_of(fault: Exception, path: str) -> str:
@@ -154,13 +150,17 @@ def status_of(words: Optional[Sequence[str]]) -> int:
     given = read_words(words)
     try:
         if given.words == ["metrics"]:
+            from ..client.publishing import publish
             publish(given.control, given.output)
         else:
+            work = work_of(given)
             with Client(given.control) as client:
-                run(given, client)
+                if given.words[:1] != ["configure"]:  # whose refusals `lldpa --help` explains
+                    give_up_root()
+                work(client)
     except KeyboardInterrupt:
         return 130
-    except (Refused, Gone, ShowFault, NotWritten, OSError) as fault:
+    except (LldpaFault, OSError) as fault:
         output.complain("lldpa-ctl", said_of(fault, given.control))
         return 1
     except ValueError as fault:

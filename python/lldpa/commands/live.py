@@ -6,14 +6,15 @@ import argparse
 import asyncio
 import os
 import sys
-from typing import Callable, Dict, Sequence, Tuple
+from typing import Callable, Dict, Sequence
 
 from ..agent.child import Option
-from ..control.console import open_missing_streams
-from ..control.connection import DEFAULT_PATH
-from ..faults import report_all, report_fault
+from ..client.connection import DEFAULT_PATH
+from ..live.given import Given
 from ..live.patterns import is_able, is_pattern, parts_of
+from ..live.reporting import report_all, report_fault
 from ..live.running import live
+from ..output import INPUT, missing_streams
 from ..version import add_version
 from ..limits import MOST_PORTS
 
@@ -36,6 +37,7 @@ TEXTS = {
     "user": ("NAME", None, "as root, become this user (nobody) once the sockets are open"),
     "control": ("PATH", DEFAULT_PATH, "the control socket (%(default)s)"),
     "control-group": ("GROUP", None, "let members of this group use the control socket"),
+    "state": ("FILE", None, "leave the tables there at the end, and take them at the start"),
     "log": ("FOLDER", None, "keep the session there, in files that are traces for lldpa"),
 }
 NUMBERS = {
@@ -49,27 +51,26 @@ NOT_HERE = ("listen", "connections", "help", "version")  # options of lldpa that
 
 def main() -> int:
     """Runs the program, and gives its status."""
-    is_closed = open_missing_streams()
+    is_closed = INPUT in missing_streams()
     report_all()
-    words, options = words_given(sys.argv[1:])
-    words.stay |= is_closed
+    given = words_given(sys.argv[1:])
+    given = given._replace(stay=given.stay or is_closed)
     try:
-        return asyncio.run(live(words, options))
+        return asyncio.run(live(given))
     except Exception as fault:  # pylint: disable=broad-except
-        return report_fault(words.program, fault)
+        return report_fault(given.program, fault)
 
 
-def words_given(words: Sequence[str]) -> Tuple[argparse.Namespace, Dict[str, Option]]:
-    """The bridge's own words, and behind `--` the options of lldpa. Ends the program where they
-    are wrong, with status 2."""
+def words_given(words: Sequence[str]) -> Given:
+    """Returns what was given: own options, and behind `--` those of lldpa. Ends the program with
+    status 2 if they are wrong."""
     parser = the_parser()
     cut = words.index("--") if "--" in words else len(words)
     given = parser.parse_args(words[:cut])
     check_ports(parts_of(given.ports), parser)
     if given.user is not None and os.geteuid() != 0:
         parser.error("--user: only root can become another user")
-    options = options_of(words[cut + 1:], parser)
-    return given, options
+    return Given(**vars(given), options=options_of(words[cut + 1:], parser))
 
 
 def check_ports(parts: Sequence[str], parser: argparse.ArgumentParser) -> None:

@@ -5,17 +5,21 @@ import getopt
 import os
 import sys
 import time
-from typing import List, NamedTuple, Optional, Sequence
+from typing import Callable, List, NamedTuple, Optional, Sequence
 
 from .. import __version__, output
-from ..control.connection import DEFAULT_PATH, Client, Gone
+from ..client.connection import DEFAULT_PATH, Client, Gone, give_up_root
+from ..client.watching import SECONDS_BETWEEN_LOOKS, Watch
 from ..agent.framing import Refused
-from ..lldpcli_forms.shows import LINES, Told, told_by
-from ..lldpcli_forms.words import of_lldpcli, of_lldpctl
-from ..lldpcli_forms.writing import FORMS
+from ..lldpcli_forms.shows import LINES, neighbor_node, told_by
+from ..lldpcli_forms.words import (Command, Lines, Question, Watching, of_lldpcli,
+                                   of_lldpctl)
+from ..lldpcli_forms.writing import FORMS, form_of
 from ..agent.show import ShowFault
+from ..node import Node
+from ..organizational.kinds import load
 from ..texts import printable
-from .ctl import said_of
+from .ctl import answer as answer_of, said_of
 
 LLDPCTL, LLDPCLI = "lldpctl", "lldpcli"
 HELP = f"""\
@@ -25,18 +29,26 @@ Asks a running lldpa-live, and prints its answer as lldpcli of lldpd does.
 
   -u PATH  the control socket of lldpa-live ({DEFAULT_PATH} unless given)
   -f FORM  {', '.join(FORMS)} (plain unless given)
+  -d, -s   taken and ignored
   -h, --help  this
   -v, --version  print the version
 
-commands; lldpctl takes ports too, and without a command it shows all neighbors in detail:
+commands; lldpctl takes ports too, and without a command it shows all neighbors in detail;
+lldpcli without a command reads commands from standard input, up to exit:
   show neighbors [details | summary] [ports PORT,..]
   show interfaces [details | summary] [ports PORT,..]
   show chassis [details | summary]
   show statistics [summary] [ports PORT,..]
+  show configuration
+  watch [details | summary] [ports PORT,..] [limit N]
+  configure ...  those of lldpa(1)
+  update
 
 example: lldpctl -f keyvalue eth0
 lldpctl(1) says where this program stands, since lldpd has one of its name.
 """
+# what lldpcli calls that which happens to a neighbor
+HAPPENED = {"came": "added", "changed": "updated", "gone": "deleted"}
 
 
 class Given(NamedTuple):
@@ -47,11 +59,16 @@ class Given(NamedTuple):
     is_version: bool
     words: List[str]
 
+    def write(self, root: Node) -> None:
+        """Prints a tree."""
+        if text := form_of(self.form, os.isatty(output.OUTPUT))(root):
+            print(text, flush=True)
+
 
 def read_words(words: Sequence[str]) -> Given:
     """The words of the program. Raises Refused where an option is not known."""
     try:
-        options, rest = getopt.gnu_getopt(list(words), "hvu:f:", ["help", "version"])
+        options, rest = getopt.gnu_getopt(list(words), "dhsvu:f:", ["help", "version"])
     except getopt.GetoptError as fault:
         raise Refused(str(fault)) from None
     told = dict(options)
@@ -62,11 +79,83 @@ def read_words(words: Sequence[str]) -> Given:
                  "-v" in told or "--version" in told, rest)
 
 
-def ask(path: str) -> Told:
-    """What the bridge at a path answers."""
-    with Client(path) as client:
-        bridge = client.ask("bridge")
-        return told_by([client.ask(line) for line in LINES], bridge, time.time())
+def show(client: Client, given: Given, question: Question) -> None:
+    """Prints a show. Raises Refused for a port that is not there, when the others are printed."""
+    live = client.ask("live")
+    told = told_by([client.ask(line) for line in LINES], live, time.time())
+    given.write(question.tree(told))
+    missing = question.missing(told)
+    if missing:
+        raise Refused(f"no such port: {', '.join(missing)}")
+
+
+def watch(client: Client, given: Given, watching: Watching) -> None:
+    """Prints each neighbor that comes, changes or goes, up to the limit if there is one."""
+    told = told_by([client.ask("show neighbors")], [], time.time())
+    neighbors, left = Watch(told.show.ports), watching.limit
+    while True:
+        time.sleep(SECONDS_BETWEEN_LOOKS)
+        told = told_by([client.ask("show neighbors")], client.ask("live"), time.time())
+        for news in neighbors.news(told.show.ports):
+            if watching.ports is not None and news.neighbor.port not in watching.ports:
+                continue
+            what = HAPPENED[news.what]
+            given.write(Node(f"lldp-{what}", f"LLDP neighbor {what}", nodes=[
+                neighbor_node(told, news.neighbor, watching.depth)]))
+            left = None if left is None else left - 1
+            if left == 0:
+                return
+
+
+def obey(given: Given, command: Command) -> int:
+    """Does what a command says. Raises Refused if that does not go."""
+    try:
+        with Client(given.path) as client:
+            if isinstance(command, Lines):
+                for line in command.lines:
+                    answer_of(client, line)
+                return 0
+            load()
+            give_up_root()
+            if isinstance(command, Question):
+                show(client, given, command)
+            else:
+                watch(client, given, command)
+    except (Gone, ShowFault, OSError) as fault:
+        raise Refused(said_of(fault, given.path)) from None
+    return 0
+
+
+def console(given: Given) -> int:
+    """Obeys the commands of standard input, up to its end or `exit`."""
+    import shlex
+    prompt = f"[{LLDPCLI}] $ " if os.isatty(output.INPUT) else ""
+    while True:
+        try:
+            words = shlex.split(input(prompt))
+        except EOFError:
+            return 0
+        except ValueError as fault:
+            output.complain(LLDPCLI, str(fault))
+            continue
+        if words[:1] == ["exit"]:
+            return 0
+        if words[:1] == ["help"]:
+            print(HELP.replace("NAME", LLDPCLI), end="", flush=True)
+        elif words:
+            in_child(lambda: told_status(LLDPCLI, lambda: obey(given, of_lldpcli(words))))
+
+
+def in_child(body: Callable[[], int]) -> None:
+    """Runs a body in a process of its own, which may give up root."""
+    child = os.fork()
+    if child == 0:
+        status = 1
+        try:
+            status = body()
+        finally:
+            os._exit(status)
+    os.waitpid(child, 0)
 
 
 def answer(name: str, words: Sequence[str]) -> int:
@@ -74,27 +163,19 @@ def answer(name: str, words: Sequence[str]) -> int:
     given = read_words(words)
     if given.is_help:
         print(HELP.replace("NAME", name), end="")
-        return 0
-    if given.is_version:
+    elif given.is_version:
         print(f"{name} {__version__}")
-        return 0
-    question = (of_lldpcli if name == LLDPCLI else of_lldpctl)(given.words)
-    try:
-        told = ask(given.path)
-    except (Gone, ShowFault, OSError) as fault:
-        raise Refused(said_of(fault, given.path)) from None
-    if text := FORMS[given.form](question.tree(told)):
-        print(text)
-    missing = question.missing(told)
-    if missing:
-        raise Refused(f"no such port: {', '.join(missing)}")
+    elif name == LLDPCLI and not given.words:
+        return console(given)
+    else:
+        return obey(given, (of_lldpcli if name == LLDPCLI else of_lldpctl)(given.words))
     return 0
 
 
-def status_of(name: str, words: Sequence[str]) -> int:
-    """The status, if the output does not fail."""
+def told_status(name: str, body: Callable[[], int]) -> int:
+    """The status of a body, whose faults are told."""
     try:
-        return answer(name, words)
+        return body()
     except KeyboardInterrupt:
         return 130
     except Refused as refused:
@@ -108,7 +189,8 @@ def main(words: Optional[Sequence[str]] = None) -> int:
     """The program: 0 where all was answered, else 1."""
     name = LLDPCLI if os.path.basename(sys.argv[0]) == LLDPCLI else LLDPCTL
     given = sys.argv[1:] if words is None else words
-    return output.run(name, lambda: status_of(name, given), 1, errors="backslashreplace")
+    return output.run(name, lambda: told_status(name, lambda: answer(name, given)), 1,
+                      errors="backslashreplace")
 
 
 if __name__ == "__main__":

@@ -11,7 +11,7 @@ from __future__ import annotations
 from typing import Iterator, Optional
 
 from ..agent.framing import command, ticks
-from .heard import Heard, placeholder
+from .senders import Senders, placeholder
 from ..agent.show import unescaped
 from ..agent.shown import Configuration, LocalChassis, Neighbor, Port, Show
 
@@ -24,15 +24,14 @@ WITHOUT_SENDING = {"rx-and-tx": "rx-only", "tx-only": "disabled"}
 class Beginning:
     """The lines that bring a new agent to where the one is that gave these shows."""
 
-    def __init__(self, show: Show, heard: Heard, second: int, downs: list[str]) -> None:
+    def __init__(self, show: Show, senders: Senders) -> None:
         assert show.chassis is not None and show.configuration is not None
         self.ports = show.ports
         self.chassis: LocalChassis = show.chassis
         self.configuration: Configuration = show.configuration
-        self.heard = heard
-        self.second = second
-        self.downs = downs
-        ages = [one.ttl - one.expires for one in show.neighbors if heard.frame_of(one) is not None]
+        self.senders = senders
+        ages = [one.ttl - one.expires for one in show.neighbors
+                if senders.frame_of(one) is not None]
         self.oldest = max([0, *ages])
 
     def lines(self, given_name: Optional[str]) -> Iterator[str]:
@@ -51,12 +50,12 @@ class Beginning:
         yield from self.last_frames()
         yield from (f"configure ports {name} lldp status {status}"
                     for name, status in statuses if status in WITHOUT_SENDING)
-        yield from (f"down {name}" for name in self.downs)
+        yield from (f"down {name}" for name in self.senders.downs)
 
     def too_many(self) -> Iterator[str]:
         """Has each port that had no room for a neighbor drop one that would last as long."""
         for port in (port for port in self.ports if port.too_many):
-            left = self.heard.too_many_until.get(port.name, 0) - self.second
+            left = self.senders.too_many_until.get(port.name, 0) - self.senders.second
             yield "configure lldp max-neighbors 1"
             yield made(port, "held", MOST_TTL)
             yield made(port, "dropped", min(MOST_TTL, max(1, left) + self.oldest))
@@ -66,7 +65,7 @@ class Beginning:
         """Puts the neighbors into the order of the tables."""
         for port in self.ports:
             for neighbor in port.neighbors:
-                octets = self.heard.frame_of(neighbor)
+                octets = self.senders.frame_of(neighbor)
                 if octets is not None:
                     yield f"rx {port.name} {placeholder(octets).hex()}"
 
@@ -81,7 +80,7 @@ class Beginning:
             yield from ticks(age - next_age)
             age = next_age
             for neighbor in ages[age]:
-                octets = self.heard.frame_of(neighbor)
+                octets = self.senders.frame_of(neighbor)
                 if octets is not None:
                     yield f"rx {neighbor.port} {octets.hex()}"
         yield from ticks(age)

@@ -6,7 +6,7 @@ from typing import Callable, Iterable
 
 from .bucket import A_SECOND
 from .interface import Interface
-from .seconds import Seconds
+from ..clock import now
 
 SECONDS_BETWEEN_REPORTS = 60
 BY_KERNEL = "the kernel has dropped {} frames that came too fast: {}"
@@ -28,8 +28,8 @@ class Drops:
         """Tells how many frames of which ports were dropped since the start, if there are more."""
         counts = {port.name: self.count(port) for port in ports}
         drops = sum(counts.values())
-        if drops > self.told and Seconds.now() >= self.next_report:
+        if drops > self.told and now() >= self.next_report:
             each = ", ".join(f"{name} {count}" for name, count in counts.items() if count)
             self.report(self.text.format(drops, each))
             self.told = drops
-            self.next_report = Seconds.now() + SECONDS_BETWEEN_REPORTS
+            self.next_report = now() + SECONDS_BETWEEN_REPORTS

@@ -5,7 +5,7 @@ from __future__ import annotations
 from typing import Callable, Sequence
 
 from ..agent.show import Port
-from ..control.watching import Watch, news_line
+from ..client.watching import Watch, news_line
 
 MOST_A_MINUTE = 100  # lines of one port
 SECONDS_OF_A_MINUTE = 60
@@ -19,16 +19,28 @@ class Events:
         self.report = report
         self.watch = Watch(())
         self.counts: dict[str, int] = {}  # of each port, what was new in this minute
+        self.full: set[str] = set()  # ports without room
         self.next_minute = 0.0
 
     def take(self, ports: Sequence[Port], now: float) -> None:
         """Tells what is new since the look before."""
         self.take_time(now)
         for news in self.watch.news(ports):
-            port = news.neighbor.port
-            self.counts[port] = self.counts.get(port, 0) + 1
-            if self.counts[port] <= MOST_A_MINUTE:
-                self.report(shortened(news_line(news)))
+            self.tell(news.neighbor.port, news_line(news))
+        full = {port.name for port in ports if port.too_many}
+        for name in sorted(full - self.full):
+            self.tell(name, f"{name} has no room for a neighbor")
+        self.full = full
+
+    def take_link(self, port: str, is_up: bool) -> None:
+        """Tells that a link came or went."""
+        self.tell(port, f"{port}: the link is {'up' if is_up else 'down'}")
+
+    def tell(self, port: str, text: str) -> None:
+        """Tells something of a port, unless it had its lines of this minute."""
+        self.counts[port] = self.counts.get(port, 0) + 1
+        if self.counts[port] <= MOST_A_MINUTE:
+            self.report(shortened(text))
 
     def take_time(self, now: float) -> None:
         """At the end of a minute it tells how much was left out."""

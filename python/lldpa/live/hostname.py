@@ -1,4 +1,4 @@
-"""The host's name while the bridge runs: where it changes, the agent is told."""
+"""The host's name while lldpa-live runs: where it changes, the agent is told."""
 
 from __future__ import annotations
 

@@ -5,12 +5,15 @@ from __future__ import annotations
 import os
 import shlex
 from contextlib import suppress
-from typing import Iterable, Optional, Sequence
+from typing import Iterable, Iterator, Mapping, Optional, Sequence
 
-from .links import LinkNews
+from ..clock import now
+from .links import Address, Links, LinkNews
 
 OS_RELEASE = ("/etc/os-release", "/usr/lib/os-release")
 MOST_OCTETS = 255  # of a description
+MOST_ABOVE = 8  # interfaces, as a bridge above a bond
+SECONDS_TO_STAY = 2.0  # that another address is there before it is announced
 
 
 def chassis_address(ports: Sequence[str], known: Iterable[LinkNews]) -> Optional[bytes]:
@@ -28,18 +31,30 @@ def chassis_address(ports: Sequence[str], known: Iterable[LinkNews]) -> Optional
 
 
 def management_address(ports: Sequence[str], known: Iterable[LinkNews],
-                       addresses: Sequence[tuple[int, str]]) -> Optional[str]:
-    """The first global IPv4 address of a port, else of a hardware interface, of those given with
-    the numbers of their interfaces. None where there is none."""
+                       addresses: Iterable[Address]) -> Optional[str]:
+    """The first global IPv4 address of a port, else of what stands above a port, else of a hardware
+    interface, of those given with the numbers of their interfaces. None if there is none."""
     first: dict[int, str] = {}
     for number, address in addresses:
         first.setdefault(number, address)
-    able = sorted((one for one in known if one.number in first), key=lambda one: one.number)
-    by_name = {one.name: one for one in able}
+    by_number = {one.number: one for one in known}
+    by_name = {one.name: one for one in by_number.values()}
     ours = [by_name[name] for name in ports if name in by_name]
-    for one in [*ours, *(one for one in able if one.is_hardware and one.is_ethernet)]:
-        return first[one.number]
+    hardware = [one for _, one in sorted(by_number.items()) if one.is_hardware and one.is_ethernet]
+    for one in [*ours, *(upper for one in ours for upper in above(one, by_number)), *hardware]:
+        if one.number in first:
+            return first[one.number]
     return None
+
+
+def above(one: LinkNews, by_number: Mapping[int, LinkNews]) -> Iterator[LinkNews]:
+    """The interfaces above one: the bond, team or Linux bridge that it is a part of, and so on."""
+    for _ in range(MOST_ABOVE):
+        upper = by_number.get(one.master)
+        if upper is None:
+            return
+        yield upper
+        one = upper
 
 
 def description(paths: Iterable[str] = OS_RELEASE) -> Optional[str]:
@@ -63,3 +78,29 @@ def able_text(value: str) -> Optional[str]:
 def host_name() -> str:
     """The host's name now."""
     return os.uname().nodename
+
+
+class Management:
+    """The management address that the agent was told. Unless it was given, it is followed."""
+
+    def __init__(self, ports: Sequence[str], links: Links, is_followed: bool) -> None:
+        self.ports = ports
+        self.links = links
+        self.is_followed = is_followed
+        self.told = self.found() if is_followed else None
+        self.next = self.told
+        self.since = 0.0
+        self.changes = links.changes
+
+    def found(self) -> Optional[str]:
+        """The address of this host now."""
+        return management_address(self.ports, self.links.known.values(), self.links.addresses)
+
+    def has_changed(self) -> bool:
+        """Whether another one than the agent was told has been there for 2 seconds."""
+        if self.is_followed and self.changes != self.links.changes:
+            self.changes = self.links.changes
+            found = self.found()
+            if found != self.next:
+                self.next, self.since = found, now()
+        return self.next != self.told and now() - self.since >= SECONDS_TO_STAY

@@ -85,6 +85,7 @@ class Interface:
         self.name = name
         self.number: Optional[int] = None  # of the interface that it hears
         self.address = b""  # that it has now
+        self.fault = ""  # why it hears none of its name
         self.is_up: Optional[bool] = None  # as the agent was told
         self.has_more = False  # whether frames were left in the socket
         self.drops = 0  # frames that the kernel had no room for

@@ -1,79 +1,131 @@
-"""What a bridge stands on: what wants rights is opened, they are given up, the agent is opened."""
+"""What lldpa-live stands on: what wants rights is opened first, and then the agent."""
 
 from __future__ import annotations
 
-import argparse
 import asyncio
 import os
-from typing import Dict, Optional, Sequence
+import time
+from typing import List, Optional, Sequence
 
-from .addresses import global_addresses
-from ..agent.synchronous import AsyncAgent, Ended
-from .bridge import Bridge
-from ..agent.child import Option, words_of
-from ..control.console import ready, report
-from ..control.desk import Desk
-from ..faults import SettingsRefused
-from ..agent.framing import NO_ANSWER, command
+from ..agent.synchronous import AsyncAgent
+from ..agent.framing import command
+from .agents import Agents
+from ..clock import written
+from ..limits import MOST_PORTS
+from .given import Given, Options
+from .server.console import ready
+from .server.desk import Desk
 from .hostname import HostName
-from .identity import chassis_address, description, host_name, management_address
+from .identity import Management, chassis_address, description, host_name
 from .interface import Interface
 from .links import Links, LinkNews
 from .notify import Manager
 from .outbox import Outbox
-from .patient import Patient
-from .patterns import parts_of, ports_of
+from .patterns import first_ports, gives, parts_of, ports_of
 from .ports import Ports
 from .privileges import user_of
-from .session import Session
-from .settings import tell_settings
+from .relay import Relay
+from .reporting import SettingsRefused, inform, report, warn
+from .senders import Senders
+from .log.session import Session
+from .settings import Settled, tell_settings
+from .state import state_at
 from .watched import Watched
 
-SECONDS_TO_CONNECT = 3
-Options = Dict[str, Option]
 
 
 class Ground:
-    """The interfaces, the ports and the log of a bridge, opened while there are rights to."""
+    """The interfaces, the ports and the log, opened while there are rights to."""
 
-    def __init__(self, words: argparse.Namespace) -> None:
-        self.words = words
+    def __init__(self, given: Given) -> None:
+        self.given = given
+        self.began = time.time()
         self.links = Links()
         found = self.links.first()
-        self.names = ports_of(parts_of(words.ports), found)
-        check(self.names, found, words.only_existing)
-        self.ports = Ports([Interface(name) for name in self.names], report)
-        self.session = Session(words.log, words.log_most, words.log_keep, user_of(words.user),
-                               report)
-        self.watched = Watched(Manager(os.environ), report if words.events else None)
+        self.parts = parts_of(given.ports)
+        may_grow = any(map(gives, self.parts)) and given.connect is None and given.once is None
+        self.names = first_ports(self.parts, found, may_grow and not given.only_existing)
+        check(self.names, found, given.only_existing)
+        spares = MOST_PORTS - len(self.names) if may_grow else 0
+        self.ports = Ports([Interface(name) for name in self.names],
+                           [Interface("") for _ in range(spares)], report)
+        self.senders = Senders()
+        self.session = Session(given.log, given.log_most, given.log_keep, user_of(given.user), warn)
+        self.watched = Watched(Manager(os.environ), self.senders, inform if given.events else None)
+        self.state = state_at(given.state, user_of(given.user), warn)
+        self.is_awaiting = False  # whether it was told what is awaited
+        self.not_taken = 0  # settings, lines and whole files
+        self.relay: Optional[Relay] = None  # once the agent is open
 
-    async def opened(self, options: Options) -> Bridge:
-        """A bridge with its agent, once there is an interface that names this host."""
-        is_given = "hostname" in options or self.words.connect is not None
-        options = await self.own_options(options)
-        outbox = Outbox(self.ports, self.words.own_source)
-        agent = Patient(await self.agent_of(options, outbox), report)
+    async def open(self) -> Relay:
+        """Opens the agent, once there is an interface that names this host."""
+        is_given = "hostname" in self.given.options or self.given.connect is not None
+        await self.await_names()
+        options = await self.own_options(self.given.options)
+        outbox = Outbox(self.ports, self.given.own_source)
+        agents = Agents(self.names, self.given, options, outbox, self.senders, self.session, warn)
+        await agents.begin()
         try:
-            self.session.begin(words_of(self.names, self.words.program, options)[1:])
-            bridge = Bridge(agent, HostName(str(options["hostname"]), is_given), outbox, self.ports,
-                            self.links, self.session, self.watched,
-                            self.words.forget_on_down)
-            await self.settle(bridge)
-            bridge.begin(list(self.links.known.values()))
+            relay = Relay(agents, HostName(str(options["hostname"]), is_given), self.management(),
+                          self.ports, self.links, self.watched, self.state,
+                          self.more if self.ports.spares else None, self.given.forget_on_down)
+            await self.settle(relay)
+            await agents.note_settings()
+            if self.state is not None and self.state.restore(self.senders, self.names):
+                await agents.restore()
+            relay.begin(list(self.links.known.values()))
         except BaseException:
-            await agent.close(0)
+            await agents.patient.close(0)
             raise
-        return bridge
+        self.relay = relay
+        return relay
+
+    def more(self) -> List[str]:
+        """The ports that patterns give by now, as many as there is room for."""
+        given = ports_of(self.parts, self.links.known.values())
+        return [name for name in given if name not in self.names][:len(self.ports.spares)]
+
+    async def await_names(self) -> None:
+        """Waits until there is a port, if patterns give none yet."""
+        while not self.names:
+            if names := self.more():
+                self.names += names
+                for name in names:
+                    self.ports.add(name)
+                return
+            self.report_awaited()
+            await ready(self.links.socket.fileno(), is_output=False)
+            self.links.read()
+
+    def about(self) -> List[str]:
+        """What lldpa-live says of itself, without asking the agent."""
+        restarts = self.relay.agents.restarts if self.relay else 0
+        return [f"live.began={written(self.began)}", f"live.agent={self.agent_state()}",
+                f"live.seconds={self.senders.second}", f"live.agent-restarts={restarts}",
+                f"live.settings-refused={self.not_taken}",
+                f"live.log={self.session.state()}",
+                f"live.log-lines-lost={self.session.lost()}", *self.ports.about(),
+                *self.senders.about()]
+
+    def agent_state(self) -> str:
+        """What is with the agent: `waiting` (for an interface), `running` or `silent`."""
+        if self.relay is None:
+            return "waiting"
+        return "silent" if self.relay.agents.patient.is_silent else "running"
 
     async def own_options(self, options: Options) -> Options:
         """The agent's options: those given, and what this host says of itself besides."""
         own: Options = {"mac": None, "hostname": host_name()}
-        if "mac" not in options and self.words.connect is None:
+        if "mac" not in options and self.given.connect is None:
             own["mac"] = (await self.address(options)).hex(":")
-        if not self.words.no_management:
-            own["management"] = management_address(self.names, self.links.known.values(),
-                                                   global_addresses())
+        if not self.given.no_management:
+            own["management"] = self.management().told
         return {**own, **options}
+
+    def management(self) -> Management:
+        """The management address of this host, which is followed unless it was given."""
+        is_own = "management" not in self.given.options and self.given.connect is None
+        return Management(self.names, self.links, is_own and not self.given.no_management)
 
     async def address(self, options: Options) -> bytes:
         """The address that names this host, which comes with an interface. Settings that such an
@@ -91,40 +143,44 @@ class Ground:
     async def try_settings(self, options: Options) -> None:
         """Has an agent that sends nothing take the settings. Raises SettingsRefused where some are
         wrong."""
-        agent = await AsyncAgent.start(self.names, self.words.program, on_frame=None, **options)
+        agent = await AsyncAgent.start(self.names, self.given.program, on_frame=None, timeout=None,
+                                       **options)
         try:
-            refused = await tell_settings(self.words.config, lambda line: agent.tell([line]))
+            settled = await tell_settings(self.given.config, lambda line: agent.tell([line]),
+                                          self.given.program)
         finally:
             await agent.close()
-        if refused:
-            raise SettingsRefused(refused)
+        if settled.refused:
+            raise SettingsRefused(settled.refused)
 
     def report_awaited(self) -> None:
         """Says that there is no agent before an interface comes."""
+        if self.is_awaiting:
+            return
+        self.is_awaiting = True
         self.ports.awaited.update(self.names)
-        report(f"{' '.join(self.names)}: no such interface yet; waiting for it, and until then "
-               "there is no agent")
-        self.watched.manager.show("waiting for an interface")
+        awaited = " ".join(self.names or self.parts)
+        report(f"{awaited}: no such interface yet; waiting for it, and until then there is no "
+               "agent")
+        self.watched.manager.ready()  # so that it does not hold up the start of the system
+        self.watched.manager.show(f"waiting for an interface: {awaited}")
 
-    async def agent_of(self, options: Options, outbox: Outbox) -> AsyncAgent:
-        """The agent, a child unless it is to be one that listens."""
-        if self.words.connect is None:
-            return await AsyncAgent.start(self.names, self.words.program, on_frame=outbox.take,
-                                          **options)
-        connecting = AsyncAgent.connect(self.words.connect, on_frame=outbox.take)
-        try:
-            return await asyncio.wait_for(connecting, SECONDS_TO_CONNECT)
-        except asyncio.TimeoutError:
-            raise Ended(None, NO_ANSWER) from None
-
-    async def settle(self, bridge: Bridge) -> None:
+    async def settle(self, relay: Relay) -> None:
         """Tells the settings before any frame goes. Raises SettingsRefused where some are wrong."""
-        text: Optional[str] = "" if self.words.no_description else description()
-        if text is not None and self.words.connect is None:
-            await bridge.tell(command("configure", "system", "description", text).encode())
-        refused = await bridge.settle(self.words.config)
-        if refused:
-            raise SettingsRefused(refused)
+        text: Optional[str] = "" if self.given.no_description else description()
+        if text is not None and self.given.connect is None:
+            await relay.tell(command("configure", "system", "description", text).encode())
+        settled = await relay.settle(self.given.config, self.given.program)
+        self.note(settled)
+        if settled.refused:
+            raise SettingsRefused(settled.refused)
+
+    def note(self, settled: Settled) -> None:
+        """Notes how many settings were not taken, and reports the files that could not be read."""
+        for line in settled.unread:
+            warn(line)
+        self.not_taken = len(settled.refused) + len(settled.unread)
+        self.watched.note_not_taken(self.not_taken)
 
 
 def check(ports: Sequence[str], found: Sequence[LinkNews], only_existing: bool) -> None:
@@ -137,11 +193,11 @@ def check(ports: Sequence[str], found: Sequence[LinkNews], only_existing: bool) 
             raise OSError(0, "there is no such interface", name)
 
 
-async def bridging(ground: Ground, desk: Desk, options: Options, stopping: asyncio.Event) -> None:
-    """Opens the agent, and bridges until the end."""
-    bridge = await ground.opened(options)
-    desk.bridge = bridge
+async def work(ground: Ground, desk: Desk, stopping: asyncio.Event) -> None:
+    """Opens the agent, and works until the end."""
+    relay = await ground.open()
+    desk.ask_agent, desk.silence = relay.ask, relay.agents.patient.silence
     ground.watched.manager.ready()
     stop = asyncio.ensure_future(stopping.wait())
-    stop.add_done_callback(lambda _: bridge.stop())
-    await bridge.run()
+    stop.add_done_callback(lambda _: relay.stop())
+    await relay.run()

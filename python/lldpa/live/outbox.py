@@ -2,10 +2,14 @@
 
 from __future__ import annotations
 
+from ..agent.child import Ended
+from ..limits import LONGEST_FRAME, NEAREST_BRIDGE
 from .interface import Interface
 from .ports import Ports
 
 LENGTH_OF_ADDRESS = 6
+HEADER = 14
+ETHERTYPE = b"\x88\xcc"
 
 
 class Outbox:
@@ -15,10 +19,15 @@ class Outbox:
     def __init__(self, ports: Ports, own_source: bool = False) -> None:
         self.ports = ports
         self.own_source = own_source
+        self.chassis = b""  # the address that the agent sends from
         self.frames: list[tuple[str, bytes]] = []
 
     def take(self, name: str, octets: bytes) -> None:
-        """Takes a frame from the agent."""
+        """Takes a frame from the agent. Raises Ended for one that no agent of this host sends."""
+        port = self.ports.by_name.get(name)
+        if port is None or not is_lldp(octets, self.chassis, port.address):
+            raise Ended(None, f"the agent wanted to send what is not an LLDP frame of {name}: "
+                              f"{octets[:HEADER].hex()}")
         self.frames.append((name, octets))
 
     def send(self, seconds: int) -> None:
@@ -47,3 +56,9 @@ class Outbox:
             port.is_failing = True
         else:
             port.is_failing = False
+
+
+def is_lldp(octets: bytes, *sources: bytes) -> bool:
+    """Whether it is an LLDP frame to the nearest bridge from one of these addresses."""
+    return (HEADER <= len(octets) <= LONGEST_FRAME and octets[:6] == NEAREST_BRIDGE
+            and octets[6:12] in sources and octets[12:14] == ETHERTYPE)

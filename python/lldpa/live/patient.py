@@ -7,22 +7,23 @@ from typing import Callable, Iterable, List
 
 from ..agent.synchronous import AsyncAgent
 from ..agent.framing import Line
-from .waiting import Waiting
+from ..clock import Waiting
 
 SECONDS_TO_TELL = 5.0
-SECONDS_TO_END = 30.0
+SECONDS_TO_END = 10.0
 SECONDS_BETWEEN_LOOKS = 0.25
 
 
 class Patient:
-    """Asks an agent, which is `is_silent` where it has said nothing for 5 seconds while it was
-    asked, and is ended after 30."""
+    """Asks an agent, which is `is_silent` if it has said nothing for 5 seconds while it was asked,
+    and is ended after 10."""
 
     def __init__(self, agent: AsyncAgent, report: Callable[[str], None]) -> None:
         self.agent = agent
         self.report = report
         self.waiting = Waiting()
         self.is_silent = False
+        self.silence = asyncio.Event()  # of who waits meanwhile
 
     async def tell(self, lines: Iterable[Line]) -> List[str]:
         """As AsyncAgent.tell. Raises Ended also where the agent was ended for its silence."""
@@ -33,15 +34,28 @@ class Patient:
             self.looking.cancel()
         self.waiting.begin()
         if self.is_silent:
-            self.is_silent = False
+            self.end_silence()
             self.report("the agent answers again")
         return answer
+
+    async def succeed(self, agent: AsyncAgent, patience: float) -> None:
+        """Goes on with another agent, and ends the one before."""
+        before, self.agent = self.agent, agent
+        self.waiting.begin()
+        self.end_silence()
+        await before.close(patience)
+
+    def end_silence(self) -> None:
+        """Notes that there is an agent that answers."""
+        self.is_silent = False
+        self.silence.clear()
 
     def look(self) -> None:
         """Looks how long the agent has said nothing."""
         seconds = self.waiting.look()
         if seconds >= SECONDS_TO_TELL and not self.is_silent:
             self.is_silent = True
+            self.silence.set()
             self.report(f"the agent has not answered for {SECONDS_TO_TELL:.0f} seconds")
         if seconds >= SECONDS_TO_END:
             self.report(f"the agent has not answered for {SECONDS_TO_END:.0f} seconds: it is ended")

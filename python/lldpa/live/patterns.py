@@ -6,6 +6,7 @@ import re
 from fnmatch import fnmatchcase
 from typing import Iterable, Sequence
 
+from ..faults import LldpaFault
 from .links import LinkNews
 from ..limits import MOST_PORTS, PORT_NAME
 
@@ -15,7 +16,7 @@ TOO_MANY = ("{} ports, and {} are the most of an agent: run a second service for
             "(lldpa-live(8), Ports)")
 
 
-class NoPorts(LookupError):
+class NoPorts(LldpaFault, LookupError):
     """Patterns that give no ports, or too many."""
 
 
@@ -39,26 +40,41 @@ def is_able(part: str) -> bool:
 def ports_of(parts: Sequence[str], found: Iterable[LinkNews]) -> list[str]:
     """The ports that names and patterns give. A name is a port, whether its interface is there or
     not. A pattern gives the interfaces it matches of those that are hardware, or that are named
-    besides. `!PATTERN` takes away what it matches, and `!!PATTERN` gives it all the same.
-
-    Raises NoPorts where there is no port, or there are over 64.
+    besides, and if it begins with a letter of a name, as `veth*`, also virtual ones. `!PATTERN`
+    takes away what it matches, and `!!PATTERN` gives it all the same.
     """
     named = [part for part in parts if not is_pattern(part)]
-    able = [one.name for one in sorted(found, key=lambda one: one.number)
-            if one.is_ethernet and PORT_NAME.fullmatch(one.name)
-            and (one.is_hardware or one.name in named)]
+    there = [one for one in sorted(found, key=lambda one: one.number)
+             if one.is_ethernet and PORT_NAME.fullmatch(one.name)]
     given: list[str] = []
     for part in parts:
         if not is_pattern(part):
             given.append(part)
-        elif not part.startswith("!") or part.startswith("!!"):
-            given += [name for name in able if fnmatchcase(name, part.lstrip("!"))]
-    ports = [name for name in dict.fromkeys(given) if is_wanted(name, parts)]
-    if not ports:
-        raise NoPorts(f"{','.join(parts)}: no Ethernet interface of hardware has such a name")
+        elif gives(part):
+            given += [one.name for one in there if fnmatchcase(one.name, part.lstrip("!"))
+                      and (one.is_hardware or one.name in named or names_virtual(part))]
+    return [name for name in dict.fromkeys(given) if is_wanted(name, parts)]
+
+
+def first_ports(parts: Sequence[str], found: Iterable[LinkNews], may_wait: bool) -> list[str]:
+    """The ports that names and patterns give at the start. Raises NoPorts if there are over 64, or
+    if there is none and it may not be waited for one."""
+    ports = ports_of(parts, found)
+    if not ports and not (may_wait and any(map(gives, parts))):
+        raise NoPorts(f"{','.join(parts)}: no Ethernet interface has such a name")
     if len(ports) > MOST_PORTS:
         raise NoPorts(TOO_MANY.format(len(ports), MOST_PORTS))
     return ports
+
+
+def gives(part: str) -> bool:
+    """Whether it is a pattern that gives ports, and takes none away."""
+    return is_pattern(part) and (not part.startswith("!") or part.startswith("!!"))
+
+
+def names_virtual(part: str) -> bool:
+    """Whether a pattern names virtual interfaces too: it does not begin with a wildcard."""
+    return part.lstrip("!")[:1] not in WILDCARDS
 
 
 def is_wanted(name: str, parts: Sequence[str]) -> bool:

@@ -1,11 +1,11 @@
-"""The ports of a bridge: each finds, keeps and loses the interface of its name."""
+"""The ports: each finds, keeps and loses the interface of its name."""
 
 from __future__ import annotations
 
 import select
 from typing import Callable, Iterable, Sequence
 
-from ..control.arrivals import Arrivals
+from ..clock import now
 from .drops import BY_KERNEL, BY_LIMIT, Drops
 from .interface import Frame, Interface
 from .links import LinkNews
@@ -17,12 +17,14 @@ Report = Callable[[str], None]
 
 
 class Ports:
-    """The ports of a bridge. `report` is told, as a line for people, what becomes of them."""
+    """All ports. `report` is told, as a line for people, what becomes of them."""
 
-    def __init__(self, interfaces: Sequence[Interface], report: Report) -> None:
+    def __init__(self, interfaces: Sequence[Interface], spares: Sequence[Interface],
+                 report: Report) -> None:
+        """Takes the interfaces of the ports, and those of ports that may come later."""
         self.by_name = {interface.name: interface for interface in interfaces}
+        self.spares = list(spares)
         self.report = report
-        self.arrivals = Arrivals([*self.by_name])
         self.waiting: list[tuple[float, Frame]] = []  # frames that were read, by their moments
         self.awaited: set[str] = set()  # whose interfaces were told to be missing
         self.drops = (Drops(BY_KERNEL, lambda port: port.drops, report),
@@ -30,6 +32,14 @@ class Ports:
         self.readable = select.epoll()
         for interface in interfaces:
             self.readable.register(interface.socket, select.EPOLLIN)
+
+    def add(self, name: str) -> None:
+        """Adds a port of that name."""
+        port = self.spares.pop()
+        port.name = name
+        self.by_name[name] = port
+        self.readable.register(port.socket, select.EPOLLIN)
+        self.report(f"{name}: the interface is there, and in use")
 
     def take_link(self, news: LinkNews) -> list[bytes]:
         """What an agent is to be told of the news of an interface: `up PORT`, `down PORT`."""
@@ -49,16 +59,25 @@ class Ports:
 
     def find(self, port: Interface, news: LinkNews) -> None:
         """Takes an interface that has come."""
-        if not news.is_ethernet:
-            self.report(f"{port.name}: not an Ethernet interface, so it is not used")
-            return
+        fault = "not an Ethernet interface, so it is not used"
         try:
-            port.take(news.number)
+            if news.is_ethernet:
+                port.take(news.number)
+                fault = ""
         except OSError as error:
-            self.report(f"{port.name}: the interface cannot be used: {error.strerror}")
+            fault = f"the interface cannot be used: {error.strerror}"
+        if fault and fault != port.fault:
+            self.report(f"{port.name}: {fault}")
+        port.fault = fault
+        if fault:
             return
         if port.is_up is not None or port.name in self.awaited:
             self.report(f"{port.name}: the interface is there, and in use")
+
+    def retry(self, known: Iterable[LinkNews]) -> list[bytes]:
+        """Takes what it did not take, of the interfaces that there are; as for `take_link`."""
+        names = {port.name for port in self.by_name.values() if port.number is None}
+        return [line for one in known if one.name in names for line in self.take_link(one)]
 
     def lose(self, port: Interface, what: str) -> list[bytes]:
         """Lets go of an interface that has gone."""
@@ -82,7 +101,7 @@ class Ports:
 
         A port whose frames still wait is not read, so that few wait, however many come.
         """
-        now = seconds.now()
+        moment = now()
         readable = {number for number, _ in self.readable.poll(0)}
         unfinished = {frame.port for _, frame in self.waiting}
         ports = [port for port in self.by_name.values() if port.name not in unfinished
@@ -93,7 +112,7 @@ class Ports:
             for frame in port.read(max(1, most // len(ports))):
                 self.take_frame(port, seconds.moment(frame.stamp), frame)
         self.waiting.sort(key=lambda entry: entry[0])
-        return min([now, *(port.read_to for port in self.by_name.values() if port.has_more)])
+        return min([moment, *(port.read_to for port in self.by_name.values() if port.has_more)])
 
     def take_frame(self, port: Interface, moment: float, frame: Frame) -> None:
         """Takes a frame that was read, unless its port has sent more than it may."""
@@ -112,6 +131,10 @@ class Ports:
         while self.waiting and self.waiting[0][0] <= moment:
             yield self.waiting.pop(0)
 
+    def downs(self) -> list[str]:
+        """The ports whose links are down."""
+        return [port.name for port in self.by_name.values() if not port.is_up]
+
     def report_drops(self) -> None:
         """Tells of frames that were dropped, each kind at most once a minute."""
         for port in self.by_name.values():
@@ -125,18 +148,18 @@ class Ports:
         for port in self.by_name.values():
             port.count_drops()
             where = "awaited" if port.number is None else "present"
-            lines.append(f"bridge.{port.name}.interface={where}")
-            lines.append(f"bridge.{port.name}.link={'up' if port.is_up else 'down'}")
-            lines.append(f"bridge.{port.name}.kernel-drops={port.drops}")
-            lines.append(f"bridge.{port.name}.limit-drops={port.limit_drops}")
-            lines.append(f"bridge.{port.name}.unsent={port.unsent}")
-            lines.append(f"bridge.{port.name}.left-out={port.left_out}")
-        return lines + self.arrivals.about()
+            lines.append(f"live.{port.name}.interface={where}")
+            lines.append(f"live.{port.name}.link={'up' if port.is_up else 'down'}")
+            lines.append(f"live.{port.name}.kernel-drops={port.drops}")
+            lines.append(f"live.{port.name}.limit-drops={port.limit_drops}")
+            lines.append(f"live.{port.name}.unsent={port.unsent}")
+            lines.append(f"live.{port.name}.left-out={port.left_out}")
+        return lines
 
     def close(self) -> None:
         """Lets go of all sockets."""
         self.readable.close()
-        for port in self.by_name.values():
+        for port in [*self.by_name.values(), *self.spares]:
             port.close()
 
 
@@ -149,7 +172,8 @@ def told_link(port: Interface, is_up: bool) -> list[bytes]:
 
 
 def ran_and_later(news: Sequence[LinkNews]) -> tuple[list[LinkNews], list[LinkNews]]:
-    """LinkNews up to the last time that their interface ran, and the others."""
-    last = {one.number: place for place, one in enumerate(news) if one.is_running}
-    ran = [one for place, one in enumerate(news) if place <= last.get(one.number, -1)]
-    return ran, [one for place, one in enumerate(news) if place > last.get(one.number, -1)]
+    """LinkNews up to the last time that an interface of their name ran, and the others. The order
+    holds for each name, whichever interfaces have it one after the other."""
+    last = {one.name: place for place, one in enumerate(news) if one.is_running}
+    ran = [one for place, one in enumerate(news) if place <= last.get(one.name, -1)]
+    return ran, [one for place, one in enumerate(news) if place > last.get(one.name, -1)]

@@ -15,6 +15,8 @@ PR_CAPBSET_READ, PR_CAPBSET_DROP = 23, 24
 PR_SET_NO_NEW_PRIVS = 38
 PR_CAP_AMBIENT, PR_CAP_AMBIENT_CLEAR_ALL = 47, 4
 LINUX_CAPABILITY_VERSION_3 = 0x20080522
+KEYCTL_JOIN_SESSION_KEYRING = 1
+SYS_KEYCTL = {"x86_64": 250, "aarch64": 219}  # asm/unistd.h
 USER = "nobody"
 
 
@@ -28,6 +30,7 @@ def give_up(user: Optional[str]) -> None:
     """
     libc = ctypes.CDLL(None, use_errno=True)
     empty_bounding_set(libc)
+    join_keyring(libc)
     is_root = os.geteuid() == 0
     with suppress(*() if is_root else (PermissionError,)):  # it wants CAP_SETGID
         os.setgroups([])
@@ -40,6 +43,13 @@ def give_up(user: Optional[str]) -> None:
     header = struct.pack("Ii", LINUX_CAPABILITY_VERSION_3, 0)
     succeeded(libc.capset(header, struct.pack("6I", 0, 0, 0, 0, 0, 0)))
     succeeded(libc.prctl(PR_SET_DUMPABLE, 0, 0, 0, 0))
+
+
+def join_keyring(libc: ctypes.CDLL) -> None:
+    """Leaves the session keyring of who started this for a new one, where the kernel has some."""
+    number = SYS_KEYCTL.get(os.uname().machine)
+    if number is not None:
+        libc.syscall(number, KEYCTL_JOIN_SESSION_KEYRING, None)
 
 
 def user_of(user: Optional[str]) -> Optional[int]:

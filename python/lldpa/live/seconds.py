@@ -5,6 +5,8 @@ from __future__ import annotations
 import time
 from typing import Optional
 
+from .. import clock
+
 # The least change between the clocks that counts, in seconds: less may be how they were read.
 LEAST_CHANGE = 0.001
 
@@ -17,23 +19,18 @@ class Seconds:
     """
 
     def __init__(self) -> None:
-        self.begin = self.now()
+        self.begin = clock.now()
         self.told = 0
         self.ahead = self.wall_clock_ahead()
-
-    @staticmethod
-    def now() -> float:
-        """The present moment."""
-        return time.clock_gettime(time.CLOCK_BOOTTIME)
 
     def wall_clock_ahead(self) -> float:
         """How far the wall clock is ahead of this one: both are read three times, and the reading
         that was interrupted least counts."""
         readings = []
         for _ in range(3):
-            before = self.now()
+            before = clock.now()
             wall = time.time()
-            readings.append((self.now() - before, wall - before))
+            readings.append((clock.now() - before, wall - before))
         return min(readings)[1]
 
     def note_wall_clock(self) -> None:
@@ -49,7 +46,7 @@ class Seconds:
         It is never later than now. Where the wall clock was set since the stamp, it is wrong by as
         much, and so may be early or late among the seconds that were not told yet, but no others.
         """
-        now = self.now()
+        now = clock.now()
         if stamp is None:
             return now
         return min(now, stamp - self.ahead)
@@ -62,4 +59,4 @@ class Seconds:
 
     def to_next(self) -> float:
         """How long it is, from now, to the end of the first second that was not told."""
-        return max(0.0, self.begin + self.told + 1 - self.now())
+        return max(0.0, self.begin + self.told + 1 - clock.now())

@@ -2,16 +2,20 @@
 
 from __future__ import annotations
 
+import codecs
 import os
+import stat
 from typing import Awaitable, Callable, Iterable, NamedTuple, Sequence
 
-from ..control.asking import first_word
-from ..control.refused import explained
+from .server.asking import first_word
+from ..client.refused import explained
 from ..limits import LONGEST_LINE, REFUSAL
+from ..texts import printable
 
 SUFFIX = ".conf"
 SETTING = b"configure"
 MOST_OCTETS = 1_000_000  # of a file
+MOST_SHOWN = 200  # characters of a refused line
 
 Tell = Callable[[bytes], Awaitable["list[str]"]]
 
@@ -24,66 +28,79 @@ class Setting(NamedTuple):
     line: bytes
 
     def refused(self, why: str) -> str:
-        """What is said of it where it is refused."""
-        text = self.line.decode("utf-8", "backslashreplace").strip()
-        return f"{self.path}:{self.number}: {text}: {why}"
+        """What is said of it if it is refused."""
+        text = printable(self.line.decode("utf-8", "surrogateescape").strip())[:MOST_SHOWN]
+        return f"{self.path}:{self.number}: {text}: {printable(why)[:MOST_SHOWN]}"
 
 
-class Unreadable(NamedTuple):
-    """A path whose settings could not be read, and why."""
+class Settled(NamedTuple):
+    """What was not taken of settings: lines that were refused, and files that could not be read;
+    each as a line for people."""
 
-    path: str
-    why: str
+    refused: list[str]
+    unread: list[str]
 
 
-def files_of(paths: Iterable[str]) -> list[str]:
-    """The files at these paths: a folder has those that end with `.conf`, in the order of their
-    names; a path at which nothing is has none. Raises OSError where a folder cannot be read."""
-    files: list[str] = []
+def settings_of(paths: Iterable[str]) -> tuple[list[Setting], list[str]]:
+    """The settings of the files at these paths, and which files could not be read, and why. A
+    folder has those that end with `.conf` and are not hidden, in the order of their names; a path
+    at which nothing is has none."""
+    settings: list[Setting] = []
+    unread: list[str] = []
     for path in paths:
-        if os.path.isdir(path):
-            names = sorted(name for name in os.listdir(path) if name.endswith(SUFFIX))
-            files += [os.path.join(path, name) for name in names]
-        elif os.path.lexists(path):
-            files.append(path)
-    return files
+        try:
+            for file in files_of(path):
+                try:
+                    settings += lines_of(file)
+                except OSError as error:
+                    unread.append(f"{file}: {error.strerror}")
+        except OSError as error:
+            unread.append(f"{path}: {error.strerror}")
+    return settings, unread
 
 
-def settings_of(path: str) -> list[Setting]:
-    """The lines of a file without blank ones and comments. Raises OSError where it cannot be read,
-    or is no file of lines."""
-    with open(path, "rb") as file:
+def files_of(path: str) -> list[str]:
+    """The files at a path. Raises OSError for a folder that cannot be read."""
+    if not os.path.isdir(path):
+        return [path] if os.path.lexists(path) else []
+    return [os.path.join(path, name) for name in sorted(os.listdir(path))
+            if name.endswith(SUFFIX) and not name.startswith(".")]
+
+
+def lines_of(path: str) -> list[Setting]:
+    """The lines of a file without blank ones and comments. Raises OSError if it cannot be read, or
+    is not a file of lines; a pipe or a device is not waited for."""
+    if not stat.S_ISREG(os.stat(path).st_mode):
+        raise OSError(0, "not a file", path)
+    with open(os.open(path, os.O_RDONLY | os.O_NONBLOCK | os.O_CLOEXEC), "rb") as file:
         octets = file.read(MOST_OCTETS + 1)
     if len(octets) > MOST_OCTETS:
         raise OSError(0, f"over {MOST_OCTETS:,} octets", path)
+    octets = octets[len(codecs.BOM_UTF8):] if octets.startswith(codecs.BOM_UTF8) else octets
     lines = enumerate(octets.split(b"\n"), 1)
     return [Setting(path, number, line.rstrip(b"\r")) for number, line in lines
             if line.strip() and not line.lstrip().startswith(b"#")]
 
 
-async def tell_settings(paths: Sequence[str], tell: Tell) -> list[str]:
-    """Tells all settings of these paths, one after the other, and gives what was refused: for each
-    line its file and number, the line, and why."""
+async def tell_settings(paths: Sequence[str], tell: Tell, program: str) -> Settled:
+    """Tells all settings of these paths, one after the other, and gives what was not taken: for
+    each refused line its file and number, the line, and why, by the help of that program."""
+    settings, unread = settings_of(paths)
     refused: list[str] = []
-    settings: list[Setting] = []
-    try:
-        for path in files_of(paths):
-            settings += settings_of(path)
-    except OSError as error:
-        refused.append(f"{error.filename}: {error.strerror}")
     for setting in settings:
-        why = await why_refused(setting.line, tell)
+        why = await why_refused(setting.line, tell, program)
         refused += [setting.refused(why)] if why else []
-    return refused
+    return Settled(refused, unread)
 
 
-async def why_refused(line: bytes, tell: Tell) -> str:
+async def why_refused(line: bytes, tell: Tell, program: str) -> str:
     """Tells a setting, and gives why it was refused, nothing where it was not."""
     if len(line) > LONGEST_LINE:
         return "line too long"
     if first_word(line) != SETTING:
-        return f"{first_word(line).decode('utf-8', 'backslashreplace')} is not `configure`"
+        return f"{first_word(line).decode('utf-8', 'surrogateescape')} is not `configure`"
     for answer in await tell(line):
         if answer.startswith(REFUSAL):
-            return explained(line.decode("utf-8", "backslashreplace"), answer[len(REFUSAL):])
+            text = line.decode("utf-8", "surrogateescape")
+            return explained(text, answer[len(REFUSAL):], program)
     return ""

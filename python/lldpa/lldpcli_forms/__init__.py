@@ -1,4 +1,4 @@
-"""What lldpcli prints, of what a running bridge tells: a tree of nodes, and the forms of it.
+"""What lldpcli prints, of what a running lldpa-live tells: a tree of nodes, and the forms of it.
 
     neighbors, interfaces, statistics    the trees of the shows
     plain, keyvalue, as_json             the forms

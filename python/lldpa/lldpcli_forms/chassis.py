@@ -1,4 +1,4 @@
-"""The nodes of a chassis and of the identifiers, of neighbors and of this host."""
+"""The nodes of a chassis, a port, the identifiers and unknown TLVs."""
 from __future__ import annotations
 
 import ipaddress
@@ -6,7 +6,7 @@ import socket
 from typing import Iterable, Iterator, Mapping, Optional, Tuple
 
 from ..agent.show import Identifier, LocalChassis, Neighbor, unescaped
-from .tree import Node, said_text, text_of
+from ..node import Node, said_text, text_of
 
 CAPABILITIES = ("Other", "Repeater", "Bridge", "Router", "Wlan", "Tel", "Docsis", "Station")
 BY_INTERFACE = 2  # the numbering of an interface by ifIndex
@@ -88,3 +88,26 @@ def shortest(address: str) -> str:
     found = ipaddress.ip_address(address)
     family = socket.AF_INET if found.version == 4 else socket.AF_INET6
     return socket.inet_ntop(family, found.packed)
+
+
+def port_of(neighbor: Neighbor) -> Node:
+    """Returns the port of a neighbor, without what IEEE 802.3 says of it."""
+    known = {MAC_OF_PORT: "mac", IP_OF_PORT: "ip"}
+    node = Node("port", "Port", nodes=[identifier_node("PortID", neighbor.port_id, known)])
+    node.add("descr", "PortDescr", first(neighbor.said, "port.descr"))
+    node.add("ttl", "TTL", neighbor.ttl)
+    return node
+
+
+def unknown_nodes(unknown: Iterable[Tuple[str, str]]) -> Iterator[Node]:
+    """Returns the node of TLVs as octets, if there are any."""
+    node = Node("unknown-tlvs", "Unknown TLVs")
+    for kind, digits in unknown:
+        oui, _, subtype = kind.partition(".")
+        octets = bytes.fromhex(digits)
+        text = octets.hex(",").upper() if octets else None
+        node.nodes.append(Node("unknown-tlv", "TLV", [
+            ("oui", "OUI", bytes.fromhex(oui).hex(",").upper()),
+            ("subtype", "SubType", subtype), ("len", "Len", str(len(octets)))], text))
+    if node.nodes:
+        yield node

@@ -1,19 +1,19 @@
-"""The trees of the shows, each with its title, of what a bridge answers."""
+"""The trees of the shows, each with its title, of what lldpa-live answers."""
 from __future__ import annotations
 
-import calendar
-import time
 from enum import Enum
 from typing import Iterable, Iterator, List, Mapping, NamedTuple, Optional, Sequence
 
-from ..control.arrivals import Since, chassis_numbers_of, since_of
-from ..agent.show import Counters, Identifier, Neighbor, Show, read_show
-from ..control.tallies import summed
-from .chassis import chassis_of, identifier_node, local_chassis
-from .further import parted, unknown_nodes, vlan_nodes
-from .med import med_nodes
-from .port import port_of
-from .tree import Node
+from .. import clock
+from ..client.live_lines import LiveLines, Since
+from ..agent.framing import Refused
+from ..agent.show import (Configuration, Counters, Identifier, LocalChassis, Neighbor, Show,
+                          read_show)
+from ..client.tallies import summed
+from ..node import Node, yes
+from ..organizational import known_to_lldpd
+from ..organizational.kinds import nodes_in
+from .chassis import chassis_of, identifier_node, local_chassis, port_of, unknown_nodes
 
 STATUSES = {"rx-and-tx": "RX and TX", "rx-only": "RX only", "tx-only": "TX only",
             "disabled": "disabled"}
@@ -28,19 +28,19 @@ class Depth(Enum):
 
 
 class Told(NamedTuple):
-    """What a bridge answers: its shows, since when each neighbor is there, and the number of each
-    chassis; `now` is the time, in seconds of the epoch."""
+    """What lldpa-live answers: its shows, since when each neighbor is there, and the number of
+    each chassis; `now` is the time, in seconds of the epoch."""
     show: Show
     since: Since
     numbers: Mapping[str, int]
     now: float
 
 
-def told_by(answers: Sequence[Sequence[str]], bridge: Iterable[str], now: float) -> Told:
-    """What the answers to `LINES`, and to `bridge`, tell."""
-    bridge = list(bridge)
+def told_by(answers: Sequence[Sequence[str]], live: Iterable[str], now: float) -> Told:
+    """What the answers to `LINES`, and to `live`, tell."""
     show = read_show([line for answer in answers for line in answer])
-    return Told(show, since_of(bridge), chassis_numbers_of(bridge), now)
+    told = LiveLines(live)
+    return Told(show, told.since, told.numbers, now)
 
 
 def neighbors(told: Told, ports: Optional[Sequence[str]], depth: Depth) -> Node:
@@ -56,24 +56,24 @@ def neighbor_node(told: Told, neighbor: Neighbor, depth: Depth) -> Node:
     node = Node("interface", "Interface", [("name", "", neighbor.port), ("via", "via", "LLDP")])
     if depth is not Depth.SUMMARY:
         node.attributes += presence(told, neighbor)
-    said, unknown = parted(neighbor.org)
-    is_detailed = depth is Depth.DETAILS
-    node.nodes += [chassis_of(neighbor, depth is Depth.SUMMARY),
-                   port_of(neighbor, said if is_detailed else None)]
-    if is_detailed:
-        node.nodes += [*vlan_nodes(said), *med_nodes(said)]
+    said, unknown = known_to_lldpd(neighbor.org)
+    port = port_of(neighbor)
+    node.nodes += [chassis_of(neighbor, depth is Depth.SUMMARY), port]
+    if depth is Depth.DETAILS:
+        port.nodes += nodes_in("port", said)
+        node.nodes += nodes_in("interface", said)
     node.nodes += unknown_nodes(unknown)
     return node
 
 
 def presence(told: Told, neighbor: Neighbor) -> Iterator["tuple[str, str, str]"]:
-    """The number of its chassis, and how long it has been there, as far as the bridge knows."""
+    """The number of its chassis, and how long it has been there, as far as lldpa-live knows."""
     chassis, _, _ = neighbor.id.partition(" ")
     number, came = told.numbers.get(chassis), told.since.get((neighbor.port, neighbor.id))
     if number is not None:
         yield "rid", "RID", str(number)
     if came is not None:
-        seconds = told.now - calendar.timegm(time.strptime(came, "%Y-%m-%dT%H:%M:%SZ"))
+        seconds = told.now - clock.seconds_of(came)
         yield "age", "Time", age(max(0, int(seconds)))
 
 
@@ -87,9 +87,8 @@ def age(seconds: int) -> str:
 def interfaces(told: Told, ports: Optional[Sequence[str]], depth: Depth) -> Node:
     """`show interfaces`: what this host says at its ports."""
     root = Node("lldp", "LLDP interfaces")
-    configuration = told.show.configuration
-    assert configuration is not None and told.show.chassis is not None
-    for name, status in configuration.statuses.items():
+    of_host, numbers = chassis_told(told), configuration_told(told)
+    for name, status in numbers.statuses.items():
         if ports is not None and name not in ports:
             continue
         node = Node("interface", "Interface", [("name", "", name)])
@@ -97,17 +96,43 @@ def interfaces(told: Told, ports: Optional[Sequence[str]], depth: Depth) -> Node
         port = Node("port", "Port", nodes=[
             identifier_node("PortID", Identifier("ifname", name), {})])
         port.add("descr", "PortDescr", name)
-        node.nodes += [local_chassis(told.show.chassis, depth is Depth.SUMMARY), port,
-                       Node("ttl", "TTL", [("ttl", "", str(configuration.ttl))])]
+        node.nodes += [local_chassis(of_host, depth is Depth.SUMMARY), port,
+                       Node("ttl", "TTL", [("ttl", "", str(numbers.ttl))])]
         root.nodes.append(node)
     return root
 
 
 def chassis(told: Told, depth: Depth) -> Node:
     """`show chassis`."""
-    assert told.show.chassis is not None
     return Node("local-chassis", "Local chassis",
-                nodes=[local_chassis(told.show.chassis, depth is Depth.SUMMARY)])
+                nodes=[local_chassis(chassis_told(told), depth is Depth.SUMMARY)])
+
+
+def chassis_told(told: Told) -> LocalChassis:
+    """Returns what this host says of itself. Raises Refused if lldpa-live does not tell it."""
+    if told.show.chassis is None:
+        raise Refused("lldpa-live does not tell what this host says")
+    return told.show.chassis
+
+
+def configuration_told(told: Told) -> Configuration:
+    """Returns the numbers in force. Raises Refused if lldpa-live does not tell them."""
+    if told.show.configuration is None:
+        raise Refused("lldpa-live does not tell the configuration")
+    return told.show.configuration
+
+
+def configuration(told: Told) -> Node:
+    """`show configuration`, as far as lldpd has the same."""
+    numbers = configuration_told(told)
+    only_receives = all(status == "rx-only" for status in numbers.statuses.values())
+    node = Node("config", "Configuration")
+    node.add("tx-delay", "Transmit delay", numbers.tx_interval)
+    node.add("tx-delay-ms", "Transmit delay in milliseconds", 1000 * numbers.tx_interval)
+    node.add("tx-hold", "Transmit hold", numbers.tx_hold)
+    node.add("max-neighbors", "Maximum number of neighbors", numbers.max_neighbors)
+    node.add("rx-only", "Receive mode", yes(only_receives))
+    return Node("configuration", "Global configuration", nodes=[node])
 
 
 def statistics(told: Told, ports: Optional[Sequence[str]], is_summary: bool) -> Node:

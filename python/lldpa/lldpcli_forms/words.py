@@ -1,18 +1,24 @@
 """The commands: what lldpcli's words, and the ports behind lldpctl, ask for."""
 from __future__ import annotations
 
-from typing import Callable, List, NamedTuple, Optional, Sequence
+from typing import Callable, List, NamedTuple, Optional, Sequence, Union
 
 from ..agent.framing import Refused
-from .shows import Depth, Told, chassis, interfaces, neighbors, statistics
-from .tree import Node
+from ..client.questions import question
+from ..client.refused import forms_of, in_full
+from .shows import Depth, Told, chassis, configuration, interfaces, neighbors, statistics
+from ..node import Node
 
-# what may follow each show, but for its ports
+# what may follow each show, except its ports
 SHOWS = {"neighbors": ("details", "summary", "hidden"),
          "interfaces": ("details", "summary", "hidden"),
          "chassis": ("details", "summary"),
-         "statistics": ("summary",)}
-PORTS = "ports"
+         "statistics": ("summary",),
+         "configuration": ()}
+WITHOUT_PORTS = ("chassis", "configuration")
+COMMANDS = ("show", "watch", "configure", "update")
+OF_WATCH = ("details", "summary", "hidden", "limit", "ports")
+PORTS, LIMIT = "ports", "limit"
 
 
 class Question(NamedTuple):
@@ -22,9 +28,11 @@ class Question(NamedTuple):
     ports: Optional[List[str]]
 
     def tree(self, told: Told) -> Node:
-        """The tree, of what a bridge answers."""
+        """The tree, of what lldpa-live answers."""
         if self.show == "chassis":
             return chassis(told, self.depth)
+        if self.show == "configuration":
+            return configuration(told)
         if self.show == "statistics":
             return statistics(told, self.ports, self.depth is Depth.SUMMARY)
         of_ports: Callable[..., Node] = neighbors if self.show == "neighbors" else interfaces
@@ -37,40 +45,72 @@ class Question(NamedTuple):
         return [port for port in self.ports or () if port not in known]
 
 
-def of_lldpctl(words: Sequence[str]) -> Question:
-    """What is asked by the words of lldpctl: ports, or a command that begins with `show`."""
-    if words and words[0] == "show":
+class Watching(NamedTuple):
+    """What becomes of neighbors, of which ports, how much of them, and how often at most."""
+    depth: Depth
+    ports: Optional[List[str]]
+    limit: Optional[int]
+
+
+class Lines(NamedTuple):
+    """Lines for the agent."""
+    lines: Sequence[str]
+
+
+Command = Union[Question, Watching, Lines]
+
+
+def of_lldpctl(words: Sequence[str]) -> Command:
+    """Returns what is asked by the words of lldpctl: ports, or a command whose first word is
+    written in full."""
+    if words and words[0] in COMMANDS:
         return of_lldpcli(words)
     return Question("neighbors", Depth.DETAILS, listed(words) if words else None)
 
 
-def of_lldpcli(words: Sequence[str]) -> Question:
-    """What is asked by a command of lldpcli, whose words may be shortened. Raises Refused where
-    there is no such command here."""
-    if not words:
-        raise Refused("no command: show neighbors, interfaces, chassis or statistics")
-    meant(words[0], ("show",))
-    if len(words) == 1:
+def of_lldpcli(words: Sequence[str]) -> Command:
+    """Returns what is asked by a command of lldpcli, whose words may be shortened. Raises Refused
+    if there is no such command here."""
+    first, rest = meant(words[0], COMMANDS), list(words[1:])
+    if first == "configure":
+        return Lines(question(in_full([first, *rest], forms_of("lldpa"))).lines)
+    if first == "update":
+        if rest:
+            raise Refused(f"unknown word: {rest[0]} (nothing follows)")
+        return Lines([first])
+    if first == "watch":
+        return Watching(*read_rest(rest, list(OF_WATCH)))
+    if not rest:
         raise Refused(f"show what: {', '.join(SHOWS)}")
-    show = meant(words[1], tuple(SHOWS))
-    return with_rest(show, list(words[2:]))
+    show = meant(rest.pop(0), tuple(SHOWS))
+    able = [*SHOWS[show], *([] if show in WITHOUT_PORTS else [PORTS])]
+    depth, ports, _ = read_rest(rest, able)
+    return Question(show, depth, ports)
 
 
-def with_rest(show: str, rest: List[str]) -> Question:
-    """A show with what follows: how much, and ports, each at most once."""
-    depth, ports = Depth.NORMAL, None
-    able = [*SHOWS[show], *([] if show == "chassis" else [PORTS])]
+def read_rest(rest: List[str], able: List[str]) -> Watching:
+    """Returns what follows a command: how much, ports and a limit, each at most once."""
+    told = Watching(Depth.NORMAL, None, None)
     while rest:
         word = meant(rest.pop(0), able)
         able.remove(word)
+        if word in (PORTS, LIMIT) and not rest:
+            raise Refused(f"nothing behind {word}")
         if word == PORTS:
-            if not rest:
-                raise Refused("no port behind ports")
-            ports = listed([rest.pop(0)])
+            told = told._replace(ports=listed([rest.pop(0)]))
+        elif word == LIMIT:
+            told = told._replace(limit=number_of(rest.pop(0)))
         elif word != "hidden":
-            depth = Depth(word)
+            told = told._replace(depth=Depth(word))
             able = [one for one in able if one not in ("details", "summary")]
-    return Question(show, depth, ports)
+    return told
+
+
+def number_of(word: str) -> int:
+    """Returns a number from 1 on. Raises Refused for another word."""
+    if not (word.isascii() and word.isdecimal() and len(word) < 10 and int(word)):
+        raise Refused(f"not a number: {word}")
+    return int(word)
 
 
 def meant(word: str, able: Sequence[str]) -> str:

@@ -3,10 +3,10 @@ from __future__ import annotations
 
 import json
 import unicodedata
-from typing import Any, Dict, Iterator, List, Tuple
+from typing import Any, Callable, Dict, Iterator, List, Tuple
 
 from ..texts import escaped, printable
-from .tree import Node
+from ..node import Node
 
 LINE = "-" * 79
 WIDTH = 13  # columns of what stands before a value
@@ -42,6 +42,12 @@ def plain_lines(node: Node, depth: int) -> Iterator[str]:
 def keyvalue(root: Node) -> str:
     """Keys and values, a line each."""
     return "\n".join(f"{key}={one_line(value)}" for key, value in pairs(root, ""))
+
+
+def on_a_terminal(root: Node) -> str:
+    """Keys and values, with all escaped that a terminal does not show as it is."""
+    return "\n".join(f"{printable(key)}={printable(one_line(value))}"
+                     for key, value in pairs(root, ""))
 
 
 def pairs(node: Node, front: str) -> Iterator[Tuple[str, str]]:
@@ -118,3 +124,8 @@ def shortened(told: Any) -> Any:
 
 
 FORMS = {"plain": plain, "keyvalue": keyvalue, "json": json_short, "json0": json0}
+
+
+def form_of(name: str, is_terminal: bool) -> Callable[[Node], str]:
+    """Returns what writes a form, to a terminal or else."""
+    return on_a_terminal if is_terminal and name == "keyvalue" else FORMS[name]

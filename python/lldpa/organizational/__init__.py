@@ -10,18 +10,38 @@
 Octets that do not have the form of their kind are never read as something else: they stay in
 hexadecimal. Texts stay octets, as they were sent.
 """
-from .dcb import ApplicationPriorities, ApplicationPriority, Ets, EtsRecommendation, EtsTables, Pfc
-from .dot1 import (LinkAggregation, ManagementVlan, PortVlan, ProtocolIdentity, ProtocolVlan,
-                   VidUsageDigest, VlanName)
-from .dot3 import Eee, MacPhy, MaxFrameSize, Power, PowerOfPairs, PowerRequest
-from .location import CivicAddress, Coordinates, Elin, Location
-from .mau import Mau, mau_of
-from .med import Inventory, MedCapabilities, MedPower, MudUrl, NetworkPolicy
-from .said import Organizational, Tlv, read_tlv, said_by
+from importlib import import_module
+from typing import TYPE_CHECKING
+
+from .kinds import MODULES, Row, Tlv
+from .said import (Organizational, known_to_lldpd, organizational_object, read_tlv, rows_of,
+                   said_by)
+
+if TYPE_CHECKING:
+    from .dcb import (ApplicationPriorities, ApplicationPriority, Ets, EtsRecommendation, EtsTables,
+                      Pfc)
+    from .dot1 import (ManagementVlan, PortVlan, ProtocolIdentity, ProtocolVlan, VidUsageDigest,
+                       VlanName)
+    from .dot3 import LinkAggregation, MacPhy, MaxFrameSize
+    from .inventory import Inventory, MedPower, MudUrl
+    from .location import CivicAddress, Coordinates, Elin, Location
+    from .mau import Mau, mau_of
+    from .med import MedCapabilities, NetworkPolicy
+    from .power import Eee, Power, PowerOfPairs, PowerRequest
 
 __all__ = ["ApplicationPriorities", "ApplicationPriority", "CivicAddress", "Coordinates", "Eee",
            "Elin", "Ets", "EtsRecommendation", "EtsTables", "Inventory", "LinkAggregation",
            "Location", "MacPhy", "ManagementVlan", "Mau", "MaxFrameSize", "MedCapabilities",
            "MedPower", "MudUrl", "NetworkPolicy", "Organizational", "Pfc", "PortVlan", "Power",
-           "PowerOfPairs", "PowerRequest", "ProtocolIdentity", "ProtocolVlan", "Tlv",
-           "VidUsageDigest", "VlanName", "mau_of", "read_tlv", "said_by"]
+           "PowerOfPairs", "PowerRequest", "ProtocolIdentity", "ProtocolVlan", "Row", "Tlv",
+           "VidUsageDigest", "VlanName", "known_to_lldpd", "mau_of", "organizational_object",
+           "read_tlv", "rows_of", "said_by"]
+
+
+def __getattr__(name: str) -> object:
+    """Loads the module of a name that is used for the first time."""
+    for module in MODULES if name in __all__ else ():
+        found = getattr(import_module(f"{__name__}.{module}"), name, None)
+        if found is not None:
+            return found
+    raise AttributeError(f"module {__name__!r} has no attribute {name!r}")

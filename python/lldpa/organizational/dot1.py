@@ -1,120 +1,181 @@
-"""TLVs of IEEE 802.1 (OUI 00-80-C2) about VLANs and aggregation, from octets to what they say.
-
-Each function takes a TLV's octets behind its subtype, and gives None where they do not have its
-form. Reserved bits are ignored, as the standard says.
-"""
+"""TLVs of IEEE 802.1 (OUI 00-80-C2) about VLANs."""
 from __future__ import annotations
 
 from dataclasses import dataclass
-from typing import Optional
+from typing import Any, List, Optional
 
-GREATEST_VID = 4094
+from ..node import Node, text_of, yes
+from ..texts import readable_octets, with_text
+from .kinds import DOT1, GREATEST_VID, Said, Tlv, ability, number, of
+
 LONGEST_NAME = 32  # octets of a VLAN's name
 
 
-@dataclass(frozen=True)
-class PortVlan:
-    """Port VLAN ID, subtype 1: the VLAN of untagged frames, 0 where the port has none."""
-    pvid: int
-
-
-@dataclass(frozen=True)
-class ProtocolVlan:
-    """Port and Protocol VLAN ID, subtype 2; `ppvid` is 0 where there is none."""
-    is_supported: bool
-    is_enabled: bool
-    ppvid: int
-
-
-@dataclass(frozen=True)
-class VlanName:
-    """VLAN Name, subtype 3; the name has at most 32 octets."""
-    vid: int
-    name: bytes
-
-
-@dataclass(frozen=True)
-class ProtocolIdentity:
-    """Protocol Identity, subtype 4: the first octets of a protocol's frames."""
-    protocol: bytes
-
-
-@dataclass(frozen=True)
-class VidUsageDigest:
-    """VID Usage Digest, subtype 5."""
-    digest: int
-
-
-@dataclass(frozen=True)
-class ManagementVlan:
-    """Management VID, subtype 6, 0 where there is none."""
-    vid: int
-
-
-@dataclass(frozen=True)
-class LinkAggregation:
-    """Link Aggregation, subtype 7, or 3 of IEEE 802.3; `port` is the aggregated port's number."""
-    is_capable: bool
-    is_aggregated: bool
-    port: int
-
-
-def number(octets: bytes) -> int:
-    """A number, most significant octet first."""
-    return int.from_bytes(octets, "big")
-
-
 def vid_of(octets: bytes) -> Optional[int]:
-    """A VLAN identifier in two octets: 1 to 4094, or 0 for none."""
+    """Returns a VLAN identifier in two octets, 1 to 4094, or 0 for none; None if it is neither."""
     if len(octets) != 2 or number(octets) > GREATEST_VID:
         return None
     return number(octets)
 
 
-def port_vlan(octets: bytes) -> Optional[PortVlan]:
-    """Two octets."""
-    vid = vid_of(octets)
-    return None if vid is None else PortVlan(vid)
+def vid_text(vid: int) -> str:
+    """Returns a VLAN identifier in words."""
+    return str(vid) if vid else "none"
 
 
-def protocol_vlan(octets: bytes) -> Optional[ProtocolVlan]:
-    """Flags, and two octets."""
-    ppvid = vid_of(octets[1:])
-    if ppvid is None:
-        return None
-    return ProtocolVlan(bool(octets[0] & 0x02), bool(octets[0] & 0x04), ppvid)
+@of(DOT1, 1)
+@dataclass(frozen=True)
+class PortVlan(Tlv):
+    """Port VLAN ID, subtype 1: the VLAN of untagged frames, 0 if the port has none."""
+    key, heading, path, parent = "pvid", "VLAN", "vlan.pvid", "interface"
+    pvid: int
+
+    @classmethod
+    def read(cls, octets: bytes) -> Optional[PortVlan]:
+        """Reads two octets."""
+        vid = vid_of(octets)
+        return None if vid is None else cls(vid)
+
+    def words(self) -> str:
+        return vid_text(self.pvid)
+
+    def value(self) -> int:
+        return self.pvid
+
+    @classmethod
+    def nodes(cls, said: Said) -> List[Node]:
+        """Returns the nodes of the VLANs that have a name, and of the port's if it has none."""
+        vlan, names = said.one(PortVlan), said.all(VlanName)
+        pvid = vlan.pvid if vlan else 0
+        nodes = [vlan_node(one.vid, vlan is not None and one.vid == pvid, text_of(one.name))
+                 for one in names]
+        if pvid and pvid not in [one.vid for one in names]:
+            nodes.append(vlan_node(pvid, True, None))
+        return nodes
 
 
-def vlan_name(octets: bytes) -> Optional[VlanName]:
-    """A VLAN in two octets, the length of the name, and the name."""
-    vid = vid_of(octets[:2])
-    if vid is None or len(octets) < 3:
-        return None
-    if octets[2] != len(octets) - 3 or octets[2] > LONGEST_NAME:
-        return None
-    return VlanName(vid, octets[3:])
+def vlan_node(vid: int, is_of_port: bool, name: Optional[str]) -> Node:
+    """Returns the node of a VLAN, with a name or without."""
+    return Node("vlan", "VLAN", [("vlan-id", "", str(vid)), ("pvid", "pvid", yes(is_of_port))],
+                name)
 
 
-def protocol_identity(octets: bytes) -> Optional[ProtocolIdentity]:
-    """A length, and so many octets."""
-    if not octets or octets[0] != len(octets) - 1:
-        return None
-    return ProtocolIdentity(octets[1:])
+@of(DOT1, 3)
+@dataclass(frozen=True)
+class VlanName(Tlv):
+    """VLAN Name, subtype 3; the name has at most 32 octets."""
+    is_repeated, key, heading, path = True, "vlan-names", "VLAN names", "vlan.names"
+    vid: int
+    name: bytes
+
+    @classmethod
+    def read(cls, octets: bytes) -> Optional[VlanName]:
+        """Reads a VLAN in two octets, the length of the name, and the name."""
+        vid = vid_of(octets[:2])
+        if vid is None or len(octets) < 3:
+            return None
+        if octets[2] != len(octets) - 3 or octets[2] > LONGEST_NAME:
+            return None
+        return cls(vid, octets[3:])
+
+    def words(self) -> str:
+        return f"{self.vid} {readable_octets(self.name)}".rstrip()
+
+    def value(self) -> Any:
+        return with_text("name", self.name, {"vid": self.vid})
 
 
-def vid_usage_digest(octets: bytes) -> Optional[VidUsageDigest]:
-    """Four octets."""
-    return VidUsageDigest(number(octets)) if len(octets) == 4 else None
+@of(DOT1, 2)
+@dataclass(frozen=True)
+class ProtocolVlan(Tlv):
+    """Port and Protocol VLAN ID, subtype 2; `ppvid` is 0 if there is none."""
+    is_repeated, group, parent = True, "Other VLANs", "interface"
+    key, heading, path = "protocol-vlans", "Protocol VLANs", "vlan.protocol_vlans"
+    is_supported: bool
+    is_enabled: bool
+    ppvid: int
+
+    @classmethod
+    def read(cls, octets: bytes) -> Optional[ProtocolVlan]:
+        """Reads flags, and two octets."""
+        ppvid = vid_of(octets[1:])
+        if ppvid is None:
+            return None
+        return cls(bool(octets[0] & 0x02), bool(octets[0] & 0x04), ppvid)
+
+    def words(self) -> str:
+        return f"{vid_text(self.ppvid)} {ability(self.is_supported, self.is_enabled)}"
+
+    def value(self) -> Any:
+        return {"ppvid": self.ppvid, "supported": self.is_supported, "enabled": self.is_enabled}
+
+    def node(self) -> Node:
+        return Node("ppvid", "PPVID", [("value", "", str(self.ppvid)),
+                                       ("supported", "supported", yes(self.is_supported)),
+                                       ("enabled", "enabled", yes(self.is_enabled))])
 
 
-def management_vlan(octets: bytes) -> Optional[ManagementVlan]:
-    """Two octets."""
-    vid = vid_of(octets)
-    return None if vid is None else ManagementVlan(vid)
+@of(DOT1, 4)
+@dataclass(frozen=True)
+class ProtocolIdentity(Tlv):
+    """Protocol Identity, subtype 4: the first octets of a protocol's frames."""
+    is_repeated, group, parent = True, "Other VLANs", "interface"
+    key, heading, path = "protocols", "Protocols", "vlan.protocols"
+    protocol: bytes
+
+    @classmethod
+    def read(cls, octets: bytes) -> Optional[ProtocolIdentity]:
+        """Reads a length, and so many octets."""
+        if not octets or octets[0] != len(octets) - 1:
+            return None
+        return cls(octets[1:])
+
+    def words(self) -> str:
+        return self.protocol.hex() or "empty"
+
+    def value(self) -> str:
+        return self.protocol.hex()
+
+    def node(self) -> Optional[Node]:
+        return Node("pi", "PI", text=self.protocol.hex(" ")) if self.protocol else None
 
 
-def link_aggregation(octets: bytes) -> Optional[LinkAggregation]:
-    """A status, and the port in four octets."""
-    if len(octets) != 5:
-        return None
-    return LinkAggregation(bool(octets[0] & 0x01), bool(octets[0] & 0x02), number(octets[1:]))
+@of(DOT1, 6, is_of_lldpd=False)
+@dataclass(frozen=True)
+class ManagementVlan(Tlv):
+    """Management VID, subtype 6, 0 if there is none."""
+    key, heading, path = "management-vlan", "Management VLAN", "vlan.management"
+    group = "Other VLANs"
+    vid: int
+
+    @classmethod
+    def read(cls, octets: bytes) -> Optional[ManagementVlan]:
+        """Reads two octets."""
+        vid = vid_of(octets)
+        return None if vid is None else cls(vid)
+
+    def words(self) -> str:
+        return vid_text(self.vid)
+
+    def value(self) -> int:
+        return self.vid
+
+
+@of(DOT1, 5, is_of_lldpd=False)
+@dataclass(frozen=True)
+class VidUsageDigest(Tlv):
+    """VID Usage Digest, subtype 5."""
+    key, heading, path = "vid-usage-digest", "VID digest", "vlan.usage_digest"
+    group = "Other VLANs"
+    digest: int
+
+    @classmethod
+    def read(cls, octets: bytes) -> Optional[VidUsageDigest]:
+        """Reads four octets."""
+        return cls(number(octets)) if len(octets) == 4 else None
+
+    def words(self) -> str:
+        return f"{self.digest:08x}"
+
+    def value(self) -> int:
+        return self.digest

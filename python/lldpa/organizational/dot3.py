@@ -1,34 +1,95 @@
-"""TLVs of IEEE 802.3 (OUI 00-12-0F), from octets to what they say.
-
-Each function takes a TLV's octets behind its subtype, and gives None where they do not have its
-form. Reserved bits are ignored, as the standard says. Link Aggregation is in `dot1`.
-"""
+"""TLVs of IEEE 802.3 (OUI 00-12-0F) about frames and the link, and Link Aggregation of 802.1."""
 from __future__ import annotations
 
 from dataclasses import dataclass
-from typing import Optional, Tuple
+from typing import Any, List, Optional, Tuple
 
-from .dot1 import number
+from ..node import Node, yes
+from .kinds import DOT1, DOT3, Row, Said, Tlv, ability, number, of
 from .mau import Mau, advertised_names, mau_of
+from .mau_texts import MAU_TEXTS
 
-PAIRS = {1: "signal", 2: "spare"}
-POWER_TYPES = ("type 2 PSE", "type 2 PD", "type 1 PSE", "type 1 PD")
-PSE_SOURCES = ("unknown", "primary", "backup", "reserved")
-PD_SOURCES = ("unknown", "PSE", "local", "PSE and local")
-PRIORITIES = ("unknown", "critical", "high", "low")
+# lldpcli's names of what autonegotiation may advertise, with the bits of half and full duplex
+ADVERTISED = (("10Base-T", 0x4000, 0x2000), ("100Base-T4", 0x1000, 0x1000),
+              ("100Base-TX", 0x0800, 0x0400), ("100Base-T2", 0x0200, 0x0100),
+              ("1000Base-X", 0x0008, 0x0004), ("1000Base-T", 0x0002, 0x0001))
 
 
+@of(DOT3, 4)
 @dataclass(frozen=True)
-class MacPhy:
+class MaxFrameSize(Tlv):
+    """Maximum Frame Size, subtype 4, in octets."""
+    key, heading, path, parent = "max-frame-size", "Frame size", "max_frame_size", "port"
+    octets: int
+
+    @classmethod
+    def read(cls, octets: bytes) -> Optional[MaxFrameSize]:
+        """Reads two octets."""
+        return cls(number(octets)) if len(octets) == 2 else None
+
+    def words(self) -> str:
+        return str(self.octets)
+
+    def value(self) -> int:
+        return self.octets
+
+    def node(self) -> Optional[Node]:
+        return Node("mfs", "MFS", text=str(self.octets)) if self.octets else None
+
+
+@of(DOT3, 3)
+@of(DOT1, 7, is_of_lldpd=False)
+@dataclass(frozen=True)
+class LinkAggregation(Tlv):
+    """Link Aggregation, subtype 3, or 7 of IEEE 802.1; `port` is the aggregated port's number."""
+    key, heading, path = "link-aggregation", "Aggregation", "link_aggregation"
+    parent = "port"
+    is_capable: bool
+    is_aggregated: bool
+    port: int
+
+    @classmethod
+    def read(cls, octets: bytes) -> Optional[LinkAggregation]:
+        """Reads a status, and the port in four octets."""
+        if len(octets) != 5:
+            return None
+        return cls(bool(octets[0] & 0x01), bool(octets[0] & 0x02), number(octets[1:]))
+
+    def words(self) -> str:
+        if self.is_aggregated:
+            return f"yes, port {self.port}"
+        return "no, but capable" if self.is_capable else "no"
+
+    def value(self) -> Any:
+        return {"capable": self.is_capable, "aggregated": self.is_aggregated, "port": self.port}
+
+    def node(self) -> Optional[Node]:
+        if not self.port:
+            return None
+        return Node("aggregation", "Port is aggregated. PortAggregID", text=str(self.port))
+
+
+@of(DOT3, 1)
+@dataclass(frozen=True)
+class MacPhy(Tlv):
     """MAC/PHY Configuration/Status, subtype 1: 16 bits that are advertised, and a MAU type."""
+    key, heading, path, parent = "mac-phy", "Link", "mac_phy", "port"
     supports_autonegotiation: bool
     autonegotiates: bool
     advertised: int
     mau_type: int
 
+    @classmethod
+    def read(cls, octets: bytes) -> Optional[MacPhy]:
+        """Reads a status, and twice two octets."""
+        if len(octets) != 5:
+            return None
+        return cls(bool(octets[0] & 0x01), bool(octets[0] & 0x02), number(octets[1:3]),
+                   number(octets[3:]))
+
     @property
     def mau(self) -> Optional[Mau]:
-        """The MAU type by its name, None where its number is not known."""
+        """The MAU type by its name, None if its number is not known."""
         return mau_of(self.mau_type)
 
     @property
@@ -36,141 +97,38 @@ class MacPhy:
         """What is advertised."""
         return advertised_names(self.advertised)
 
+    @classmethod
+    def rows(cls, said: Said) -> List[Row]:
+        """Returns what the link is, and what is advertised."""
+        modes = ", ".join(mode for one in said.all(cls) for mode in one.modes)
+        return [*super().rows(said), Row("advertised", "Advertised", modes)]
 
-@dataclass(frozen=True)
-class PowerRequest:
-    """What IEEE 802.3at adds. `requested` and `allocated` are in tenths of a watt."""
-    type: int
-    source: int
-    priority: int
-    requested: int
-    allocated: int
+    def words(self) -> str:
+        kind = self.mau.name if self.mau else f"MAU type {self.mau_type}"
+        if self.mau and self.mau.duplex:
+            kind += f" {self.mau.duplex} duplex"
+        state = ability(self.supports_autonegotiation, self.autonegotiates)
+        return f"{kind}, autonegotiation {state}"
 
-    @property
-    def type_name(self) -> str:
-        """The type of the sender."""
-        return POWER_TYPES[self.type]
+    def value(self) -> Any:
+        name, speed, duplex = self.mau or (None, None, None)
+        return {
+            "autonegotiation": {"supported": self.supports_autonegotiation,
+                                "enabled": self.autonegotiates, "advertised": list(self.modes)},
+            "mau_type": self.mau_type, "type": name, "speed": speed, "duplex": duplex}
 
-    @property
-    def source_name(self) -> str:
-        """Where the power of a PSE or a PD comes from."""
-        return (PD_SOURCES if self.type & 1 else PSE_SOURCES)[self.source]
-
-    @property
-    def priority_name(self) -> str:
-        """The priority of the PD."""
-        return PRIORITIES[self.priority]
-
-
-@dataclass(frozen=True)
-class PowerOfPairs:
-    """What IEEE 802.3bt adds. Powers are in tenths of a watt; A and B are the modes of a
-    dual-signature PD, and the alternatives of its PSE. `down_seconds` is 0 for no end."""
-    requested_a: int
-    requested_b: int
-    allocated_a: int
-    allocated_b: int
-    pse_status: int
-    pd_status: int
-    pse_pairs: int
-    class_a: int
-    class_b: int
-    power_class: int
-    type: int
-    is_isolated: bool
-    most_available: int
-    can_autoclass: bool
-    has_autoclass: bool
-    requests_autoclass: bool
-    down_request: int
-    down_seconds: int
-
-
-@dataclass(frozen=True)
-class Power:
-    """Power via MDI, subtype 2. `class_number` is the power class plus 1."""
-    is_pse: bool
-    is_supported: bool
-    is_enabled: bool
-    can_control_pairs: bool
-    pairs: int
-    class_number: int
-    request: Optional[PowerRequest] = None
-    of_pairs: Optional[PowerOfPairs] = None
-
-    @property
-    def power_class(self) -> Optional[int]:
-        """The power class, 0 to 4; None where the number is of none."""
-        return self.class_number - 1 if 1 <= self.class_number <= 5 else None
-
-    @property
-    def pairs_name(self) -> Optional[str]:
-        """The pairs that carry power, `signal` or `spare`; None where the number is of neither."""
-        return PAIRS.get(self.pairs)
-
-
-@dataclass(frozen=True)
-class MaxFrameSize:
-    """Maximum Frame Size, subtype 4, in octets."""
-    octets: int
-
-
-@dataclass(frozen=True)
-class Eee:
-    """Energy-Efficient Ethernet, subtype 5: times to wake in microseconds, and their echoes."""
-    transmit: int
-    receive: int
-    fallback_receive: int
-    echo_transmit: int
-    echo_receive: int
-
-
-def mac_phy(octets: bytes) -> Optional[MacPhy]:
-    """A status, and twice two octets."""
-    if len(octets) != 5:
-        return None
-    status = octets[0]
-    return MacPhy(bool(status & 0x01), bool(status & 0x02), number(octets[1:3]),
-                  number(octets[3:]))
-
-
-def power(octets: bytes) -> Optional[Power]:
-    """Three octets; eight with what IEEE 802.3at adds, and 25 with what IEEE 802.3bt adds."""
-    if len(octets) not in (3, 8, 25):
-        return None
-    support, pairs, class_number = octets[:3]
-    return Power(bool(support & 1), bool(support & 2), bool(support & 4), bool(support & 8), pairs,
-                 class_number, power_request(octets[3:8]), power_of_pairs(octets[8:]))
-
-
-def power_request(octets: bytes) -> Optional[PowerRequest]:
-    """An octet of type, source and priority, and two powers."""
-    if not octets:
-        return None
-    return PowerRequest(octets[0] >> 6, octets[0] >> 4 & 3, octets[0] & 3, number(octets[1:3]),
-                        number(octets[3:]))
-
-
-def power_of_pairs(octets: bytes) -> Optional[PowerOfPairs]:
-    """Four powers, two octets of status, one of setup, a power, autoclass, and power down."""
-    if not octets:
-        return None
-    status, setup, autoclass, down = (number(octets[8:10]), octets[10], octets[13],
-                                      number(octets[14:]))
-    return PowerOfPairs(
-        number(octets[:2]), number(octets[2:4]), number(octets[4:6]), number(octets[6:8]),
-        status >> 14, status >> 12 & 3, status >> 10 & 3, status >> 7 & 7, status >> 4 & 7,
-        status & 15, setup >> 1 & 7, bool(setup & 1), number(octets[11:13]),
-        bool(autoclass & 4), bool(autoclass & 2), bool(autoclass & 1), down >> 18, down & 0x3ffff)
-
-
-def max_frame_size(octets: bytes) -> Optional[MaxFrameSize]:
-    """Two octets."""
-    return MaxFrameSize(number(octets)) if len(octets) == 2 else None
-
-
-def eee(octets: bytes) -> Optional[Eee]:
-    """Five times two octets."""
-    if len(octets) != 10:
-        return None
-    return Eee(*(number(octets[at:at + 2]) for at in range(0, 10, 2)))
+    def node(self) -> Optional[Node]:
+        if not (self.supports_autonegotiation or self.autonegotiates or self.mau_type):
+            return None
+        node = Node("auto-negotiation", "PMD autoneg",
+                    [("supported", "supported", yes(self.supports_autonegotiation)),
+                     ("enabled", "enabled", yes(self.autonegotiates))])
+        for name, half, full in ADVERTISED if self.autonegotiates else ():
+            if self.advertised & (half | full):
+                mode = Node("advertised", "Adv", [("type", "", name)])
+                if half != full:
+                    mode.attributes += [("hd", "HD", yes(bool(self.advertised & half))),
+                                        ("fd", "FD", yes(bool(self.advertised & full)))]
+                node.nodes.append(mode)
+        node.add("current", "MAU oper type", MAU_TEXTS.get(self.mau_type, "unknown"))
+        return node

@@ -1,14 +1,13 @@
-"""Locations of LLDP-MED (OUI 00-12-BB, subtype 3), from octets to what they say.
-
-Each function takes the octets behind the number of the form, and gives None where they do not have
-that form.
-"""
+"""Locations of LLDP-MED (OUI 00-12-BB, subtype 3), in three forms."""
 from __future__ import annotations
 
 from dataclasses import dataclass
-from typing import Optional, Tuple, Union
+from math import log10
+from typing import Any, List, Optional, Tuple
 
-from .dot1 import number
+from ..node import Node, capital, text_of
+from ..texts import readable_octets, with_text
+from .kinds import MED, Said, Tlv, number, of
 
 LONGEST_ELIN = 25
 ALTITUDES = {1: "meters", 2: "floors"}
@@ -20,12 +19,45 @@ ELEMENTS = {
     5: "block", 6: "street", 16: "direction", 17: "trailing street suffix", 18: "street suffix",
     19: "number", 20: "number suffix", 21: "landmark", 22: "additional", 23: "name", 24: "ZIP",
     25: "building", 26: "unit", 27: "floor", 28: "room", 29: "place type", 128: "script"}
+# lldpcli's names
+LLDPCLI_DATUMS = {1: "WGS84", 2: "NAD83", 3: "NAD83/MLLW"}
+LLDPCLI_UNITS = {1: "m", 2: "floor"}
+# bits before and behind the point
+DEGREES, ALTITUDE = (9, 25), (22, 8)
+
+
+@of(MED, 3)
+class Location(Tlv):
+    """A location, subtype 3: coordinates, a civic address or an ELIN."""
+    is_repeated, between, parent = True, "; ", "lldp-med"
+    key, heading, path = "med-locations", "Location", "med.locations"
+
+    @classmethod
+    def read(cls, octets: bytes) -> Optional[Location]:
+        """Reads the number of a form, 1 to 3, and a location of that form."""
+        forms = {1: Coordinates.read, 2: CivicAddress.read, 3: Elin.read}
+        form = forms.get(octets[0]) if octets else None
+        return None if form is None else form(octets[1:])
+
+    @classmethod
+    def nodes(cls, said: Said) -> List[Node]:
+        """Returns the nodes of the last location of each form."""
+        last = {type(one): one for one in said.all(cls)}
+        return [last[form].node() for form in (Coordinates, CivicAddress, Elin) if form in last]
+
+    def node(self) -> Node:
+        raise NotImplementedError
+
+
+def location_node(kind: str) -> Node:
+    """Returns the node of a location of a kind, with nothing in it."""
+    return Node("location", "LLDP-MED Location Identification", [("type", "Type", kind)])
 
 
 @dataclass(frozen=True)
-class Coordinates:
-    """Coordinates as RFC 6225 has them. Latitude and longitude are in 2^-25 of a degree, north
-    and east positive, altitude in 2^-8 of its unit; a resolution is the count of valid bits."""
+class Coordinates(Location):
+    """Coordinates of RFC 6225. Latitude and longitude are in 2^-25 of a degree, north and east
+    positive, altitude in 2^-8 of its unit; a resolution is the count of valid bits."""
     latitude_resolution: int
     latitude: int
     longitude_resolution: int
@@ -35,68 +67,138 @@ class Coordinates:
     altitude: int
     datum: int
 
+    @classmethod
+    def read(cls, octets: bytes) -> Optional[Coordinates]:
+        """Reads bits: resolution (6) and latitude (34), resolution (6) and longitude (34), type
+        (4), resolution (6) and altitude (30), datum (8). No place is beyond a pole or half the
+        globe."""
+        if len(octets) != 16:
+            return None
+        bits = number(octets)
+        found = cls(bits >> 122, signed(bits >> 88, 34), bits >> 82 & 63, signed(bits >> 48, 34),
+                    bits >> 44 & 15, bits >> 38 & 63, signed(bits >> 8, 30), bits & 255)
+        is_place = (found.latitude_resolution <= 34 and abs(found.latitude) <= 90 << 25
+                    and found.longitude_resolution <= 34 and abs(found.longitude) <= 180 << 25
+                    and found.altitude_resolution <= 30)
+        return found if is_place else None
 
-@dataclass(frozen=True)
-class CivicAddress:
-    """A civic address as RFC 4776 has it: of what it is, its country, and the type and the text
-    of each further part (see `ELEMENTS`)."""
-    what: int
-    country: bytes
-    elements: Tuple[Tuple[int, bytes], ...]
+    def words(self) -> str:
+        latitude, longitude = self.latitude / (1 << 25), self.longitude / (1 << 25)
+        unit = ALTITUDES.get(self.altitude_type, f"of type {self.altitude_type}")
+        return (f"{abs(latitude):.5f} {'S' if latitude < 0 else 'N'}, "
+                f"{abs(longitude):.5f} {'W' if longitude < 0 else 'E'}, "
+                f"{self.altitude / 256:g} {unit}, {DATUMS.get(self.datum, f'datum {self.datum}')}")
 
+    def value(self) -> Any:
+        """Returns degrees, north and east positive, and the count of valid bits of each value."""
+        return {
+            "form": "coordinates",
+            "latitude": self.latitude / (1 << 25),
+            "latitude_resolution": self.latitude_resolution,
+            "longitude": self.longitude / (1 << 25),
+            "longitude_resolution": self.longitude_resolution,
+            "altitude": self.altitude / (1 << 8),
+            "altitude_unit": ALTITUDES.get(self.altitude_type),
+            "altitude_resolution": self.altitude_resolution,
+            "datum": DATUMS.get(self.datum),
+        }
 
-@dataclass(frozen=True)
-class Elin:
-    """An emergency location identification number."""
-    digits: str
-
-
-Location = Union[Coordinates, CivicAddress, Elin]
-
-
-def location(octets: bytes) -> Optional[Location]:
-    """The number of a form, 1 to 3, and a location of that form."""
-    forms = {1: coordinates, 2: civic_address, 3: elin}
-    form = forms.get(octets[0]) if octets else None
-    return None if form is None else form(octets[1:])
-
-
-def coordinates(octets: bytes) -> Optional[Coordinates]:
-    """Bits: resolution (6) and latitude (34), resolution (6) and longitude (34), type (4),
-    resolution (6) and altitude (30), datum (8). No place is beyond a pole or half the globe."""
-    if len(octets) != 16:
-        return None
-    bits = number(octets)
-    found = Coordinates(
-        bits >> 122, signed(bits >> 88, 34), bits >> 82 & 63, signed(bits >> 48, 34),
-        bits >> 44 & 15, bits >> 38 & 63, signed(bits >> 8, 30), bits & 255)
-    is_place = (found.latitude_resolution <= 34 and abs(found.latitude) <= 90 << 25
-                and found.longitude_resolution <= 34 and abs(found.longitude) <= 180 << 25
-                and found.altitude_resolution <= 30)
-    return found if is_place else None
+    def node(self) -> Node:
+        node = location_node("Coordinates")
+        node.attributes.append(("geoid", "Geoid", LLDPCLI_DATUMS.get(self.datum, "unknown")))
+        latitude = fixed(self.latitude, DEGREES[1], self.latitude_resolution, DEGREES[0])
+        longitude = fixed(self.longitude, DEGREES[1], self.longitude_resolution, DEGREES[0])
+        altitude = fixed(self.altitude, ALTITUDE[1], self.altitude_resolution, ALTITUDE[0])
+        node.add("lat", "Latitude", latitude + ("S" if self.latitude < 0 else "N"))
+        node.add("lon", "Longitude", longitude + ("W" if self.longitude < 0 else "E"))
+        unit = LLDPCLI_UNITS.get(self.altitude_type, str(self.altitude_type))
+        sign = "-" if self.altitude < 0 else ""
+        node.nodes.append(Node("altitude", "Altitude", [("unit", "", unit)], sign + altitude))
+        return node
 
 
 def signed(value: int, bits: int) -> int:
-    """The number in two's complement that stands in the last so many bits of a value."""
+    """Returns the number in two's complement in the last so many bits of a value."""
     value &= (1 << bits) - 1
     return value - (1 << bits) if value >> (bits - 1) else value
 
 
-def civic_address(octets: bytes) -> Optional[CivicAddress]:
-    """The length of all that follows, of what it is, two letters, and elements."""
-    if len(octets) < 4 or octets[0] != len(octets) - 1:
-        return None
-    elements = []
-    rest = octets[4:]
-    while rest:
-        if len(rest) < 2 or len(rest) < 2 + rest[1]:
+def fixed(value: int, places: int, resolution: int, whole: int) -> str:
+    """Returns the amount of a number, whose last `places` bits are behind the point, as lldpd
+    writes it.
+
+    `resolution` counts the bits that are valid, `whole` those that the part before the point has;
+    by them lldpd has its digits, and cuts off what is beyond.
+    """
+    size = abs(value)
+    part = size & ((1 << places) - 1)
+    if part == 0:
+        return str(size >> places)
+    digits = int((resolution - whole if resolution > whole else whole) * log10(2))
+    return f"{size >> places}.{(part * 10 ** digits) >> places:0{digits}}"
+
+
+@dataclass(frozen=True)
+class CivicAddress(Location):
+    """A civic address of RFC 4776: what it is the address of, its country, and the type and the
+    text of each further part (see `ELEMENTS`)."""
+    what: int
+    country: bytes
+    elements: Tuple[Tuple[int, bytes], ...]
+
+    @classmethod
+    def read(cls, octets: bytes) -> Optional[CivicAddress]:
+        """Reads the length of all that follows, a number of `WHATS`, two letters, and elements."""
+        if len(octets) < 4 or octets[0] != len(octets) - 1:
             return None
-        elements.append((rest[0], rest[2:2 + rest[1]]))
-        rest = rest[2 + rest[1]:]
-    return CivicAddress(octets[1], octets[2:4], tuple(elements))
+        elements = []
+        rest = octets[4:]
+        while rest:
+            if len(rest) < 2 or len(rest) < 2 + rest[1]:
+                return None
+            elements.append((rest[0], rest[2:2 + rest[1]]))
+            rest = rest[2 + rest[1]:]
+        return cls(octets[1], octets[2:4], tuple(elements))
+
+    def words(self) -> str:
+        parts = [f"{ELEMENTS.get(kind, f'type {kind}')} {readable_octets(text)}"
+                 for kind, text in self.elements]
+        return ", ".join([readable_octets(self.country), *parts])
+
+    def value(self) -> Any:
+        elements = [with_text("text", text, {"type": kind, "name": ELEMENTS.get(kind)})
+                    for kind, text in self.elements]
+        of_what = {"form": "civic address", "what": WHATS.get(self.what)}
+        return {**with_text("country", self.country, of_what), "elements": elements}
+
+    def node(self) -> Node:
+        node = location_node("Civic address")
+        node.add("country", "Country", text_of(self.country))
+        for kind, text in self.elements:
+            name = ELEMENTS.get(kind)
+            key, label = (name.lower(), capital(name)) if name else ("unknown", "unknown")
+            node.add(key.replace(" ", "-"), label, text_of(text))
+        return node
 
 
-def elin(octets: bytes) -> Optional[Elin]:
-    """One to 25 digits."""
-    is_number = octets.isdigit() and len(octets) <= LONGEST_ELIN
-    return Elin(octets.decode("ascii")) if is_number else None
+@dataclass(frozen=True)
+class Elin(Location):
+    """An emergency location identification number."""
+    digits: str
+
+    @classmethod
+    def read(cls, octets: bytes) -> Optional[Elin]:
+        """Reads one to 25 digits."""
+        is_number = octets.isdigit() and len(octets) <= LONGEST_ELIN
+        return cls(octets.decode("ascii")) if is_number else None
+
+    def words(self) -> str:
+        return f"ELIN {self.digits}"
+
+    def value(self) -> Any:
+        return {"form": "elin", "digits": self.digits}
+
+    def node(self) -> Node:
+        node = location_node("ELIN")
+        node.add("ecs", "ECS ELIN", self.digits)
+        return node

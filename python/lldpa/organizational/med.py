@@ -1,15 +1,11 @@
-"""TLVs of LLDP-MED (OUI 00-12-BB) and of RFC 8520 (OUI 00-00-5E), from octets to what they say.
-
-Each function takes a TLV's octets behind its subtype, and gives None where they do not have its
-form. Reserved bits are ignored, as the standard says. Locations are in `location`.
-"""
+"""TLVs of LLDP-MED (OUI 00-12-BB) about a device and its policies."""
 from __future__ import annotations
 
 from dataclasses import dataclass
-from typing import Callable, Optional, Tuple
+from typing import Any, List, Optional, Tuple
 
-from .dot1 import GREATEST_VID, number
-from .dot3 import PD_SOURCES, PRIORITIES, PSE_SOURCES
+from ..node import Node, capital, yes
+from .kinds import GREATEST_VID, MED, Object, Said, Tlv, nodes_in, number, of
 
 CAPABILITIES = ("capabilities", "policy", "location", "MDI/PSE", "MDI/PD", "inventory")
 CLASSES = {1: "endpoint class I", 2: "endpoint class II", 3: "endpoint class III",
@@ -17,16 +13,25 @@ CLASSES = {1: "endpoint class I", 2: "endpoint class II", 3: "endpoint class III
 APPLICATIONS = {1: "voice", 2: "voice signaling", 3: "guest voice", 4: "guest voice signaling",
                 5: "softphone voice", 6: "video conferencing", 7: "streaming video",
                 8: "video signaling"}
-DEVICES = {0: "PSE", 1: "PD"}
-# the kinds of inventory, from subtype 5 on
-INVENTORY = ("hardware", "firmware", "software", "serial", "manufacturer", "model", "asset")
+# lldpcli's names
+LLDPCLI_CLASSES = {1: "Generic Endpoint (Class I)", 2: "Media Endpoint (Class II)",
+                   3: "Communication Device Endpoint (Class III)", 4: "Network Connectivity Device"}
+QUALITIES = ("Best effort", "Background", "Excellent effort", "Critical applications", "Video",
+             "Voice", "Internetwork control", "Network control")
 
 
+@of(MED, 1)
 @dataclass(frozen=True)
-class MedCapabilities:
+class MedCapabilities(Tlv):
     """LLDP-MED Capabilities, subtype 1: 16 bits, the least significant first, and a class."""
+    key, heading, path, parent = "med", "MED", "med.capabilities", "interface"
     capabilities: int
     device_class: int
+
+    @classmethod
+    def read(cls, octets: bytes) -> Optional[MedCapabilities]:
+        """Reads two octets, and the class."""
+        return cls(number(octets[:2]), octets[2]) if len(octets) == 3 else None
 
     @property
     def names(self) -> Tuple[str, ...]:
@@ -35,13 +40,41 @@ class MedCapabilities:
 
     @property
     def class_name(self) -> Optional[str]:
-        """The class, None where its number is not known."""
+        """The class, None if its number is not known."""
         return CLASSES.get(self.device_class)
 
+    def words(self) -> str:
+        return (f"{self.class_name or f'class {self.device_class}'}: "
+                f"{', '.join(self.names) or 'nothing'}")
 
+    @classmethod
+    def values(cls, said: Said) -> Object:
+        """Returns the capabilities, and the class."""
+        found = said.one(cls)
+        return {cls.path: None if found is None else list(found.names),
+                "med.class": None if found is None else found.device_class}
+
+    @classmethod
+    def nodes(cls, said: Said) -> List[Node]:
+        """Returns the node with all of LLDP-MED; none if no class of devices is said."""
+        found = said.one(cls)
+        if found is None or found.device_class == 0:
+            return []
+        node = Node("lldp-med", "LLDP-MED")
+        node.add("device-type", "Device Type", LLDPCLI_CLASSES.get(found.device_class, "unknown"))
+        node.nodes += [Node("capability", "Capability", [("type", "", capital(name)),
+                                                         ("available", "", "yes")])
+                       for name in found.names]
+        node.nodes += nodes_in("lldp-med", said)
+        return [node]
+
+
+@of(MED, 2)
 @dataclass(frozen=True)
-class NetworkPolicy:
-    """Network Policy, subtype 2. Where `is_unknown`, the device does not know what follows."""
+class NetworkPolicy(Tlv):
+    """Network Policy, subtype 2. If it `is_unknown`, the device does not know what follows."""
+    is_repeated, between, parent = True, "; ", "lldp-med"
+    key, heading, path = "med-policies", "Policies", "med.policies"
     application: int
     is_unknown: bool
     is_tagged: bool
@@ -49,81 +82,51 @@ class NetworkPolicy:
     priority: int
     dscp: int
 
+    @classmethod
+    def read(cls, octets: bytes) -> Optional[NetworkPolicy]:
+        """Reads an application; unknown (1 bit), tagged (1), reserved (1), VLAN (12), priority (3)
+        and DSCP (6)."""
+        if len(octets) != 4:
+            return None
+        bits = number(octets[1:])
+        vid = bits >> 9 & 0xfff
+        if vid > GREATEST_VID:
+            return None
+        return cls(octets[0], bool(bits >> 23), bool(bits >> 22 & 1), vid, bits >> 6 & 7, bits & 63)
+
     @property
     def application_name(self) -> Optional[str]:
-        """The application, None where its number is not known."""
+        """The application, None if its number is not known."""
         return APPLICATIONS.get(self.application)
 
+    def words(self) -> str:
+        application = self.application_name or f"application {self.application}"
+        if self.is_unknown:
+            return f"{application}: unknown"
+        vlan = "untagged"
+        if self.is_tagged:
+            vlan = f"VLAN {self.vid}" if self.vid else "priority tagged"
+        return f"{application}: {vlan}, priority {self.priority}, DSCP {self.dscp}"
 
-@dataclass(frozen=True)
-class MedPower:
-    """Extended Power via MDI, subtype 4; `power` is in tenths of a watt."""
-    device: int
-    source: int
-    priority: int
-    power: int
+    def value(self) -> Any:
+        return {"application": self.application, "name": self.application_name,
+                "unknown": self.is_unknown, "tagged": self.is_tagged, "vid": self.vid,
+                "priority": self.priority, "dscp": self.dscp}
 
-    @property
-    def device_name(self) -> Optional[str]:
-        """`PSE` or `PD`, None where the number is of neither."""
-        return DEVICES.get(self.device)
+    def node(self) -> Node:
+        node = Node("policy", "LLDP-MED Network Policy for", [
+            ("apptype", "", APPLICATIONS[self.application].title()),
+            ("defined", "Defined", yes(not self.is_unknown))])
+        if self.is_tagged:
+            vid = str(self.vid) if self.vid else "priority"
+            node.nodes.append(Node("vlan", "VLAN", [("vid", "", vid)]))
+        node.add("priority", "Priority", QUALITIES[self.priority])
+        node.add("pcp", "PCP", self.priority)
+        node.add("dscp", "DSCP Value", self.dscp)
+        return node
 
-    @property
-    def source_name(self) -> Optional[str]:
-        """Where the power of a PSE or a PD comes from."""
-        if self.device not in DEVICES:
-            return None
-        return (PD_SOURCES if self.device else PSE_SOURCES)[self.source]
-
-    @property
-    def priority_name(self) -> Optional[str]:
-        """The priority of the PD."""
-        return PRIORITIES[self.priority] if self.priority < len(PRIORITIES) else None
-
-
-@dataclass(frozen=True)
-class Inventory:
-    """Inventory, subtypes 5 to 11: its kind, of `INVENTORY`, and its text."""
-    kind: str
-    text: bytes
-
-
-@dataclass(frozen=True)
-class MudUrl:
-    """Manufacturer Usage Description, subtype 1 of RFC 8520."""
-    url: bytes
-
-
-def capabilities(octets: bytes) -> Optional[MedCapabilities]:
-    """Two octets, and the class."""
-    return MedCapabilities(number(octets[:2]), octets[2]) if len(octets) == 3 else None
-
-
-def network_policy(octets: bytes) -> Optional[NetworkPolicy]:
-    """An application; unknown (1 bit), tagged (1), reserved (1), VLAN (12), priority (3) and
-    DSCP (6)."""
-    if len(octets) != 4:
-        return None
-    bits = number(octets[1:])
-    vid = bits >> 9 & 0xfff
-    if vid > GREATEST_VID:
-        return None
-    return NetworkPolicy(octets[0], bool(bits >> 23), bool(bits >> 22 & 1), vid, bits >> 6 & 7,
-                         bits & 63)
-
-
-def med_power(octets: bytes) -> Optional[MedPower]:
-    """Type (2 bits), source (2) and priority (4), and the power in two octets."""
-    if len(octets) != 3:
-        return None
-    return MedPower(octets[0] >> 6, octets[0] >> 4 & 3, octets[0] & 15, number(octets[1:]))
-
-
-def inventory(kind: str) -> Callable[[bytes], Inventory]:
-    """What reads a text of that kind."""
-    return lambda octets: Inventory(kind, octets)
-
-
-def mud_url(octets: bytes) -> Optional[MudUrl]:
-    """One octet or more."""
-    return MudUrl(octets) if octets else None
+    @classmethod
+    def nodes(cls, said: Said) -> List[Node]:
+        """Returns the node of the last policy of each application that is known."""
+        last = {one.application: one for one in said.all(cls)}
+        return [last[one].node() for one in sorted(last) if one in APPLICATIONS]

@@ -1,141 +1,112 @@
-"""What a neighbor says in its organizationally specific TLVs, all of them together."""
+"""All that a neighbor says in TLVs of organizations: as objects, as rows for people, as JSON."""
 from __future__ import annotations
 
 from dataclasses import dataclass
-from typing import Callable, Dict, Iterable, List, Mapping, NamedTuple, Optional, Tuple, Type
-from typing import TypeVar, Union
+from typing import Dict, Iterable, List, Mapping, Optional, Tuple
 
-from . import dcb, dot1, dot3, med
-from .location import CivicAddress, Coordinates, Elin, Location, location
+from . import kinds
+from .kinds import OF_LLDPD, Object, Row, Said, Tlv
 
-Tlv = Union[dot1.PortVlan, dot1.ProtocolVlan, dot1.VlanName, dot1.ProtocolIdentity,
-            dot1.VidUsageDigest, dot1.ManagementVlan, dot1.LinkAggregation,
-            dcb.Ets, dcb.EtsRecommendation, dcb.Pfc, dcb.ApplicationPriorities,
-            dot3.MacPhy, dot3.Power, dot3.MaxFrameSize, dot3.Eee,
-            med.MedCapabilities, med.NetworkPolicy, Location, med.MedPower, med.Inventory,
-            med.MudUrl]
-Reader = Callable[[bytes], Optional[Tlv]]
-One = TypeVar("One")
-
-DOT1, DOT3, MED, IANA = "0080c2", "00120f", "0012bb", "00005e"
-READERS: Dict[Tuple[str, int], Reader] = {
-    (DOT1, 1): dot1.port_vlan,
-    (DOT1, 2): dot1.protocol_vlan,
-    (DOT1, 3): dot1.vlan_name,
-    (DOT1, 4): dot1.protocol_identity,
-    (DOT1, 5): dot1.vid_usage_digest,
-    (DOT1, 6): dot1.management_vlan,
-    (DOT1, 7): dot1.link_aggregation,
-    (DOT1, 9): dcb.ets,
-    (DOT1, 10): dcb.ets_recommendation,
-    (DOT1, 11): dcb.pfc,
-    (DOT1, 12): dcb.application_priorities,
-    (DOT3, 1): dot3.mac_phy,
-    (DOT3, 2): dot3.power,
-    (DOT3, 3): dot1.link_aggregation,
-    (DOT3, 4): dot3.max_frame_size,
-    (DOT3, 5): dot3.eee,
-    (MED, 1): med.capabilities,
-    (MED, 2): med.network_policy,
-    (MED, 3): location,
-    (MED, 4): med.med_power,
-    **{(MED, subtype): med.inventory(kind) for subtype, kind in enumerate(med.INVENTORY, 5)},
-    (IANA, 1): med.mud_url,
-}
-# of these a neighbor may send several
-REPEATED = (dot1.ProtocolVlan, dot1.VlanName, dot1.ProtocolIdentity, med.NetworkPolicy,
-            Coordinates, CivicAddress, Elin)
-
-
-class Kept(NamedTuple):
-    """A TLV: OUI and subtype, such as `00120f.1`, its octets in hexadecimal, and what it says;
-    None where that is not known."""
-    kind: str
-    octets: str
-    tlv: Optional[Tlv]
+Org = Iterable[Tuple[str, str]]
 
 
 @dataclass(frozen=True)
-class Organizational:
+class Organizational(Said):
     """What a neighbor says in organizationally specific TLVs.
 
-    `tlvs` are those that are read, in the order in which they were sent. `rest` has OUI and
-    subtype, and the octets in hexadecimal, of all others: TLVs of other kinds, those without the
-    form of their kind, and those of which there should be one and several differ.
+    `rest` has OUI and subtype, and the octets in hexadecimal, of all TLVs that are not in `tlvs`:
+    those of other kinds, those without the form of their kind, and those of which there should be
+    one and several differ.
     """
-    tlvs: Tuple[Tlv, ...] = ()
     rest: Tuple[Tuple[str, str], ...] = ()
-
-    def one(self, kind: Type[One]) -> Optional[One]:
-        """The TLV of a class, None where there is none: `one(PortVlan)`."""
-        return next((tlv for tlv in self.tlvs if isinstance(tlv, kind)), None)
-
-    def all(self, kind: Type[One]) -> Tuple[One, ...]:
-        """Each TLV of a class: `all(VlanName)`."""
-        return tuple(tlv for tlv in self.tlvs if isinstance(tlv, kind))
 
     @property
     def pvid(self) -> Optional[int]:
-        """The Port VLAN ID, 0 where the port has none; None where nothing is said of it."""
-        found = self.one(dot1.PortVlan)
-        return None if found is None else found.pvid
+        """The Port VLAN ID, 0 if the port has none; None if nothing is said of it."""
+        return self._number("vlan.pvid")
 
     @property
     def max_frame_size(self) -> Optional[int]:
         """The maximum frame size in octets."""
-        found = self.one(dot3.MaxFrameSize)
-        return None if found is None else found.octets
+        return self._number("max_frame_size")
 
     @property
     def inventory(self) -> Mapping[str, bytes]:
-        """The inventory by its kinds, those of `med.INVENTORY` that are said."""
-        return {tlv.kind: tlv.text for tlv in self.all(med.Inventory)}
+        """The texts of the inventory by their kinds, those of `inventory.INVENTORY` that are
+        said."""
+        from .inventory import Inventory
+        return {tlv.kind: tlv.text for tlv in self.all(Inventory)}
+
+    def _number(self, path: str) -> Optional[int]:
+        """The value of the TLV with this path in JSON, whose class may not be loaded."""
+        return next((tlv.value() for tlv in self.tlvs if tlv.path == path), None)
 
 
 def read_tlv(oui: str, subtype: int, octets: bytes) -> Optional[Tlv]:
-    """What a TLV says; None where its kind is not known or it does not have the form of its kind.
+    """Returns what a TLV says; None if its kind is not known or it does not have its kind's form.
 
     The OUI is in lower case, as `0080c2`; the octets are those behind the subtype.
     """
-    reader = READERS.get((oui, subtype))
+    reader = kinds.reader_of(oui, subtype)
     return None if reader is None else reader(octets)
 
 
-def said_by(org: Iterable[Tuple[str, str]]) -> Organizational:
-    """What the TLVs of a neighbor say together: `said_by(neighbor.org)`."""
-    kept = [Kept(kind, octets, read_shown(kind, octets)) for kind, octets in org]
-    unclear = differing(kept)
+def said_by(org: Org) -> Organizational:
+    """Returns what the TLVs of a neighbor say together: `said_by(neighbor.org)`."""
+    kept = [(shown, read_shown(*shown)) for shown in org]
+    unclear = differing(tlv for _, tlv in kept if tlv is not None)
     tlvs: List[Tlv] = []
     rest: List[Tuple[str, str]] = []
-    for one in kept:
-        if one.tlv is None or place_of(one.tlv) in unclear:
-            rest.append((one.kind, one.octets))
-        elif isinstance(one.tlv, REPEATED) or one.tlv not in tlvs:
-            tlvs.append(one.tlv)
+    for shown, tlv in kept:
+        if tlv is None or (type(tlv), tlv.part) in unclear:
+            rest.append(shown)
+        elif tlv.is_repeated or tlv not in tlvs:
+            tlvs.append(tlv)
     return Organizational(tuple(tlvs), tuple(rest))
 
 
 def read_shown(kind: str, digits: str) -> Optional[Tlv]:
-    """What a TLV says that is shown as `00120f.1` and hexadecimal."""
+    """Returns what a TLV says that is shown as `00120f.1` and hexadecimal."""
     oui, _, subtype = kind.partition(".")
     try:
         return read_tlv(oui, int(subtype), bytes.fromhex(digits))
-    except ValueError:  # no numbers, as no agent shows them
+    except ValueError:  # not numbers, so no agent has shown them
         return None
 
 
-def place_of(tlv: Tlv) -> Tuple[type, str]:
-    """What two TLVs have in common of which there should be one."""
-    return type(tlv), tlv.kind if isinstance(tlv, med.Inventory) else ""
-
-
-def differing(kept: Iterable[Kept]) -> List[Tuple[type, str]]:
-    """Where there should be one TLV, and several say different things."""
+def differing(tlvs: Iterable[Tlv]) -> List[Tuple[type, str]]:
+    """Returns of what there should be one TLV, and several say different things."""
     first: Dict[Tuple[type, str], Tlv] = {}
-    found = []
-    for one in kept:
-        if one.tlv is None or isinstance(one.tlv, REPEATED):
-            continue
-        if first.setdefault(place_of(one.tlv), one.tlv) != one.tlv:
-            found.append(place_of(one.tlv))
-    return found
+    some = (tlv for tlv in tlvs if not tlv.is_repeated)
+    places = (((type(tlv), tlv.part), tlv) for tlv in some)
+    return [place for place, tlv in places if first.setdefault(place, tlv) != tlv]
+
+
+def known_to_lldpd(org: Org) -> Tuple[Organizational, List[Tuple[str, str]]]:
+    """Returns what the TLVs say that lldpd knows, and the others in their order, with those whose
+    octets do not have the form of their kind."""
+    kinds.load()
+    shown = list(org)
+    said = said_by(one for one in shown if one[0] in OF_LLDPD)
+    return said, [one for one in shown if one[0] not in OF_LLDPD or one in said.rest]
+
+
+def rows_of(said: Organizational) -> List[Row]:
+    """Returns what is said, one row for each thing."""
+    return [row for kind in kinds.kinds() for row in kind.rows(said) if row.text]
+
+
+def organizational_object(said: Organizational) -> Object:
+    """Returns all that is said as an object for JSON; what is not said is null or empty."""
+    kinds.load()
+    told: Object = {}
+    for kind in kinds.kinds():
+        for path, value in kind.values(said).items():
+            outer, _, inner = path.rpartition(".")
+            (told.setdefault(outer, {}) if outer else told)[inner] = value
+    groups = {tlv.path.partition(".")[0] for tlv in said.tlvs}
+    told.update((group, None) for group in ("dcb", "med") if group not in groups)
+    rest = ((kind.partition("."), octets) for kind, octets in said.rest)
+    told["organizational"] = [{"oui": oui, "subtype": int(subtype), "octets": octets}
+                              for (oui, _, subtype), octets in rest]
+    return told

@@ -2,8 +2,14 @@
 
 use crate::fault::{CommandFault, NoPort, OpenFault};
 use crate::machine::Mark;
+use crate::neighbors::{Neighbors, News};
 use crate::sys;
-use std::ptr;
+use alloc::boxed::Box;
+use alloc::string::String;
+use alloc::vec;
+use alloc::vec::Vec;
+use core::mem::size_of;
+use core::ptr;
 
 /// What a station is.
 #[derive(Clone, Copy, Debug, PartialEq, Eq, Hash)]
@@ -83,7 +89,7 @@ pub enum Show {
 
 impl Show {
     /// The show of that number, or None for a command that changed something.
-    fn of(number: u8) -> Option<Show> {
+    fn of(number: u32) -> Option<Show> {
         match number {
             1 => Some(Show::Neighbors),
             2 => Some(Show::Statistics),
@@ -105,7 +111,8 @@ pub struct Commanded {
 
 /// An open agent. Its memory is taken by [`Agent::open`] alone, and given back where it is dropped.
 ///
-/// It stays on the thread that opened it.
+/// It stays on the thread that opened it, and is not `Send`: the toolchain that proves the library does not say of the
+/// memory behind the handle that another thread may use it.
 ///
 /// ```
 /// use lldpa::{Agent, Options, Show};
@@ -117,30 +124,40 @@ pub struct Commanded {
 /// assert!(agent.show(Show::Neighbors).starts_with("lldp.eth0.neighbors=0\n"));
 /// # Ok::<(), Box<dyn std::error::Error>>(())
 /// ```
+#[derive(Debug)]
 pub struct Agent {
     // It has a place of its own: an open handle is not to be copied.
-    handle: Box<sys::Agent>,
+    pub(crate) handle: Box<sys::Agent>,
+    /// How many ports it has.
+    ports: u8,
 }
+
+/// What several ticks did.
+#[derive(Clone, Debug, PartialEq, Eq)]
+pub struct Ticks {
+    /// How many were taken.
+    pub taken: u32,
+    /// How many neighbors aged out at the last of them.
+    pub aged_out: u32,
+    /// Which ports send at the last of them.
+    pub sent: Vec<Sent>,
+}
+
+/// The room for the lines of a show beside those of neighbors, and for those of one neighbor, which mostly has fewer.
+const SHOW_ROOM: usize = 1 << 16;
+const SHOW_ROOM_OF_NEIGHBOR: usize = 1 << 10;
 
 /// The marks that a call wrote.
 fn sent(marks: &sys::Marks) -> Vec<Sent> {
     marks.items[..usize::from(marks.count)]
         .iter()
-        .filter_map(|item| {
-            Some(Sent {
-                port: item.port,
-                mark: Mark::of(item.mark)?,
-            })
-        })
+        .filter_map(|item| Some(Sent { port: item.port, mark: Mark::of(item.mark)? }))
         .collect()
 }
 
 /// No marks.
 fn no_marks() -> sys::Marks {
-    sys::Marks {
-        items: [sys::Mark::default(); 64],
-        count: 0,
-    }
+    sys::Marks { items: [sys::Mark::default(); 64], count: 0 }
 }
 
 impl Agent {
@@ -148,14 +165,14 @@ impl Agent {
     ///
     /// # Errors
     ///
-    /// The first fault of the options, or want of memory.
+    /// The first fault of the options, want of memory, or an archive of another version.
     pub fn open(options: &Options<'_>) -> Result<Agent, OpenFault> {
-        let ports: Vec<sys::Text> = options
-            .ports
-            .iter()
-            .map(|name| sys::Text::of(name))
-            .collect();
+        if !crate::is_of_this_version() {
+            return Err(OpenFault::Version);
+        }
+        let ports: Vec<sys::Text> = options.ports.iter().map(|name| sys::Text::of(name)).collect();
         let given = sys::Options {
+            size: size_of::<sys::Options>(),
             ports: ports.as_ptr(),
             port_count: ports.len(),
             hostname: sys::Text::of(options.hostname),
@@ -163,30 +180,35 @@ impl Agent {
             management: options.management.unwrap_or_default(),
             managed: options.management.is_some(),
             receive_only: options.receive_only,
-            role: options.role as u8,
-            max_neighbors: options.max_neighbors,
-            credit_max: options.credit_max,
-            fast_init: options.fast_init,
-            reinit: options.reinit,
+            role: options.role as u32,
+            max_neighbors: options.max_neighbors.into(),
+            credit_max: options.credit_max.into(),
+            fast_init: options.fast_init.into(),
+            reinit: options.reinit.into(),
         };
-        let mut handle = Box::new(sys::Agent {
-            held: ptr::null_mut(),
-            open: false,
-        });
+        let mut handle = Box::new(sys::Agent { held: ptr::null_mut(), open: false });
         // SAFETY: the names live until the call returns, which keeps none of them; the handle is closed.
         let answer = unsafe { sys::lldpa_open(&given, &mut *handle) };
-        match OpenFault::of(answer) {
-            Some(fault) => Err(fault),
-            None => Ok(Agent { handle }),
-        }
+        OpenFault::check(answer)?;
+        let ports = options.ports.len() as u8;
+        Ok(Agent { handle, ports })
     }
 
     /// One second has passed. Tells which ports send, by rising port.
     pub fn tick(&mut self) -> Vec<Sent> {
         let mut marks = no_marks();
         // SAFETY: the handle is open, and the marks are a value of their own.
-        unsafe { sys::lldpa_tick(&mut *self.handle, &mut marks) };
+        unsafe { sys::lldpa_tick(&mut *self.handle, &mut marks, ptr::null_mut()) };
         sent(&marks)
+    }
+
+    /// Up to `count` seconds have passed: takes as many ticks, but stops behind the first at which a port sends or a
+    /// neighbor ages out. Call it again for the others.
+    pub fn ticks(&mut self, count: u32) -> Ticks {
+        let (mut marks, mut told) = (no_marks(), sys::TicksTaken::default());
+        // SAFETY: the handle is open, and the others are values of their own.
+        unsafe { sys::lldpa_ticks(&mut *self.handle, count, &mut marks, &mut told) };
+        Ticks { taken: told.taken, aged_out: told.aged_out, sent: sent(&marks) }
     }
 
     /// A frame came on a port: any octets; what is no LLDP frame changes nothing. Tells which ports send.
@@ -197,16 +219,56 @@ impl Agent {
     pub fn frame(&mut self, port: u8, octets: &[u8]) -> Result<Vec<Sent>, NoPort> {
         let mut marks = no_marks();
         // SAFETY: the handle is open, the octets are as many as are told, and the marks are a value of their own.
-        match unsafe {
+        let answer = unsafe {
             sys::lldpa_frame(
                 &mut *self.handle,
-                port,
+                port.into(),
                 octets.as_ptr(),
                 octets.len(),
                 &mut marks,
+                ptr::null_mut(),
             )
-        } {
+        };
+        match answer {
             sys::OK => Ok(sent(&marks)),
+            _ => Err(NoPort),
+        }
+    }
+
+    /// A frame came on a port, as for [`Agent::frame`]. Tells what it did, too.
+    ///
+    /// # Errors
+    ///
+    /// The agent has no such port.
+    pub fn frame_news<'f>(&mut self, port: u8, octets: &'f [u8]) -> Result<(Vec<Sent>, News<'f>), NoPort> {
+        let (mut marks, mut news) = (no_marks(), sys::News::default());
+        // SAFETY: the handle is open, the octets are as many as are told, and the others are values of their own.
+        let answer = unsafe {
+            sys::lldpa_frame(
+                &mut *self.handle,
+                port.into(),
+                octets.as_ptr(),
+                octets.len(),
+                &mut marks,
+                &mut news,
+            )
+        };
+        match answer {
+            sys::OK => Ok((sent(&marks), News::of(&news, octets))),
+            _ => Err(NoPort),
+        }
+    }
+
+    /// The neighbors of a port, in the order in which they were last new.
+    ///
+    /// # Errors
+    ///
+    /// The agent has no such port.
+    pub fn neighbors(&mut self, port: u8) -> Result<Neighbors<'_>, NoPort> {
+        let mut count = 0;
+        // SAFETY: the handle is open, and the count is a value of its own.
+        match unsafe { sys::lldpa_neighbor_count(&mut *self.handle, port.into(), &mut count) } {
+            sys::OK => Ok(Neighbors::new(self, port, count)),
             _ => Err(NoPort),
         }
     }
@@ -219,7 +281,7 @@ impl Agent {
     pub fn link(&mut self, port: u8, up: bool) -> Result<Vec<Sent>, NoPort> {
         let mut marks = no_marks();
         // SAFETY: the handle is open, and the marks are a value of their own.
-        match unsafe { sys::lldpa_link(&mut *self.handle, port, up, &mut marks) } {
+        match unsafe { sys::lldpa_link(&mut *self.handle, port.into(), up, &mut marks) } {
             sys::OK => Ok(sent(&marks)),
             _ => Err(NoPort),
         }
@@ -236,27 +298,25 @@ impl Agent {
         let (mut marks, mut show) = (no_marks(), 0);
         // SAFETY: the handle is open, the line has as many octets as are told, and the others are values of their own.
         let answer = unsafe {
-            sys::lldpa_command(
-                &mut *self.handle,
-                line.as_ptr(),
-                line.len(),
-                &mut show,
-                &mut marks,
-            )
+            sys::lldpa_command(&mut *self.handle, line.as_ptr(), line.len(), &mut show, &mut marks)
         };
-        match CommandFault::of(answer) {
-            Some(fault) => Err(fault),
-            None => Ok(Commanded {
-                show: Show::of(show),
-                sent: sent(&marks),
-            }),
-        }
+        CommandFault::check(answer)?;
+        Ok(Commanded { show: Show::of(show), sent: sent(&marks) })
+    }
+
+    /// A room for which a show mostly has not too many lines.
+    fn room_of_show(&mut self) -> usize {
+        let held: usize = (0..self.ports)
+            .map(|port| self.neighbors(port).map_or(0, |all| all.len()))
+            .sum();
+        SHOW_ROOM + SHOW_ROOM_OF_NEIGHBOR * held
     }
 
     /// All lines of a show, each with its line feed.
+    #[must_use]
     pub fn show(&mut self, show: Show) -> String {
         let mut text = String::new();
-        let mut room = [0u8; sys::LINES_ROOM];
+        let mut room = vec![0u8; self.room_of_show()];
         let mut lines = sys::Lines::default();
         while !lines.done {
             let from = lines.next;
@@ -264,7 +324,7 @@ impl Agent {
             let answer = unsafe {
                 sys::lldpa_show_lines(
                     &mut *self.handle,
-                    show as u8,
+                    show as u32,
                     from,
                     room.as_mut_ptr(),
                     room.len(),
@@ -275,19 +335,22 @@ impl Agent {
                 break;
             }
             text.push_str(&String::from_utf8_lossy(&room[..lines.length]));
+            // Each further call goes through the lines before again, so it gets twice the room.
+            room.resize(2 * room.len(), 0);
         }
         text
     }
 
     /// One line of a show, from 0, without its line feed. None behind the last.
+    #[must_use]
     pub fn show_line(&mut self, show: Show, line: u32) -> Option<String> {
-        let mut room = [0u8; sys::LINES_ROOM];
+        let mut room = [0u8; sys::LINE_ROOM];
         let mut length = 0;
         // SAFETY: the handle is open, the room has as many octets as are told, and the length is a value of its own.
         let answer = unsafe {
             sys::lldpa_show_line(
                 &mut *self.handle,
-                show as u8,
+                show as u32,
                 line,
                 room.as_mut_ptr(),
                 room.len(),
@@ -309,8 +372,8 @@ impl Agent {
         let answer = unsafe {
             sys::lldpa_frame_of(
                 &mut *self.handle,
-                port,
-                mark as u8,
+                port.into(),
+                mark as u32,
                 frame.as_mut_ptr(),
                 frame.len(),
                 &mut length,

@@ -3,6 +3,8 @@
 use crate::fault::{BuildFault, OutOfRange};
 use crate::reading::Tlv;
 use crate::sys;
+use alloc::vec;
+use alloc::vec::Vec;
 
 /// Gathers what an LLDPDU is to have.
 ///
@@ -15,6 +17,7 @@ use crate::sys;
 /// # Ok::<(), lldpa::OutOfRange>(())
 /// ```
 #[derive(Clone, Debug)]
+#[must_use]
 pub struct Builder<'a> {
     chassis: &'a [u8],
     port: &'a [u8],
@@ -26,12 +29,7 @@ impl<'a> Builder<'a> {
     /// Begins with the bodies of the Chassis ID and the Port ID, their subtypes first, 2 to 256 octets each, and the time
     /// to live in seconds. One of 0 makes a shutdown LLDPDU, which has no other TLVs.
     pub fn new(chassis: &'a [u8], port: &'a [u8], ttl: u16) -> Builder<'a> {
-        Builder {
-            chassis,
-            port,
-            ttl,
-            tlvs: Vec::new(),
-        }
+        Builder { chassis, port, ttl, tlvs: Vec::new() }
     }
 
     /// Puts a TLV behind the others. What is wrong with it, [`Built::faults`] tells.
@@ -49,11 +47,7 @@ impl<'a> Builder<'a> {
         let tlvs: Vec<sys::Tlv> = self
             .tlvs
             .iter()
-            .map(|tlv| sys::Tlv {
-                body: tlv.body.as_ptr(),
-                length: tlv.body.len(),
-                kind: tlv.kind,
-            })
+            .map(|tlv| sys::Tlv { body: tlv.body.as_ptr(), length: tlv.body.len(), kind: tlv.kind })
             .collect();
         let mut faults = vec![0u8; tlvs.len()];
         let mut octets = vec![0u8; sys::PDU_ROOM];
@@ -81,7 +75,7 @@ impl<'a> Builder<'a> {
         octets.truncate(length);
         Ok(Built {
             octets,
-            faults: faults.into_iter().map(BuildFault::of).collect(),
+            faults: faults.into_iter().map(|answer| BuildFault::check(answer).err()).collect(),
         })
     }
 }
@@ -95,11 +89,13 @@ pub struct Built {
 
 impl Built {
     /// Its octets, at most 1500, the End Of LLDPDU included.
+    #[must_use]
     pub fn octets(&self) -> &[u8] {
         &self.octets
     }
 
     /// For each TLV that was put, in their order, why it was left out, or None.
+    #[must_use]
     pub fn faults(&self) -> &[Option<BuildFault>] {
         &self.faults
     }

@@ -1,8 +1,8 @@
 //! Why a call gives nothing.
 
 use crate::sys;
-use std::error::Error;
-use std::fmt;
+use alloc::string::String;
+use core::fmt;
 
 /// Declares an enum of faults, each with its number in `lldpa.h` and its text.
 macro_rules! faults {
@@ -11,18 +11,22 @@ macro_rules! faults {
         #[derive(Clone, Copy, Debug, PartialEq, Eq, Hash)]
         pub enum $name {
             $($(#[$case_about])* $case = $number,)*
+            /// The archive answered a number that this crate does not know: it is of another version.
+            Unexpected = 255,
         }
 
         impl $name {
-            /// The fault of that number, if there is one.
-            pub(crate) fn of(number: u8) -> Option<$name> {
-                match number {
-                    $($number => Some($name::$case),)*
-                    _ => None,
+            /// What an answer says: nothing is wrong, or this fault.
+            pub(crate) fn check(answer: u8) -> Result<(), $name> {
+                match answer {
+                    sys::OK => Ok(()),
+                    $($number => Err($name::$case),)*
+                    _ => Err($name::Unexpected),
                 }
             }
 
-            /// The number of the fault in `lldpa.h`.
+            /// The number of the fault in `lldpa.h`, or 255.
+            #[must_use]
             pub fn number(self) -> u8 {
                 self as u8
             }
@@ -32,11 +36,13 @@ macro_rules! faults {
             fn fmt(&self, out: &mut fmt::Formatter<'_>) -> fmt::Result {
                 out.write_str(match self {
                     $($name::$case => $text,)*
+                    $name::Unexpected => "an answer that this crate does not know",
                 })
             }
         }
 
-        impl Error for $name {}
+        #[cfg(feature = "std")]
+        impl std::error::Error for $name {}
     };
 }
 
@@ -66,11 +72,11 @@ faults! {
     /// Why a TLV is left out of an LLDPDU that is built.
     BuildFault {
         /// It and the End Of LLDPDU do not fit in 1500 octets.
-        Full = 1, "it does not fit in 1500 octets";
+        Full = 11, "it does not fit in 1500 octets";
         /// Its type is not 4 to 127, or one of 4 to 7 that was put before, or the TTL is 0.
-        Kind = 2, "no TLV of its type may be put";
+        Kind = 12, "no TLV of its type may be put";
         /// Its body is over 511 octets, or not well formed for its type.
-        Body = 3, "its body is not well formed for its type";
+        Body = 13, "its body is not well formed for its type";
     }
 }
 
@@ -78,19 +84,21 @@ faults! {
     /// Why an agent is not opened, in the order of the checks.
     OpenFault {
         /// There was no memory for it.
-        Memory = 1, "there was no memory";
+        Memory = 21, "there was no memory";
         /// No port was named.
-        NoPorts = 2, "no port was named";
+        NoPorts = 22, "no port was named";
         /// More than 64 ports were named.
-        TooManyPorts = 3, "more than 64 ports were named";
+        TooManyPorts = 23, "more than 64 ports were named";
         /// The name of a port is none.
-        PortName = 4, "the name of a port is none";
+        PortName = 24, "the name of a port is none";
         /// Two ports have the same name.
-        SamePort = 5, "two ports have the same name";
+        SamePort = 25, "two ports have the same name";
         /// The hostname is over 255 octets, or has one that is not printable ASCII.
-        Text = 6, "the hostname is over 255 octets, or has one that is not printable";
+        Text = 26, "the hostname is over 255 octets, or has one that is not printable";
         /// `max_neighbors`, `credit_max`, `fast_init` or `reinit` is not in its range.
         OutOfRange = 100, "a number of the options is not in its range";
+        /// The archive is of another version than this crate.
+        Version = 254, "the archive is of another version than this crate";
     }
 }
 
@@ -98,33 +106,32 @@ faults! {
     /// Why a command is refused: the first fault in reading order.
     CommandFault {
         /// A word is missing, or no form has it there.
-        Unknown = 1, "unknown command";
+        Unknown = 31, "unknown command";
         /// No port has that name.
-        NoSuchPort = 2, "no such port";
+        NoSuchPort = 32, "no such port";
         /// A word is not one or more decimal digits.
-        Number = 3, "not a number";
+        Number = 33, "not a number";
         /// A number is not in its range.
-        Range = 4, "out of range";
+        Range = 34, "out of range";
         /// A text is over 255 octets, or has one that is not printable ASCII.
-        Text = 5, "bad text";
+        Text = 35, "bad text";
         /// A word follows a complete command.
-        Extra = 6, "extra word";
+        Extra = 36, "extra word";
         /// A quote is wrong.
-        Quote = 7, "bad quote";
+        Quote = 37, "bad quote";
         /// Some port holds more neighbors than the limit.
-        InUse = 8, "too many held";
+        InUse = 38, "too many held";
     }
 }
 
 impl CommandFault {
     /// The line that the program writes of the fault, as `error: unknown command`.
+    #[must_use]
     pub fn line(self) -> String {
         let mut room = [0u8; sys::TEXT_ROOM];
         let mut length = 0;
         // SAFETY: the room has as many octets as are told, and nothing else is lent.
-        unsafe {
-            sys::lldpa_command_text(self.number(), room.as_mut_ptr(), room.len(), &mut length)
-        };
+        unsafe { sys::lldpa_command_text(self.number().into(), room.as_mut_ptr(), room.len(), &mut length) };
         String::from_utf8_lossy(&room[..length]).into_owned()
     }
 }
@@ -139,7 +146,8 @@ impl fmt::Display for OutOfRange {
     }
 }
 
-impl Error for OutOfRange {}
+#[cfg(feature = "std")]
+impl std::error::Error for OutOfRange {}
 
 /// The agent has no port of that number.
 #[derive(Clone, Copy, Debug, PartialEq, Eq, Hash)]
@@ -151,4 +159,5 @@ impl fmt::Display for NoPort {
     }
 }
 
-impl Error for NoPort {}
+#[cfg(feature = "std")]
+impl std::error::Error for NoPort {}

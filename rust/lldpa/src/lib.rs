@@ -6,24 +6,46 @@
 //! - A whole agent on up to 64 ports: [`Agent`].
 //!
 //! What the library itself is proved to do, `docs/LIBRARY.md` of lldpa's repository says; this crate over it is tested.
-//! `build.rs` looks for the archive in the folder that `LLDPA_LIB_DIR` names, then where `tools/library.sh` writes it,
-//! then where pkg-config knows it.
+//! `build.rs` looks for the archive in the folder that `LLDPA_LIB_DIR` names, then where `tools/library/library.sh`
+//! writes it, then where pkg-config knows it.
+//!
+//! Without the feature `std` the crate needs `alloc` alone.
+#![no_std]
 #![warn(missing_docs)]
+
+extern crate alloc;
+#[cfg(feature = "std")]
+extern crate std;
 
 mod agent;
 mod building;
 mod fault;
 mod machine;
+mod neighbors;
 mod reading;
 mod sys;
 
-pub use agent::{Agent, Commanded, Options, Role, Sent, Show};
+pub use agent::{Agent, Commanded, Options, Role, Sent, Show, Ticks};
 pub use building::{Builder, Built};
 pub use fault::{BuildFault, CommandFault, NoPort, OpenFault, OutOfRange, PduFault};
 pub use machine::{Cause, Machine, Mark};
+pub use neighbors::{Neighbor, Neighbors, News};
 pub use reading::{
     caps, examine, frame_pdu, mgmt, Capabilities, Examined, Info, Kept, Management, Msap, Tlv,
 };
+
+/// The version of the archive: 10000 times the first number, 100 times the second and the third. [`Agent::open`] and
+/// [`Machine::new`] take only an archive of the version that this crate is of.
+#[must_use]
+pub fn version() -> u32 {
+    // SAFETY: nothing is lent.
+    unsafe { sys::lldpa_version() }
+}
+
+/// Whether the archive is of the version that this crate is of.
+fn is_of_this_version() -> bool {
+    version() == sys::VERSION
+}
 
 #[cfg(doctest)]
 #[doc = include_str!("../../../docs/LIBRARY.md")]

@@ -53,7 +53,7 @@ impl Mark {
 /// assert_eq!(machine.event(Cause::Tick, 30)?, None);
 /// # Ok::<(), lldpa::OutOfRange>(())
 /// ```
-#[derive(Clone)]
+#[derive(Clone, Debug)]
 pub struct Machine {
     held: sys::Machine,
 }
@@ -64,17 +64,17 @@ impl Machine {
     ///
     /// # Errors
     ///
-    /// A number is not in its range.
-    pub fn new(
-        credit_max: u8,
-        fast_init: u8,
-        reinit: u8,
-        allowed: bool,
-    ) -> Result<Machine, OutOfRange> {
+    /// A number is not in its range, or the archive is of another version.
+    pub fn new(credit_max: u8, fast_init: u8, reinit: u8, allowed: bool) -> Result<Machine, OutOfRange> {
         let mut held = sys::Machine::default();
+        if !crate::is_of_this_version() {
+            return Err(OutOfRange);
+        }
         // SAFETY: the struct is a value of its own.
-        match unsafe { sys::lldpa_transmit_new(&mut held, credit_max, fast_init, reinit, allowed) }
-        {
+        let answer = unsafe {
+            sys::lldpa_transmit_new(&mut held, credit_max.into(), fast_init.into(), reinit.into(), allowed)
+        };
+        match answer {
             sys::OK => Ok(Machine { held }),
             _ => Err(OutOfRange),
         }
@@ -88,14 +88,16 @@ impl Machine {
     pub fn event(&mut self, cause: Cause, interval: u16) -> Result<Option<Mark>, OutOfRange> {
         let mut mark = 0;
         // SAFETY: both are values of their own.
-        match unsafe { sys::lldpa_transmit_event(&mut self.held, cause as u8, interval, &mut mark) }
-        {
+        let answer =
+            unsafe { sys::lldpa_transmit_event(&mut self.held, cause as u32, interval.into(), &mut mark) };
+        match answer {
             sys::OK => Ok(Mark::of(mark)),
             _ => Err(OutOfRange),
         }
     }
 
     /// How many ordinary frames may go before the next tick, 0 to 10.
+    #[must_use]
     pub fn credit(&self) -> u8 {
         // SAFETY: the struct is a value of its own.
         unsafe { sys::lldpa_transmit_credit(&self.held) }

@@ -10,6 +10,7 @@ fn at(octets: &[u8], place: sys::Place) -> &[u8] {
 
 /// The LLDPDU of an Ethernet frame, which begins with its destination address and has no VLAN tag and no check
 /// sequence. None for what is no LLDP frame: 14 to 1514 octets, to 01-80-C2-00-00-0E, of EtherType 88-CC.
+#[must_use]
 pub fn frame_pdu(frame: &[u8]) -> Option<&[u8]> {
     let mut place = sys::Place::default();
     // SAFETY: the frame has as many octets as are told; the place is a value of its own.
@@ -37,6 +38,7 @@ pub enum Examined<'a> {
 
 impl<'a> Examined<'a> {
     /// Who sent it.
+    #[must_use]
     pub fn msap(&self) -> Msap<'a> {
         match self {
             Examined::Shutdown(msap) => *msap,
@@ -57,36 +59,38 @@ pub struct Info<'a> {
 
 impl<'a> Info<'a> {
     /// Who sent it.
+    #[must_use]
     pub fn msap(&self) -> Msap<'a> {
         self.msap
     }
 
     /// The octets that count: those before the End Of LLDPDU.
+    #[must_use]
     pub fn octets(&self) -> &'a [u8] {
         self.octets
     }
 
     /// The time to live in seconds, 1 to 65535.
+    #[must_use]
     pub fn ttl(&self) -> u16 {
         self.ttl
     }
 
     /// How many TLVs are discarded, one that is not complete among them.
+    #[must_use]
     pub fn discarded(&self) -> usize {
         self.discarded
     }
 
     /// How many kept TLVs are of the types 9 to 127.
+    #[must_use]
     pub fn unrecognized(&self) -> usize {
         self.unrecognized
     }
 
     /// The kept TLVs in their order: well formed, and the first of its type where that is 4 to 7.
     pub fn kept(&self) -> Kept<'a> {
-        Kept {
-            extent: self.octets,
-            walk: sys::Kept::default(),
-        }
+        Kept { extent: self.octets, walk: sys::Kept::default() }
     }
 }
 
@@ -107,13 +111,8 @@ pub fn examine(pdu: &[u8]) -> Result<Examined<'_>, PduFault> {
     let mut told = sys::Examined::default();
     // SAFETY: the LLDPDU has as many octets as are told; the struct is a value of its own.
     let fault = unsafe { sys::lldpa_examine(pdu.as_ptr(), pdu.len(), &mut told) };
-    if let Some(fault) = PduFault::of(fault) {
-        return Err(fault);
-    }
-    let msap = Msap {
-        chassis: at(pdu, told.chassis),
-        port: at(pdu, told.port),
-    };
+    PduFault::check(fault)?;
+    let msap = Msap { chassis: at(pdu, told.chassis), port: at(pdu, told.port) };
     if told.ttl == 0 {
         return Ok(Examined::Shutdown(msap));
     }
@@ -136,7 +135,8 @@ pub struct Tlv<'a> {
 }
 
 /// The kept TLVs of an LLDPDU.
-#[derive(Clone)]
+#[derive(Clone, Debug)]
+#[must_use]
 pub struct Kept<'a> {
     extent: &'a [u8],
     walk: sys::Kept,
@@ -147,17 +147,12 @@ impl<'a> Iterator for Kept<'a> {
 
     fn next(&mut self) -> Option<Tlv<'a>> {
         // SAFETY: the extent has as many octets as are told; the walk is a value of its own.
-        let is_one = unsafe {
-            sys::lldpa_next_kept(self.extent.as_ptr(), self.extent.len(), &mut self.walk)
-        };
-        is_one.then(|| Tlv {
-            kind: self.walk.kind,
-            body: at(self.extent, self.walk.body),
-        })
+        let is_one = unsafe { sys::lldpa_next_kept(self.extent.as_ptr(), self.extent.len(), &mut self.walk) };
+        is_one.then(|| Tlv { kind: self.walk.kind, body: at(self.extent, self.walk.body) })
     }
 }
 
-impl std::iter::FusedIterator for Kept<'_> {}
+impl core::iter::FusedIterator for Kept<'_> {}
 
 /// What a System Capabilities TLV (type 7) says, each a sum of the standard's bits.
 #[derive(Clone, Copy, Debug, PartialEq, Eq, Hash)]
@@ -170,14 +165,12 @@ pub struct Capabilities {
 
 /// The fields of the body of a System Capabilities TLV. None where it is not well formed: four octets, and no bit
 /// enabled that is not available.
+#[must_use]
 pub fn caps(body: &[u8]) -> Option<Capabilities> {
     let mut told = sys::Capabilities::default();
     // SAFETY: the body has as many octets as are told; the struct is a value of its own.
     let is_read = unsafe { sys::lldpa_caps(body.as_ptr(), body.len(), &mut told) };
-    is_read.then_some(Capabilities {
-        available: told.available,
-        enabled: told.enabled,
-    })
+    is_read.then_some(Capabilities { available: told.available, enabled: told.enabled })
 }
 
 /// What a Management Address TLV (type 8) says.
@@ -196,6 +189,7 @@ pub struct Management<'a> {
 }
 
 /// The fields of the body of a Management Address TLV. None where it is not well formed.
+#[must_use]
 pub fn mgmt(body: &[u8]) -> Option<Management<'_>> {
     let mut told = sys::Management::default();
     // SAFETY: the body has as many octets as are told; the struct is a value of its own.

@@ -1,12 +1,17 @@
 //! The declarations of `lldpa.h`.
 #![allow(missing_docs)]
 
-use std::ffi::c_void;
+use core::ffi::c_void;
 
 pub const OK: u8 = 0;
 
+/// The version of the header that these declarations are of.
+pub const VERSION: u32 = 10000;
+
 /// Of so many octets each line of a show fits, with its line feed.
-pub const LINES_ROOM: usize = 2049;
+pub const LINE_ROOM: usize = 2049;
+/// No neighbor's LLDPDU has more octets.
+pub const NEIGHBOR_ROOM: usize = 1500;
 /// No frame that is sent has more octets.
 pub const FRAME_ROOM: usize = 1514;
 /// No LLDPDU that is built has more octets.
@@ -15,14 +20,14 @@ pub const PDU_ROOM: usize = 1500;
 pub const TEXT_ROOM: usize = 22;
 
 #[repr(C)]
-#[derive(Clone, Copy, Default)]
+#[derive(Clone, Copy, Debug, Default)]
 pub struct Place {
     pub start: usize,
     pub length: usize,
 }
 
 #[repr(C)]
-#[derive(Clone, Copy, Default)]
+#[derive(Clone, Copy, Debug, Default)]
 pub struct Examined {
     pub chassis: Place,
     pub port: Place,
@@ -33,7 +38,7 @@ pub struct Examined {
 }
 
 #[repr(C)]
-#[derive(Clone, Copy, Default)]
+#[derive(Clone, Copy, Debug, Default)]
 pub struct Kept {
     pub next: usize,
     pub body: Place,
@@ -42,14 +47,14 @@ pub struct Kept {
 }
 
 #[repr(C)]
-#[derive(Clone, Copy, Default)]
+#[derive(Clone, Copy, Debug, Default)]
 pub struct Capabilities {
     pub available: u16,
     pub enabled: u16,
 }
 
 #[repr(C)]
-#[derive(Clone, Copy, Default)]
+#[derive(Clone, Copy, Debug, Default)]
 pub struct Management {
     pub address: Place,
     pub oid: Place,
@@ -59,7 +64,7 @@ pub struct Management {
 }
 
 #[repr(C)]
-#[derive(Clone, Copy)]
+#[derive(Clone, Copy, Debug)]
 pub struct Tlv {
     pub body: *const u8,
     pub length: usize,
@@ -67,7 +72,7 @@ pub struct Tlv {
 }
 
 #[repr(C)]
-#[derive(Clone, Copy, Default)]
+#[derive(Clone, Copy, Debug, Default)]
 pub struct Machine {
     pub timer: u16,
     pub credit_max: u8,
@@ -83,7 +88,7 @@ pub struct Machine {
 }
 
 #[repr(C)]
-#[derive(Clone, Copy)]
+#[derive(Clone, Copy, Debug)]
 pub struct Text {
     pub octets: *const u8,
     pub length: usize,
@@ -92,15 +97,13 @@ pub struct Text {
 impl Text {
     /// A text that is lent for as long as the caller says.
     pub fn of(text: &str) -> Text {
-        Text {
-            octets: text.as_ptr(),
-            length: text.len(),
-        }
+        Text { octets: text.as_ptr(), length: text.len() }
     }
 }
 
 #[repr(C)]
 pub struct Options {
+    pub size: usize,
     pub ports: *const Text,
     pub port_count: usize,
     pub hostname: Text,
@@ -108,42 +111,67 @@ pub struct Options {
     pub management: [u8; 4],
     pub managed: bool,
     pub receive_only: bool,
-    pub role: u8,
-    pub max_neighbors: u8,
-    pub credit_max: u8,
-    pub fast_init: u8,
-    pub reinit: u8,
+    pub role: u32,
+    pub max_neighbors: u32,
+    pub credit_max: u32,
+    pub fast_init: u32,
+    pub reinit: u32,
 }
 
 #[repr(C)]
+#[derive(Debug)]
 pub struct Agent {
     pub held: *mut c_void,
     pub open: bool,
 }
 
 #[repr(C)]
-#[derive(Clone, Copy, Default)]
+#[derive(Clone, Copy, Debug, Default)]
 pub struct Mark {
     pub port: u8,
     pub mark: u8,
 }
 
 #[repr(C)]
-#[derive(Clone, Copy)]
+#[derive(Clone, Copy, Debug)]
 pub struct Marks {
     pub items: [Mark; 64],
     pub count: u8,
 }
 
 #[repr(C)]
-#[derive(Clone, Copy, Default)]
+#[derive(Clone, Copy, Debug, Default)]
 pub struct Lines {
     pub length: usize,
     pub next: u32,
     pub done: bool,
 }
 
+#[repr(C)]
+#[derive(Clone, Copy, Debug, Default)]
+pub struct TicksTaken {
+    pub taken: u32,
+    pub aged_out: u32,
+}
+
+#[repr(C)]
+#[derive(Clone, Copy, Debug, Default)]
+pub struct News {
+    pub chassis: Place,
+    pub port: Place,
+    pub what: u32,
+    pub fault: u32,
+}
+
+#[repr(C)]
+#[derive(Clone, Copy, Debug, Default)]
+pub struct Held {
+    pub pdu: Examined,
+    pub left: u32,
+}
+
 extern "C" {
+    pub fn lldpa_version() -> u32;
     pub fn lldpa_frame_pdu(frame: *const u8, length: usize, pdu: *mut Place) -> bool;
     pub fn lldpa_examine(pdu: *const u8, length: usize, told: *mut Examined) -> u8;
     pub fn lldpa_next_kept(extent: *const u8, length: usize, walk: *mut Kept) -> bool;
@@ -165,44 +193,45 @@ extern "C" {
     ) -> u8;
     pub fn lldpa_transmit_new(
         machine: *mut Machine,
-        credit_max: u8,
-        fast_init: u8,
-        reinit: u8,
+        credit_max: u32,
+        fast_init: u32,
+        reinit: u32,
         allowed: bool,
     ) -> u8;
-    pub fn lldpa_transmit_event(
-        machine: *mut Machine,
-        cause: u8,
-        interval: u16,
-        mark: *mut u8,
-    ) -> u8;
+    pub fn lldpa_transmit_event(machine: *mut Machine, cause: u32, interval: u32, mark: *mut u8) -> u8;
     pub fn lldpa_transmit_credit(machine: *const Machine) -> u8;
     pub fn lldpa_open(options: *const Options, agent: *mut Agent) -> u8;
-    pub fn lldpa_tick(agent: *mut Agent, marks: *mut Marks) -> u8;
+    pub fn lldpa_tick(agent: *mut Agent, marks: *mut Marks, aged_out: *mut u32) -> u8;
+    pub fn lldpa_ticks(agent: *mut Agent, count: u32, marks: *mut Marks, told: *mut TicksTaken) -> u8;
     pub fn lldpa_frame(
         agent: *mut Agent,
-        port: u8,
+        port: u32,
         octets: *const u8,
         length: usize,
         marks: *mut Marks,
+        news: *mut News,
     ) -> u8;
-    pub fn lldpa_link(agent: *mut Agent, port: u8, up: bool, marks: *mut Marks) -> u8;
+    pub fn lldpa_neighbor_count(agent: *mut Agent, port: u32, count: *mut u32) -> u8;
+    pub fn lldpa_neighbor(
+        agent: *mut Agent,
+        port: u32,
+        index: u32,
+        room: *mut u8,
+        room_length: usize,
+        told: *mut Held,
+    ) -> u8;
+    pub fn lldpa_link(agent: *mut Agent, port: u32, up: bool, marks: *mut Marks) -> u8;
     pub fn lldpa_command(
         agent: *mut Agent,
         line: *const u8,
         length: usize,
-        show: *mut u8,
+        show: *mut u32,
         marks: *mut Marks,
     ) -> u8;
-    pub fn lldpa_command_text(
-        fault: u8,
-        room: *mut u8,
-        room_length: usize,
-        length: *mut usize,
-    ) -> u8;
+    pub fn lldpa_command_text(fault: u32, room: *mut u8, room_length: usize, length: *mut usize) -> u8;
     pub fn lldpa_show_lines(
         agent: *mut Agent,
-        show: u8,
+        show: u32,
         from: u32,
         room: *mut u8,
         room_length: usize,
@@ -210,7 +239,7 @@ extern "C" {
     ) -> u8;
     pub fn lldpa_show_line(
         agent: *mut Agent,
-        show: u8,
+        show: u32,
         line: u32,
         room: *mut u8,
         room_length: usize,
@@ -218,8 +247,8 @@ extern "C" {
     ) -> u8;
     pub fn lldpa_frame_of(
         agent: *mut Agent,
-        port: u8,
-        mark: u8,
+        port: u32,
+        mark: u32,
         room: *mut u8,
         room_length: usize,
         length: *mut usize,

@@ -1,8 +1,8 @@
-//! The vectors and rows of examples/vectors.rows, whose form tools/vectors.py tells.
+//! The vectors and rows of examples/vectors.rows, whose head tells their form.
 
 use lldpa::{
-    caps, examine, frame_pdu, mgmt, Agent, BuildFault, Builder, Cause, Examined, Machine, Mark,
-    Options, OutOfRange,
+    caps, examine, frame_pdu, mgmt, Agent, BuildFault, Builder, Cause, Examined, Machine, Mark, Options,
+    OutOfRange,
 };
 
 const ROWS: &str = include_str!("../../../examples/vectors.rows");
@@ -50,11 +50,7 @@ fn examined() {
         let (name, pdu) = (row[0], octets(row[1]));
         let found = examine(&pdu);
         if row[2] == "fault" {
-            assert_eq!(
-                found.err().map(|fault| fault.number()),
-                Some(number(row[3])),
-                "{name}"
-            );
+            assert_eq!(found.err().map(|fault| fault.number()), Some(number(row[3])), "{name}");
             continue;
         }
         let found = found.expect(name);
@@ -66,22 +62,20 @@ fn examined() {
         };
         assert_eq!(info.ttl(), number::<u16>(row[3]), "{name}");
         assert_eq!(info.octets(), &pdu[..number(row[6])], "{name}");
-        assert_eq!(
-            (info.discarded(), info.unrecognized()),
-            (number(row[7]), number(row[8])),
-            "{name}"
-        );
+        assert_eq!((info.discarded(), info.unrecognized()), (number(row[7]), number(row[8])), "{name}");
         let wanted: Vec<(u8, Vec<u8>)> = row[9..]
             .iter()
             .map(|field| field.split_once(':').expect("KIND:BODY"))
             .map(|(kind, body)| (number(kind), octets(body)))
             .collect();
-        let kept: Vec<(u8, Vec<u8>)> = info
-            .kept()
-            .map(|tlv| (tlv.kind, tlv.body.to_vec()))
-            .collect();
+        let kept: Vec<(u8, Vec<u8>)> = info.kept().map(|tlv| (tlv.kind, tlv.body.to_vec())).collect();
         assert_eq!(kept, wanted, "{name}");
     }
+}
+
+/// A fault of a row, 0 or from 1 on, by the numbers of lldpa.h, of which this is the first.
+fn numbered(first: u8, fault: u8) -> u8 {
+    fault.checked_sub(1).map_or(0, |more| first + more)
 }
 
 #[test]
@@ -109,18 +103,8 @@ fn bodies() {
         let found = mgmt(&body);
         assert_eq!(found.is_some(), row.len() > 2, "{}", row[0]);
         if let Some(found) = found {
-            assert_eq!(
-                (found.family, found.numbering),
-                (number(row[2]), number(row[4])),
-                "{}",
-                row[0]
-            );
-            assert_eq!(
-                (found.address, found.oid),
-                (&octets(row[3])[..], &octets(row[6])[..]),
-                "{}",
-                row[0]
-            );
+            assert_eq!((found.family, found.numbering), (number(row[2]), number(row[4])), "{}", row[0]);
+            assert_eq!((found.address, found.oid), (&octets(row[3])[..], &octets(row[6])[..]), "{}", row[0]);
             assert_eq!(found.interface, number::<u32>(row[5]), "{}", row[0]);
         }
     }
@@ -136,34 +120,19 @@ fn built() {
             .map(|parts| (number(parts[0]), octets(parts[1]), number(parts[2])))
             .collect();
         let builder = Builder::new(&chassis, &port, number(row[1]));
-        let built = tlvs
-            .iter()
-            .fold(builder, |builder, (kind, body, _)| builder.put(*kind, body));
+        let built = tlvs.iter().fold(builder, |builder, (kind, body, _)| builder.put(*kind, body));
         let built = built.finish().expect(row[0]);
         assert_eq!(built.octets().len(), number::<usize>(row[4]), "{}", row[0]);
-        assert!(
-            row[5] == "-" || built.octets() == octets(row[5]),
-            "{}",
-            row[0]
-        );
-        let faults: Vec<u8> = built
-            .faults()
-            .iter()
-            .map(|fault| fault.map_or(0, BuildFault::number))
-            .collect();
-        let wanted: Vec<u8> = tlvs.iter().map(|(_, _, answer)| *answer).collect();
+        assert!(row[5] == "-" || built.octets() == octets(row[5]), "{}", row[0]);
+        let faults: Vec<u8> =
+            built.faults().iter().map(|fault| fault.map_or(0, BuildFault::number)).collect();
+        let wanted: Vec<u8> = tlvs.iter().map(|(_, _, answer)| numbered(11, *answer)).collect();
         assert_eq!(faults, wanted, "{}", row[0]);
     }
     for length in [0, 1, 257] {
         let identifier = vec![4; length];
-        assert_eq!(
-            Builder::new(&identifier, b"\x05eth0", 120).finish(),
-            Err(OutOfRange)
-        );
-        assert_eq!(
-            Builder::new(b"\x05eth0", &identifier, 120).finish(),
-            Err(OutOfRange)
-        );
+        assert_eq!(Builder::new(&identifier, b"\x05eth0", 120).finish(), Err(OutOfRange));
+        assert_eq!(Builder::new(b"\x05eth0", &identifier, 120).finish(), Err(OutOfRange));
     }
 }
 
@@ -184,14 +153,9 @@ fn machines() {
         assert_eq!(machine.event(Cause::Tick, 0), Err(OutOfRange));
         assert_eq!(machine.event(Cause::Tick, 3601), Err(OutOfRange));
     }
-    for (credit_max, fast_init, reinit) in [
-        (0, 4, 2),
-        (11, 4, 2),
-        (5, 0, 2),
-        (5, 9, 2),
-        (5, 4, 0),
-        (5, 4, 11),
-    ] {
+    for (credit_max, fast_init, reinit) in
+        [(0, 4, 2), (11, 4, 2), (5, 0, 2), (5, 9, 2), (5, 4, 0), (5, 4, 11)]
+    {
         assert!(Machine::new(credit_max, fast_init, reinit, true).is_err());
     }
 }
@@ -200,28 +164,13 @@ fn machines() {
 fn openings() {
     for row in rows("open") {
         let hostname = String::from_utf8(octets(row[1])).expect("text");
-        let names: Vec<String> = row[3..]
-            .iter()
-            .map(|name| String::from_utf8(octets(name)).expect("text"))
-            .collect();
+        let names: Vec<String> =
+            row[3..].iter().map(|name| String::from_utf8(octets(name)).expect("text")).collect();
         let ports: Vec<&str> = names.iter().map(String::as_str).collect();
-        let options = Options {
-            ports: &ports,
-            hostname: &hostname,
-            ..Options::default()
-        };
-        let fault = Agent::open(&options)
-            .err()
-            .map_or(0, |fault| fault.number());
-        assert_eq!(fault, number::<u8>(row[2]), "{}", row[0]);
+        let options = Options { ports: &ports, hostname: &hostname, ..Options::default() };
+        let fault = Agent::open(&options).err().map_or(0, |fault| fault.number());
+        assert_eq!(fault, numbered(21, number(row[2])), "{}", row[0]);
     }
-    let none = Options {
-        ports: &["eth0"],
-        max_neighbors: 129,
-        ..Options::default()
-    };
-    assert_eq!(
-        Agent::open(&none).err().map(|fault| fault.number()),
-        Some(100)
-    );
+    let none = Options { ports: &["eth0"], max_neighbors: 129, ..Options::default() };
+    assert_eq!(Agent::open(&none).err().map(|fault| fault.number()), Some(100));
 }

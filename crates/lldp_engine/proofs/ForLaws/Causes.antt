@@ -21,7 +21,7 @@ use Rattle.lldp_engine.specs.Port.Event.{PortEvent}
 use Rattle.lldp_engine.specs.Port.Effects.{cause_of_answer, cause_of_heard, cause_of_right, cause_of_link, cause_at}
 use Rattle.lldp_engine.specs.Port.Past.{Happened, status_after, up_after, calls_after, table_events_after, caused_at}
 use Rattle.lldp_engine.proofs.ForLaws.LastSet.{configuration_is_last}
-use Rattle.lldp_engine.proofs.EachPort.{own_or_nothing}
+use Rattle.lldp_engine.proofs.AllPorts.EachPort.{own_or_nothing}
 use Rattle.lldp_engine.proofs.OnePort.Allowed.{port_table}
 use Rattle.lldp_engine.proofs.ForLaws.PortAt.{of_table}
 use Rattle.lldp_engine.proofs.ForLaws.Deaf.{own_happened, heard_now}

@@ -27,7 +27,7 @@ use Rattle.lldp_engine.specs.Port.Effects.{call_of, status_then, call_at}
 use Rattle.lldp_engine.specs.Port.Past.{Happened, status_after, up_after, calls_after}
 use Rattle.lldp_engine.proofs.ForLaws.LastSet.{last_is_status}
 use Rattle.lldp_engine.proofs.OnePort.Allowed.{port_table}
-use Rattle.lldp_engine.proofs.EachPort.{own_or_nothing}
+use Rattle.lldp_engine.proofs.AllPorts.EachPort.{own_or_nothing}
 use Rattle.lldp_engine.proofs.ForLaws.PortAt.{map_twice, of_table, table_same}
 use Rattle.lldp_engine.proofs.ForLaws.Whose.{ticked_neighbors}
 use Rattle.lldp_engine.proofs.ForLaws.Deaf.{deaf, of_own, own_happened, heard_now, hears_it}

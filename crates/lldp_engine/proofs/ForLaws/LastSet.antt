@@ -11,7 +11,7 @@ use Rattle.lldp_engine.specs.Port.Event as own
 use Rattle.lldp_engine.specs.Port.Effects.{status_then, up_then}
 use Rattle.lldp_engine.specs.Port.Past.{status_after, up_after}
 use Rattle.lldp_engine.specs.Laws.LastSet.{NoneSets, IsLastSet, IsLastStatus, IsLastLink, without_commands, IsLastConfiguration}
-use Rattle.lldp_engine.proofs.EachPort.{own_or_nothing}
+use Rattle.lldp_engine.proofs.AllPorts.EachPort.{own_or_nothing}
 
 -- An event either sets the value, whatever came before it, or leaves what was before it.
 abbrev SetsOrLeaves : {X : Type 0} → (X → Event) → (List Event → X) → Event → Type 0

@@ -35,7 +35,7 @@ use Rattle.lldp_engine.specs.Port.Event.{PortEvent, frame, link, status, nothing
 use Rattle.lldp_engine.specs.Port.Effects.{heard_at, call_of, call_at}
 use Rattle.lldp_engine.specs.Port.Past.{Happened, status_after, up_after, heard_after, calls_after, table_events_after, marks_after}
 use Rattle.lldp_engine.proofs.OnePort.Allowed.{port_table}
-use Rattle.lldp_engine.proofs.EachPort.{own_or_nothing}
+use Rattle.lldp_engine.proofs.AllPorts.EachPort.{own_or_nothing}
 use Rattle.lldp_engine.proofs.ForLaws.PortAt.{of_table}
 use Rattle.lldp_engine.proofs.ForLaws.Tally.{counters_at, rises}
 use Rattle.lldp_engine.proofs.ForLaws.LastSet.{status_is_last, link_is_last}

@@ -8,7 +8,7 @@ use Rattle.lldp_engine.specs.Frames.{IsSent}
 use Rattle.lldp_engine.specs.Past.{Past, past_of, port_past, marks_of}
 use Rattle.lldp_engine.specs.Laws.PortAt.{Sends}
 use Rattle.lldp_engine.specs.Port.Past.{mark_after}
-use Rattle.lldp_engine.proofs.Answered.{IsOf, all_are, is_there}
+use Rattle.lldp_engine.proofs.Headline.Answered.{IsOf, all_are, is_there}
 
 -- the port exists, a frame goes, and its mark is this one
 pub sent_is : (past : Past) (i : ℕ) (mark : Mark) → Sends past i mark → (i < length past.options.names) × IsSent mark × (mark_after past.options (past_of past i) ≡ mark)

@@ -41,7 +41,7 @@ pub read_by_word : (w : List ℕ) (given : Status) → status_of w ≡ Some give
 read_by_word w given e =
     word_by w given _ _ _ _ (bytes_eq-Decides w (word_of RxAndTx)) (bytes_eq-Decides w (word_of RxOnly)) (bytes_eq-Decides w (word_of TxOnly)) (bytes_eq-Decides w (word_of Disabled)) e
 
-own_word_read : (given : Status) → status_of (word_of given) ≡ Some given
+pub own_word_read : (given : Status) → status_of (word_of given) ≡ Some given
 own_word_read RxAndTx = refl
 own_word_read RxOnly = refl
 own_word_read TxOnly = refl

@@ -28,7 +28,7 @@ use Rattle.lldp_engine.specs.Port.Effects.{status_then, heard_at, call_at, cause
 use Rattle.lldp_engine.specs.Port.Past.{Happened, status_after, up_after, heard_after, calls_after, table_events_after, settings_of, causes_after, marks_after, mark_after, counters_after, port_after}
 use Rattle.lldp_engine.proofs.OnePort.Allowed.{port_table}
 use Rattle.lldp_engine.proofs.OnePort.Counters.{counted_mark}
-use Rattle.lldp_engine.proofs.Standing.{settings_in_range}
+use Rattle.lldp_engine.proofs.Standing.Carrying.{settings_in_range}
 
 -- ## The port of a number
 

@@ -10,7 +10,7 @@ use Rattle.lldp_engine.specs.Event.{status as set_status}
 use Rattle.lldp_engine.specs.Laws.Sayings.{lldp_word, status_word}
 
 -- the one form that takes the word, or its fault
-abbrev one_left : Result Form CommandFault → Result (List Form) CommandFault
+abbrev pub one_left : Result Form CommandFault → Result (List Form) CommandFault
 one_left one = if_any (and_left one []) (fault_or one Extra)
 
 pub text_said : (names : List (List ℕ)) (b : Bool) (command : Command) → read_forms names (one_left (if b then Ok (complete command) else Err Text)) [] ≡ (if b then Ok command else Err Text)
@@ -29,7 +29,7 @@ made_said names (Err Quote) command = refl
 made_said names (Err InUse) command = refl
 
 -- the form behind a port's name
-abbrev status_form : ℕ → Form
+abbrev pub status_form : ℕ → Form
 status_form port = word lldp_word (word status_word (status (λ given. complete (set (set_status port given)))))
 
 pub status_said : (names : List (List ℕ)) (place : Option ℕ) (other : List ℕ) → read_forms names (one_left (on_ok status_form (or_fault place NoSuchPort))) (lldp_word ∷ status_word ∷ other ∷ [])

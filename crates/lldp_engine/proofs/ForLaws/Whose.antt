@@ -22,7 +22,7 @@ use Rattle.lldp_engine.specs.Port.Event as own
 use Rattle.lldp_engine.specs.Port.Event.{PortEvent, one_port, whose, for_port}
 use Rattle.lldp_engine.specs.Port.Effects.{call_of, call_at}
 use Rattle.lldp_engine.specs.Port.Past.{Happened, status_after, up_after, calls_after, port_after}
-use Rattle.lldp_engine.proofs.EachPort.{own_or_nothing}
+use Rattle.lldp_engine.proofs.AllPorts.EachPort.{own_or_nothing}
 use Rattle.lldp_engine.proofs.ForLaws.PortAt.{port_at_same, table_same, of_table, of_table_after, IsNothing, nothing_sent, port_same}
 use Rattle.lldp_engine.proofs.ForLaws.Marks.{quiet_is_silent}
 

@@ -19,7 +19,7 @@ use Rattle.lldp_engine.specs.Port.Effects.{call_at}
 use Rattle.lldp_engine.specs.Port.Past.{Happened, status_after, up_after, calls_after, port_after}
 use Rattle.lldp_engine.specs.Code.Taking.{FitsLimit}
 use Rattle.lldp_engine.proofs.OnePort.Heard.{event_told, octets_for}
-use Rattle.lldp_engine.proofs.EachPort.{own_or_nothing}
+use Rattle.lldp_engine.proofs.AllPorts.EachPort.{own_or_nothing}
 use Rattle.std.proofs.lemmas.Grind.{common_steps}
 
 -- ## The limit of opening never changes

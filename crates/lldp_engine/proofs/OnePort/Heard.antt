@@ -24,7 +24,7 @@ use Rattle.lldp_engine.specs.Port.Event.{PortEvent, frame, link, status, limit, 
 use Rattle.lldp_engine.specs.Port.Effects.{call_of, call_at}
 use Rattle.lldp_engine.specs.Code.Taking.{FitsLimit}
 use Rattle.lldp_table.specs.Events.{purge}
-use Rattle.lldp_engine.proofs.EachPort.{own_or_nothing}
+use Rattle.lldp_engine.proofs.AllPorts.EachPort.{own_or_nothing}
 
 -- a frame's LLDPDU is no longer than 1,500 octets
 short_lldpdu : (octets : List ℕ) → is_lldp_frame octets ≡ true → length (drop 14 octets) ≤ 1500

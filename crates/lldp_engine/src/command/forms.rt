@@ -1,9 +1,9 @@
 //! The words of a command, one after the other, as the forms have them.
-ghost use Rattle.std.specs.Prelude.{◌≡◌, ℕ, ◌≤◌, List, [], ◌∷◌, true, IfOk, MatchResult};
+ghost use Rattle.std.specs.Prelude.{◌≡◌, ◌≢◌, ℕ, ◌≤◌, List, [], ◌∷◌, true, IfOk, MatchResult};
 ghost use Rattle.std.specs.Str.{bytes_eq};
 ghost use Rattle.lldp_text.specs.Text.{is_text};
 ghost use Rattle.lldp_engine.specs.AgentState.{names_of, IsPort};
-ghost use Rattle.lldp_engine.specs.Forms.{Form, word, port, number, text, status, status_of};
+ghost use Rattle.lldp_engine.specs.Forms.{Form, word, number, text, status, status_of};
 ghost use Rattle.lldp_text.specs.Answer.{on_ok};
 ghost use Rattle.lldp_engine.specs.Given.{Reads};
 ghost use Rattle.lldp_engine.specs.NextWords.{word_said, port_said, end_said};
@@ -31,7 +31,10 @@ pub fn next_word<'l>(words: &mut Words<'l>) -> Result<&'l [u8], CommandFault>
 
 /// Sees that no word is left. One that is left is `Extra`.
 pub fn end_words(mut words: Words<'_>) -> Result<(), CommandFault>
-    ensures { result ≡ end_said words.entry }
+    ensures said { result ≡ end_said words.entry }
+    ensures end { MatchResult result
+        (λ _. words.entry ≡ [])
+        (λ fault. (fault ≡ CommandFault.Extra) × (words.entry ≢ [])) }
 {
     match words.next() {
         None => Ok(()),
@@ -84,8 +87,6 @@ pub(crate) fn next_number(
 pub fn next_port<A: Allocator>(agent: &Agent<A>, words: &mut Words<'_>) -> Result<u8, CommandFault>
     ensures said { on_ok (λ p. (p, words.new)) result
         ≡ port_said (names_of agent.now) words.old }
-    ensures reads { (next : ℕ → Form) →
-        Reads (names_of agent.now) (port next ∷ []) words.old result (λ p. next p ∷ []) words.new }
     ensures exists { IfOk result (λ p. IsPort agent.now p) }
 {
     let name = next_word(words)?;

@@ -9,8 +9,9 @@ ghost use Rattle.lldp_engine.specs.Past.{Past};
 ghost use Rattle.lldp_engine.specs.Laws.PortAt.{LeavesPort};
 ghost use Rattle.lldp_engine.specs.Laws.Deaf.{HasStatus};
 
-/// A port whose last status is TxOnly or Disabled, or whose last link event says down, is deaf: a
-/// frame leaves it as it was, as what is no LLDP frame leaves each port.
+/// If the four numbers of the options are in their ranges, as in every agent: a port whose last
+/// status is TxOnly or Disabled, or whose last link event says down, is deaf. A frame leaves it as
+/// it was, and octets that are not an LLDP frame leave each port as it was.
 pub fn deaf_ports_stay_as_they_were()
     ensures tx_only { (past : Past) (i : ℕ) (octets : List ℕ) → InRange past.options →
         HasStatus past i TxOnly → LeavesPort past (frame i octets) i }

@@ -1,5 +1,8 @@
 //! What commands say, and how the lines of ports are numbered.
-ghost use Rattle.std.specs.Prelude.{◌≡◌, ◌↔◌, ℕ, List, take, drop, Some, Ok};
+ghost use Rattle.std.specs.Prelude.{◌≡◌, ◌↔◌, ℕ, List, take, drop, Some, None, Ok, Err};
+ghost use Rattle.lldp_text.specs.declared.fault.CommandFault.{CommandFault};
+ghost use Rattle.lldp_text.specs.declared.fault.CommandFault.TheVariants.{Quote};
+ghost use Rattle.lldp_text.specs.Words.{words_of};
 ghost use Rattle.lldp_table.specs.Events.{Neighbor};
 ghost use Rattle.lldp_engine.specs.declared.port.status.Status.{Status};
 ghost use Rattle.lldp_engine.specs.AgentState.{AgentState, PortState};
@@ -7,10 +10,13 @@ ghost use Rattle.lldp_engine.specs.Command.{Command};
 ghost use Rattle.lldp_engine.specs.Forms.{status_of};
 ghost use Rattle.lldp_engine.specs.Given.{said_by, command_said, command_given};
 ghost use Rattle.lldp_engine.specs.Options.{Options};
+ghost use Rattle.lldp_engine.specs.Place.{place_of};
+ghost use Rattle.lldp_engine.specs.Laws.FirstFault.{TellsFirstFault};
 ghost use Rattle.lldp_engine.specs.Laws.FixedKeys.{lines_of_kept};
 ghost use Rattle.lldp_engine.specs.NeighborLines.{neighbor_lines};
 ghost use Rattle.lldp_engine.specs.Laws.Numbering.{NumbersNeighbors, first_lines};
 ghost use Rattle.lldp_engine.specs.Laws.OnlyForms.{AreWordsOf, IsNotInUse, IsLineOf};
+ghost use Rattle.lldp_engine.specs.Laws.Places.{IsFirstPlace};
 ghost use Rattle.lldp_engine.specs.Laws.Sayings.{AreGreatest, AreSaid, MaySet, OpensWith, word_of};
 
 /// The words of each form say its command, with whatever word stands where it takes one. Each range
@@ -36,6 +42,26 @@ pub fn only_forms_say_commands()
         (command_given agent line ≡ Ok command) ↔ IsLineOf agent command line }
     ensures statuses { (word : List ℕ) (given : Status) →
         (status_of word ≡ Some given) ↔ (word ≡ word_of given) }
+{}
+
+/// A word that no command has in its place decides the fault, whatever follows it, and a line
+/// whose quotes are bad is told as Quote. With `only_forms_say_commands` each list of words has
+/// its command or its fault.
+pub fn first_faults_are_told()
+    ensures words { (agent : AgentState) (word : List ℕ) (behind : List (List ℕ)) →
+        TellsFirstFault agent word behind }
+    ensures lines { (agent : AgentState) (line : List ℕ) (words : List (List ℕ))
+        (fault : CommandFault) → words_of line ≡ Some words → said_by agent words ≡ Err fault →
+        command_given agent line ≡ Err fault }
+    ensures quotes { (agent : AgentState) (line : List ℕ) → words_of line ≡ None →
+        command_given agent line ≡ Err Quote }
+{}
+
+/// A word names a port exactly if it is the port's name, octet for octet; of ports with the same
+/// name it is the first.
+pub fn words_name_ports_in_full()
+    ensures { (names : List (List ℕ)) (word : List ℕ) (i : ℕ) →
+        (place_of names word ≡ Some i) ↔ IsFirstPlace names word i }
 {}
 
 /// The neighbors of a port are shown with numbers from 1 on, behind the line that tells whether

@@ -8,8 +8,8 @@ ghost use Rattle.lldp_engine.specs.Past.{Past, with_event, agent_of};
 ghost use Rattle.lldp_engine.specs.Laws.PortAt.{neighbors_at, LeavesPort, LeavesTables};
 ghost use Rattle.lldp_engine.specs.Laws.Neighbors.{one_tick_older};
 
-/// A frame, a link event and a status command are of one port: every other port stays as it was and
-/// sends nothing.
+/// If the four numbers of the options are in their ranges, as in every agent: a frame, a link event
+/// and a status command are of one port. Every other port stays as it was and sends nothing.
 pub fn events_of_one_port_leave_the_others()
     ensures frame { (past : Past) (port other : ℕ) (octets : List ℕ) → InRange past.options →
         other ≢ port → LeavesPort past (frame port octets) other }

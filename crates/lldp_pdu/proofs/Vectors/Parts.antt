@@ -1,47 +1,13 @@
--- Parts of LLDPDUs, by their octets. The neighbor is MAC 00:11:22:33:44:55, interface eth0.
-use Rattle.std.proofs.Common.{◌≡◌, ℕ, List, [], ◌∷◌, ◌++◌, map}
+-- What vectors say of octets.
+use Rattle.std.proofs.Common.{◌≡◌, ℕ, List, [], ◌∷◌, map, take, Option, Some, None}
+use Rattle.lldp_pdu.specs.declared.fault.BuildFault.{BuildFault}
 use Rattle.lldp_pdu.specs.Tlv.{TlvUnit}
 use Rattle.lldp_pdu.specs.Msap.{MsapId}
-
--- Chassis ID, a MAC address
-abbrev pub c : List ℕ
-c = 0x02 ∷ 0x07 ∷ 0x04 ∷ 0x00 ∷ 0x11 ∷ 0x22 ∷ 0x33 ∷ 0x44 ∷ 0x55 ∷ []
-
--- Port ID, an interface name
-abbrev pub p : List ℕ
-p = 0x04 ∷ 0x05 ∷ 0x05 ∷ 0x65 ∷ 0x74 ∷ 0x68 ∷ 0x30 ∷ []
-
--- Time To Live, 120 seconds
-abbrev pub t120 : List ℕ
-t120 = 0x06 ∷ 0x02 ∷ 0x00 ∷ 0x78 ∷ []
-
--- Time To Live, none
-abbrev pub t0 : List ℕ
-t0 = 0x06 ∷ 0x02 ∷ 0x00 ∷ 0x00 ∷ []
-
--- the three mandatory TLVs
-abbrev pub m : List ℕ
-m = c ++ p ++ t120
-
--- End Of LLDPDU
-abbrev pub e : List ℕ
-e = 0x00 ∷ 0x00 ∷ []
-
--- System Name, sw1
-abbrev pub sw1 : List ℕ
-sw1 = 0x0a ∷ 0x03 ∷ 0x73 ∷ 0x77 ∷ 0x31 ∷ []
-
--- System Name, sw2
-abbrev pub sw2 : List ℕ
-sw2 = 0x0a ∷ 0x03 ∷ 0x73 ∷ 0x77 ∷ 0x32 ∷ []
-
--- the neighbor's name
-abbrev pub named : MsapId
-named =
-    record {
-      chassis = 0x04 ∷ 0x00 ∷ 0x11 ∷ 0x22 ∷ 0x33 ∷ 0x44 ∷ 0x55 ∷ [];
-      port = 0x05 ∷ 0x65 ∷ 0x74 ∷ 0x68 ∷ 0x30 ∷ [];
-    }
+use Rattle.lldp_pdu.specs.Lldpdu.{ttl_of, msap_of}
+use Rattle.lldp_pdu.specs.Fault.{fault_of}
+use Rattle.lldp_pdu.specs.FaultNumber.{build_fault_number}
+use Rattle.lldp_pdu.specs.Info.{info_of}
+use Rattle.lldp_pdu.specs.Draft.{Draft, with_tlv, put_fault}
 
 abbrev pub tlv : ℕ → List ℕ → TlvUnit
 tlv kind body = record { kind = kind; body = body }
@@ -50,6 +16,45 @@ tlv kind body = record { kind = kind; body = body }
 abbrev pub Gives : {A B : Type 0} → (A → B) → List (A × B) → Type 0
 Gives f rows = map (λ row. f row.0) rows ≡ map (λ row. row.1) rows
 
--- the first two in each row give the third
-abbrev pub BothGive : {A B C : Type 0} → (A → B → C) → List (A × B × C) → Type 0
-BothGive f rows = map (λ row. f row.0 row.1) rows ≡ map (λ row. row.2) rows
+-- it is sound, and the neighbor is gone
+abbrev pub ShutsDown : List ℕ → MsapId → Type 0
+ShutsDown octets msap = (fault_of octets ≡ None) × (ttl_of octets ≡ 0) × (msap_of octets ≡ msap)
+
+-- it is sound, and tells this: the name and the TTL, how many octets the extent has, the kept TLVs, and how many are
+-- discarded and unrecognized
+abbrev pub Tells : List ℕ → MsapId → ℕ → ℕ → List TlvUnit → ℕ → ℕ → Type 0
+Tells octets msap ttl extent kept discarded unrecognized =
+    (fault_of octets ≡ None)
+    × (info_of octets
+    ≡ record {
+      msap = msap;
+      ttl = ttl;
+      octets = take extent octets;
+      kept = kept;
+      discarded = discarded;
+      unrecognized = unrecognized;
+    })
+
+-- a builder that was begun
+abbrev pub begun : MsapId → ℕ → Draft
+begun msap ttl = record { msap = msap; ttl = ttl; tlvs = [] }
+
+-- the number of a fault, or 0
+abbrev pub answer : Option BuildFault → ℕ
+answer None = 0
+answer (Some fault) = build_fault_number fault
+
+-- the builder behind a TLV with this answer
+abbrev pub behind : Draft → TlvUnit → Option BuildFault → Draft
+behind draft u None = with_tlv draft u
+behind draft u (Some fault) = draft
+
+-- what is answered to TLVs that are put one after another
+abbrev pub answers : Draft → List TlvUnit → List ℕ
+answers draft [] = []
+answers draft (u ∷ us) = answer (put_fault draft u) ∷ answers (behind draft u (put_fault draft u)) us
+
+-- the builder behind them
+abbrev pub given : Draft → List TlvUnit → Draft
+given draft [] = draft
+given draft (u ∷ us) = given (behind draft u (put_fault draft u)) us

@@ -3,9 +3,9 @@ use Rattle.std.proofs.Common.{◌≡◌, ℕ, ◌<◌, true, nat_lt, List, [], �
 use Rattle.std.proofs.lemmas.Bool.{cases_lt, lt-ltb}
 use Rattle.std.proofs.lemmas.List.{take_all}
 use Rattle.lldp_engine.specs.Past.{Past}
-use Rattle.lldp_program.specs.Lines.{ended_lines, unfinished, if_any}
-use Rattle.lldp_program.specs.Forms.{work_given}
-use Rattle.lldp_program.specs.Items.{refused, after_all, items_of, items_of_lines}
+use Rattle.lldp_program.specs.Trace.Lines.{ended_lines, unfinished, if_any}
+use Rattle.lldp_program.specs.Trace.Forms.{work_given}
+use Rattle.lldp_program.specs.Trace.Items.{refused, after_all, items_of, items_of_lines}
 use Rattle.lldp_program.specs.declared.line.LineFault.TheVariants.{TooLong}
 use Rattle.lldp_program.proofs.Lines.Pieces.{onto_all, ended_lines-onto, unfinished_no_lf, no_lf-take}
 

@@ -4,12 +4,12 @@ use Rattle.std.proofs.lemmas.Bool.{cases_lt, cases_eq, ne_eqb, eqb-true, eq-eqb}
 use Rattle.std.proofs.lemmas.List.{get_or-drop, append-nil, take-append-drop, drop_more, drop-drop, get_or-take, take_all, take-take, take-append-le}
 use Rattle.std.proofs.Math.Seq.{take-add}
 use Rattle.memchr.specs.Find.{IsFirstByte, Nowhere, Passes, is_byte}
-use Rattle.lldp_program.specs.Lines.{ended_lines, unfinished, onto_lines, onto_rest, if_any}
+use Rattle.lldp_program.specs.Trace.Lines.{ended_lines, unfinished, onto_lines, onto_rest, if_any}
 
-ended_lines-other : (b : ℕ) (bs : List ℕ) → (b ≡ 10 → ⊥) → ended_lines (b ∷ bs) ≡ onto_lines b (ended_lines bs)
+pub ended_lines-other : (b : ℕ) (bs : List ℕ) → (b ≡ 10 → ⊥) → ended_lines (b ∷ bs) ≡ onto_lines b (ended_lines bs)
 ended_lines-other b bs ne = let e : eqb b 10 ≡ false = ne_eqb b 10 ne in rw e refl
 
-unfinished-other : (b : ℕ) (bs : List ℕ) → (b ≡ 10 → ⊥) → unfinished (b ∷ bs) ≡ onto_rest b (ended_lines bs) (unfinished bs)
+pub unfinished-other : (b : ℕ) (bs : List ℕ) → (b ≡ 10 → ⊥) → unfinished (b ∷ bs) ≡ onto_rest b (ended_lines bs) (unfinished bs)
 unfinished-other b bs ne = let e : eqb b 10 ≡ false = ne_eqb b 10 ne in rw e refl
 
 lines_step : (b : ℕ) (ls : List (List ℕ)) (r q : List ℕ) → (b ≡ 10 → ⊥) → onto_lines b (ls ++ ended_lines (r ++ q)) ≡ onto_lines b ls ++ ended_lines (onto_rest b ls r ++ q)

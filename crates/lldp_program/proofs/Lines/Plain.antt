@@ -9,8 +9,8 @@ use Rattle.lldp_engine.specs.AgentState.{AgentState, names_of}
 use Rattle.lldp_engine.specs.Place.{place_of}
 use Rattle.lldp_text.specs.Words.{is_bare, is_separator, words_of, AreWords}
 use Rattle.lldp_text.proofs.WordsGrammar.{read_from_spelled}
-use Rattle.lldp_program.specs.Forms.{work_given, form_of, frame_form}
-use Rattle.lldp_program.specs.Work.{frame}
+use Rattle.lldp_program.specs.Trace.Forms.{work_given, form_of, frame_form}
+use Rattle.lldp_program.specs.Trace.Work.{frame}
 
 -- a digit is no separator and no quote
 digit_is_bare : (c : ℕ) → is_hex_digit c ≡ true → is_bare c ≡ true

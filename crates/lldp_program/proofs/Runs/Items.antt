@@ -1,7 +1,7 @@
 -- Items, one list after another.
 use Rattle.std.proofs.Common.{◌≡◌, ℕ, List, [], ◌∷◌, ◌++◌, refl, sym, ap, ◌∙◌, append_assoc}
 use Rattle.lldp_engine.specs.Past.{Past}
-use Rattle.lldp_program.specs.Items.{Item, after, after_all, text_of, text_of_all, items_of, items_of_lines}
+use Rattle.lldp_program.specs.Trace.Items.{Item, after, after_all, text_of, text_of_all, items_of, items_of_lines}
 
 pub after_all-append : (past : Past) (xs ys : List Item) → after_all past (xs ++ ys) ≡ after_all (after_all past xs) ys
 after_all-append past [] ys = refl

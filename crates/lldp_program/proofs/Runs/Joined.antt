@@ -11,16 +11,16 @@ use Rattle.lldp_engine.specs.Lines.{lines_of}
 use Rattle.lldp_engine.specs.AgentState.{AgentState}
 use Rattle.lldp_engine.proofs.Headline.{promised as keeps_promise}
 use Rattle.lldp_program.specs.declared.line.LineFault.{LineFault}
-use Rattle.lldp_program.specs.Lines.{ended}
-use Rattle.lldp_program.specs.Forms.{work_given}
-use Rattle.lldp_program.specs.Work.{Work}
-use Rattle.lldp_program.specs.Items.{Item, happens, shows, refused, after, after_all, text_of, text_of_all, items_of_work, items_of, items_of_lines}
+use Rattle.lldp_program.specs.Trace.Lines.{ended}
+use Rattle.lldp_program.specs.Trace.Forms.{work_given}
+use Rattle.lldp_program.specs.Trace.Work.{Work}
+use Rattle.lldp_program.specs.Trace.Items.{Item, happens, shows, refused, after, after_all, text_of, text_of_all, items_of_work, items_of, items_of_lines}
 use Rattle.lldp_program.specs.declared.device.DeviceFault.{DeviceFault}
 use Rattle.lldp_program.specs.Code.Output.{IsWritten, WrittenBy, Output, Writes}
-use Rattle.lldp_program.specs.Runs.{IsCutOff, Done, Failed}
+use Rattle.lldp_program.specs.Trace.Runs.{IsCutOff, Done, Failed}
 use Rattle.lldp_program.specs.Code.Parts.{Ended, RunsItems}
 use Rattle.lldp_engine.specs.Event.{tick}
-use Rattle.lldp_program.specs.Forms.{fault_text}
+use Rattle.lldp_program.specs.Trace.Forms.{fault_text}
 use Rattle.lldp_program.proofs.Texts.Taken.{same_then}
 use Rattle.lldp_program.proofs.Texts.Written.{appends_then, appends_nothing, appends_same}
 use Rattle.lldp_program.proofs.Runs.Items.{after_all-append, text_of_all-append, items_of_lines-append}

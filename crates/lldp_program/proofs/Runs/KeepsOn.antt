@@ -4,8 +4,8 @@ use Rattle.lldp_engine.specs.Event.{Event}
 use Rattle.lldp_engine.specs.Past.{Past, with_event}
 use Rattle.lldp_engine.specs.Standing.{Stands}
 use Rattle.lldp_engine.specs.AgentState.{AgentState}
-use Rattle.lldp_program.specs.Items.{Item, happens, shows, refused, after_all}
-use Rattle.lldp_program.specs.Runs.{Done, Failed, StoppedAt, KeepsOn, followed}
+use Rattle.lldp_program.specs.Trace.Items.{Item, happens, shows, refused, after_all}
+use Rattle.lldp_program.specs.Trace.Runs.{Done, Failed, StoppedAt, KeepsOn, followed}
 use Rattle.lldp_engine.specs.Headline.{Promised}
 
 pub all_followed : (past : Past) (items : List Item) → (events : List Event) × (after_all past items ≡ followed past events)

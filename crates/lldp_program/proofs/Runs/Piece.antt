@@ -5,13 +5,13 @@ use Rattle.std.proofs.lemmas.List.{append-nil, take-take}
 use Rattle.std.proofs.Math.Seq.{take-add}
 use Rattle.lldp_engine.specs.Past.{Past}
 use Rattle.lldp_engine.specs.AgentState.{AgentState}
-use Rattle.lldp_program.specs.Lines.{ended_lines, unfinished, lines_of, if_any}
-use Rattle.lldp_program.specs.Items.{Item, after_all, text_of_all, items_of_lines}
+use Rattle.lldp_program.specs.Trace.Lines.{ended_lines, unfinished, lines_of, if_any}
+use Rattle.lldp_program.specs.Trace.Items.{Item, after_all, text_of_all, items_of_lines}
 use Rattle.std.specs.Prelude.{Result}
 use Rattle.lldp_program.specs.declared.device.DeviceFault.{DeviceFault}
 use Rattle.lldp_program.specs.declared.trace.RunFault.{RunFault}
 use Rattle.lldp_program.specs.Code.Parts.{Ended}
-use Rattle.lldp_program.specs.Runs.{HasRun}
+use Rattle.lldp_program.specs.Trace.Runs.{HasRun}
 use Rattle.lldp_program.proofs.Texts.Written.{consumes_then}
 use Rattle.lldp_program.proofs.Runs.Items.{items_of_lines-append}
 use Rattle.lldp_program.proofs.Lines.Pieces.{ended_lines-append, unfinished_no_lf, no_lf-take}

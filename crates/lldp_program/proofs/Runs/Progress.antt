@@ -4,9 +4,9 @@ use Rattle.std.specs.Io.KnownBytes.{Consumes}
 use Rattle.lldp_engine.specs.AgentState.{AgentState}
 use Rattle.lldp_engine.specs.Past.{Past}
 use Rattle.lldp_engine.specs.Standing.{Stands}
-use Rattle.lldp_program.specs.Lines.{ended_lines, unfinished}
-use Rattle.lldp_program.specs.Items.{items_of_lines}
-use Rattle.lldp_program.specs.Runs.{Done}
+use Rattle.lldp_program.specs.Trace.Lines.{ended_lines, unfinished}
+use Rattle.lldp_program.specs.Trace.Items.{items_of_lines}
+use Rattle.lldp_program.specs.Trace.Runs.{Done}
 
 -- So many reads gave some input. Each line whose LF was read is done, and of the line that isn't ended the first 4,097 octets are held.
 pub record Progress (to_come left old new : Option (List ℕ)) (before after : AgentState) (reads : ℕ) (held : List ℕ) : Type 0 where

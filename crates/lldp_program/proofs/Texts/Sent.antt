@@ -13,9 +13,9 @@ use Rattle.lldp_engine.specs.Past.{Past, Sending, with_event, marks_of}
 use Rattle.lldp_engine.specs.Standing.{Stands}
 use Rattle.lldp_engine.proofs.Frames.Past.{configuration_reads}
 use Rattle.lldp_engine.proofs.Readers.{names_read}
-use Rattle.lldp_program.specs.Lines.{ended}
-use Rattle.lldp_program.specs.Items.{Item, happens}
-use Rattle.lldp_program.specs.Sent.{sent_line, mark_line, sent_text}
+use Rattle.lldp_program.specs.Trace.Lines.{ended}
+use Rattle.lldp_program.specs.Trace.Items.{Item, happens}
+use Rattle.lldp_program.specs.Trace.Sent.{sent_line, mark_line, sent_text}
 use Rattle.lldp_program.specs.Code.Output.{Output, Puts, Writes}
 use Rattle.lldp_program.specs.Code.Parts.{RunsItems}
 use Rattle.lldp_program.specs.declared.device.DeviceFault.{DeviceFault}

@@ -7,9 +7,9 @@ use Rattle.std.specs.List.{flat_map}
 use Rattle.std.proofs.lemmas.List.{append-nil}
 use Rattle.lldp_engine.specs.Takes.{Takes}
 use Rattle.lldp_program.specs.declared.device.DeviceFault.{DeviceFault}
-use Rattle.lldp_program.specs.Devices.{failures_after}
-use Rattle.lldp_program.specs.Lines.{ended}
-use Rattle.lldp_program.specs.Runs.{IsCutOff}
+use Rattle.lldp_program.specs.Devices.Counts.{failures_after}
+use Rattle.lldp_program.specs.Trace.Lines.{ended}
+use Rattle.lldp_program.specs.Trace.Runs.{IsCutOff}
 use Rattle.lldp_program.specs.Code.Output.{IsWritten, WrittenBy, GoesOut, Output, SameSink, Went, Goes, GoesBehind, Puts, Flushes, begun, Writes}
 use Rattle.lldp_program.proofs.Texts.Written.{appends_then, appends_nothing, appends_same}
 

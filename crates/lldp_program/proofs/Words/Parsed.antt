@@ -24,8 +24,8 @@ use Rattle.clap.specs.declared.builder.value_parser.ValueParser.TheVariants.{Sig
 use Rattle.clap.specs.declared.builder.value_parser.Reading.TheVariants.{WithoutMinus}
 use Rattle.clap.specs.declared.parser.matches.ArgMatches.{ArgMatches}
 use Rattle.clap.specs.declared.parser.matches.MatchedArg.{MatchedArg}
-use Rattle.lldp_program.specs.Arguments.{GivesNumber, GivesText, IsProgramParse}
-use Rattle.lldp_program.specs.Usage.{number_rule, program, text_rule}
+use Rattle.lldp_program.specs.CommandLine.Arguments.{GivesNumber, GivesText, IsProgramParse}
+use Rattle.lldp_program.specs.CommandLine.Usage.{number_rule, program, text_rule}
 
 -- ## Building the command line
 

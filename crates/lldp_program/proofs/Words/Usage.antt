@@ -18,8 +18,8 @@ use Rattle.clap.specs.declared.parser.matches.ArgMatches.{ArgMatches}
 use Rattle.clap.proofs.WalkLemmas.{byte_read}
 use Rattle.clap.proofs.OnLiterals.{clap_on_literals}
 use Rattle.lldp_program.specs.declared.arguments.Listening.{Listening}
-use Rattle.lldp_program.specs.Arguments.{GivesNumber}
-use Rattle.lldp_program.specs.Usage.{AreRoles, AsksListening, IsParse, MayFail, WritesNumber, program, role_rule, text_rule}
+use Rattle.lldp_program.specs.CommandLine.Arguments.{GivesNumber}
+use Rattle.lldp_program.specs.CommandLine.Usage.{AreRoles, AsksListening, IsParse, MayFail, WritesNumber, program, role_rule, text_rule}
 
 pub reads_byte : (E : Type 0) (G : List ℕ → Result ℕ E → Type 0) (t : List ℕ) (r : Option ℕ) → ReadsOne G t r
     → ((u : List ℕ) (x : Result ℕ E) → G u x → ParsesUnsigned 8 10 u x) → (v : ℕ) → r ≡ Some v → v ≡ byte_or_zero t

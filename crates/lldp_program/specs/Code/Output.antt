@@ -3,8 +3,8 @@ use Rattle.std.specs.Prelude.{◌≡◌, ℕ, List, [], ◌++◌, Option, Result
 use Rattle.std.specs.Borrow.{GName}
 use Rattle.std.specs.Io.KnownBytes.{Appends}
 use Rattle.lldp_program.specs.declared.device.DeviceFault.{DeviceFault}
-use Rattle.lldp_program.specs.Devices.{failures_after}
-use Rattle.lldp_program.specs.Runs.{IsCutOff}
+use Rattle.lldp_program.specs.Devices.Counts.{failures_after}
+use Rattle.lldp_program.specs.Trace.Runs.{IsCutOff}
 
 -- some text with this property was written
 abbrev pub IsWritten : (List ℕ → Type 0) → Option (List ℕ) → Option (List ℕ) → Type 0

@@ -7,9 +7,9 @@ use Rattle.lldp_engine.specs.Standing.{Stands}
 use Rattle.lldp_program.specs.declared.device.DeviceFault.{DeviceFault}
 use Rattle.lldp_program.specs.declared.output.Output.{Output as OwnOutput}
 use Rattle.lldp_program.specs.declared.trace.Run.{Run}
-use Rattle.lldp_program.specs.Items.{Item}
+use Rattle.lldp_program.specs.Trace.Items.{Item}
 use Rattle.lldp_program.specs.Code.Output.{Output, SameSink}
-use Rattle.lldp_program.specs.Runs.{Done, Failed}
+use Rattle.lldp_program.specs.Trace.Runs.{Done, Failed}
 
 -- by what its sink tells: the octets taken, the failures, and the place
 abbrev pub output_state : {W : Type 0} → (W → Option (List ℕ)) → (W → ℕ) → (W → GName) → OwnOutput W → Output

@@ -1,5 +1,5 @@
 //! What is refused at opening is told. That no call takes memory behind it the types say, and
-//! tools/refuse-memory.sh sees of the program.
+//! tools/gate/refuse-memory.sh sees of the program.
 use super::open;
 use super::whole_shows::NAMES;
 use linked_list_allocator::LocalHeap;

@@ -1,40 +1,22 @@
 //! What opening refuses, that it works if there is memory, and the numbers of faults.
 use super::whole_shows::NAMES;
 use super::{open, open_with, options};
+use crate::rows::OPENINGS;
 use lldp_engine::{CommandFault, OpenFault, Options};
 use std::test::Fail;
 
-/// Names of rows, ports and hostnames, and what is wrong with them.
 #[test]
 fn faults(rt: HostRuntime) -> Result<(), Fail> {
-    let letters = [b'a'; 256];
-    let long = str::from_utf8(&letters).ok().ok_or("letters")?;
-    let many = ["e"; 65];
-    let rows: &[(&str, &[&str], &str, Option<OpenFault>)] = &[
-        ("no port", &[], "localhost", Some(OpenFault::NoPorts)),
-        (
-            "65 ports",
-            &many,
-            "localhost",
-            Some(OpenFault::TooManyPorts),
-        ),
-        ("dot", &["a.b"], "localhost", Some(OpenFault::PortName)),
-        (
-            "twice",
-            &["eth0", "eth0"],
-            "localhost",
-            Some(OpenFault::SamePort),
-        ),
-        ("256 octets", &["eth0"], long, Some(OpenFault::Text)),
-        ("defaults", &["eth0"], "localhost", None),
-    ];
-    for &(name, ports, hostname, fault) in rows {
+    for row in OPENINGS {
         let options = Options {
-            hostname,
-            ..options(ports, 32)
+            hostname: row.hostname,
+            ..options(row.ports, 32)
         };
-        let opened = open_with(&rt, rt.alloc(), &options);
-        assert_eq!(rt; opened.err(), fault, "{name}");
+        let found = match open_with(&rt, rt.alloc(), &options) {
+            Ok(_) => 0,
+            Err(fault) => fault.number(),
+        };
+        assert_eq!(rt; found, row.fault, "{}", row.name);
     }
     Ok(())
 }

@@ -2,7 +2,7 @@
 ghost use Rattle.std.specs.Prelude.{◌≡◌, IfOk, OnOk};
 ghost use Rattle.lldp_engine.specs.Past.{Past};
 ghost use Rattle.lldp_engine.specs.Standing.{Stands};
-ghost use Rattle.lldp_program.specs.Items.{text, after_input};
+ghost use Rattle.lldp_program.specs.Trace.Items.{text, after_input};
 
 use super::devices::{Drip, Fuse};
 use lldp_engine::{Agent, Options, Role, Show};

@@ -1,7 +1,7 @@
 //! What stands fixed, octet by octet: the parts that octets play, texts, values, words and numbers.
 ghost use Rattle.std.specs.Prelude.{ℕ, List};
 ghost use Rattle.lldp_text.specs.Laws.FixedTexts.{PlayParts, TellFaults, WriteWords, AreRead, AreSplit};
-ghost use Rattle.lldp_text.specs.Laws.FixedValues.{AreWritten, AreIdentified, AreAddressed, HasKeys};
+ghost use Rattle.lldp_text.specs.Laws.FixedValues.{AreWritten, AreIdentified, AreAddressed};
 
 /// Of the 256 octets these are separators, quotes, octets of texts and of numbers.
 pub fn octets_play_fixed_parts()
@@ -14,12 +14,11 @@ pub fn texts_have_fixed_octets()
     ensures words { WriteWords }
 {}
 
-/// Addresses, capabilities, texts, identifiers and the keys of kept TLVs stand octet by octet.
+/// Addresses, capabilities, texts and identifiers stand octet by octet.
 pub fn values_have_fixed_octets()
     ensures written { AreWritten }
     ensures identified { (text : List ℕ) → AreIdentified text }
     ensures addressed { AreAddressed }
-    ensures keys { (body : List ℕ) → HasKeys body }
 {}
 
 /// Numbers at the ends of a range, and lines with each kind of word, are read so.

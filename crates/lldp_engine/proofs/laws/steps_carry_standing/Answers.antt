@@ -1,4 +1,4 @@
-use Rattle.lldp_engine.proofs.Standing.{carries, marks_carry}
+use Rattle.lldp_engine.proofs.Standing.Carrying.{carries, marks_carry}
 use Rattle.lldp_engine.proofs.laws.steps_carry_standing.Goals as goal
 
 pub returns-clause-marks : goal.returns-clause-marks

@@ -1,7 +1,7 @@
 use Rattle.std.proofs.Common.{◌≡◌, ◌∙◌, ap, codes, refl}
 use Rattle.std.proofs.lemmas.Result.{IfOk-weaker}
 use Rattle.clap.specs.Simple.{app_of, app_of_fields, new_app}
-use Rattle.lldp_program.specs.Usage.{versioned}
+use Rattle.lldp_program.specs.CommandLine.Usage.{versioned}
 use Rattle.lldp_program.proofs.Words.Parsed.{one_more}
 use Rattle.lldp_program.proofs.arguments.command.Goals as goal
 

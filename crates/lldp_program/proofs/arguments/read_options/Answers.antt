@@ -4,7 +4,7 @@ use Rattle.std.proofs.lemmas.Result.{err_from_is_err_and}
 use Rattle.clap.specs.Walk.{byte_or_zero, rows_of}
 use Rattle.clap.specs.Matches.{found_of}
 use Rattle.clap.proofs.WalkLemmas.{first_value-rows, one_text-rows, raw_values-rows}
-use Rattle.lldp_program.specs.Usage.{role_named, AsksMac, AsksManagement, HasBadAddress, WritesNoIpv4, WritesNoMac}
+use Rattle.lldp_program.specs.CommandLine.Usage.{role_named, AsksMac, AsksManagement, HasBadAddress, WritesNoIpv4, WritesNoMac}
 use Rattle.lldp_program.specs.declared.arguments.AddressFault.TheVariants.{Management}
 use Rattle.lldp_program.proofs.Words.Parsed.{gives_number, gives_text}
 use Rattle.lldp_program.proofs.Words.Usage.{ports_named}

@@ -1,5 +1,5 @@
 use Rattle.std.proofs.Common.{◌≡◌, drop}
-use Rattle.lldp_program.specs.Forms.{is_skipped}
+use Rattle.lldp_program.specs.Trace.Forms.{is_skipped}
 use Rattle.lldp_program.proofs.line.is_skipped_line.Given as goal
 
 -- what is left decides

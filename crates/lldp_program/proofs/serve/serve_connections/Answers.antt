@@ -1,6 +1,6 @@
 use Rattle.std.proofs.Common.{arith, refl, sym, ap, ◌∙◌, ◌∷◌, []}
 use Rattle.lldp_engine.proofs.Headline.{promised}
-use Rattle.lldp_program.specs.Acceptors.{Visit, logged, refused}
+use Rattle.lldp_program.specs.Devices.Acceptors.{Visit, logged, refused}
 use Rattle.lldp_program.specs.Serving.{calls_of}
 use Rattle.lldp_program.proofs.Serving.{keeps_on_then, at_most_one, logged_none, logged_then, logged_visit}
 use Rattle.lldp_program.proofs.serve.serve_connections.Goals as goal

@@ -1,8 +1,8 @@
 use Rattle.std.proofs.Common.{◌≡◌, ◌≤◌, length, List}
 use Rattle.lldp_engine.specs.Past.{Past}
 use Rattle.lldp_engine.specs.Standing.{Stands}
-use Rattle.lldp_program.specs.Acceptors.{Visit, logged}
-use Rattle.lldp_program.specs.Runs.{KeepsOn}
+use Rattle.lldp_program.specs.Devices.Acceptors.{Visit, logged}
+use Rattle.lldp_program.specs.Trace.Runs.{KeepsOn}
 use Rattle.lldp_program.specs.Serving.{AreRun, calls_of, results_of, faults_of}
 use Rattle.lldp_program.proofs.serve.serve_connections.Given as goal
 

@@ -1,7 +1,7 @@
 use Rattle.std.proofs.Common.{refl, ◌∷◌, []}
 use Rattle.std.proofs.lemmas.Result.{err_from_is_err_and}
 use Rattle.lldp_engine.specs.Event.{tick}
-use Rattle.lldp_program.specs.Items.{happens}
+use Rattle.lldp_program.specs.Trace.Items.{happens}
 use Rattle.lldp_program.proofs.Runs.Joined.{nothing_runs, runs_then, runs_cut_off, tick_more, ticks_left}
 use Rattle.lldp_program.proofs.trace.run_ticks.Goals as goal
 

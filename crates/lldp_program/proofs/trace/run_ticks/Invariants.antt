@@ -1,7 +1,7 @@
 use Rattle.std.proofs.Common.{replicate}
 use Rattle.std.specs.Prelude.{Ok}
 use Rattle.lldp_engine.specs.Event.{tick}
-use Rattle.lldp_program.specs.Items.{happens}
+use Rattle.lldp_program.specs.Trace.Items.{happens}
 use Rattle.lldp_program.specs.Code.Parts.{RunsItems, Between}
 use Rattle.lldp_program.proofs.trace.run_ticks.Given as goal
 

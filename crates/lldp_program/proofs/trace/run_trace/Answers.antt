@@ -1,6 +1,6 @@
 use Rattle.std.proofs.Common.{◌≡◌, ℕ, Ok, Err, [], ◌++◌, take, drop, rules, arith, refl, ap, ◌∙◌, inl, inr, length-append, length-take, length-drop}
 use Rattle.lldp_program.specs.declared.device.DeviceFault.TheVariants.{Failed}
-use Rattle.lldp_program.specs.Lines.{unfinished}
+use Rattle.lldp_program.specs.Trace.Lines.{unfinished}
 use Rattle.lldp_program.proofs.Texts.Written.{consumes_then, consumes_kept, consumes_nothing}
 use Rattle.lldp_program.proofs.Lines.Pieces.{held_more}
 use Rattle.lldp_program.proofs.Runs.Piece.{same_run, held_and_piece, held_no_lf, consumes_end, piece_ends, last_ends}

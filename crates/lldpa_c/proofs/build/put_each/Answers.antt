@@ -1,5 +1,5 @@
 use Rattle.std.proofs.Common.{◌≡◌, ℕ, ◌+◌, ◌<◌, ◌≤◌, Bool, true, false, eqb, List, [], ◌∷◌, length, map, drop, get_or, set, refl, sym, ap, ◌∙◌, arith}
-use Rattle.std.proofs.lemmas.List.{drop_more, drop-map, get_or-drop, drop-drop, get_or-set_same, get_or-set_other, drop_all}
+use Rattle.std.proofs.lemmas.List.{drop_more, drop-map, get_or-drop, drop-drop, get_or-set_same, get_or-set_other, drop_all, drop-set-lt}
 use Rattle.std.proofs.lemmas.Bool.{eqb-true, eqb-false}
 use Rattle.lldp_pdu.specs.Tlv.{TlvUnit}
 use Rattle.lldp_pdu.specs.Draft.{Draft, put_fault}
@@ -43,7 +43,7 @@ on d b b' all u i f faults within more is told s =
     at k h false e t = get_or-set_other faults i k f 0 (eqb-false k i e) ∙ s.told k (omega (arith, h, eqb-false k i e))
 
 pub loop-i-init : goal.loop-i-init
-loop-i-init c = (refl, refl, λ k h. absurd (omega (arith, h)))
+loop-i-init c = (refl, refl, λ k h. absurd (omega (arith, h)), refl)
 
 pub loop-i-preserved : goal.loop-i-preserved
 loop-i-preserved c =
@@ -51,7 +51,7 @@ loop-i-preserved c =
     let within : c.loop-i.i < length c.loop-i.faults = omega (arith, c.loop-i-test.true, c.loop-i.auto.faults, c.requires) in
     let s : Step c.args.builder.now (map tlv_of c.args.tlvs.now) c.loop-i.i c.loop-i.builder c.loop-i.faults = record { put = inv.0; left = inv.1; told = inv.2 } in
     let n = on _ _ c.put_one.new.builder _ _ _ c.put_one.result _ within (units_more c.args.tlvs.now c.loop-i.i _ c.loop-i-test.true) c.put_one.ensures.put c.put_one.ensures.fault s in
-    (n.put, n.left, n.told)
+    (n.put, n.left, n.told, drop-set-lt _ c.loop-i.faults c.loop-i.i _ c.loop-i-test.true ∙ inv.3)
 
 at_end : (ts : List LldpaTlv) (i : ℕ) → length ts ≤ i → drop i (map tlv_of ts) ≡ []
 at_end ts i h = drop-map tlv_of i ts ∙ ap (map tlv_of) (drop_all i ts h)

@@ -1,11 +1,12 @@
-use Rattle.std.proofs.Common.{◌≡◌, ℕ, ◌<◌, map, drop, get_or}
+use Rattle.std.proofs.Common.{◌≡◌, ℕ, ◌<◌, length, map, drop, get_or}
 use Rattle.lldpa_c.specs.Building.{tlv_of, put_all, put_faults}
 use Rattle.lldpa_c.proofs.build.put_each.Given as goal
 
 -- What is left to put makes of the draft so far what all makes of the first, and its faults are the rest of all; those
--- before stand there.
+-- before stand there, and what is behind all stays.
 abbrev pub invariant-loop-i : goal.invariant-loop-i
 invariant-loop-i l =
     (put_all l.builder (drop l.i (map tlv_of l.tlvs)) ≡ put_all l.initial.builder (map tlv_of l.tlvs))
     × (put_faults l.builder (drop l.i (map tlv_of l.tlvs)) ≡ drop l.i (put_faults l.initial.builder (map tlv_of l.tlvs)))
     × ((k : ℕ) → k < l.i → get_or l.faults k 0 ≡ get_or (put_faults l.initial.builder (map tlv_of l.tlvs)) k 0)
+    × (drop (length l.tlvs) l.faults ≡ drop (length l.tlvs) l.initial.faults)

@@ -1,6 +1,6 @@
-use Rattle.std.proofs.Common.{◌≤◌, ◌<◌, ◌+◌, ℕ, List, take, length, ap, sym, subst, ◌∙◌}
+use Rattle.std.proofs.Common.{◌≤◌, ℕ, List, take, drop, length, ap, sym, subst, ◌∙◌}
 use Rattle.lldp_engine.specs.Lines.{lines_of}
-use Rattle.lldpa_c.specs.Filled.{Fills}
+use Rattle.lldpa_c.specs.Filled.{Fills, IsFull}
 use Rattle.lldpa_c.proofs.Coming.{all_come, fills, no_more, is_full, is_open, is_not_open}
 use Rattle.lldpa_c.proofs.lines.fill.Goals as goal
 
@@ -21,7 +21,12 @@ returns-clause-done c h =
     let come = all_come _ _ _ _ _ _ (ap length c.new-filling.ensures.room) c.new-filling.ensures.view c.take.ensures.lines c.ranges.from.fits c.take.ensures.few in
     no_more _ _ _ _ come (is_open _ h)
 
+pub returns-clause-rest : goal.returns-clause-rest
+returns-clause-rest c =
+    let is = c.room-1.given.1.1 (sym (c.take.ensures.same ∙ c.new-filling.ensures.same)) in
+    ap (drop c.take.new.self.used) is ∙ c.take.ensures.rest.rest ∙ ap (drop c.take.new.self.used) c.new-filling.ensures.room
+
 pub returns-clause-full : goal.returns-clause-full
-returns-clause-full c h line there =
+returns-clause-full c h =
     let come = all_come _ _ _ _ _ _ (ap length c.new-filling.ensures.room) c.new-filling.ensures.view c.take.ensures.lines c.ranges.from.fits c.take.ensures.few in
-    subst (λ (n : ℕ). n < c.take.new.self.used + length line + 1) (sym c.room-1.given.1.0) (is_full _ _ _ _ come (is_not_open _ h) line there)
+    subst (λ (n : ℕ). IsFull (lines_of c.args.show c.args.agent.now) c.take.new.self.next n c.take.new.self.used) (sym c.room-1.given.1.0) (is_full _ _ _ _ come (is_not_open _ h))

@@ -1,6 +1,6 @@
 use Rattle.std.proofs.Common.{◌∙◌}
 use Rattle.lldp_engine.specs.Past.{past_of}
-use Rattle.lldp_engine.proofs.Headline.{counters_are}
+use Rattle.lldp_engine.proofs.Headline.Promise.{counters_are}
 use Rattle.lldp_engine.proofs.agent.Agent.counters.Goals as goal
 
 pub returns-clause-past : goal.returns-clause-past

@@ -1,6 +1,6 @@
 use Rattle.std.proofs.Common.{◌∙◌}
 use Rattle.lldp_engine.specs.Past.{past_of}
-use Rattle.lldp_engine.proofs.Headline.{links_read}
+use Rattle.lldp_engine.proofs.Headline.Promise.{links_read}
 use Rattle.lldp_engine.proofs.agent.Agent.is_up.Goals as goal
 
 pub returns-clause-past : goal.returns-clause-past

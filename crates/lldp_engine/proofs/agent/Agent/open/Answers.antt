@@ -1,8 +1,8 @@
 use Rattle.std.proofs.Common.{◌≡◌, length, arith}
 use Rattle.std.proofs.lemmas.List.{length-map}
 use Rattle.lldp_engine.specs.Options.{options_of}
-use Rattle.lldp_engine.proofs.Opened.{opened_stands}
-use Rattle.lldp_engine.proofs.Sound.{opened_are_sound}
+use Rattle.lldp_engine.proofs.Standing.Opened.{opened_stands}
+use Rattle.lldp_engine.proofs.AllPorts.Sound.{opened_are_sound}
 use Rattle.lldp_engine.proofs.agent.Agent.open.Goals as goal
 
 pub returns-clause-opened : goal.returns-clause-opened

@@ -12,11 +12,11 @@ use Rattle.lldp_engine.specs.Standing.{Stands}
 use Rattle.lldp_engine.specs.Port.Event.{whose}
 use Rattle.lldp_engine.specs.Code.Step.{agent_after, agent_marks, ports_step}
 use Rattle.lldp_engine.proofs.OnePort.Allowed.{configured-capacity}
-use Rattle.lldp_engine.proofs.Answered.{promised_step}
+use Rattle.lldp_engine.proofs.Headline.Answered.{promised_step}
 use Rattle.lldp_engine.proofs.OnePort.Heard.{octets_for}
-use Rattle.lldp_engine.proofs.Sound.{can_take, stay_sound, ports_number}
-use Rattle.lldp_engine.proofs.Standing.{carries, marks_carry}
-use Rattle.lldp_engine.proofs.Step.{allowed_short, steps_to, marks_to, marks_sent}
+use Rattle.lldp_engine.proofs.AllPorts.Sound.{can_take, stay_sound, ports_number}
+use Rattle.lldp_engine.proofs.Standing.Carrying.{carries, marks_carry}
+use Rattle.lldp_engine.proofs.Standing.Step.{allowed_short, steps_to, marks_to, marks_sent}
 use Rattle.lldp_engine.proofs.agent.Agent.step.Goals as goal
 
 pub take-requires : goal.take-requires

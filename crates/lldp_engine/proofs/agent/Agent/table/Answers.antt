@@ -4,7 +4,7 @@ use Rattle.lldp_table.specs.Standing.{Stands as TableStands}
 use Rattle.lldp_engine.specs.Past.{past_of}
 use Rattle.lldp_engine.specs.Port.Past.{calls_after}
 use Rattle.lldp_engine.proofs.Readers.{number_reads}
-use Rattle.lldp_engine.proofs.Headline.{table_reads}
+use Rattle.lldp_engine.proofs.Headline.Promise.{table_reads}
 use Rattle.lldp_engine.proofs.agent.Agent.table.Goals as goal
 
 pub returns-clause-past : goal.returns-clause-past

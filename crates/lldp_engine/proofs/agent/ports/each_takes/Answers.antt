@@ -3,7 +3,7 @@ use Rattle.lldp_engine.specs.Port.EventView.{port_event_of}
 use Rattle.lldp_engine.specs.AgentState.{PortState}
 use Rattle.lldp_engine.specs.Code.PortStep.{port_step, port_mark}
 use Rattle.lldp_engine.specs.Code.Taking.{FitsLimit}
-use Rattle.lldp_engine.proofs.EachPort.{one_more, at_turn, all_taken}
+use Rattle.lldp_engine.proofs.AllPorts.EachPort.{one_more, at_turn, all_taken}
 use Rattle.lldp_engine.proofs.agent.ports.each_takes.Goals as goal
 
 pub loop-i-init : goal.loop-i-init

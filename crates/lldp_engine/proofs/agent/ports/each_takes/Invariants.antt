@@ -2,7 +2,7 @@ use Rattle.std.proofs.Common.{◌≡◌, ◌≤◌, length, take}
 use Rattle.lldp_engine.specs.Port.Event.{each_port}
 use Rattle.lldp_engine.specs.Port.EventView.{port_event_of}
 use Rattle.lldp_engine.specs.Code.Step.{marks_step}
-use Rattle.lldp_engine.proofs.EachPort.{so_far}
+use Rattle.lldp_engine.proofs.AllPorts.EachPort.{so_far}
 use Rattle.lldp_engine.proofs.agent.ports.each_takes.Given as goal
 
 -- the ports before this one have taken the event, and what they send is noted

@@ -1,7 +1,7 @@
 use Rattle.std.proofs.Common.{length, [], ◌∷◌, length-append, add-one, ap, arith, ◌∙◌}
 use Rattle.lldp_engine.specs.Options.{options_of}
 use Rattle.lldp_engine.specs.Code.PortStep.{opened_port}
-use Rattle.lldp_engine.proofs.Opened.{next_named, next_port}
+use Rattle.lldp_engine.proofs.Standing.Opened.{next_named, next_port}
 use Rattle.lldp_engine.proofs.agent.ports.open_ports.Goals as goal
 
 pub open-requires-in-loop-name-clause-name : goal.open-requires-in-loop-name-clause-name

@@ -3,7 +3,7 @@ use Rattle.lldp_engine.specs.AgentState.{PortState}
 use Rattle.lldp_engine.specs.Port.EventView.{port_event_of}
 use Rattle.lldp_engine.specs.Code.PortStep.{port_step, port_mark}
 use Rattle.lldp_engine.specs.Code.Taking.{FitsLimit}
-use Rattle.lldp_engine.proofs.EachPort.{at_own, one_port_after, one_port_marks}
+use Rattle.lldp_engine.proofs.AllPorts.EachPort.{at_own, one_port_after, one_port_marks}
 use Rattle.lldp_engine.proofs.agent.ports.take_event.Goals as goal
 
 pub take-mark-requires : goal.take-mark-requires

@@ -2,7 +2,7 @@ use Rattle.std.proofs.Common.{take}
 use Rattle.std.specs.List.{flat_map}
 use Rattle.lldp_engine.specs.AgentState.{names_of}
 use Rattle.lldp_program.specs.Code.Output.{Puts}
-use Rattle.lldp_program.specs.Sent.{mark_line}
+use Rattle.lldp_program.specs.Trace.Sent.{mark_line}
 use Rattle.lldp_program.specs.Code.Parts.{Between}
 use Rattle.lldp_program.proofs.output.Output.put_frames.Given as goal
 

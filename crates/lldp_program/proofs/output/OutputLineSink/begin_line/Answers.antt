@@ -1,5 +1,5 @@
 use Rattle.std.proofs.Common.{refl, rules, sym, ◌∙◌}
-use Rattle.lldp_program.specs.Lines.{ended}
+use Rattle.lldp_program.specs.Trace.Lines.{ended}
 use Rattle.lldp_program.proofs.Texts.Taken.{puts_then, puts_waiting, puts_no_more, no_fault, a_fault, behind_lent}
 use Rattle.lldp_program.proofs.output.OutputLineSink.begin_line.Goals as goal
 

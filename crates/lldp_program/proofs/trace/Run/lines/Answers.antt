@@ -1,8 +1,8 @@
 use Rattle.std.proofs.Common.{◌≡◌, ◌-◌, ◌+◌, ◌++◌, ◌∷◌, [], take, drop, rules, arith, refl, sym, ap, ◌∙◌}
 use Rattle.std.proofs.lemmas.List.{take_rest}
 use Rattle.std.proofs.lemmas.Result.{err_from_is_err_and}
-use Rattle.lldp_program.specs.Lines.{ended_lines, unfinished}
-use Rattle.lldp_program.specs.Items.{items_of, items_of_lines}
+use Rattle.lldp_program.specs.Trace.Lines.{ended_lines, unfinished}
+use Rattle.lldp_program.specs.Trace.Items.{items_of, items_of_lines}
 use Rattle.lldp_program.proofs.Lines.Pieces.{one_more_line, no_lf_left, all_lines, the_rest, lines_then}
 use Rattle.lldp_program.proofs.Runs.Joined.{nothing_runs, runs_then, runs_cut_off, line_more, lines_left}
 use Rattle.lldp_program.proofs.trace.Run.lines.Goals as goal

@@ -1,7 +1,7 @@
 use Rattle.std.proofs.Common.{◌≡◌, ◌≤◌, ◌-◌, [], length, take, drop}
 use Rattle.std.specs.Prelude.{Ok}
-use Rattle.lldp_program.specs.Lines.{ended_lines, unfinished}
-use Rattle.lldp_program.specs.Items.{items_of_lines}
+use Rattle.lldp_program.specs.Trace.Lines.{ended_lines, unfinished}
+use Rattle.lldp_program.specs.Trace.Items.{items_of_lines}
 use Rattle.lldp_program.specs.Code.Parts.{Performs}
 use Rattle.lldp_program.proofs.trace.Run.lines.Given as goal
 

@@ -1,5 +1,5 @@
 use Rattle.std.proofs.Common.{◌≡◌, ap, length, refl, rules}
-use Rattle.lldp_program.specs.Items.{items_of_lines}
+use Rattle.lldp_program.specs.Trace.Items.{items_of_lines}
 use Rattle.lldp_program.proofs.Lines.Pieces.{no_last_line}
 use Rattle.lldp_program.proofs.Runs.Joined.{nothing_runs}
 use Rattle.lldp_program.proofs.trace.Run.rest.Goals as goal

@@ -1,0 +1,42 @@
+"""How old what is seen is, in seconds and in words."""
+from __future__ import annotations
+
+import re
+from typing import NamedTuple, Sequence
+
+UNITS = (("d", 86400, "day"), ("h", 3600, "hour"), ("m", 60, "minute"), ("s", 1, "second"))
+SPAN = re.compile(r"([0-9]{1,9}(?:\.[0-9]{1,9})?)([dhms]?)")
+
+
+class Ages(NamedTuple):
+    """The ages of the newest and of the oldest source, in seconds."""
+
+    newest: float
+    oldest: float
+
+    def __str__(self) -> str:
+        newest, oldest = worded(self.newest), worded(self.oldest)
+        return f"{oldest} old" if newest == oldest else f"{newest} to {oldest} old"
+
+
+def ages_of(times: Sequence[float], now: float) -> Ages:
+    """The ages of sources by their times, of which there is one at least, in seconds since 1970.
+
+    What comes from the future is new."""
+    return Ages(max(now - max(times), 0.0), max(now - min(times), 0.0))
+
+
+def worded(seconds: float) -> str:
+    """A span in the greatest unit of which it has one at least: `3 days`."""
+    _, size, name = next((unit for unit in UNITS if seconds >= unit[1]), UNITS[-1])
+    count = int(seconds // size)
+    return f"{count} {name}{'' if count == 1 else 's'}"
+
+
+def seconds_of(text: str) -> float:
+    """The seconds of a span such as `90`, `15m`, `12h` or `1d`. Raises ValueError."""
+    found = SPAN.fullmatch(text)
+    if found is None:
+        raise ValueError(text)
+    sizes = {mark: size for mark, size, _ in UNITS}
+    return float(found[1]) * sizes[found[2] or "s"]

@@ -1,0 +1,155 @@
+"""Judges what is seen at the ports of hosts by a plan. audit/README.md defines each verdict."""
+from __future__ import annotations
+
+from enum import Enum
+from typing import Iterator, NamedTuple, Optional, Sequence
+
+from .bundles import Bundles
+from .names import End, Seen
+from .plan import Plan, Wish
+from .seen.tables import Tables, KnownPort
+
+
+class Verdict(Enum):
+    """What an audit says of an end."""
+
+    RIGHT = "right"
+    WRONG = "wrong"
+    SWAPPED = "swapped"
+    SILENT = "silent"
+    EXTRA = "extra"
+    DOUBLED = "doubled"
+    ONE_SIDED = "one-sided"
+    DISAGREES = "disagrees"
+    UNPLANNED = "unplanned"
+    NO_DATA = "no data"
+    KNOWN = "known"
+
+
+class Finding(NamedTuple):
+    """The verdict on an end, the end that it wants, and its neighbors.
+
+    `partner` is the end that it is swapped with. An end that is not planned wants none. `reason`
+    says why an end is not judged whose fault is known.
+    """
+
+    end: End
+    verdict: Verdict
+    wants: Optional[End]
+    has: Sequence[Seen] = ()
+    partner: Optional[End] = None
+    reason: str = ""
+
+
+def audit(plan: Plan, tables: Tables, planned_only: bool = False) -> list[Finding]:
+    """A finding for each planned end of the audited hosts, and for each other port with a neighbor.
+
+    They stand in the order of the plan; those beside it follow.
+    """
+    judge = Judge(plan, tables)
+    findings = list(judge.planned())
+    return findings if planned_only else [*findings, *judge.unplanned()]
+
+
+class Judge:
+    """Knows a plan and what is seen. It is asked of ends by their names as they are compared."""
+
+    def __init__(self, plan: Plan, tables: Tables) -> None:
+        self.plan = plan
+        self.tables = tables
+        self.names = tables.names
+        self._bundles = Bundles(plan, tables) if self.names.vendor_names else None
+
+    def planned(self) -> Iterator[Finding]:
+        """The findings on the planned ends of the audited hosts."""
+        hosts, ends = self.tables.hosts, self.tables.ends
+        for end, wish in self.plan.ends.items():
+            if end.host in hosts:
+                yield self.finding(end, wish, ends.get(end), ends.get(wish.wanted))
+
+    def unplanned(self) -> Iterator[Finding]:
+        """The findings on ports beside the plan."""
+        for end in sorted(self.tables.ends.keys() - self.plan.ends.keys()):
+            told = self.tables.ends[end]
+            if told.neighbors and end not in self.plan.unknown:
+                yield Finding(told.end, Verdict.UNPLANNED, None, told.neighbors)
+
+    def finding(self, end: End, wish: Wish, told: Optional[KnownPort],
+                other: Optional[KnownPort]) -> Finding:
+        """The finding on a planned end, by what is told of it and of the end that it wants."""
+        if told is None:
+            return Finding(wish.end, Verdict.NO_DATA, wish.wants)
+        if self._bundles is not None and self.is_of_another_bundle(self._bundles, end,
+                                                                   wish.wanted, told):
+            return Finding(wish.end, Verdict.WRONG, wish.wants, told.neighbors)
+        if self.has_only(told, wish.wanted) and (other is None or self.has_only(other, end)):
+            return Finding(wish.end, Verdict.RIGHT, wish.wants, told.neighbors)
+        verdict = self.verdict(end, wish.wanted, told.neighbors)
+        if verdict is Verdict.WRONG:
+            partner = self.partner(end, wish.wanted, told.neighbors[0])
+            if partner is not None:
+                return Finding(wish.end, Verdict.SWAPPED, wish.wants, told.neighbors, partner)
+        return Finding(wish.end, verdict, wish.wants, told.neighbors)
+
+    def is_of_another_bundle(self, bundles: Bundles, end: End, wanted: End, told: KnownPort
+                             ) -> bool:
+        """Whether the one neighbor of an end names an aggregate in place of its port, and that is
+        not the one to which the link belongs."""
+        if len(told.neighbors) != 1:
+            return False
+        neighbor = told.neighbors[0]
+        return (self.names.is_any_member(neighbor, wanted.host)
+                and wanted not in self.names.ends(neighbor)
+                and bundles.part(end, wanted))
+
+    def has_only(self, told: KnownPort, end: End) -> bool:
+        """Whether a port has one neighbor, who answers to an end."""
+        return len(told.neighbors) == 1 and self.names.answers(told.neighbors[0], end)
+
+    def verdict(self, end: End, wanted: End, neighbors: Sequence[Seen]) -> Verdict:
+        """The verdict on an end that is told of. One that is swapped is still wrong here."""
+        if not neighbors:
+            return Verdict.ONE_SIDED if self.sees(wanted, end) else Verdict.SILENT
+        if len(neighbors) > 1:
+            right_ones = [one for one in neighbors if self.names.answers(one, wanted)]
+            return Verdict.EXTRA if len(right_ones) == 1 else Verdict.DOUBLED
+        if not self.names.answers(neighbors[0], wanted):
+            return Verdict.WRONG
+        other = self.tables.ends.get(wanted)
+        if other is None or self.sees(wanted, end):
+            return Verdict.RIGHT
+        return Verdict.DISAGREES if other.neighbors else Verdict.ONE_SIDED
+
+    def sees(self, end: End, other: End) -> bool:
+        """Whether one of an end's neighbors answers to the other end."""
+        told = self.tables.ends.get(end)
+        for one in told.neighbors if told is not None else ():
+            if self.names.answers(one, other):
+                return True
+        return False
+
+    def partner(self, end: End, wanted: End, neighbor: Seen) -> Optional[End]:
+        """The end of another link with which an end is swapped that has this neighbor alone.
+
+        Each has what the other one wants, and not what it wants itself. Where there are several it
+        is the first one of the plan.
+        """
+        wishes = [self.plan.ends[key] for key in self.ends(neighbor) if key in self.plan.ends]
+        others = {wish.wanted for wish in wishes} - {end, wanted}
+        for other in sorted(others, key=lambda other: self.plan.ends[other].place):
+            its_wish = self.plan.ends[other]
+            if self.has_alone(other, wanted) and not self.sees(other, its_wish.wanted):
+                return its_wish.end
+        return None
+
+    def ends(self, neighbor: Seen) -> Iterator[End]:
+        """Each end that a neighbor answers to: one that names its aggregate may be any member."""
+        yield from self.names.ends(neighbor)
+        for host in map(self.names.host, neighbor.hosts):
+            if self.names.is_any_member(neighbor, host):
+                yield from self.plan.ends_of_hosts.get(host, ())
+
+    def has_alone(self, end: End, other: End) -> bool:
+        """Whether an end has one neighbor, who answers to the other end."""
+        told = self.tables.ends.get(end)
+        return told is not None and self.has_only(told, other)

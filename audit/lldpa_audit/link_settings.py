@@ -1,0 +1,64 @@
+"""What a port says of its link: maximum frame size, PVID, speed, duplex, aggregation."""
+from __future__ import annotations
+
+import re
+from typing import NamedTuple, Optional
+
+# a MAU type's name begins with its speed: 100BaseTXFD, 1000baseKX, 10GigBaseLR, 40GbaseCR4, 2p5GigT
+SPEED = re.compile(r"(?P<whole>[0-9]{1,4})(?:[p.](?P<part>[0-9]))?(?P<giga>G(?:ig)?)?(?:base|T)",
+                   re.I)
+HALF = re.compile(r"half duplex|HD\b", re.I)
+FULL = re.compile(r"full duplex|(?:FD|DF)\b", re.I)  # one name of lldpd's has the letters twisted
+GIGA = 1000
+NUMBER = re.compile(r"[0-9]{1,5}")
+ID = re.compile(r"[0-9]{1,10}")
+MOST = 65535
+
+
+class Settings(NamedTuple):
+    """What a port says of its link; None where it does not say it.
+
+    The maximum frame size is in octets, the speed in Mb/s. No port says a PVID of 0, which stands
+    for none. Duplex is `full` or `half`. `aggregation` is the number of the aggregate at that host.
+    """
+
+    max_frame_size: Optional[int] = None
+    pvid: Optional[int] = None
+    speed: Optional[int] = None
+    duplex: Optional[str] = None
+    is_aggregated: Optional[bool] = None
+    aggregation: Optional[int] = None
+
+
+NO_SETTINGS = Settings()
+
+
+def settings_of(max_frame_size: str, pvid: str, mau_type: str, aggregation: str
+                ) -> Optional[Settings]:
+    """Settings as lldpcli writes them; None where nothing is said. Its texts are empty where there
+    is none, and it writes nothing of a port that is not aggregated."""
+    speed, duplex = speed_and_duplex(mau_type)
+    return none_if_empty(Settings(number(max_frame_size) or None, number(pvid) or None, speed,
+                                  duplex, True if aggregation else None,
+                                  int(aggregation) if ID.fullmatch(aggregation) else None))
+
+
+def none_if_empty(settings: Settings) -> Optional[Settings]:
+    """Settings, or None where nothing is said."""
+    return None if settings == NO_SETTINGS else settings
+
+
+def number(text: str) -> Optional[int]:
+    """A number of two octets; None where the text is none."""
+    found = int(text) if NUMBER.fullmatch(text) else MOST + 1
+    return found if found <= MOST else None
+
+
+def speed_and_duplex(mau_type: str) -> tuple[Optional[int], Optional[str]]:
+    """The speed in Mb/s and the duplex mode, as far as the name of a MAU type tells them."""
+    duplex = "full" if FULL.search(mau_type) else "half" if HALF.search(mau_type) else None
+    found = SPEED.match(mau_type)
+    if found is None:
+        return None, duplex
+    tenths = int(found["whole"]) * 10 + int(found["part"] or 0)
+    return tenths * (GIGA if found["giga"] else 1) // 10, duplex

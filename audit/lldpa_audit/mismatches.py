@@ -1,0 +1,97 @@
+"""In what the two ends of right links differ, by what both say of the link and by the plan."""
+from __future__ import annotations
+
+from typing import Iterable, Iterator, Mapping, NamedTuple, Optional, Union
+
+from .columns import key_of
+from .judging import Finding, Verdict
+from .link_settings import NO_SETTINGS, Settings, number
+from .names import End
+from .plan import Plan
+from .seen.tables import Tables
+
+Value = Union[bool, int, str]
+
+
+class Mismatch(NamedTuple):
+    """In what the ends of a link differ: in words, and by how much, seen from one of them.
+
+    Links of which one end differs from the other by the same may have one cause at that end's host.
+    """
+
+    text: str
+    ends: tuple[End, End]
+    by_how_much: str = ""
+    opposite: str = ""
+
+
+def mismatches(findings: Iterable[Finding], tables: Tables, plan: Optional[Plan] = None
+               ) -> dict[End, Mismatch]:
+    """The mismatch of each right link that has one, at its first end in the plan.
+
+    What a port says is known from its neighbor at the other end. Where the plan has columns mtu,
+    speed or pvid, what each end says is compared with them as well.
+    """
+    right = {tables.names.end(one.end): one for one in findings if one.verdict is Verdict.RIGHT}
+    found: dict[End, Mismatch] = {}
+    for finding in right.values():
+        other = right.get(tables.names.end(finding.wants)) if finding.wants else None
+        if finding.wants is None or finding.wants in found:
+            continue
+        said = other.has[0].settings if other is not None else None
+        one = mismatch(finding.end, finding.wants, said, finding.has[0].settings)
+        wanted = expected(plan, tables.names.end(finding.end)) if plan is not None else NO_SETTINGS
+        one = one or unlike_plan(finding.end, finding.wants, said, finding.has[0].settings, wanted)
+        if one is not None:
+            found[finding.end] = one
+    return found
+
+
+def mismatch(end: End, other: End, said: Optional[Settings], its: Optional[Settings]
+             ) -> Optional[Mismatch]:
+    """In what the ends of a link differ."""
+    pairs = list(differing(said, its)) if said is not None and its is not None else []
+    if not pairs:
+        return None
+    ones, others, more, less = (" and ".join(words) for words in zip(*pairs))
+    return Mismatch(f"mismatch: {end} says {ones}, {other} says {others}", (end, other), more, less)
+
+
+def differing(one: Settings, other: Settings) -> Iterator[tuple[str, str, str, str]]:
+    """Yields what each of two ends says that the other one says otherwise, the first with its name,
+    and how each of them differs from the other."""
+    for name, unit, value, its in (
+            ("MTU", "", one.max_frame_size, other.max_frame_size),
+            ("PVID", "", one.pvid, other.pvid), ("speed", " Mb/s", one.speed, other.speed),
+            ("duplex", "", one.duplex, other.duplex),
+            ("aggregation", "", one.is_aggregated, other.is_aggregated)):
+        if value is not None and its is not None and value != its:
+            texts = f"{name} {worded(value)}{unit}", f"{worded(its)}{unit}"
+            if name == "MTU" and isinstance(value, int) and isinstance(its, int):
+                yield (*texts, f"MTU by {value - its:+}", f"MTU by {its - value:+}")
+            else:
+                yield (*texts, f"{texts[0]}, not {texts[1]}",
+                       f"{name} {texts[1]}, not {worded(value)}{unit}")
+
+
+def expected(plan: Plan, key: End) -> Settings:
+    """What the plan's columns say of a link: mtu, speed in Mb/s, pvid."""
+    texts: Mapping[str, str] = {key_of(name): text for name, text in plan.details(key)}
+    speed = texts.get("speed", "")
+    return Settings(number(texts.get("mtu", "")), number(texts.get("pvid", "")),
+                    int(speed) if speed.isdecimal() and len(speed) < 10 else None)
+
+
+def unlike_plan(end: End, other: End, said: Optional[Settings], its: Optional[Settings],
+                wanted: Settings) -> Optional[Mismatch]:
+    """In what the ends of a link say otherwise than the plan."""
+    texts = []
+    for place, one in ((end, said), (other, its)):
+        pairs = list(differing(one, wanted)) if one is not None else []
+        texts += [f"{place} says {text}, the plan has {plan}" for text, plan, _, _ in pairs]
+    return Mismatch(f"mismatch: {'; '.join(texts)}", (end, other)) if texts else None
+
+
+def worded(value: Value) -> str:
+    """Returns a value as a line shows it."""
+    return str(value) if not isinstance(value, bool) else "yes" if value else "no"

@@ -1,0 +1,133 @@
+"""Patch panels: a cable that ends at a panel goes on at the panel's other side."""
+from __future__ import annotations
+
+from typing import Iterable, Iterator, NamedTuple, Optional
+
+from .names import End, Names
+from .plan import Detail, Link
+from .planfault import Faults
+
+
+# through more panels than this no link goes: those of a ring have no end
+MOST_PANELS = 100
+
+
+class Pair(NamedTuple):
+    """A front port of a panel, the rear port behind it, and its position there, from 1 on."""
+
+    front: End
+    rear: End
+    position: str
+    line: Optional[int]
+
+
+class Cable(NamedTuple):
+    """The other end of a cable that ends at a panel, and the cable's line and detail in the plan.
+    """
+
+    end: End
+    key: End
+    line: Optional[int]
+    detail: Detail
+
+
+class Panels:
+    """Follows cables through panels. Several front ports may share a rear port, as those of a
+    cassette with a trunk do: behind the trunk a link goes on at the position at which it began.
+
+    `dead_ends` has the cables behind which nothing is planned: from where, and up to where.
+    """
+
+    def __init__(self, pairs: Iterable[Pair], names: Names, faults: Faults,
+                 faults_of_pairs: Faults) -> None:
+        self._names = names
+        self._faults = faults
+        self._cables: dict[End, Cable] = {}
+        self._pairs: dict[End, Pair] = {}
+        self._fronts_of: dict[End, dict[str, End]] = {}
+        self._hosts: set[str] = set()
+        self.dead_ends: list[tuple[End, End]] = []
+        for pair in pairs:
+            self._add_pair(pair, faults_of_pairs)
+
+    def _add_pair(self, pair: Pair, faults: Faults) -> None:
+        """Remembers what a front port leads to. A port that stands in two pairs is a fault, unless
+        it is a rear port, and they have different positions."""
+        front, rear = self._names.end(pair.front), self._names.end(pair.rear)
+        back = self._pairs.get(rear)
+        if back is not None and self._names.end(back.rear) == front:
+            return  # the same pair, written from its other side
+        before = self._pairs.setdefault(front, pair)
+        taken = self._fronts_of.setdefault(rear, {}).setdefault(pair.position, pair.front)
+        if before[:3] != pair[:3] or front in self._fronts_of:
+            faults.add(pair.line, f"{pair.front} is planned already in line {before.line}")
+        elif taken != pair.front or back is not None:
+            faults.add(pair.line, f"{pair.rear} is planned already for {taken}")
+        self._hosts.update((front.host, rear.host))
+
+    def through(self, links: Iterable[Link]) -> Iterator[Link]:
+        """Yields links whose ends are no panels. One that was followed from both its ends comes
+        twice."""
+        links = list(links)
+        for link in links:
+            self._add(link)
+        for link in links:
+            one_key, other_key = self._names.end(link.one), self._names.end(link.other)
+            if not self.has(one_key) and not self.has(other_key):
+                yield link
+            elif self._faults.count:
+                continue  # a cable that was refused may close a ring
+            elif not self.has(one_key):
+                yield from self._followed(link.one, self._cable(link, link.other))
+            elif not self.has(other_key):
+                yield from self._followed(link.other, self._cable(link, link.one))
+
+    def has(self, key: End) -> bool:
+        """Whether an end is at a panel."""
+        return key.host in self._hosts
+
+    def _cable(self, link: Link, end: End) -> Cable:
+        return Cable(end, self._names.end(end), link.line, link.detail)
+
+    def _add(self, link: Link) -> None:
+        """Remembers a cable of a panel. Two at one side of a panel are a fault of the plan."""
+        one, other = self._cable(link, link.one), self._cable(link, link.other)
+        if not self.has(one.key) and not self.has(other.key):
+            return
+        for near, far in ((one, other), (other, one)):
+            before = self._cables.get(near.key)
+            if before is not None and before.key != far.key and self.has(near.key):
+                self._faults.add(link.line, f"{near.end} is planned already in line {before.line}")
+                return
+        self._cables[one.key], self._cables[other.key] = other, one
+
+    def _followed(self, begin: End, cable: Cable) -> Iterator[Link]:
+        """Yields the link that begins with a cable, unless it ends at a panel or in a ring."""
+        first = cable
+        path: list[End] = []
+        positions: list[str] = []
+        while self.has(cable.key):
+            side = self._other_side(cable, positions)
+            further = self._cables.get(self._names.end(side)) if side else None
+            if side is None or further is None or len(path) > 2 * MOST_PANELS:
+                self.dead_ends.append((begin, side or cable.end))
+                return
+            path += [cable.end, side]
+            cable = further
+        yield Link(begin, cable.end, first.line, cable.line, Detail(first.detail.texts, path),
+                   Detail(cable.detail.texts, path[::-1]))
+
+    def _other_side(self, cable: Cable, positions: list[str]) -> Optional[End]:
+        """The other side of the panel at which a cable ends; None where that is not known.
+
+        `positions` has those at which the link has entered trunks and not left them again.
+        """
+        pair = self._pairs.get(cable.key)
+        if pair is not None:
+            if len(self._fronts_of[self._names.end(pair.rear)]) > 1:
+                positions.append(pair.position)
+            return pair.rear
+        fronts = self._fronts_of.get(cable.key, {})
+        if len(fronts) == 1:
+            return next(iter(fronts.values()))
+        return fronts.get(positions.pop()) if positions else None

@@ -1,0 +1,126 @@
+"""A plan of the cabling: which end is to be joined to which."""
+from __future__ import annotations
+
+from functools import cached_property
+from typing import Iterable, Mapping, NamedTuple, Optional, Sequence, Set
+
+from .names import End, Names, shown
+from .planfault import Faults
+
+
+MOST_ENDS = 2_400_000
+
+
+class Detail(NamedTuple):
+    """What else a plan says of a cable: the texts of its other columns in their order, and the ends
+    at panels through which the link goes on from that cable."""
+
+    texts: Sequence[str] = ()
+    path: Sequence[End] = ()
+
+
+NO_DETAIL = Detail()
+
+
+class Link(NamedTuple):
+    """A planned link: its two ends, and the line of each in the plan where that is known.
+
+    Behind panels the two ends are at two cables, each with a line and a detail.
+    """
+
+    one: End
+    other: End
+    line: Optional[int]
+    other_line: Optional[int] = None
+    detail: Detail = NO_DETAIL
+    other_detail: Optional[Detail] = None
+
+
+class Wish(NamedTuple):
+    """A planned end and the one that it wants, as the plan writes them, its place and its line.
+
+    `wanted` is the one that it wants as it is compared.
+    """
+
+    end: End
+    wants: End
+    wanted: End
+    place: int
+    line: Optional[int] = None
+    detail: Detail = NO_DETAIL
+
+
+class Plan:
+    """The planned ends in the order of the plan, by their names as they are compared.
+
+    No end is joined to two. Raises PlanFault. `columns` names the texts of each detail, `notes` has
+    what of the file is left out, and `unknown` the ends whose cable goes on nobody knows where.
+    """
+
+    def __init__(self, file: str, links: Iterable[Link], names: Names,
+                 faults: Optional[Faults] = None) -> None:
+        self.file = file
+        self.ends: dict[End, Wish] = {}
+        self.columns: Sequence[str] = ()
+        self.notes: Sequence[str] = ()
+        self.unknown: Set[End] = set()
+        faults = faults or Faults(file)
+        for link in links:
+            self._add(link, names, faults)
+            if len(self.ends) > MOST_ENDS:
+                faults.add(link.line, f"it plans over {MOST_ENDS // 2} links")
+                break
+        if not self.ends and not faults.count:
+            faults.add(None, "it plans no link")
+        self.hosts = {key.host: wish.end.host for key, wish in self.ends.items()}
+        if names.short_names:
+            self._need_hosts_apart(names.with_domains(), faults)
+        faults.end()
+        names.planned_ports = {key.port for key in self.ends}
+
+    def _need_hosts_apart(self, whole: Names, faults: Faults) -> None:
+        """Two hosts that differ in their domains alone would be one, and one's cables the other's.
+        """
+        firsts: dict[str, str] = {}
+        for key, wish in self.ends.items():
+            first = firsts.setdefault(key.host, wish.end.host)
+            if whole.host(wish.end.host) != whole.host(first):
+                faults.add(wish.line, f"{shown(wish.end.host)} and {shown(first)} are planned, and "
+                                      "would be one host by --short-names")
+
+    def _add(self, link: Link, names: Names, faults: Faults) -> None:
+        """Plans a link, unless it stands there already."""
+        one, other, line, other_line, detail, other_detail = link
+        one_key, other_key = names.end(one), names.end(other)
+        before, other_before = self.ends.get(one_key), self.ends.get(other_key)
+        if before is None and other_before is None and one_key != other_key:
+            place = len(self.ends)
+            self.ends[one_key] = Wish(one, other, other_key, place, line, detail)
+            self.ends[other_key] = Wish(other, one, one_key, place + 1, other_line or line,
+                                        other_detail or detail)
+        elif before is None or before.wanted != other_key:
+            twice = one if before else other
+            faults.add(line, planned_twice(twice, before or other_before, line))
+
+    @cached_property
+    def ends_of_hosts(self) -> Mapping[str, Sequence[End]]:
+        """The planned ends of each host, all as they are compared."""
+        ends: dict[str, list[End]] = {}
+        for key in self.ends:
+            ends.setdefault(key.host, []).append(key)
+        return ends
+
+    def details(self, end: End) -> Sequence[tuple[str, str]]:
+        """The name and the text of each other column for an end, as it is compared."""
+        wish = self.ends.get(end)
+        return [(name, text) for name, text in zip(self.columns, wish.detail.texts) if text
+                ] if wish else ()
+
+
+def planned_twice(end: End, before: Optional[Wish], line: Optional[int]) -> str:
+    """The fault of an end that is joined to two, or to itself."""
+    if before is None or before.line == line is not None:
+        return f"{end} is planned twice in it"
+    if before.line is None:
+        return f"{end} is planned twice"
+    return f"{end} is planned already in line {before.line}"

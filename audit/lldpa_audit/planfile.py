@@ -1,0 +1,190 @@
+"""Reads plans: links in DOT, CSV or NetBox's JSON, through patch panels."""
+from __future__ import annotations
+
+from pathlib import Path
+from typing import Iterable, Iterator, Mapping, Optional, Sequence
+
+from .columns import Columns
+from .dot import is_dot
+from .names import End, Names
+from .netbox import DETAILS, cables_of, is_json
+from .panels import Pair, Panels
+from .plan import NO_DETAIL, Detail, Link, Plan
+from .planfault import Faults, PlanFault
+from .progress import Progress
+from .rows import rows_of
+from .topology import NO_PORT, TopologyFault, read_topology
+
+MOST_NAMED = 3
+LONGEST_NAME = 255  # no neighbor says a longer one
+
+
+class PlanFile:
+    """Reads the links of a file.
+
+    `left_out` counts the cables that join no ports of networks, `at_panels` has the ends that are
+    ports of panels by the file's own word, each with the end at the cable's other side.
+    """
+
+    def __init__(self, file: str, columns: Optional[Mapping[str, str]] = None) -> None:
+        self.text = text_of(file)
+        self.faults = Faults(file)
+        self.left_out = 0
+        self.others: Sequence[str] = ()
+        self.at_panels: dict[End, End] = {}
+        self._given = columns
+        self._names: dict[str, str] = {}
+
+    def links(self) -> Iterator[Link]:
+        """Yields the links in the form that the content has."""
+        if is_json(self.text):
+            return self._links_of_netbox()
+        return self._links_of_dot() if is_dot(self.text) else self._links_of_csv()
+
+    def _kept(self, name: str, line: Optional[int]) -> str:
+        """A name, of which one that stands in many rows is kept once. One that is longer than LLDP
+        can say is a fault."""
+        if len(name) > LONGEST_NAME:
+            self.faults.add(line, f"a name in it has {len(name)} characters, and "
+                                  f"{LONGEST_NAME} are the most")
+        self._names[name] = name
+        return name
+
+    def _end(self, names: Iterable[str], line: Optional[int]) -> End:
+        """An end of these two names."""
+        return End(*[self._names.get(name) or self._kept(name, line) for name in names])
+
+    def _links_of_dot(self) -> Iterator[Link]:
+        try:
+            for edge in read_topology(self.text):
+                if edge.one is None or edge.other is None:
+                    self.faults.add(edge.line, NO_PORT)
+                else:
+                    yield Link(self._end(edge.one, edge.line), self._end(edge.other, edge.line),
+                               edge.line)
+        except TopologyFault as fault:
+            self.faults.add(fault.line, str(fault))
+
+    def _links_of_csv(self) -> Iterator[Link]:
+        """Yields the links of rows, whose first names the columns."""
+        rows = rows_of(self.text, self.faults)
+        line, header = next(rows, (1, []))
+        columns = Columns(header, line, self.faults, self._given)
+        self.others = columns.others
+        has_details, has_types, names = bool(self.others), columns.has_types, self._names
+        for line, fields in rows if columns.can_read else ():
+            detail = Detail(columns.texts(fields)) if has_details else NO_DETAIL
+            for row in columns.rows(line, fields):
+                host, port, peer, peer_port = [names.get(name) or self._kept(name, line)
+                                               for name in row]
+                one, other = End(host, port), End(peer, peer_port)
+                if has_types:
+                    self._note_panels(one, other, columns.are_at_panels(fields))
+                yield Link(one, other, line, None, detail)
+        self.left_out = columns.left_out
+
+    def _links_of_netbox(self) -> Iterator[Link]:
+        """Yields the links of cables that have as many ends at one side as at the other."""
+        self.others = DETAILS
+        for cable in cables_of(self.text, self.faults):
+            ones, others = ([self._end(one.end, None) for one in side] for side in cable.sides)
+            if cable.joins_no_ports:
+                self.left_out += 1
+            elif len(ones) != len(others):
+                self.faults.add(None, f"the cable {cable.texts[0]} has {len(ones)} and "
+                                      f"{len(others)} terminations: which goes to which, it does "
+                                      "not say")
+            else:
+                for one, other in zip(ones, others):
+                    self._note_panels(one, other, (cable.is_at_panel(0), cable.is_at_panel(1)))
+                    yield Link(one, other, None, None, Detail(cable.texts))
+
+    def _note_panels(self, one: End, other: End, are_at_panels: tuple[bool, bool]) -> None:
+        """Remembers the ends that are ports of panels."""
+        if are_at_panels[0]:
+            self.at_panels[one] = other
+        if are_at_panels[1]:
+            self.at_panels[other] = one
+
+    def pairs(self) -> Iterator[Pair]:
+        """Yields the pairs of ports that panels join: of rows, with the position at the rear port;
+        of other forms with none, since each rear port has one front port there."""
+        if is_json(self.text) or is_dot(self.text):
+            for link in self.links():
+                yield Pair(link.one, link.other, "1", link.line)
+            return
+        rows = rows_of(self.text, self.faults)
+        line, header = next(rows, (1, []))
+        columns = Columns(header, line, self.faults)
+        for line, fields in rows if columns.can_read else ():
+            for panel, front, same, rear in columns.rows(line, fields):
+                yield Pair(End(panel, front), End(same, rear), columns.position(fields), line)
+
+
+def read_plan(file: str, names: Names, columns: Optional[Mapping[str, str]] = None,
+              panels: Optional[str] = None, progress: Optional[Progress] = None) -> Plan:
+    """Reads the plan of a file, whose columns may be given, through the panels of another file.
+
+    Raises PlanFault and OSError.
+    """
+    read = PlanFile(file, columns)
+    links: Iterable[Link] = read.links()
+    if progress is not None:
+        links = progress.over(links, read.text.count("\n"), "lines of the plan")
+    followed = None
+    if panels is not None:
+        followed = read_panels(panels, names, read.faults)
+        links = followed.through(links)
+    else:
+        links = without_panels(links, read)
+    plan = Plan(file, links, names, read.faults)
+    if followed is None:
+        ends = {*read.at_panels, *read.at_panels.values()}
+        plan.unknown = {names.end(end) for end in ends}
+    plan.columns = read.others
+    plan.notes = notes_of(file, read, followed)
+    return plan
+
+
+def read_panels(file: str, names: Names, faults: Faults) -> Panels:
+    """Reads the pairs of ports that panels join. Raises PlanFault and OSError."""
+    read = PlanFile(file)
+    panels = Panels(read.pairs(), names, faults, read.faults)
+    read.faults.end()
+    return panels
+
+
+def without_panels(links: Iterable[Link], read: PlanFile) -> Iterator[Link]:
+    """Yields the links that end at no panel, by the file's own word."""
+    for link in links:
+        if link.one not in read.at_panels and link.other not in read.at_panels:
+            yield link
+
+
+def text_of(file: str) -> str:
+    """The text of a file. Raises PlanFault and OSError."""
+    octets = Path(file).read_bytes()
+    try:
+        return octets.decode("utf-8-sig")
+    except UnicodeDecodeError as fault:
+        why = f"it is no text in UTF-8 (octet {fault.start})"
+    raise PlanFault([f"{file}: {why}"])
+
+
+def notes_of(file: str, read: PlanFile, followed: Optional[Panels]) -> list[str]:
+    """What of a plan is left out."""
+    notes = []
+    dead_ends = followed.dead_ends if followed else ()
+    if read.left_out:
+        rows = "cable is" if read.left_out == 1 else "cables are"
+        notes.append(f"{file}: {read.left_out} {rows} left out, of power, consoles or one end")
+    if read.at_panels and followed is None:
+        count = len({frozenset(pair) for pair in read.at_panels.items()})
+        cables = "cable ends" if count == 1 else "cables end"
+        notes.append(f"{file}: {count} {cables} at ports of patch panels, and cannot be judged: "
+                     "give --panels with NetBox's export of front ports")
+    for begin, end in dead_ends[:MOST_NAMED]:
+        notes.append(f"{file}: nothing is planned for {begin} behind the panel's {end}")
+    if len(dead_ends) > MOST_NAMED:
+        notes.append(f"{file}: nor for {len(dead_ends) - MOST_NAMED} more ends behind panels")
+    return notes

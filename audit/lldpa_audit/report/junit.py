@@ -1,0 +1,51 @@
+"""An audit as a report of JUnit's form, which pipelines show: a test case for each planned end."""
+from __future__ import annotations
+
+from typing import Iterator
+from xml.sax.saxutils import quoteattr
+
+from lldpa.texts import printable
+
+from ..judging import Finding, Verdict
+from ..names import text_of
+from .report import Report
+
+NAME = "lldpa-audit"
+
+
+def junit_of(report: Report) -> bytes:
+    """The report in XML."""
+    return "".join(parts(report)).encode()
+
+
+def parts(report: Report) -> Iterator[str]:
+    """Yields the report from its begin to its end."""
+    cases = report.in_order()
+    failed = sum(1 for one in cases if case_of(report, one)[0] == "failure")
+    skipped = sum(1 for one in cases if case_of(report, one)[0] == "skipped")
+    counts = f'tests="{len(cases)}" failures="{failed}" errors="0" skipped="{skipped}"'
+    yield '<?xml version="1.0" encoding="UTF-8"?>\n'
+    yield f'<testsuites name="{NAME}" {counts}>\n'
+    yield f"<testsuite name={quoted(report.plan.file)} {counts}>\n"
+    for one in cases:
+        element, text = case_of(report, one)
+        head = f"<testcase classname={quoted(one.end.host)} name={quoted(one.end.port)}"
+        yield f"{head}/>\n" if not element else (
+            f"{head}><{element} message={quoted(text)}/></testcase>\n")
+    yield "</testsuite>\n</testsuites>\n"
+
+
+def case_of(report: Report, one: Finding) -> tuple[str, str]:
+    """The element that tells what became of an end, empty where it is right, and its text."""
+    if one.verdict is Verdict.KNOWN:
+        return "skipped", one.reason
+    text = report.fault_lines.text(one)
+    if not text:
+        return "", ""
+    number = report.fault_lines.repair_of.get(report.names.end(one.end))
+    return "failure", f"{text} (repair {number})"
+
+
+def quoted(text: str) -> str:
+    """A text as the value of an attribute."""
+    return quoteattr(printable(text_of(text)))

@@ -1,0 +1,46 @@
+"""Findings in the order in which a person walks along them."""
+from __future__ import annotations
+
+import re
+from typing import Iterable, Protocol, TypeVar, Union
+
+from ..names import End
+
+
+class HasEnd(Protocol):
+    """What stands at an end."""
+
+    @property
+    def end(self) -> End:
+        """The end."""
+
+
+Item = TypeVar("Item", bound=HasEnd)
+# texts and numbers in turn; a number is compared by how many digits it has, and then by these
+Key = list[Union[str, tuple[int, str]]]
+
+
+def in_order(items: Iterable[Item]) -> list[Item]:
+    """Findings or repairs by host and port: swp2 before swp10."""
+    keys: dict[str, Key] = {}
+    return sorted(items, key=lambda item: [natural(name, keys) for name in item.end])
+
+
+def natural(name: str, keys: dict[str, Key]) -> Key:
+    """What a name is ordered by, which is made once for each name."""
+    key = keys.get(name)
+    if key is None:
+        key = keys[name] = [number(part) if at % 2 else part
+                            for at, part in enumerate(re.split("([0-9]+)", name))]
+    return key
+
+
+def number(digits: str) -> tuple[int, str]:
+    """A number of any length, as it is ordered."""
+    digits = digits.lstrip("0")
+    return len(digits), digits
+
+
+def by_port(end: End) -> Key:
+    """What the ports of one host are ordered by."""
+    return natural(end.port, {})

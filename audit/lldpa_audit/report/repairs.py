@@ -1,0 +1,91 @@
+"""What is to be done: each fault is of one repair, and one repair may mend many of them."""
+from __future__ import annotations
+
+from typing import Iterable, Iterator, NamedTuple, Optional, Sequence
+
+from ..judging import Finding, Verdict
+from ..names import End, Seen
+from ..plan import Plan
+from .hints import Hints
+
+HAVE_ANOTHER = (Verdict.WRONG, Verdict.SWAPPED)
+HAVE_NOBODY = (Verdict.SILENT, Verdict.ONE_SIDED, Verdict.NO_DATA)
+
+
+TO_DO = {
+    "renamed": "correct the name, at the host or in the plan",
+    "turned": "turn the lanes of the breakout cable",
+    "loop": "take the cable out",
+    "not broken out": "break the port out",
+    "broken out": "join the lanes to one port",
+    "shifted": "move each cable by one port",
+    "swapped": "exchange the two cables",
+    "wrong": "put the right cable there",
+    "silent": "plug the cable in, or have the host send LLDP",
+    "extra": "take the second device away",
+    "doubled": "look for a hub, or two devices of one name",
+    "one-sided": "look for a fiber that is broken, or a side that does not send",
+    "disagrees": "look at the other end again",
+    "no data": "give what is seen there",
+    "unplanned": "take the cable out, or plan it",
+    "mismatch": "set both ends alike, or as the plan has it",
+}
+
+
+class Repair(NamedTuple):
+    """One line: of what kind, where to go, what is wrong there, and each end that it mends.
+
+    `place` names where to go if that is not the end, but a whole host or several ports.
+    """
+
+    kind: str
+    end: End
+    text: str
+    mends: Sequence[Finding]
+    place: str = ""
+
+    @property
+    def to_do(self) -> str:
+        """What mends it."""
+        return TO_DO[self.kind]
+
+
+class Faults:
+    """The faults that no repair mends so far, by their ends as they are compared, in order."""
+
+    def __init__(self, plan: Plan, hints: Hints, faults: Iterable[Finding]) -> None:
+        self.plan = plan
+        self.hints = hints
+        self.names = hints.names
+        self.left = {self.names.end(fault.end): fault for fault in faults}
+
+    def __iter__(self) -> Iterator[tuple[End, Finding]]:
+        return iter(list(self.left.items()))
+
+    def take(self, keys: Iterable[End]) -> list[Finding]:
+        """Takes those of the faults at these ends that are left."""
+        return [self.left.pop(key) for key in keys if key in self.left]
+
+    def far(self, key: End) -> Optional[End]:
+        """The other end of the planned link of an end."""
+        wish = self.plan.ends.get(key)
+        return wish.wanted if wish else None
+
+    def with_far(self, keys: Iterable[End], verdicts: Sequence[Verdict]) -> list[End]:
+        """These ends, and of the other ends of their links those that have such a verdict."""
+        ends = list(keys)
+        for key in list(ends):
+            far = self.far(key)
+            if far is not None and far in self.left and self.left[far].verdict in verdicts:
+                ends.append(far)
+        return ends
+
+    def only(self, fault: Finding) -> Optional[Seen]:
+        """The neighbor of an end that has another one than it wants, and no second one."""
+        return fault.has[0] if fault.verdict in HAVE_ANOTHER and len(fault.has) == 1 else None
+
+    def meant(self, fault: Finding) -> Optional[End]:
+        """The end that ought to have what an end has."""
+        neighbor = self.only(fault)
+        wish = self.hints.planned(neighbor) if neighbor is not None else None
+        return self.names.end(wish.wants) if wish else None

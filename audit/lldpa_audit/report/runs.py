@@ -1,0 +1,131 @@
+"""Faults of several ports of one host that have one cause: shifted cables, lanes, and loops."""
+from __future__ import annotations
+
+import re
+from typing import Iterator, Optional, Sequence
+
+from ..judging import Finding, Verdict
+from ..names import End, shown
+from .order import by_port
+from .repairs import HAVE_ANOTHER, HAVE_NOBODY, Faults, Repair
+
+SHORTEST = 3
+FAR = (*HAVE_ANOTHER, *HAVE_NOBODY, Verdict.DISAGREES)
+# a lane of a port that is broken out: swp1s0 of swp1, et-0/0/0:0 of et-0/0/0, Et1/1/1 of Et1/1
+LANE = re.compile(r"(.*[0-9])s([0-9])|(.*[0-9]):([0-9])|([A-Za-z]+[0-9]+/[0-9]+)/([0-9])")
+
+
+def shifted(faults: Faults) -> Iterator[Repair]:
+    """Yields a repair for each run of ports that have what the next one wants, or the one before.
+    """
+    for host in dict.fromkeys(key.host for key, _ in faults):
+        ports = sorted(faults.plan.ends_of_hosts.get(host, ()), key=by_port)
+        places = {key: place for place, key in enumerate(ports)}
+        steps = [step_of(faults, key, places) for key in ports]
+        begin = 0
+        for end in range(1, len(ports) + 1):
+            if end < len(ports) and steps[end] == steps[begin]:
+                continue
+            if abs(steps[begin]) == 1 and end - begin >= SHORTEST:
+                yield repair_of_run(faults, ports, begin, end, steps[begin])
+            begin = end
+
+
+def step_of(faults: Faults, key: End, places: dict[End, int]) -> int:
+    """How many ports further the end is that ought to have what an end has; 0 if there is none."""
+    fault = faults.left.get(key)
+    meant = faults.meant(fault) if fault is not None else None
+    return places[meant] - places[key] if meant in places else 0
+
+
+def repair_of_run(faults: Faults, ports: Sequence[End], begin: int, end: int, step: int) -> Repair:
+    """The repair of ports that are shifted by one; the one behind the last may have nobody."""
+    run = list(ports[begin:end])
+    behind = end if step > 0 else begin - 1
+    if 0 <= behind < len(ports):
+        fault = faults.left.get(ports[behind])
+        if fault is not None and (fault.verdict in HAVE_NOBODY or faults.meant(fault) in run):
+            run.append(ports[behind])
+    side = "next" if step > 0 else "one before"
+    return repair(faults, "shifted", run, f"shifted by one: each has what the {side} wants",
+                  ports[begin:end])
+
+
+def turned(faults: Faults) -> Iterator[Repair]:
+    """Yields a repair for each port whose lanes have one another's links."""
+    lanes: dict[End, list[End]] = {}
+    for key in faults.plan.ends:
+        base = base_of(key.port)
+        if base:
+            lanes.setdefault(End(key.host, base), []).append(key)
+    for group in lanes.values():
+        wrong = [key for key in group if key in faults.left
+                 and faults.meant(faults.left[key]) in group]
+        if len(wrong) >= SHORTEST:
+            wrong.sort(key=by_port)
+            yield repair(faults, "turned", wrong, "turned: the lanes of one port have one "
+                         "another's links", wrong)
+
+
+def broken_out(faults: Faults) -> Iterator[Repair]:
+    """Yields a repair for each port that is broken out and was not to be, or the reverse."""
+    lanes: dict[End, list[End]] = {}
+    for key, fault in faults:
+        base = base_of(key.port)
+        if base:
+            lanes.setdefault(End(key.host, base), []).append(key)
+    for whole, group in lanes.items():
+        one = faults.left.get(whole)
+        if one is None:
+            continue
+        are_planned = [key in faults.plan.ends for key in group]
+        group.sort(key=by_port)
+        if one.verdict is Verdict.UNPLANNED and all(are_planned):
+            text = f"not broken out: {of_ports(faults, group)} are planned"
+            yield repair(faults, "not broken out", [whole, *group], text, [whole])
+        elif one.verdict in HAVE_NOBODY and not any(are_planned):
+            text = f"broken out: it is planned whole, and {of_ports(faults, group)} are there"
+            yield repair(faults, "broken out", [whole, *group], text, [whole])
+
+
+def looped(faults: Faults) -> Iterator[Repair]:
+    """Yields a repair for each end that hears its own host."""
+    for key, fault in faults:
+        other = own_end(faults, key, fault) if key in faults.left else None
+        if other is None:
+            continue
+        name = faults.hints.place(End(fault.end.host, other.port))
+        text = "it hears itself" if other == key else f"joined to {name}, of the same host"
+        ends = faults.with_far([key, other], HAVE_NOBODY)
+        yield Repair("loop", fault.end, f"a loop: {text}", faults.take(dict.fromkeys(ends)))
+
+
+def own_end(faults: Faults, key: End, fault: Finding) -> Optional[End]:
+    """The end of the same host that is heard at an end that has one neighbor."""
+    if len(fault.has) != 1 or fault.verdict not in (*HAVE_ANOTHER, Verdict.UNPLANNED):
+        return None
+    ends = [end for end in faults.names.ends(fault.has[0]) if end.host == key.host]
+    return next((end for end in ends if end in faults.hints.tables.ends or end in faults.plan.ends),
+                None)
+
+
+def repair(faults: Faults, kind: str, keys: Sequence[End], text: str, places: Sequence[End]
+           ) -> Repair:
+    """A repair of several ports of one host, and of the other ends of their links."""
+    first = faults.left[places[0]].end
+    host = "" if len(faults.hints.tables.hosts) == 1 else f"{shown(first.host)} "
+    ends = faults.with_far(keys, FAR)
+    place = f"{host}{of_ports(faults, places)}"
+    return Repair(kind, first, text, faults.take(dict.fromkeys(ends)), place)
+
+
+def of_ports(faults: Faults, keys: Sequence[End]) -> str:
+    """The first and the last of some ports."""
+    names = [shown(faults.left[key].end.port) for key in (keys[0], keys[-1])]
+    return names[0] if len(keys) == 1 else f"{names[0]} to {names[1]}"
+
+
+def base_of(port: str) -> str:
+    """The port of which a port is a lane; empty where its name is that of no lane."""
+    found = LANE.fullmatch(port)
+    return "" if found is None else next(one for one in found.groups() if one)

@@ -1,0 +1,87 @@
+"""The rows of a CSV file, each with the number of the line in which it begins."""
+from __future__ import annotations
+
+import csv
+from typing import Iterator
+
+from .planfault import Faults
+
+SEPARATORS = ",;\t"
+COMMENT = "#"
+
+
+def rows_of(text: str, faults: Faults) -> Iterator[tuple[int, list[str]]]:
+    """Yields each row that is not blank and no comment, with its line; the first is the header.
+
+    A comment is a line in front of the header that begins with `#`, or a row behind it whose first
+    field begins with `#` and that has fewer fields than the header. A field in quotes may have line
+    feeds, and lines in it that look like comments. Nothing follows a field that never ends.
+    """
+    lines = Lines(text)
+    reader = csv.reader(lines, delimiter=separator_of(text), strict=True)
+    width = 0
+    while True:
+        lines.is_inside = False
+        try:
+            row = next(reader, None)
+        except csv.Error as fault:
+            is_endless = "end of data" in str(fault) or "field larger" in str(fault)
+            faults.add(lines.begin, "a field in quotes has no end" if is_endless else str(fault))
+            if is_endless:
+                return
+            continue
+        if row is None:
+            return
+        if len(row) >= width or not row[0].lstrip().startswith(COMMENT):
+            width = width or len(row)
+            lines.is_behind_header = True
+            yield lines.begin, row
+        elif lines.number > lines.begin:
+            faults.add(lines.begin, "a comment with a quote in it that ends in a further line")
+
+
+def separator_of(text: str) -> str:
+    """The separator that the header has most often."""
+    header = next((line for line in lines_of(text) if begins_header(line)), "")
+    return max(SEPARATORS, key=header.count)
+
+
+class Lines:
+    """Yields lines, without those between rows that are blank, or comments before the header.
+
+    `number` is the number of the last line, and `begin` that of the first line of a row.
+    """
+
+    def __init__(self, text: str) -> None:
+        self._text = text
+        self.begin = self.number = 0
+        self.is_inside = False
+        self.is_behind_header = False
+
+    def __iter__(self) -> Iterator[str]:
+        for self.number, line in enumerate(lines_of(self._text), 1):
+            if not self.is_inside:
+                if not (has_fields(line) if self.is_behind_header else begins_header(line)):
+                    continue
+                self.begin, self.is_inside = self.number, True
+            yield line + "\n"
+
+
+def lines_of(text: str) -> Iterator[str]:
+    """Yields the lines of a text one by one: all of them at once may take much memory."""
+    begin = 0
+    while begin < len(text):
+        end = text.find("\n", begin)
+        end = len(text) if end < 0 else end
+        yield text[begin:end]
+        begin = end + 1
+
+
+def has_fields(line: str) -> bool:
+    """Whether a line is not blank."""
+    return bool(line.strip(" \t\r,;"))
+
+
+def begins_header(line: str) -> bool:
+    """Whether a line is neither blank nor, as a line in front of the header, a comment."""
+    return has_fields(line) and not line.lstrip().startswith(COMMENT)

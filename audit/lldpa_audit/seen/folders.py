@@ -1,0 +1,94 @@
+"""The files of a folder, as a collector leaves them: HOST.json, or files below HOST/."""
+from __future__ import annotations
+
+import os
+from typing import Callable, Iterator, Sequence
+
+from lldpa.capture.pcap import form_of
+from lldpa.capture.source import opened
+
+from ..what import What, read_what
+
+# what ends the name of a file, and is no part of a host's name or a port's
+ENDINGS = (".gz", ".json", ".json0", ".xml", ".keyvalue", ".kv", ".plain", ".txt", ".show", ".out",
+           ".pcap", ".pcapng", ".cap")
+LEFT_BY_EDITORS = ("~", ".bak", ".orig", ".swp", ".tmp")
+
+Say = Callable[[str], None]
+
+
+def read_whats(words: Sequence[str], ours: str, say: Say) -> Iterator[What]:
+    """Yields what words name, each file of a folder by itself. What is passed over there is said.
+
+    Raises OSError, and ValueError where a folder is empty.
+    """
+    for word in words:
+        what = read_what(word, ours)
+        if what.port or not os.path.isdir(what.file):
+            yield what
+            continue
+        files = list(of_host(what.host, what.file, say) if what.file != word
+                     else of_hosts(word, say))
+        if not files:
+            raise ValueError(f"{what.file}: it is a folder without files")
+        yield from files
+
+
+def of_hosts(folder: str, say: Say) -> Iterator[What]:
+    """Yields the files of a folder, each of the host that its name or its folder's name has."""
+    for entry in entries(folder, say):
+        if entry.is_dir():
+            yield from of_host(entry.name, entry.path, say)
+        else:
+            yield What(without_ending(entry.name), "", entry.path, True)
+
+
+def of_host(host: str, folder: str, say: Say) -> Iterator[What]:
+    """Yields the files of a host: a capture that does not name its interfaces is named by its
+    port."""
+    for entry in entries(folder, say):
+        if entry.is_dir(follow_symlinks=False):
+            yield from of_host(host, entry.path, say)
+        elif entry.is_file():
+            port = without_ending(entry.name) if is_of_one_port(entry.path) else ""
+            yield What(host, port, entry.path, True)
+
+
+def entries(folder: str, say: Say) -> Sequence["os.DirEntry[str]"]:
+    """The files and folders in a folder that are not hidden, by their names."""
+    with os.scandir(folder) as found:
+        there = sorted((one for one in found if not one.name.startswith(".")),
+                       key=lambda one: one.name)
+    taken = []
+    for one in there:
+        why = why_passed_over(one)
+        if why:
+            say(f"{one.path}: {why}, and is passed over")
+        else:
+            taken.append(one)
+    return taken
+
+
+def why_passed_over(entry: "os.DirEntry[str]") -> str:
+    """Why what stands in a folder can be no list and no capture; empty where it can."""
+    if entry.name.endswith(LEFT_BY_EDITORS):
+        return "it is a copy that an editor left"
+    if entry.is_dir() or entry.is_file():
+        return ""
+    return "it is a link that leads nowhere" if entry.is_symlink() else "it is no file"
+
+
+def without_ending(name: str) -> str:
+    """A file's name without what tells its form."""
+    front, ending = os.path.splitext(name)
+    return without_ending(front) if front and ending.lower() in ENDINGS else name
+
+
+def is_of_one_port(path: str) -> bool:
+    """Whether a file is a capture in the format of pcap, which names no interface."""
+    try:
+        with opened(path) as file:
+            magic = file.read(4)
+    except OSError:
+        return False  # which is told when it is read
+    return len(magic) == 4 and form_of(magic) is not None

@@ -1,0 +1,34 @@
+"""What each reader of a form gives: the ports of a host, and who is seen at them."""
+from __future__ import annotations
+
+from typing import Mapping, NamedTuple, Sequence
+
+from lldpa.faults import LldpaFault
+from ..names import Seen
+
+MOST_LINES = 1_500_000
+
+Ports = dict[str, Sequence[Seen]]
+
+
+class SeenFault(LldpaFault, ValueError):
+    """What is wrong with octets of a form."""
+
+
+def need_few_lines(octets: bytes) -> None:
+    """Raises SeenFault where there are more lines than any list has: each takes memory."""
+    if octets.count(b"\n") > MOST_LINES:
+        raise SeenFault(f"it has over {MOST_LINES} lines, and no list has so many")
+
+
+class Listing(NamedTuple):
+    """The neighbors of ports.
+
+    Where `has_all_heard` is set, each port of the host that has a neighbor is among them; a form
+    that lists neighbors has no word of a port that hears nobody. `hosts` has the neighbors of each
+    host in a file of many hosts.
+    """
+
+    ports: Ports
+    has_all_heard: bool
+    hosts: Mapping[str, Listing] = {}

@@ -1,0 +1,69 @@
+"""NAPALM's `get_lldp_neighbors_detail` and `get_lldp_neighbors` as JSON, by the fields that its
+base class documents.
+
+A port leads to a list of neighbors, each with `remote_system_name`, `remote_chassis_id`,
+`remote_port` and `remote_port_description`, or with `hostname` and `port`.
+"""
+from __future__ import annotations
+
+from typing import Any, Sequence
+
+from ..names import Seen
+from .listing import Listing, Ports, SeenFault
+from .neighbor import Said, neighbor
+
+# what nornir, salt and others put around the ports
+GETTERS = ("lldp_neighbors_detail", "lldp_neighbors")
+WRAPPERS = (*[f"{front}{name}" for name in GETTERS for front in ("", "get_", "napalm_")], "out",
+            "ansible_facts")
+ABSENT = ("", "N/A")
+
+
+def read_napalm(tree: Any) -> Listing:
+    """The neighbors of each port. Raises SeenFault where the JSON is of something else."""
+    ports: Ports = {port: [neighbor(said(one, port)) for one in listed(found, port)]
+                    for port, found in unwrapped(tree).items()}
+    return Listing(ports, True)
+
+
+def is_napalm(tree: Any) -> bool:
+    """Whether JSON has ports that lead to lists of neighbors, or what stands around such."""
+    if not isinstance(tree, dict) or any(name in tree for name in WRAPPERS):
+        return isinstance(tree, dict)
+    return all(isinstance(found, list) for found in tree.values())
+
+
+def unwrapped(tree: Any) -> dict[str, Any]:
+    """The ports, without what stands around them."""
+    while isinstance(tree, dict):
+        inner = next((name for name in WRAPPERS if name in tree), None)
+        if inner is None:
+            return tree
+        tree = tree[inner]
+    raise SeenFault("it is JSON, but of no list that is known: see lldpa-audit(1)")
+
+
+def listed(found: Any, port: str) -> Sequence[Any]:
+    """The neighbors of a port."""
+    if isinstance(found, list):
+        return found
+    raise SeenFault(f"it is JSON, but of no list that is known: {port!r} leads to no list")
+
+
+def said(node: Any, port: str) -> Said:
+    """What is told of a neighbor."""
+    if not isinstance(node, dict):
+        raise SeenFault(f"{port!r} has something else in place of a neighbor")
+    name = field(node, "remote_system_name") or field(node, "hostname")
+    chassis = field(node, "remote_chassis_id")
+    port_id = field(node, "remote_port") or field(node, "port")
+    if not (name or chassis) or not (port_id or field(node, "remote_port_description")):
+        raise SeenFault(f"{port!r} has a neighbor without a name of its host or of its port")
+    kind = "local" if port_id.isdecimal() else "ifname"
+    return Said(chassis, kind, port_id, name, field(node, "remote_port_description"))
+
+
+def field(node: dict[str, Any], name: str) -> str:
+    """A field's text, empty where there is none."""
+    found = node.get(name)
+    return found if isinstance(found, str) and found not in ABSENT else ""

@@ -1,0 +1,76 @@
+"""What is known of the audited hosts: the neighbors of their ports."""
+from __future__ import annotations
+
+from typing import Mapping, NamedTuple, Sequence
+
+from ..names import End, Names, Seen, shown
+from ..plan import Plan
+
+
+class KnownPort(NamedTuple):
+    """A port that is known of, and its neighbors."""
+
+    end: End
+    neighbors: Sequence[Seen]
+
+
+class Tables:
+    """The known ports of the audited hosts, and why others are not known.
+
+    Hosts and ends are looked up by their names as they are compared.
+    """
+
+    def __init__(self, names: Names) -> None:
+        self.names = names
+        self.hosts: dict[str, str] = {}
+        self.ends: dict[End, KnownPort] = {}
+        self._reasons: dict[End, str] = {}
+        self._listed: set[str] = set()
+        self.times: list[float] = []  # of each source, in seconds since 1970
+
+    def add_host(self, host: str) -> None:
+        """A host is audited, also where none of its ports is known. Raises ValueError if another
+        host has the same name by --short-names."""
+        before = self.hosts.setdefault(self.names.host(host), host)
+        if before != host and self.names.short_names:
+            whole = self.names.with_domains()
+            if whole.host(before) != whole.host(host):
+                raise ValueError(f"{shown(before)} and {shown(host)} would be one host by "
+                                 "--short-names")
+
+    def add(self, host: str, port: str, neighbors: Sequence[Seen]) -> None:
+        """The neighbors of a port. Raises ValueError where they were told before."""
+        self.add_ports(host, {port: neighbors})
+
+    def add_ports(self, host: str, ports: Mapping[str, Sequence[Seen]]) -> None:
+        """The neighbors of each of a host's ports. Raises ValueError if they were told before."""
+        self.add_host(host)
+        for port, neighbors in ports.items():
+            end = End(host, port)
+            key = self.names.end(end)
+            if key in self.ends:
+                raise ValueError(f"the neighbors of {end} are told twice")
+            self.ends[key] = KnownPort(end, neighbors)
+
+    def add_listed(self, host: str) -> None:
+        """Each port of a host that has a neighbor was told, or is told later."""
+        self.add_host(host)
+        self._listed.add(self.names.host(host))
+
+    def add_unlisted(self, plan: Plan) -> None:
+        """The planned ports of such hosts that were not told: they have no neighbor.
+
+        Where something of a host, or of such a port, is damaged, its neighbors are not known.
+        """
+        for key, wish in plan.ends.items():
+            if key.host in self._listed and key not in self.ends and not self.reason(key):
+                self.ends[key] = KnownPort(wish.end, ())
+
+    def add_reason(self, host: str, port: str, reason: str) -> None:
+        """Why a port is not known, or further ports of a host where the port's name is empty."""
+        self.add_host(host)
+        self._reasons.setdefault(self.names.end(End(host, port)), reason)
+
+    def reason(self, key: End) -> str:
+        """Why nothing is known of an end; empty where nothing more was given."""
+        return self._reasons.get(key) or self._reasons.get(End(key.host, "")) or ""

@@ -1,0 +1,90 @@
+"""One spelling for names that vendors spell in several ways: ports, MAC addresses, IP addresses."""
+from __future__ import annotations
+
+import ipaddress
+import re
+import unicodedata
+
+MAC = re.compile(r"[0-9a-f]{2}(?P<mark>[:-])(?:[0-9a-f]{2}(?P=mark)){4}[0-9a-f]{2}"
+                 r"|[0-9a-f]{4}[.][0-9a-f]{4}[.][0-9a-f]{4}|[0-9a-f]{12}", re.I)
+IP_ADDRESS = re.compile(r"[0-9]+(?:[.][0-9]+){3}|[0-9a-f:]*:[0-9a-f:.]*", re.I)
+
+# a port: letters, which Huawei begins with the speed, and a number of one or more parts, of which
+# IOS-XR names some
+PORT = re.compile(r"((?:25|40|50|100|200|400)?[A-Za-z-]*[A-Za-z]) ?"
+                  r"([0-9]+(?:[/:.](?:RP|RSP|CPU)?[0-9]+)*)")
+
+# a port of SR Linux, in short
+SR_LINUX = re.compile(r"e([0-9]+)-([0-9]+)(?:-([0-9]+))?")
+
+# the logical interface of a port, which Junos' agents name in place of the port
+UNIT = re.compile(r"((?:[a-z]{2,4}-[0-9]+/[0-9]+/[0-9]+(?::[0-9]+)?)"
+                  r"|(?:ae|reth|em|me|fxp)[0-9]+)[.]0")
+
+# the kinds of ports, each with its short forms
+KINDS = {
+    "ethernet": "et eth",
+    "fastethernet": "fa fas fast fasteth",
+    "gigabitethernet": "gi gig gige gigethernet gigabit ge",
+    "twogigabitethernet": "tw two",
+    "fivegigabitethernet": "fi five",
+    "tengigabitethernet": "te ten tengig tengige tengigethernet ten-gigabitethernet "
+                          "xgigabitethernet xge",
+    "twentyfivegige": "twe twentyfivegigabitethernet twenty-fivegige 25ge wge",
+    "fortygigabitethernet": "fo forty fortygig fortygige 40ge fge",
+    "fiftygige": "fif fiftygigabitethernet 50ge",
+    "hundredgige": "hu hun hundredgig hundredgigabitethernet 100ge hge",
+    "twohundredgige": "twohundredgigabitethernet 200ge",
+    "fourhundredgige": "fou fh fourhundredgigabitethernet 400ge",
+    "appgigabitethernet": "ap",
+    "port-channel": "po portchannel",
+    "bundle-ether": "be",
+    "bridge-aggregation": "bagg",
+    "lag": "lag",
+    "management": "ma mgmt",
+    "mgmteth": "mg",
+    "m-gigabitethernet": "mge",
+}
+KIND_OF = {form: kind for kind, forms in KINDS.items() for form in [kind, *forms.split()]}
+
+# an aggregate of links: of Cisco, Arista, Junos, HPE, Huawei, Linux and BSD
+AGGREGATE = re.compile(r"(?:port-?channel|po|bundle-ether|be|ae|trk|bridge-aggregation|bagg|"
+                       r"eth-trunk|lag|lagg|bond|team)[-_ ]?[0-9]+(?:[.][0-9]+)?", re.I)
+
+
+def plain(name: str) -> str:
+    """A name of which its letters and addresses have one spelling."""
+    if not name.isascii():
+        return unicodedata.normalize("NFC", name)
+    if MAC.fullmatch(name):
+        digits = re.sub("[:.-]", "", name).lower()
+        return ":".join(digits[at:at + 2] for at in range(0, 12, 2))
+    if IP_ADDRESS.fullmatch(name):
+        try:
+            return ipaddress.ip_address(name).compressed
+        except ValueError:
+            pass
+    return name
+
+
+def plain_port(name: str) -> str:
+    """A port's name in one spelling: `Gi1/0/1` and `GigabitEthernet1/0/1` have the same.
+
+    A Linux' `eth0` stays, since a switch may have that and an Ethernet0.
+    """
+    unit = UNIT.fullmatch(name)
+    if unit:
+        return unit[1]
+    short = SR_LINUX.fullmatch(name)
+    if short:
+        return "ethernet-" + "/".join(part for part in short.groups() if part)
+    found = PORT.fullmatch(name)
+    kind = KIND_OF.get(found[1].lower()) if found else None
+    if found is None or kind is None or (found[1] == "eth" and "/" not in found[2]):
+        return plain(name)
+    return kind + found[2]
+
+
+def is_aggregate(port: str) -> bool:
+    """Whether a port's name is that of an aggregate of links."""
+    return AGGREGATE.fullmatch(port) is not None

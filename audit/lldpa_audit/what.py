@@ -1,0 +1,57 @@
+"""What an audit is given: files of hosts and of ports, as words name them."""
+from __future__ import annotations
+
+import os
+from typing import Iterable, Iterator, NamedTuple
+
+from .names import End, Names
+from .plan import Plan
+
+
+class What(NamedTuple):
+    """A file of a host, and the port where it is a capture of one.
+
+    One that was found in a folder ends nothing but itself if it cannot be opened.
+    """
+
+    host: str
+    port: str
+    file: str
+    is_found: bool = False
+
+
+def read_what(word: str, ours: str) -> What:
+    """A word as FILE, PORT=FILE or HOST:FILE: the first of these whose file is there."""
+    forms = [What(ours, "", word)]
+    forms += [What(ours, port, file) for port, file in splits_at(word, "=")]
+    forms += [What(host, "", file) for host, file in splits_at(word, ":")]
+    there = (form for form in forms if os.path.exists(form.file))
+    return next(there, forms[min(1, len(forms) - 1)])
+
+
+def placed(what: What, plan: Plan, names: Names) -> What:
+    """The same as the plan takes it: HOST:PORT=FILE looks like a port with a colon in its name.
+
+    It is such a port where the plan has it, or where a number is behind the colon and the plan has
+    no such host, as at `et-0/0/0:1`.
+    """
+    if ":" not in what.port or names.end(End(what.host, what.port)) in plan.ends:
+        return what
+    forms = [What(host, port, what.file) for host, port in splits_at(what.port, ":")]
+    planned = [form for form in forms if names.host(form.host) in plan.hosts]
+    if planned:
+        return planned[0]
+    is_port = not forms or what.port.rpartition(":")[2].isdecimal()
+    return what if is_port else forms[0]
+
+
+def of_hosts(whats: Iterable[What]) -> list[What]:
+    """Those that are not captures of one port."""
+    return [what for what in whats if not what.port]
+
+
+def splits_at(word: str, mark: str) -> Iterator[tuple[str, str]]:
+    """What stands before and behind each mark in a word, where neither is empty."""
+    for at, letter in enumerate(word):
+        if letter == mark and 0 < at < len(word) - 1:
+            yield word[:at], word[at + 1:]

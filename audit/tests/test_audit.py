@@ -1,0 +1,137 @@
+"""The verdicts of an audit, as audit/README.md defines them; random ones beside a slow judge."""
+from __future__ import annotations
+
+import os
+import random
+import unittest
+from typing import Dict, List, Sequence, Tuple
+
+from lldpa_audit.judging import Finding, Verdict, audit
+from lldpa_audit.names import NAMELESS, End, Names, Seen
+from lldpa_audit.plan import Link, Plan
+from lldpa_audit.planfault import PlanFault
+from lldpa_audit.seen.tables import Tables
+
+from slow_judge import SlowJudge
+
+# how many random plans are judged; a longer run is asked for by LLDPA_RANDOM_PLANS=10000
+RANDOM_PLANS = int(os.environ.get("LLDPA_RANDOM_PLANS", "3000"))
+
+HOSTS = ["a", "A", "b", "a.x", "a.y", "b.x", "B.X", "10.0.0.1", "10.0.0.2", "10"]
+PORTS = ["1", "2", "p", "P", "Et1", "Ethernet1", "bond0"]
+
+
+class Case:
+    """Random links, audited hosts and known ports."""
+
+    def __init__(self, seed: int) -> None:
+        self.rng = random.Random(seed)
+        self.names = Names(*(self.rng.random() < 0.3 for _ in range(3)))
+        hosts = self.rng.sample(HOSTS, self.rng.randint(2, len(HOSTS)))
+        self.hosts = list({self.names.host(host): host for host in hosts}.values())
+        ports = self.rng.sample(PORTS, self.rng.randint(2, 4))
+        self.ports = list({self.names.plain_port(port): port for port in ports}.values())
+        self.pairs = self.random_pairs()
+        self.audited = self.rng.sample(self.hosts, self.rng.randint(1, len(self.hosts)))
+        self.known: Dict[End, List[Seen]] = {}
+        for host in self.audited:
+            for port in self.ports:
+                if self.rng.random() < 0.85:
+                    self.known[End(host, port)] = self.random_neighbors(End(host, port))
+        self.swap_some()
+
+    def random_pairs(self) -> List[Tuple[End, End]]:
+        ends = [End(host, port) for host in self.hosts for port in self.ports]
+        self.rng.shuffle(ends)
+        size = self.rng.randint(2, len(ends)) // 2 * 2
+        return list(zip(ends[:size:2], ends[1:size:2]))
+
+    def random_neighbors(self, end: End) -> List[Seen]:
+        wanted = [pair[1 - pair.index(end)] for pair in self.pairs if end in pair]
+        neighbors = [self.somebody(one) for one in wanted if self.rng.random() < 0.8]
+        while self.rng.random() < 0.2:
+            neighbors.append(self.random_neighbor())
+        self.rng.shuffle(neighbors)
+        return neighbors
+
+    def somebody(self, end: End) -> Seen:
+        """One who answers to an end, or has nearly its name, or answers to another one as well."""
+        if self.rng.random() < 0.2:
+            return Seen((self.like(end.host, HOSTS),), (self.like(end.port, PORTS),))
+        if self.rng.random() < 0.2:
+            other = self.rng.choice(self.rng.choice(self.pairs))
+            return Seen((end.host, other.host), (end.port, other.port),
+                        is_named=self.rng.random() < 0.5)
+        if self.rng.random() < 0.1:
+            return Seen((end.host,), ("bond0",), aggregated=self.rng.random() < 0.8)
+        return Seen((end.host,), (end.port,))
+
+    def like(self, name: str, names: Sequence[str]) -> str:
+        """A name that begins with the same letter."""
+        alike = [one for one in names if one[0].lower() == name[0].lower()]
+        return self.rng.choice(alike or [name])
+
+    def random_neighbor(self) -> Seen:
+        if self.rng.random() < 0.1:
+            return NAMELESS
+        return Seen(tuple(self.rng.choices(HOSTS, k=self.rng.randint(1, 3))),
+                    tuple(self.rng.choices(PORTS, k=self.rng.randint(1, 2))),
+                    aggregated=self.rng.random() < 0.5, is_named=self.rng.random() < 0.5)
+
+    def swap_some(self) -> None:
+        for _ in range(self.rng.randint(0, 3)):
+            if len(self.known) > 1:
+                one, other = self.rng.sample(sorted(self.known), 2)
+                self.known[one], self.known[other] = self.known[other], self.known[one]
+
+    def findings(self) -> Sequence[Finding]:
+        plan = Plan("plan", [Link(one, other, None) for one, other in self.pairs], self.names)
+        tables = Tables(self.names)
+        for host in self.audited:
+            tables.add_host(host)
+        for end, neighbors in self.known.items():
+            tables.add(end.host, end.port, neighbors)
+        return audit(plan, tables)
+
+    def slow_judge(self) -> SlowJudge:
+        known = {(end.host, end.port): [(list(one.hosts), list(one.ports), one.aggregated,
+                                         one.is_named) for one in neighbors]
+                 for end, neighbors in self.known.items()}
+        pairs = [((one.host, one.port), (other.host, other.port)) for one, other in self.pairs]
+        return SlowJudge(pairs, self.audited, known, self.names.ignore_case, self.names.short_names,
+                         self.names.vendor_names)
+
+
+class RandomPlans(unittest.TestCase):
+    """Random plans and tables are judged as the slow judge does."""
+
+    def test_random_plans(self) -> None:
+        verdicts = dict.fromkeys(set(Verdict) - {Verdict.KNOWN}, 0)
+        judged = seed = 0
+        while judged < RANDOM_PLANS:
+            seed += 1
+            case = Case(seed)
+            try:
+                findings = case.findings()
+            except (PlanFault, ValueError):
+                continue
+            judged += 1
+            with self.subTest(seed=seed):
+                self.compare(case.slow_judge(), findings)
+            for finding in findings:
+                verdicts[finding.verdict] += 1
+        for verdict, times in verdicts.items():
+            self.assertGreater(times, RANDOM_PLANS // 100, verdict)
+
+    def compare(self, judge: SlowJudge, findings: Sequence[Finding]) -> None:
+        planned = [end for end in judge.planned_ends() if judge.is_audited(end)]
+        found = [one for one in findings if one.verdict is not Verdict.UNPLANNED]
+        self.assertEqual([tuple(one.end) for one in found], planned)
+        for end, finding in zip(planned, found):
+            self.assertEqual([finding.verdict.value], judge.verdicts(end), end)
+            self.assertEqual(finding.wants, judge.wants(end))
+            self.assertEqual(len(finding.has), len(judge.neighbors(end) or []))
+            if finding.verdict is Verdict.SWAPPED:
+                self.assertEqual(finding.partner, judge.partners(end)[0])
+        beside = [tuple(one.end) for one in findings if one.verdict is Verdict.UNPLANNED]
+        self.assertEqual(sorted(beside), sorted(judge.unplanned()))

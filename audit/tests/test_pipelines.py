@@ -1,0 +1,143 @@
+"""What pipelines and people take from an audit: JSON, JUnit, metrics, known faults, groups."""
+from __future__ import annotations
+
+import json
+import shutil
+import subprocess
+import unittest
+from pathlib import Path
+from typing import Any, List
+from xml.etree import ElementTree
+
+try:
+    import jsonschema
+except ImportError:  # Debian: python3-jsonschema
+    jsonschema = None
+
+from auditing import InAFolder, run
+from test_all_clear import neighbor
+
+SCHEMA = json.loads((Path(__file__).parents[1] / "lldpa-audit.schema.json").read_text())
+PLAN = """\
+host,port,peer,peer_port,label,rack,mtu
+leaf1,swp1,host01,eth0,C1,r2,
+leaf1,swp2,host02,eth0,C2,r1,
+leaf1,swp3,host03,eth0,C3,r1,
+leaf1,swp4,host04,eth0,C4,r10,1500
+"""
+
+
+def framed(lines: List[str], size: int) -> List[str]:
+    """The lines of a port whose neighbor tells a frame size."""
+    front = lines[0].partition(".neighbors")[0]
+    return [*lines, f"{front}.1.org.00120f.4={size:04x}"]
+
+
+class Outputs(InAFolder):
+    """One audit of four ports: one right, one wrong, one silent, one with a mismatch."""
+
+    def setUp(self) -> None:
+        super().setUp()
+        self.plan = self.file("plan.csv", PLAN)
+        ports = [neighbor("swp1", "host01", "eth0"), neighbor("swp2", "x", "y"),
+                 ["lldp.swp3.neighbors=0", "lldp.swp3.octets=0", "lldp.swp3.too-many=no"],
+                 framed(neighbor("swp4", "host04", "eth0"), 9000)]
+        show = self.file("show", "".join(f"{line}\n" for port in ports for line in port))
+        self.words = [self.plan, f"leaf1:{show}", "--settings"]
+
+    def test_lines_have_what_the_plan_says(self) -> None:
+        self.assertEqual(run(*self.words).stdout.splitlines(), [
+            "swp2  wrong: wants host02 eth0, has x y [label C2, rack r1]",
+            "swp3  silent: wants host03 eth0 [label C3, rack r1]",
+            "swp4  mismatch: host04 eth0 says MTU 9000, the plan has 1500 [label C4, rack r10, mtu "
+            "1500]", "8 planned: 2 right, 2 not, 4 not looked at (host01, host02, host03, 1 more); "
+            "1 with a mismatch"])
+
+    def test_by_a_column(self) -> None:
+        lines = run(*self.words, "--by", "rack").stdout.splitlines()
+        self.assertEqual([line for line in lines if not line.startswith(" ")][:-1],
+                         ["rack r1: 2", "rack r10: 1"])
+        ran = run(*self.words, "--by", "row")
+        self.assertEqual((ran.returncode, ran.stderr),
+                         (2, f"lldpa-audit: {self.plan} has no column row\n"))
+
+    @unittest.skipIf(jsonschema is None, "there is no jsonschema")
+    def test_json_is_as_its_schema_says(self) -> None:
+        told = json.loads(run(*self.words, "--json").stdout)
+        jsonschema.validate(told, SCHEMA)
+        self.assertEqual([(one["number"], one["kind"], one["details"].get("rack"), one["links"])
+                          for one in told["repairs"]],
+                         [(1, "wrong", "r1", 1), (2, "silent", "r1", 1), (3, "mismatch", "r10", 1)])
+        self.assertEqual([(one["verdict"], one["repair"], one["line"]) for one in told["ends"]],
+                         [("right", None, 2), ("wrong", 1, 3), ("silent", 2, 4),
+                          ("mismatch", 3, 5)])
+        self.assertEqual(told["ends"][1]["has"][0]["port_id"], "y")
+        for name in ("repairs", "form"):
+            with self.assertRaises(jsonschema.ValidationError):
+                jsonschema.validate({key: value for key, value in told.items() if key != name},
+                                    SCHEMA)
+
+    def test_junit(self) -> None:
+        path = self.folder / "junit.xml"
+        status = run(*self.words, "--junit", str(path)).returncode
+        root = ElementTree.parse(path).getroot()
+        cases = [(one.get("classname"), one.get("name"), [inner.tag for inner in one])
+                 for one in root.iter("testcase")]
+        self.assertEqual(cases, [("leaf1", "swp1", []), ("leaf1", "swp2", ["failure"]),
+                                 ("leaf1", "swp3", ["failure"]), ("leaf1", "swp4", ["failure"])])
+        self.assertEqual((status, root.get("tests"), root.get("failures")), (1, "4", "3"))
+
+    def test_metrics(self) -> None:
+        path = self.folder / "audit.prom"
+        run(*self.words, "--metrics", str(path))
+        text = path.read_text()
+        for line in ('lldpa_audit_ends{verdict="right"} 1',
+                     'lldpa_audit_ends{verdict="mismatch"} 1',
+                     'lldpa_audit_ends{verdict="not looked at"} 4',
+                     'lldpa_audit_repairs{kind="silent"} 1', 'lldpa_audit_repairs{kind="loop"} 0'):
+            self.assertIn(line + "\n", text)
+        self.assertIn("lldpa_audit_run_timestamp_seconds ", text)
+        self.assertIn('lldpa_audit_source_age_seconds{source="oldest"} ', text)
+        if shutil.which("promtool"):
+            done = subprocess.run(["promtool", "check", "metrics"], input=text, text=True,
+                                  capture_output=True, check=False)
+            self.assertEqual((done.returncode, done.stdout + done.stderr), (0, ""))
+
+    def test_known(self) -> None:
+        rows = "host,port,reason,until\nleaf1,swp2,new card,9999-12-31\nhost03,,sends no LLDP,\n"
+        known = self.file("known.csv", rows + "leaf1,swp4,old,2020-01-01\n")
+        ran = run(*self.words, "--known", known)
+        self.assertEqual(ran.stdout.splitlines()[-1], "8 planned: 2 right, 0 not, 2 known, 4 not "
+                         "looked at (host01, host02, host03, 1 more); 1 with a mismatch")
+        self.assertIn("line 4: leaf1 swp4 was known until 2020-01-01, and is judged", ran.stderr)
+        told: Any = json.loads(run(*self.words, "--known", known, "--json").stdout)
+        self.assertEqual([(one["verdict"], one["text"]) for one in told["ends"]][1:3],
+                         [("known", 'known: "new card"'), ("known", 'known: "sends no LLDP"')])
+        self.assertEqual(run(*self.words[:2], "--known", known).returncode, 0)
+        for bad in ("a,b\n", "host,port,reason,until\nleaf1,swp2,,\n",
+                    "host,port,reason,until\nleaf1,swp2,x,soon\n"):
+            self.assertEqual(run(*self.words, "--known", self.file("bad", bad)).returncode, 2)
+
+
+class Settings(InAFolder):
+    """Servers that differ from their switch."""
+
+    def test_nineteen_of_twenty(self) -> None:
+        plan = self.file("p", "host,port,peer,peer_port\n"
+                         + "".join(f"leaf1,swp{at},srv{at},eth0\n" for at in range(1, 21)))
+        (self.folder / "seen").mkdir()
+        ports = [framed(neighbor(f"swp{at}", f"srv{at}", "eth0"), 1500 if at == 7 else 9194)
+                 for at in range(1, 21)]
+        self.file("seen/leaf1", "".join(f"{line}\n" for port in ports for line in port))
+        for at in range(1, 21):
+            lines = framed(neighbor("eth0", "leaf1", f"swp{at}"), 9216)
+            self.file(f"seen/srv{at}", "".join(f"{line}\n" for line in lines))
+        lines = run(plan, str(self.folder / "seen"), "--settings").stdout.splitlines()
+        self.assertEqual(lines[:-1], [
+            "leaf1       mismatch at 19 links: differs in MTU by +22, as leaf1 swp1 says MTU 9216, "
+            "srv1 eth0 says 9194",
+            "leaf1 swp7  mismatch: leaf1 swp7 says MTU 9216, srv7 eth0 says 1500"])
+
+
+if __name__ == "__main__":
+    unittest.main()

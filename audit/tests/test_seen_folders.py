@@ -1,0 +1,113 @@
+"""lldpa-audit of files in each form, and of folders of them."""
+from __future__ import annotations
+
+import json
+import unittest
+from typing import Any, Tuple
+
+import rack
+from auditing import InAFolder, run
+from lldpa_audit.seen.folders import read_whats, without_ending
+from lldpa_audit.seen.gather import What
+
+PLAN = """\
+host,port,peer,peer_port
+leaf1,swp1,host01,eth0
+leaf1,swp2,host02,eth0
+leaf2.lab,swp1,host03,eth0
+leaf2.lab,swp2,host04,eth0
+"""
+
+
+def keyvalue(*neighbors: Tuple[str, str, str]) -> str:
+    """What lldpcli writes of neighbors: the port, and the neighbor's two names."""
+    return "".join(
+        f"lldp.{port}.via=LLDP\nlldp.{port}.rid=1\nlldp.{port}.chassis.mac=02:00:00:00:00:01\n"
+        f"lldp.{port}.chassis.name={host}\nlldp.{port}.port.ifname={name}\n"
+        for port, host, name in neighbors)
+
+
+def napalm(*neighbors: Tuple[str, str, str]) -> str:
+    """The same in NAPALM's short form."""
+    ports: Any = {port: [{"hostname": host, "port": name}] for port, host, name in neighbors}
+    return json.dumps(ports)
+
+
+class Folders(InAFolder):
+    """A folder of files, named by host."""
+
+    def setUp(self) -> None:
+        super().setUp()
+        self.plan = self.file("plan.csv", PLAN)
+        (self.folder / "seen").mkdir()
+        self.seen = str(self.folder / "seen")
+
+    def audit(self, *words: str) -> Tuple[int, str, str]:
+        """The audit of these words, the plan first."""
+        ran = run(self.plan, "--host", "leaf1", *words)
+        return ran.returncode, ran.stdout, ran.stderr
+
+    def test_files_named_by_host(self) -> None:
+        self.file("seen/leaf1.json", napalm(("swp1", "host01", "eth0"), ("swp2", "host02", "eth0")))
+        self.file("seen/leaf2.lab.txt", keyvalue(("swp1", "host03", "eth0")))
+        self.file("seen/.hidden", "x")
+        self.assertEqual(self.audit(self.seen), (
+            1, "leaf2.lab swp2  silent: wants host04 eth0\n8 planned: 3 right, "
+               "1 not, 4 not looked at "
+                "(host01, host02, host03, 1 more)\n", ""))
+
+    def test_folders_named_by_host(self) -> None:
+        (self.folder / "seen" / "leaf1").mkdir()
+        (self.folder / "seen" / "leaf2.lab" / "lldp").mkdir(parents=True)
+        for port, host in (("swp1", "host01"), ("swp2", "host02")):
+            octets = rack.pcap([rack.lldp_frame(host, "eth0")])
+            (self.folder / "seen" / "leaf1" / f"{port}.pcap").write_bytes(octets)
+        self.file("seen/leaf2.lab/lldp/neighbors.json",
+                  napalm(("swp1", "host03", "eth0"), ("swp2", "host04", "eth0")))
+        self.assertEqual(self.audit(self.seen), (0, "8 planned: 4 right, 0 not, 4 not looked at "
+                "(host01, host02, host03, 1 more)\n", ""))
+        self.assertEqual(self.audit(f"leaf1:{self.seen}/leaf1", f"leaf2.lab:{self.seen}/leaf2.lab"),
+                         (0, "8 planned: 4 right, 0 not, 4 not looked at "
+                "(host01, host02, host03, 1 more)\n", ""))
+
+    def test_damaged_file(self) -> None:
+        self.file("seen/leaf1.json", napalm(("swp1", "host01", "eth0"), ("swp2", "host02", "eth0")))
+        bad = self.file("seen/leaf2.lab.json", "{Connection timed out")
+        status, out, err = self.audit(self.seen)
+        self.assertEqual(status, 1)
+        self.assertEqual(err, f"lldpa-audit: {bad}: it is no JSON: line 1: Expecting property name "
+                              "enclosed in double quotes\n")
+        self.assertIn("leaf2.lab swp1  no data: wants host03 eth0 (", out)
+
+    def test_part_of_a_host_is_damaged(self) -> None:
+        self.file("seen/whole", keyvalue(("swp1", "host01", "eth0")))
+        self.file("seen/cut", keyvalue(("swp2", "host02", "eth0"))[:-3])
+        _, out, _ = self.audit(f"{self.seen}/whole", f"{self.seen}/cut")
+        self.assertIn("swp2  no data: wants host02 eth0 (", out)
+
+    def test_empty_folder(self) -> None:
+        self.assertEqual(self.audit(self.seen), (
+            2, "", f"lldpa-audit: {self.seen}: it is a folder without files\n"))
+        status, _, err = self.audit(f"swp1={self.seen}")
+        self.assertEqual((status, err), (2, f"lldpa-audit: {self.seen}: Is a directory\n"))
+
+    def test_one_sided(self) -> None:
+        """A list of one end has all whom it hears, so the other end is not heard there."""
+        self.plan = self.file("plan.csv", "host,port,peer,peer_port\na,1,b,1\na,2,b,2\n")
+        one = self.file("one", keyvalue(("1", "b", "1"), ("2", "b", "2")))
+        other = self.file("other", keyvalue(("1", "a", "1")))
+        self.assertEqual(self.audit(f"a:{one}", f"b:{other}"), (
+            1, "a 2  one-sided: hears b 2, is not heard there\n4 planned: 2 right, 2 not\n", ""))
+
+    def test_words(self) -> None:
+        self.file("seen/a.x.json.gz", "x")
+        self.file("seen/b", "x")
+        self.assertEqual(list(read_whats([self.seen, "c:d"], "ours", self.fail)), [
+            What("a.x", "", f"{self.seen}/a.x.json.gz", True),
+            What("b", "", f"{self.seen}/b", True), What("c", "", "d")])
+        for name, host in (("a.json", "a"), ("a.b", "a.b"), ("a.PCAP", "a"), (".json", ".json")):
+            self.assertEqual(without_ending(name), host)
+
+
+if __name__ == "__main__":
+    unittest.main()

@@ -1,0 +1,79 @@
+-- Which fault is told of words that say no command: that of the first word that no command has there.
+use Rattle.std.specs.Prelude.{◌≡◌, ℕ, false, List, [], ◌∷◌, ◌++◌, Some, None, Err}
+use Rattle.std.specs.List.{AllByRecursion, Contains}
+use Rattle.lldp_text.specs.declared.fault.CommandFault.{CommandFault}
+use Rattle.lldp_text.specs.declared.fault.CommandFault.TheVariants.{Unknown, NoSuchPort, Text, Extra}
+use Rattle.lldp_text.specs.Text.{is_text}
+use Rattle.lldp_text.specs.Number.{number_of}
+use Rattle.lldp_engine.specs.declared.port.status.Status.TheVariants.{RxAndTx, RxOnly, TxOnly, Disabled}
+use Rattle.lldp_engine.specs.Place.{place_of}
+use Rattle.lldp_engine.specs.AgentState.{AgentState, names_of}
+use Rattle.lldp_engine.specs.Command.{Command}
+use Rattle.lldp_engine.specs.Given.{said_by}
+use Rattle.lldp_engine.specs.Laws.OnlyForms.{AreWordsOf}
+use Rattle.lldp_engine.specs.Laws.Sayings.{show_word, neighbors_word, statistics_word, chassis_word, configuration_word, configure_word, system_word, hostname_word, description_word, lldp_word, interval_word, hold_word, limit_word, ports_word, status_word, update_word, word_of}
+
+-- some first words of commands, and the fixed words of which one stands behind them
+abbrev pub Choice : Type 0
+Choice = List (List ℕ) × List (List ℕ)
+
+-- Behind these a fixed word stands.
+abbrev pub choices : List Choice
+choices =
+    ([], show_word ∷ configure_word ∷ update_word ∷ [])
+    ∷ (show_word ∷ [], neighbors_word ∷ statistics_word ∷ chassis_word ∷ configuration_word ∷ [])
+    ∷ (configure_word ∷ [], system_word ∷ lldp_word ∷ ports_word ∷ [])
+    ∷ (configure_word ∷ system_word ∷ [], hostname_word ∷ description_word ∷ [])
+    ∷ (configure_word ∷ lldp_word ∷ [], interval_word ∷ hold_word ∷ limit_word ∷ []) ∷ []
+
+-- The same behind `configure ports` and the name of a port.
+abbrev pub choices_behind : List ℕ → List Choice
+choices_behind name =
+    (configure_word ∷ ports_word ∷ name ∷ [], lldp_word ∷ [])
+    ∷ (configure_word ∷ ports_word ∷ name ∷ lldp_word ∷ [], status_word ∷ [])
+    ∷ (configure_word ∷ ports_word ∷ name ∷ lldp_word ∷ status_word ∷ [], word_of RxAndTx ∷ word_of RxOnly ∷ word_of TxOnly ∷ word_of Disabled ∷ []) ∷ []
+
+-- Behind these a text or a number stands, or the name of a port.
+abbrev pub before_arguments : List (List (List ℕ))
+before_arguments =
+    (configure_word ∷ system_word ∷ hostname_word ∷ [])
+    ∷ (configure_word ∷ system_word ∷ description_word ∷ [])
+    ∷ (configure_word ∷ lldp_word ∷ interval_word ∷ [])
+    ∷ (configure_word ∷ lldp_word ∷ hold_word ∷ [])
+    ∷ (configure_word ∷ lldp_word ∷ limit_word ∷ [])
+    ∷ (configure_word ∷ ports_word ∷ []) ∷ []
+
+-- The first words are told as Unknown if no word follows them.
+abbrev pub WantsMore : AgentState → List (List ℕ) → Type 0
+WantsMore agent front = said_by agent front ≡ Err Unknown
+
+-- A word behind the first ones that is not among those of the choice is told as Unknown, whatever follows it.
+abbrev pub TakesOnly : AgentState → List ℕ → List (List ℕ) → Choice → Type 0
+TakesOnly agent word behind choice =
+    ¬ (Contains choice.1 word) → said_by agent (choice.0 ++ word ∷ behind) ≡ Err Unknown
+
+-- What is told of a word that no command has there, whatever follows it: Unknown in the place of a fixed word; Text, the
+-- fault of the number, or NoSuchPort in the place of an argument; Extra behind the words of a command. A word that is
+-- missing is told as Unknown.
+pub record TellsFirstFault (agent : AgentState) (word : List ℕ) (behind : List (List ℕ)) : Type 0 where
+  pub fixed : AllByRecursion (TakesOnly agent word behind) choices
+  pub fixed_behind : (name : List ℕ) (port : ℕ) → place_of (names_of agent) name ≡ Some port →
+      AllByRecursion (TakesOnly agent word behind) (choices_behind name)
+  pub hostname : is_text word ≡ false →
+      said_by agent (configure_word ∷ system_word ∷ hostname_word ∷ word ∷ behind) ≡ Err Text
+  pub description : is_text word ≡ false →
+      said_by agent (configure_word ∷ system_word ∷ description_word ∷ word ∷ behind) ≡ Err Text
+  pub interval : (fault : CommandFault) → number_of word 1 3600 ≡ Err fault →
+      said_by agent (configure_word ∷ lldp_word ∷ interval_word ∷ word ∷ behind) ≡ Err fault
+  pub hold : (fault : CommandFault) → number_of word 1 100 ≡ Err fault →
+      said_by agent (configure_word ∷ lldp_word ∷ hold_word ∷ word ∷ behind) ≡ Err fault
+  pub limit : (fault : CommandFault) → number_of word 1 agent.configuration.capacity ≡ Err fault →
+      said_by agent (configure_word ∷ lldp_word ∷ limit_word ∷ word ∷ behind) ≡ Err fault
+  pub port : place_of (names_of agent) word ≡ None →
+      said_by agent (configure_word ∷ ports_word ∷ word ∷ behind) ≡ Err NoSuchPort
+  pub extra : (command : Command) (words : List (List ℕ)) → AreWordsOf agent command words →
+      said_by agent (words ++ word ∷ behind) ≡ Err Extra
+  pub missing : AllByRecursion (λ choice. WantsMore agent choice.0) choices
+  pub missing_argument : AllByRecursion (WantsMore agent) before_arguments
+  pub missing_behind : (name : List ℕ) (port : ℕ) → place_of (names_of agent) name ≡ Some port →
+      AllByRecursion (λ choice. WantsMore agent choice.0) (choices_behind name)

@@ -1,0 +1,25 @@
+-- Which later TLVs are kept, one by one (IEEE 802.1AB-2009, 9.2.7.7.2).
+use Rattle.std.specs.Prelude.{◌≡◌, ℕ, ◌+◌, ◌≤◌, true, List, [], ◌∷◌, length, if◌then◌else◌}
+use Rattle.std.specs.List.{AllByRecursion}
+use Rattle.lldp_pdu.specs.Tlv.{TlvUnit}
+use Rattle.lldp_pdu.specs.WellFormed.{is_well_formed}
+use Rattle.lldp_pdu.specs.Lldpdu.{later_tlvs, ended_incomplete}
+use Rattle.lldp_pdu.specs.Kept.{kept_after, kept_of, discarded_of}
+
+-- It is well formed, and if its type is 4 to 7 no earlier TLV is well formed and of its type.
+pub record IsFirst (earlier : List TlvUnit) (u : TlvUnit) : Type 0 where
+  pub well_formed : is_well_formed u ≡ true
+  pub once : 4 ≤ u.kind → u.kind ≤ 7 →
+      AllByRecursion (λ (e : TlvUnit). ¬ ((e.kind ≡ u.kind) × (is_well_formed e ≡ true))) earlier
+
+-- TLVs behind these earlier ones: the next one is kept exactly if it is such a first, and the others in their turn.
+pub record AreKeptOnce (earlier : List TlvUnit) (u : TlvUnit) (us : List TlvUnit) : Type 0 where
+  pub none : kept_after earlier [] ≡ []
+  pub kept : IsFirst earlier u → kept_after earlier (u ∷ us) ≡ u ∷ kept_after (u ∷ earlier) us
+  pub left : ¬ (IsFirst earlier u) → kept_after earlier (u ∷ us) ≡ kept_after (u ∷ earlier) us
+
+-- Each later TLV is kept or discarded, and one that is not complete is discarded.
+pub record AreCounted (octets : List ℕ) : Type 0 where
+  pub kept : kept_of octets ≡ kept_after [] (later_tlvs octets)
+  pub discarded : discarded_of octets + length (kept_of octets)
+      ≡ length (later_tlvs octets) + (if ended_incomplete octets then 1 else 0)

@@ -1,0 +1,8 @@
+-- What the laws rest on; no call does.
+pub mod Sayings
+pub mod Lines
+pub mod OnlyLines
+pub mod Asked
+pub mod CommandLine
+pub mod Listening
+pub mod Served

@@ -1,0 +1,50 @@
+-- Serving without a fault serves all that was asked for.
+use Rattle.std.proofs.Common.{◌≡◌, ℕ, suc, List, [], ◌∷◌, length, Option, Ok, Err, refl, sym, ap, ◌∙◌, inl, inr, subst}
+use Rattle.std.specs.Prelude.{is_err, ◌==◌}
+use Rattle.std.specs.List.{filter}
+use Rattle.std.proofs.lemmas.Bool.{cases_Bool, eqb-true}
+use Rattle.lldp_engine.specs.AgentState.{AgentState}
+use Rattle.lldp_program.specs.declared.arguments.Listening.{Listening}
+use Rattle.lldp_program.specs.Devices.Acceptors.{Call, accepted, bound, ran, Visit, logged}
+use Rattle.lldp_program.specs.Serving.{HasAsked, HasListened, results_of, calls_of, this_host}
+use Rattle.lldp_program.specs.Laws.Served.{AreServed, ServesAll, asked_in_turn, faulty_among}
+use Rattle.lldp_program.proofs.Serving.{faults_counted}
+
+module _ {C : Type 0} where
+  as_many : (visits : List (Visit C)) → length (results_of visits) ≡ length visits
+  as_many [] = refl
+  as_many (visit ∷ visits) = ap (λ (n : ℕ). suc n) (as_many visits)
+
+  in_turn : (visits : List (Visit C)) → calls_of visits ≡ asked_in_turn visits
+  in_turn [] = refl
+  in_turn (visit ∷ visits) = ap (λ (calls : List (Call C)). ran visit ∷ accepted visit.connection ∷ calls) (in_turn visits)
+
+  faulty_results : (visits : List (Visit C)) → length (filter is_err (results_of visits)) ≡ faulty_among visits
+  faulty_results [] = refl
+  faulty_results (visit ∷ visits) = elim (cases_Bool (is_err visit.result)) [
+    | inl e ↦ rw e (ap (λ (n : ℕ). suc n) (faulty_results visits))
+    | inr e ↦ rw e (faulty_results visits)
+  ]
+
+  served : (to_come taken : C → Option (List ℕ)) (old new : Option (List (Call C))) (connections faulty : ℕ) (before after : AgentState) → HasAsked to_come taken old new connections before after (Ok faulty) → AreServed old new connections faulty
+  served to_come taken old new connections faulty before after h = record {
+    visits = h.visits;
+    many = sym (as_many h.visits) ∙ h.told.0;
+    faults = sym (h.told.1 ∙ faults_counted (results_of h.visits) ∙ faulty_results h.visits);
+    asked = h.asked ∙ ap (λ (calls : List (Call C)). logged calls old) (in_turn h.visits);
+  }
+
+  listened : (to_come taken : C → Option (List ℕ)) (old new : Option (List (Call C))) (listening : Listening) (before after : AgentState) → HasListened to_come taken old new listening before after (Ok tt)
+      → AreServed (logged (bound this_host listening.port ∷ []) old) new listening.connections 0
+  listened to_come taken old new listening before after (inl (Ok faulty, asked, ended)) = elim (cases_Bool (faulty == 0)) [
+    | inl none ↦ subst (AreServed (logged (bound this_host listening.port ∷ []) old) new listening.connections) (eqb-true faulty 0 none) (served to_come taken (logged (bound this_host listening.port ∷ []) old) new listening.connections faulty before after asked)
+    | inr some ↦ let bad = rw some at ended in cc
+  ]
+  listened to_come taken old new listening before after (inl (Err fault, asked, ended)) = cc
+  listened to_come taken old new listening before after (inr (unbound, same, bad)) = cc
+
+pub serves_all : {C : Type 0} → (to_come taken : C → Option (List ℕ)) (old new : Option (List (Call C))) (before after : AgentState) → ServesAll to_come taken old new before after
+serves_all to_come taken old new before after = record {
+  counted = λ connections faulty h. served to_come taken old new connections faulty before after h;
+  listened = λ listening h. listened to_come taken old new listening before after h;
+}

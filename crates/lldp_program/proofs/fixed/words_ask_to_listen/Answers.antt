@@ -1,9 +1,0 @@
-use Rattle.lldp_program.proofs.Words.Listening.{asked_by_words}
-use Rattle.lldp_program.proofs.Serving.{faults_counted}
-use Rattle.lldp_program.proofs.fixed.words_ask_to_listen.Goals as goal
-
-pub returns-clause-words : goal.returns-clause-words
-returns-clause-words c = asked_by_words
-
-pub returns-clause-counted : goal.returns-clause-counted
-returns-clause-counted c = faults_counted

@@ -1,0 +1,4 @@
+-- The arguments of the program.
+pub mod Addresses
+pub mod Usage
+pub mod Arguments

@@ -1,0 +1,163 @@
+-- The command line of the program as `clap` reads it, and what its words ask for.
+use Rattle.std.specs.Prelude.{◌≡◌, ◌⊎◌, ℕ, true, false, if◌then◌else◌, List, [], ◌∷◌, Option, Some, None, Ok, map, option_map, unwrap_or, codes, pos}
+use Rattle.std.specs.Str.{bytes_eq}
+use Rattle.std.specs.Borrow.{Bor}
+use Rattle.std.specs.Net.Grammar.{IsDotted}
+use Rattle.std.specs.Str.Parse.{ParsesUnsigned}
+use Rattle.clap.specs.Lexer.{usize_max}
+use Rattle.clap.specs.Walk.{Row, Rule, Text, all_of, byte_or_zero, first_of, one_of}
+use Rattle.clap.specs.Simple.{App, matches_of, new_app, new_rule, on_top, with_rule}
+use Rattle.clap.specs.Kinds.{IsAmong}
+use Rattle.clap.specs.Faults.{fault_of}
+use Rattle.clap.specs.declared.builder.action.ArgAction.TheVariants.{Set, SetTrue}
+use Rattle.clap.specs.declared.builder.value_parser.ValueParser.TheVariants.{Signed, Names}
+use Rattle.clap.specs.declared.error.kind.ErrorKind.{ErrorKind}
+use Rattle.clap.specs.declared.error.kind.ErrorKind.TheVariants.{DisplayHelp, DisplayVersion}
+use Rattle.lldp_engine.specs.declared.agent.options.Role.{Role}
+use Rattle.lldp_engine.specs.declared.agent.options.Role.TheVariants.{Station, Bridge, Router}
+use Rattle.lldp_engine.specs.Options.{Options}
+use Rattle.lldp_program.specs.CommandLine.Addresses.{IsMac}
+use Rattle.lldp_program.specs.declared.arguments.Listening.{Listening}
+use Rattle.lldp_program.specs.declared.arguments.AddressFault.{AddressFault}
+use Rattle.lldp_program.specs.declared.arguments.AddressFault.TheVariants.{Mac, Management}
+
+-- an option that takes a value, or has this one
+abbrev pub valued_rule : Text → Text → Rule
+valued_rule name default = record (new_rule name) { long = Some name; action = Some Set; defaults = default ∷ [] }
+
+-- one that shows a name for its value
+abbrev pub text_rule : Text → Text → Rule
+text_rule name default = record (valued_rule name default) { value_names = 1 }
+
+-- one that takes a whole number from 1 to the greatest
+abbrev pub number_rule : Text → ℕ → Text → Rule
+number_rule name greatest default = record (text_rule name default) { parser = Some (Signed (pos 1) (pos greatest)) }
+
+-- an address, which has no default
+abbrev pub management_rule : Rule
+management_rule = record (new_rule (codes "management")) { long = Some (codes "management"); value_names = 1 }
+
+-- a reference to the names of the roles
+abbrev pub AreRoles : Bor (List (Bor Text)) → Type 0
+AreRoles roles = map (λ (s : Bor Text). s.now) roles.now ≡ codes "station" ∷ codes "bridge" ∷ codes "router" ∷ []
+
+-- the role, one of these names, or `station`
+abbrev pub role_rule : Bor (List (Bor Text)) → Rule
+role_rule roles = record (text_rule (codes "role") (codes "station")) { parser = Some (Names roles) }
+
+-- an option that takes no value
+abbrev pub receive_only_rule : Rule
+receive_only_rule = record
+    (new_rule (codes "receive-only")) { long = Some (codes "receive-only"); action = Some SetTrue }
+
+-- a TCP port from 1 on
+abbrev pub listen_rule : Rule
+listen_rule =
+    record (new_rule (codes "listen")) {
+      long = Some (codes "listen");
+      value_names = 1;
+      parser = Some (Signed (pos 1) (pos 65535));
+    }
+
+-- the ports, any number of them
+abbrev pub ports_rule : Rule
+ports_rule =
+    record (new_rule (codes "PORT")) { range = Some (record { start_inclusive = 0; end_inclusive = usize_max }) }
+
+-- with the option `--version`
+abbrev pub versioned : App → App
+versioned = on_top (λ s. record s { has_version = true })
+
+-- the command line: the options in the order of the help, and the ports
+abbrev pub program : Bor (List (Bor Text)) → App
+program roles =
+    with_rule (with_rule (with_rule (with_rule (with_rule (with_rule
+    (with_rule (with_rule (with_rule (with_rule (with_rule (with_rule
+    (versioned (new_app (codes "lldpa")))
+    (number_rule (codes "max-neighbors") 128 (codes "32")))
+    (text_rule (codes "mac") (codes "02:00:00:00:00:01")))
+    (text_rule (codes "hostname") (codes "localhost")))
+    management_rule)
+    (role_rule roles))
+    (number_rule (codes "tx-credit-max") 10 (codes "5")))
+    (number_rule (codes "tx-fast-init") 8 (codes "4")))
+    (number_rule (codes "reinit-delay") 10 (codes "2")))
+    receive_only_rule)
+    listen_rule)
+    (number_rule (codes "connections") 65535 (codes "1")))
+    ports_rule
+
+-- the role of a name
+abbrev pub role_named : Text → Role
+role_named name = if bytes_eq name (codes "bridge") then Bridge else if bytes_eq name (codes "router") then Router
+    else Station
+
+-- no management address, or the one that the text writes
+abbrev pub AsksManagement : Option Text → Option (List ℕ) → Type 0
+AsksManagement None given = given ≡ None
+AsksManagement (Some text) given = (octets : List ℕ) × (given ≡ Some octets) × IsDotted text octets
+
+-- the MAC that the text writes
+abbrev pub AsksMac : Option Text → List ℕ → Type 0
+AsksMac None mac = ⊥
+AsksMac (Some text) mac = IsMac text mac
+
+-- there is a text, and it writes no MAC
+abbrev pub WritesNoMac : Option Text → Type 0
+WritesNoMac None = ⊥
+WritesNoMac (Some text) = (mac : List ℕ) → ¬ IsMac text mac
+
+-- there is a text, and it writes no IPv4 address
+abbrev pub WritesNoIpv4 : Option Text → Type 0
+WritesNoIpv4 None = ⊥
+WritesNoIpv4 (Some text) = (octets : List ℕ) → ¬ IsDotted text octets
+
+-- the first address that cannot be read: that of `--mac`, or, if it can, that of `--management`
+abbrev pub HasBadAddress : List Row → AddressFault → Type 0
+HasBadAddress rows Mac = WritesNoMac (first_of (codes "mac") rows)
+HasBadAddress rows Management =
+    ((mac : List ℕ) × AsksMac (first_of (codes "mac") rows) mac) × WritesNoIpv4 (first_of (codes "management") rows)
+
+-- Each option is the value of its words, or its default.
+pub record Asks (rows : List Row) (o : Options) : Type 0 where
+  pub names : o.names ≡ unwrap_or (all_of (codes "PORT") rows) []
+  pub mac : AsksMac (first_of (codes "mac") rows) o.mac
+  pub hostname : first_of (codes "hostname") rows ≡ Some o.hostname
+  pub management : AsksManagement (first_of (codes "management") rows) o.management
+  pub role : option_map role_named (first_of (codes "role") rows) ≡ Some o.role
+  pub max_neighbors : option_map byte_or_zero (one_of (codes "max-neighbors") rows) ≡ Some o.max_neighbors
+  pub credit_max : option_map byte_or_zero (one_of (codes "tx-credit-max") rows) ≡ Some o.credit_max
+  pub fast_init : option_map byte_or_zero (one_of (codes "tx-fast-init") rows) ≡ Some o.fast_init
+  pub reinit : option_map byte_or_zero (one_of (codes "reinit-delay") rows) ≡ Some o.reinit
+  pub receives : one_of (codes "receive-only") rows ≡ Some (codes "true") → o.receive_only ≡ true
+  pub sends : one_of (codes "receive-only") rows ≡ Some (codes "false") → o.receive_only ≡ false
+
+-- the text writes this number
+abbrev pub WritesNumber : Option Text → ℕ → Type 0
+WritesNumber None n = ⊥
+WritesNumber (Some text) n = ParsesUnsigned {E = Unit {0}} 16 10 text (Ok n)
+
+-- By the texts of `--listen` and `--connections`: nothing if there is none to listen, else the port and how many
+-- connections.
+abbrev pub AsksListening : Option Text → Option Text → Option Listening → Type 0
+AsksListening None connections listening = listening ≡ None
+AsksListening (Some port) connections None = ⊥
+AsksListening (Some port) connections (Some listening) =
+    WritesNumber (Some port) listening.port × WritesNumber connections listening.connections
+
+-- a parse takes the words, and gives these rows
+pub record IsParse (words : List Text) (rows : List Row) : Type 0 where
+  pub roles : Bor (List (Bor Text))
+  pub named : AreRoles roles
+  pub taken : fault_of (program roles) words ≡ []
+  pub rows_are : rows ≡ matches_of (program roles) words
+
+-- a parse of the words may answer an error of this kind
+pub record MayFail (words : List Text) (kind : ErrorKind) : Type 0 where
+  pub roles : Bor (List (Bor Text))
+  pub named : AreRoles roles
+  pub among : IsAmong kind (fault_of (program roles) words)
+
+-- the words ask for help or the version
+abbrev pub AskForHelp : List Text → Type 0
+AskForHelp words = MayFail words DisplayHelp ⊎ MayFail words DisplayVersion

@@ -1,0 +1,10 @@
+-- What only laws say: the definitions in other words, by octets, positions and counts.
+pub mod FixedNumbers
+pub mod FixedTexts
+pub mod Sayings
+pub mod Lines
+pub mod OnlyLines
+pub mod Asked
+pub mod CommandLine
+pub mod Listening
+pub mod Served

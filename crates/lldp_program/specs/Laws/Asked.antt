@@ -1,0 +1,45 @@
+-- What lines ask for, item by item, and the lines that tell what ports sent, one for each.
+use Rattle.std.specs.Prelude.{◌≡◌, ℕ, List, [], ◌∷◌, ◌++◌, length, get_or, Err}
+use Rattle.std.specs.List.{AllByRecursion}
+use Rattle.hex.specs.Hex.{encode_lower}
+use Rattle.lldp_engine.specs.Configuration.{Configuration}
+use Rattle.lldp_engine.specs.Event.{tick}
+use Rattle.lldp_engine.specs.Event as event
+use Rattle.lldp_engine.specs.Command.{show, set}
+use Rattle.lldp_engine.specs.Frames.{frame_of}
+use Rattle.lldp_engine.specs.Past.{Past, Sending, agent_of, configuration_after, marks_of}
+use Rattle.lldp_program.specs.declared.line.LineFault.{LineFault}
+use Rattle.lldp_program.specs.Laws.OnlyLines.{IsLineOfWork}
+use Rattle.lldp_program.specs.Trace.Forms.{work_given}
+use Rattle.lldp_program.specs.Trace.Items.{Item, happens, shows, refused, items_of}
+use Rattle.lldp_program.specs.Trace.Sent.{sent_text}
+use Rattle.lldp_program.specs.Trace.Work.{Work, skip, ticks, frame, link, command}
+
+-- The items of some work: so many, all of them ticks; one event; one show; none if it is passed over.
+abbrev pub AreItemsOf : Work → List Item → Type 0
+AreItemsOf skip items = items ≡ []
+AreItemsOf (ticks n) items = (length items ≡ n) × AllByRecursion (λ item. item ≡ happens tick) items
+AreItemsOf (frame port octets) items = items ≡ happens (event.frame port octets) ∷ []
+AreItemsOf (link port up) items = items ≡ happens (event.link port up) ∷ []
+AreItemsOf (command (set setting)) items = items ≡ happens (event.set setting) ∷ []
+AreItemsOf (command (show what)) items = items ≡ shows what ∷ []
+
+-- A line asks for the items of its work, and a refused one for its fault to be told.
+pub record AsksItsItems (past : Past) (line : List ℕ) : Type 0 where
+  pub work : (work : Work) → IsLineOfWork (agent_of past) work line → AreItemsOf work (items_of past line)
+  pub fault : (fault : LineFault) → work_given (agent_of past) line ≡ Err fault → items_of past line ≡ refused fault ∷ []
+
+-- The text is one line for each port that sends, in order: `tx`, a space, its name, a space, the octets of its frame in
+-- lower case hexadecimal, LF; and nothing else.
+abbrev pub AreLinesOf : List (List ℕ) → Configuration → List Sending → List ℕ → Type 0
+AreLinesOf names configuration [] text = text ≡ []
+AreLinesOf names configuration (mark ∷ marks) text =
+    let name = get_or names mark.0 [] in
+    (rest : List ℕ)
+    × (text ≡ (0x74 ∷ 0x78 ∷ 0x20 ∷ name) ++ (0x20 ∷ encode_lower (frame_of configuration name mark.1)) ++ 0x0a ∷ rest)
+    × AreLinesOf names configuration marks rest
+
+-- what was sent at the last event is told of each port that sent
+abbrev pub TellsEachPort : Past → Type 0
+TellsEachPort past =
+    AreLinesOf past.options.names (configuration_after past.options past.events) (marks_of past) (sent_text past)

@@ -1,0 +1,83 @@
+-- What one line of a trace says, checked from left to right.
+use Rattle.std.specs.Prelude.{ℕ, List, [], ◌∷◌, length, codes, Result, Ok, Err, nat_lt, ◌==◌, Bool, true, false, if◌then◌else◌}
+use Rattle.std.specs.Str.{bytes_eq}
+use Rattle.hex.specs.Hex.{decode_of}
+use Rattle.lldp_text.specs.declared.fault.CommandFault.{CommandFault}
+use Rattle.lldp_text.specs.declared.fault.CommandFault.TheVariants.{Unknown, Quote}
+use Rattle.lldp_text.specs.Fault.{text_of as command_fault_text}
+use Rattle.lldp_text.specs.Words.{words_of, is_separator}
+use Rattle.lldp_text.specs.Answer.{or_fault, on_ok, ◌>>=◌}
+use Rattle.lldp_text.specs.Number.{number_of}
+use Rattle.lldp_engine.specs.AgentState.{AgentState, names_of}
+use Rattle.lldp_engine.specs.NextWords.{word_said, port_said, end_said}
+use Rattle.lldp_engine.specs.Given.{command_said}
+use Rattle.lldp_program.specs.declared.line.LineFault.{LineFault}
+use Rattle.lldp_program.specs.declared.line.LineFault.TheVariants.{TooLong, Hex, Command}
+use Rattle.lldp_program.specs.Trace.Work.{Work, skip, ticks, frame, link, command}
+
+-- a fault of a command as one of a line
+abbrev pub of_command : {A : Type 0} → Result A CommandFault → Result A LineFault
+of_command (Ok x) = Ok x
+of_command (Err fault) = Err (Command fault)
+
+-- the octets that hexadecimal digits spell, or Hex
+abbrev pub or_hex : {E : Type 0} → Result (List ℕ) E → Result (List ℕ) LineFault
+or_hex (Ok octets) = Ok octets
+or_hex (Err fault) = Err Hex
+
+-- `tick` and `tick N`, behind the first word: one tick, or N, from 1 to 65535
+unfoldable pub tick_form : List (List ℕ) → Result Work LineFault
+tick_form [] = Ok (ticks 1)
+tick_form (word ∷ words) = do
+  n ← of_command (number_of word 1 65535)
+  end ← of_command (end_said words)
+  Ok (ticks n)
+
+-- `rx PORT HEX`, behind the first word: a frame that came on a port
+unfoldable pub frame_form : AgentState → List (List ℕ) → Result Work LineFault
+frame_form agent words = do
+  port ← of_command (port_said (names_of agent) words)
+  digits ← of_command (word_said port.1)
+  octets ← or_hex (decode_of digits.0)
+  end ← of_command (end_said digits.1)
+  Ok (frame port.0 octets)
+
+-- `up PORT` and `down PORT`, behind the first word: the link of a port came, or went
+unfoldable pub link_form : AgentState → Bool → List (List ℕ) → Result Work LineFault
+link_form agent up words = do
+  port ← of_command (port_said (names_of agent) words)
+  end ← of_command (end_said port.1)
+  Ok (link port.0 up)
+
+-- a command, or its fault
+abbrev pub command_form : AgentState → List (List ℕ) → Result Work LineFault
+command_form agent words = on_ok command (of_command (command_said agent words))
+
+-- the words of a line: `tick`, `rx`, `up` and `down` begin forms of a trace, and all others are those of a command
+unfoldable pub form_of : AgentState → List (List ℕ) → Result Work LineFault
+form_of agent [] = Err (Command Unknown)
+form_of agent (word ∷ words) =
+    if bytes_eq word (codes "tick") then tick_form words
+    else if bytes_eq word (codes "rx") then frame_form agent words
+    else if bytes_eq word (codes "up") then link_form agent true words
+    else if bytes_eq word (codes "down") then link_form agent false words
+    else command_form agent (word ∷ words)
+
+-- nothing but spaces and tabs, or `#` as the first other octet
+abbrev pub is_skipped : List ℕ → Bool
+is_skipped [] = true
+is_skipped (octet ∷ octets) = if is_separator octet then is_skipped octets else octet == 35
+
+-- What a line says to an agent, or its fault. The checks in order: its length, at most 4,096 octets; nothing to
+-- do; its words, and bad quotes; its form.
+unfoldable pub work_given : AgentState → List ℕ → Result Work LineFault
+work_given agent line =
+    if nat_lt 4096 (length line) then Err TooLong
+    else if is_skipped line then Ok skip
+    else of_command (or_fault (words_of line) Quote) >>= form_of agent
+
+-- the line that a refused line gives, without LF
+abbrev pub fault_text : LineFault → List ℕ
+fault_text TooLong = codes "error: line too long"
+fault_text Hex = codes "error: bad hexadecimal"
+fault_text (Command fault) = command_fault_text fault

@@ -1,0 +1,99 @@
+-- What a run over a trace leaves.
+use Rattle.std.specs.Prelude.{◌≡◌, ◌≢◌, ◌≤◌, ◌⊎◌, ℕ, List, [], ◌∷◌, ◌++◌, length, Option, Result, Ok, Err}
+use Rattle.std.specs.Io.KnownBytes.{Appends, Consumes, IsAtEnd}
+use Rattle.lldp_engine.specs.Event.{Event}
+use Rattle.lldp_engine.specs.AgentState.{AgentState}
+use Rattle.lldp_engine.specs.Past.{Past}
+use Rattle.lldp_engine.specs.Standing.{Stands}
+use Rattle.lldp_engine.specs.Headline.{Promised}
+use Rattle.lldp_program.specs.Devices.Counts.{one_more}
+use Rattle.lldp_program.specs.Trace.Lines.{lines_of, ended_lines}
+use Rattle.lldp_program.specs.Trace.Items.{Item, after_all, text_of, text_of_all, items_of_lines}
+use Rattle.lldp_program.specs.declared.trace.RunFault.{RunFault}
+use Rattle.lldp_program.specs.declared.trace.RunFault.TheVariants.{Read, Write, InputTooLong}
+
+-- part stands at the front of whole, and is not all of it
+pub record IsCutOff (whole part : List ℕ) : Type 0 where
+  pub rest : List ℕ
+  pub joined : whole ≡ part ++ rest
+  pub missing : rest ≢ []
+
+-- All items were done: their text was written, and the agent stands for the past after them and keeps the promise for
+-- it: tables hold the last stored frames, and ports have sent exactly what was due.
+pub record Done (past : Past) (items : List Item) (old new : Option (List ℕ)) (agent : AgentState) : Type 0 where
+  pub written : Appends old new (text_of_all past items)
+  pub stands : Stands (after_all past items) agent
+  pub promised : Promised (after_all past items) agent
+
+-- An item's output failed. The agent stands for the past after that item and keeps the promise for it. The text of the
+-- items before it was written, and of its own text a part, but not all.
+pub record Failed (past : Past) (items : List Item) (old new : Option (List ℕ)) (agent : AgentState) : Type 0 where
+  pub before : List Item
+  pub item : Item
+  pub later : List Item
+  pub in_order : items ≡ before ++ item ∷ later
+  pub part : List ℕ
+  pub cut_off : IsCutOff (text_of (after_all past before) item) part
+  pub written : Appends old new (text_of_all past before ++ part)
+  pub stands : Stands (after_all past (before ++ item ∷ [])) agent
+  pub promised : Promised (after_all past (before ++ item ∷ [])) agent
+
+-- The run stopped at an item whose output failed: one of a line whose LF was read, or, if nothing is left to come,
+-- one of the last line.
+abbrev pub StoppedAt : Past → List ℕ → Option (List ℕ) → Option (List ℕ) → Option (List ℕ) → AgentState → Type 0
+StoppedAt past input left old new agent =
+    Failed past (items_of_lines past (ended_lines input)) old new agent
+    ⊎ (IsAtEnd left × Failed past (items_of_lines past (lines_of input)) old new agent)
+
+-- What a run over this input did, by its answer. Ok: all lines were done. Read and InputTooLong: each line whose LF was
+-- read was done. Write: it stopped at an item.
+abbrev pub Ends : {T : Type 0} → Past → List ℕ → Option (List ℕ) → Option (List ℕ) → Option (List ℕ) → AgentState →
+    Result T RunFault → Type 0
+Ends past input left old new agent (Ok done) = Done past (items_of_lines past (lines_of input)) old new agent
+Ends past input left old new agent (Err Read) = Done past (items_of_lines past (ended_lines input)) old new agent
+Ends past input left old new agent (Err Write) = StoppedAt past input left old new agent
+Ends past input left old new agent (Err InputTooLong) =
+    Done past (items_of_lines past (ended_lines input)) old new agent
+
+-- what the answer tells of the octets that were read: Ok, that the end was reached; InputTooLong, how many they were
+abbrev pub HasRead : {T : Type 0} → Option (List ℕ) → List ℕ → Result T RunFault → Type 0
+HasRead left input (Ok done) = IsAtEnd left
+HasRead left input (Err Read) = Unit {0}
+HasRead left input (Err Write) = Unit {0}
+HasRead left input (Err InputTooLong) = 4294967295 ≤ length input
+
+-- A run: the octets that it read, what its answer tells of them, and, for every past that the agent stood for, what it
+-- did. A source had octets to come and has some left, a sink had taken octets and has taken more.
+pub record HasRun {T : Type 0} (to_come left old new : Option (List ℕ)) (before after : AgentState)
+    (result : Result T RunFault) : Type 0 where
+  pub input : List ℕ
+  pub consumed : Consumes to_come left input
+  pub read : HasRead left input result
+  pub ends : (past : Past) → Stands past before → Ends past input left old new after result
+
+-- the failed reads after a run: one more if it answers Read, else as many as before
+abbrev pub read_failures_after : {T : Type 0} → ℕ → Result T RunFault → ℕ
+read_failures_after failures (Err Read) = one_more failures
+read_failures_after failures _ = failures
+
+-- the failed writes after a run: one more if it answers Write, else as many as before
+abbrev pub write_failures_after : {T : Type 0} → ℕ → Result T RunFault → ℕ
+write_failures_after failures (Err Write) = one_more failures
+write_failures_after failures _ = failures
+
+-- How often the end was answered, before and after a run: once more if it answers Ok, not once if it answers Read
+-- or InputTooLong; if it answers Write, at most once.
+abbrev pub EndsTold : {T : Type 0} → ℕ → ℕ → Result T RunFault → Type 0
+EndsTold before after (Ok done) = after ≡ one_more before
+EndsTold before after (Err Read) = after ≡ before
+EndsTold before after (Err Write) = (after ≡ before) ⊎ (after ≡ one_more before)
+EndsTold before after (Err InputTooLong) = after ≡ before
+
+-- the past with more events, newest first
+abbrev pub followed : Past → List Event → Past
+followed past events = record { options = past.options; events = events ++ past.events }
+
+-- The agent stands for the past and some more events, all of them allowed, as all are that an agent stands for, and
+-- keeps the promise: tables hold the last stored frames, and ports have sent exactly what was due.
+abbrev pub KeepsOn : Past → AgentState → Type 0
+KeepsOn past agent = (events : List Event) × Stands (followed past events) agent × Promised (followed past events) agent

@@ -1,0 +1,22 @@
+-- The lines that tell what ports sent.
+use Rattle.std.specs.Prelude.{ℕ, List, [], ◌++◌, codes, get_or}
+use Rattle.std.specs.List.{flat_map}
+use Rattle.hex.specs.Hex.{encode_lower}
+use Rattle.lldp_engine.specs.Configuration.{Configuration}
+use Rattle.lldp_engine.specs.Frames.{frame_of}
+use Rattle.lldp_engine.specs.Past.{Past, Sending, configuration_after, marks_of}
+use Rattle.lldp_program.specs.Trace.Lines.{ended}
+
+-- `tx`, the name of the port, and the octets of the frame in lower case hexadecimal, with a space between them, and LF
+abbrev pub sent_line : List ℕ → List ℕ → List ℕ
+sent_line name frame = ended (codes "tx " ++ name ++ codes " " ++ encode_lower frame)
+
+-- the line of a port that sends, by the names of the ports and the configuration
+abbrev pub mark_line : List (List ℕ) → Configuration → Sending → List ℕ
+mark_line names configuration mark =
+    let name = get_or names mark.0 [] in
+    sent_line name (frame_of configuration name mark.1)
+
+-- the lines of what was sent at the last event, the ports rising, each frame with the configuration after the event
+abbrev pub sent_text : Past → List ℕ
+sent_text past = flat_map (mark_line past.options.names (configuration_after past.options past.events)) (marks_of past)

@@ -1,0 +1,32 @@
+//! What the program's arguments ask for.
+ghost use Rattle.std.specs.Prelude.{◌≡◌, List, Option, Result, length, is_err};
+ghost use Rattle.std.specs.List.{filter};
+ghost use Rattle.std.specs.Borrow.{Bor};
+ghost use Rattle.clap.specs.Walk.{Text};
+ghost use Rattle.lldp_engine.specs.Options.{Options};
+ghost use Rattle.lldp_program.specs.Laws.CommandLine.{HasOptions, HasRoles, TakesRange};
+ghost use Rattle.lldp_program.specs.Laws.Listening.{AskByTexts, AskByWords};
+ghost use Rattle.lldp_program.specs.Serving.{faults_of};
+ghost use Rattle.lldp_program.specs.declared.arguments.Listening.{Listening};
+ghost use Rattle.lldp_program.specs.declared.trace.RunFault.{RunFault};
+
+/// The command line has these options, none with an alias or a short form, and these roles, octet
+/// by octet, and nothing else. Four options take the numbers that an opening takes, and no others.
+pub fn options_are_these_alone()
+    ensures options { (roles : Bor (List (Bor Text))) → HasOptions roles }
+    ensures roles { (roles : Bor (List (Bor Text))) → HasRoles roles }
+    ensures ranges { (roles : Bor (List (Bor Text))) (options : Options) →
+        TakesRange roles options }
+{}
+
+/// The texts of `--listen` and `--connections`, whatever they are, ask to listen at the port that
+/// the one writes and for as many connections as the other writes; four command lines ask for
+/// this, one of them by the default of one connection. As many connections are counted as ended
+/// with a fault.
+pub fn words_ask_to_listen()
+    ensures texts { (port connections : Option Text) (asked : Option Listening) →
+        AskByTexts port connections asked }
+    ensures words { (roles : Bor (List (Bor Text))) → AskByWords roles }
+    ensures counted { (results : List (Result (Unit {0}) RunFault)) →
+        faults_of results ≡ length (filter is_err results) }
+{}

@@ -1,0 +1,16 @@
+//! What stands fixed: numbers and lines, octet by octet.
+ghost use Rattle.std.specs.Prelude.{ℕ, List};
+ghost use Rattle.lldp_program.specs.Laws.FixedNumbers.{AreNumbers};
+ghost use Rattle.lldp_program.specs.Laws.FixedTexts.{TellEnds, TellFaults, TellsSent};
+
+/// Statuses, bounds and faults have these numbers.
+pub fn statuses_and_faults_have_fixed_numbers()
+    ensures { AreNumbers }
+{}
+
+/// The lines that tell faults and sent frames stand octet by octet.
+pub fn lines_have_fixed_octets()
+    ensures faults { TellFaults }
+    ensures ends { TellEnds }
+    ensures sent { (name frame : List ℕ) → TellsSent name frame }
+{}

@@ -1,0 +1,14 @@
+//! What serving connections comes to.
+ghost use Rattle.std.specs.Prelude.{List, Option};
+ghost use Rattle.lldp_engine.specs.AgentState.{AgentState};
+ghost use Rattle.lldp_program.specs.Devices.Acceptors.{Call};
+ghost use Rattle.lldp_program.specs.Laws.Served.{ServesAll};
+
+use crate::acceptor::Acceptor;
+
+/// Whatever the acceptor, an answer that is no fault had as many connections as were asked for, and
+/// `listen` had them at 127.0.0.1.
+pub fn all_connections_are_served<D: Acceptor>()
+    ensures { (old new : Option (List (Call D.Connection))) (before after : AgentState) →
+        ServesAll D.to_come D.taken old new before after }
+{}

@@ -1,0 +1,23 @@
+//! How a trace is cut into lines, what each asks for, and the lines of what ports send.
+ghost use Rattle.std.specs.Prelude.{ℕ, List};
+ghost use Rattle.lldp_engine.specs.Past.{Past};
+ghost use Rattle.lldp_program.specs.Laws.Asked.{AsksItsItems, TellsEachPort};
+ghost use Rattle.lldp_program.specs.Laws.Lines.{CutsLines};
+
+/// An input is cut at each LF and at no other octet; a last line without LF is a line, if it is not
+/// empty.
+pub fn lf_alone_ends_lines()
+    ensures { (input : List ℕ) → CutsLines input }
+{}
+
+/// A line asks for what its work is: `tick N` for N ticks, whatever N is; a frame, a link and a
+/// setting for one event; a show for itself; a refused line for its fault.
+pub fn lines_ask_for_their_items()
+    ensures { (past : Past) (line : List ℕ) → AsksItsItems past line }
+{}
+
+/// What was sent at an event is told by one line for each port that sent, with its whole name and
+/// all octets of its frame, and by nothing else.
+pub fn each_port_that_sends_is_told()
+    ensures { (past : Past) → TellsEachPort past }
+{}

@@ -1,0 +1,100 @@
+-- How each value is written, whatever its octets.
+use Rattle.std.specs.Prelude.{◌≡◌, ℕ, ◌+◌, ◌<◌, ◌≤◌, ◌==◌, ◌⊎◌, if◌then◌else◌, List, [], ◌∷◌, ◌++◌, length, decimal, Some}
+use Rattle.std.specs.List.{AllByRecursion}
+use Rattle.std.specs.Int.{bit_at}
+use Rattle.hex.specs.Hex.{encode_lower}
+use Rattle.lldp_pdu.specs.declared.fields.Caps.{Caps}
+use Rattle.lldp_pdu.specs.Capabilities.{caps_of}
+use Rattle.lldp_pdu.specs.ManagementAddress.{Address, address_of}
+use Rattle.lldp_text.specs.Text.{escaped}
+use Rattle.lldp_text.specs.Addresses.{mac_text, ipv4_text, ipv6_text}
+use Rattle.lldp_text.specs.Capabilities.{capabilities_text}
+use Rattle.lldp_text.specs.ManagementAddress.{management_text}
+use Rattle.lldp_text.specs.KeptTlv.{tlv_text}
+
+-- A text has at most 255 octets, each from the space to the tilde.
+pub record IsText (text : List ℕ) : Type 0 where
+  pub most : length text ≤ 255
+  pub printable : AllByRecursion (λ octet. (0x20 ≤ octet) × (octet ≤ 0x7e)) text
+
+-- How a text is written, from its first octet: a backslash stands twice, what is from the space to the tilde stands as it is, and any
+-- other octet is a backslash, `x` and its two hexadecimal digits.
+pub record IsEscaped (octet : ℕ) (text : List ℕ) : Type 0 where
+  pub none : escaped [] ≡ []
+  pub backslash : escaped (0x5c ∷ text) ≡ 0x5c ∷ 0x5c ∷ escaped text
+  pub plain : 0x20 ≤ octet → octet ≤ 0x7e → ¬ (octet ≡ 0x5c) → escaped (octet ∷ text) ≡ octet ∷ escaped text
+  pub other : (octet < 0x20) ⊎ (0x7e < octet) → escaped (octet ∷ text) ≡ 0x5c ∷ 0x78 ∷ encode_lower (octet ∷ []) ++ escaped text
+
+-- An address, from its front: an octet in hexadecimal (MAC), one in decimal (IPv4) or two in hexadecimal (IPv6), then a
+-- colon, a point or a colon, and the others.
+pub record IsJoined (a b c d : ℕ) (octets : List ℕ) : Type 0 where
+  pub mac_end : mac_text (a ∷ []) ≡ encode_lower (a ∷ [])
+  pub mac : mac_text (a ∷ b ∷ octets) ≡ encode_lower (a ∷ []) ++ 0x3a ∷ mac_text (b ∷ octets)
+  pub ipv4_end : ipv4_text (a ∷ []) ≡ decimal a
+  pub ipv4 : ipv4_text (a ∷ b ∷ octets) ≡ decimal a ++ 0x2e ∷ ipv4_text (b ∷ octets)
+  pub ipv6_end : ipv6_text (a ∷ b ∷ []) ≡ encode_lower (a ∷ b ∷ [])
+  pub ipv6 : ipv6_text (a ∷ b ∷ c ∷ d ∷ octets) ≡ encode_lower (a ∷ b ∷ []) ++ 0x3a ∷ ipv6_text (c ∷ d ∷ octets)
+
+-- It has the length of its family: 1 is IPv4, with 4 octets, and 2 is IPv6, with 16.
+abbrev pub IsIpv4 : ℕ → List ℕ → Type 0
+IsIpv4 family octets = (family ≡ 1) × (length octets ≡ 4)
+
+abbrev pub IsIpv6 : ℕ → List ℕ → Type 0
+IsIpv6 family octets = (family ≡ 2) × (length octets ≡ 16)
+
+-- an address, the numbering subtype, the interface number and the OID, joined by commas
+abbrev pub with_interface : List ℕ → Address → List ℕ
+with_interface address a =
+    address ++ (0x2c ∷ []) ++ decimal a.numbering ++ (0x2c ∷ []) ++ decimal a.interface ++ (0x2c ∷ []) ++ encode_lower a.oid
+
+-- A Management Address begins with an IPv4 or an IPv6 address, or with `af`, the family, a colon and the octets.
+pub record IsManaged (a : Address) : Type 0 where
+  pub ipv4 : IsIpv4 a.family a.address → management_text a ≡ with_interface (ipv4_text a.address) a
+  pub ipv6 : IsIpv6 a.family a.address → management_text a ≡ with_interface (ipv6_text a.address) a
+  pub other : ¬ (IsIpv4 a.family a.address) → ¬ (IsIpv6 a.family a.address) →
+      management_text a ≡ with_interface ((0x61 ∷ 0x66 ∷ []) ++ decimal a.family ++ (0x3a ∷ []) ++ encode_lower a.address) a
+
+-- `unhandled=` and the whole body
+abbrev pub unhandled : List ℕ → List ℕ
+unhandled body = 0x75 ∷ 0x6e ∷ 0x68 ∷ 0x61 ∷ 0x6e ∷ 0x64 ∷ 0x6c ∷ 0x65 ∷ 0x64 ∷ 0x3d ∷ encode_lower body
+
+-- Identifiers that are no texts, by the subtypes of a MAC address and a network address: `mac=` and six octets, `ip=`
+-- and an address of its length, and `unhandled=` and all octets of every other, also of the subtypes 0 and 8 to 255.
+pub record IsIdentified (mac network : ℕ) (text : List ℕ → List ℕ) (subtype family : ℕ) (octets : List ℕ) : Type 0 where
+  pub mac_address : length octets ≡ 6 → text (mac ∷ octets) ≡ 0x6d ∷ 0x61 ∷ 0x63 ∷ 0x3d ∷ mac_text octets
+  pub no_mac_address : ¬ (length octets ≡ 6) → text (mac ∷ octets) ≡ unhandled (mac ∷ octets)
+  pub ipv4 : IsIpv4 family octets → text (network ∷ family ∷ octets) ≡ 0x69 ∷ 0x70 ∷ 0x3d ∷ ipv4_text octets
+  pub ipv6 : IsIpv6 family octets → text (network ∷ family ∷ octets) ≡ 0x69 ∷ 0x70 ∷ 0x3d ∷ ipv6_text octets
+  pub other_network : ¬ (IsIpv4 family octets) → ¬ (IsIpv6 family octets) → text (network ∷ family ∷ octets) ≡ unhandled (network ∷ family ∷ octets)
+  pub other : (subtype ≡ 0) ⊎ (7 < subtype) → text (subtype ∷ octets) ≡ unhandled (subtype ∷ octets)
+
+-- What is shown of the bits from one on, by their names: of a bit that is available its name, a colon, and `on` if it
+-- is enabled, else `off`; of any other nothing.
+abbrev pub shown_from : Caps → ℕ → List (List ℕ) → List (List ℕ)
+shown_from caps bit [] = []
+shown_from caps bit (name ∷ names) =
+    (if bit_at caps.available bit == 1
+    then (name ++ 0x3a ∷ (if bit_at caps.enabled bit == 1 then 0x6f ∷ 0x6e ∷ [] else 0x6f ∷ 0x66 ∷ 0x66 ∷ [])) ∷ []
+    else [])
+    ++ shown_from caps (bit + 1) names
+
+-- The keys of kept TLVs, and what stands behind each.
+pub record HasKeys (body : List ℕ) : Type 0 where
+  -- port.descr=
+  pub port : tlv_text (record { kind = 4; body = body }) ≡ (0x70 ∷ 0x6f ∷ 0x72 ∷ 0x74 ∷ 0x2e ∷ 0x64 ∷ 0x65 ∷ 0x73 ∷ 0x63 ∷ 0x72 ∷ 0x3d ∷ []) ++ escaped body
+  -- chassis.name=
+  pub name : tlv_text (record { kind = 5; body = body }) ≡ (0x63 ∷ 0x68 ∷ 0x61 ∷ 0x73 ∷ 0x73 ∷ 0x69 ∷ 0x73 ∷ 0x2e ∷ 0x6e ∷ 0x61 ∷ 0x6d ∷ 0x65 ∷ 0x3d ∷ []) ++ escaped body
+  -- chassis.descr=
+  pub description : tlv_text (record { kind = 6; body = body }) ≡ (0x63 ∷ 0x68 ∷ 0x61 ∷ 0x73 ∷ 0x73 ∷ 0x69 ∷ 0x73 ∷ 0x2e ∷ 0x64 ∷ 0x65 ∷ 0x73 ∷ 0x63 ∷ 0x72 ∷ 0x3d ∷ []) ++ escaped body
+  -- chassis.caps=
+  pub capabilities : (caps : Caps) → caps_of body ≡ Some caps →
+      tlv_text (record { kind = 7; body = body }) ≡ (0x63 ∷ 0x68 ∷ 0x61 ∷ 0x73 ∷ 0x73 ∷ 0x69 ∷ 0x73 ∷ 0x2e ∷ 0x63 ∷ 0x61 ∷ 0x70 ∷ 0x73 ∷ 0x3d ∷ []) ++ capabilities_text caps
+  -- chassis.mgmt=
+  pub address : (address : Address) → address_of body ≡ Some address →
+      tlv_text (record { kind = 8; body = body }) ≡ (0x63 ∷ 0x68 ∷ 0x61 ∷ 0x73 ∷ 0x73 ∷ 0x69 ∷ 0x73 ∷ 0x2e ∷ 0x6d ∷ 0x67 ∷ 0x6d ∷ 0x74 ∷ 0x3d ∷ []) ++ management_text address
+  -- unknown.KIND=
+  pub reserved : (kind : ℕ) → 9 ≤ kind → kind ≤ 126 →
+      tlv_text (record { kind = kind; body = body }) ≡ (0x75 ∷ 0x6e ∷ 0x6b ∷ 0x6e ∷ 0x6f ∷ 0x77 ∷ 0x6e ∷ 0x2e ∷ []) ++ decimal kind ++ (0x3d ∷ []) ++ encode_lower body
+  -- org.OUI.SUBTYPE=, the body being what stands behind these four octets
+  pub specific : (a b c subtype : ℕ) →
+      tlv_text (record { kind = 127; body = a ∷ b ∷ c ∷ subtype ∷ body }) ≡ (0x6f ∷ 0x72 ∷ 0x67 ∷ 0x2e ∷ []) ++ encode_lower (a ∷ b ∷ c ∷ []) ++ (0x2e ∷ []) ++ decimal subtype ++ (0x3d ∷ []) ++ encode_lower body

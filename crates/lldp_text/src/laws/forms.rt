@@ -1,0 +1,30 @@
+//! How each value is written, whatever its octets.
+ghost use Rattle.std.specs.Prelude.{◌≡◌, ℕ, true, ◌↔◌, List};
+ghost use Rattle.std.specs.List.{join_with_byte};
+ghost use Rattle.lldp_pdu.specs.declared.fields.Caps.{Caps};
+ghost use Rattle.lldp_pdu.specs.ManagementAddress.{Address};
+ghost use Rattle.lldp_text.specs.Text.{is_text};
+ghost use Rattle.lldp_text.specs.Capabilities.{capabilities_text};
+ghost use Rattle.lldp_text.specs.Identifier.{chassis_text, port_text};
+ghost use Rattle.lldp_text.specs.Laws.FixedTexts.{names_of_capabilities};
+ghost use Rattle.lldp_text.specs.Laws.Forms.{IsText, IsEscaped, IsJoined, IsManaged, IsIdentified, shown_from, HasKeys};
+
+/// A text has at most 255 octets, each from the space to the tilde, and nothing else is one.
+pub fn texts_are_printable()
+    ensures { (text : List ℕ) → (is_text text ≡ true) ↔ IsText text }
+{}
+
+/// Texts, addresses, capabilities, identifiers and kept TLVs are written in these forms, whatever
+/// their octets; all sixteen capabilities, and kept TLVs of every type.
+pub fn values_have_their_forms()
+    ensures texts { (octet : ℕ) (text : List ℕ) → IsEscaped octet text }
+    ensures addresses { (a b c d : ℕ) (octets : List ℕ) → IsJoined a b c d octets }
+    ensures capabilities { (caps : Caps) → capabilities_text caps
+        ≡ join_with_byte 0x2c (shown_from caps 0 names_of_capabilities) }
+    ensures management { (address : Address) → IsManaged address }
+    ensures chassis { (subtype family : ℕ) (octets : List ℕ) →
+        IsIdentified 4 5 chassis_text subtype family octets }
+    ensures ports { (subtype family : ℕ) (octets : List ℕ) →
+        IsIdentified 3 4 port_text subtype family octets }
+    ensures kept { (body : List ℕ) → HasKeys body }
+{}

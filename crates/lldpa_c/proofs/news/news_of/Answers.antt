@@ -1,0 +1,31 @@
+use Rattle.std.proofs.Common.{◌≡◌, ℕ, Bool, true, List, Some, refl, sym, ap, subst, ◌∙◌}
+use Rattle.std.specs.Prelude.{◌&&◌, slice_get}
+use Rattle.std.specs.Option.{option_map}
+use Rattle.lldp_table.specs.Contents.{Contents}
+use Rattle.lldp_engine.specs.AgentState.{PortState}
+use Rattle.lldp_engine.specs.Status.{receives}
+use Rattle.lldpa_c.proofs.Newly.{TellsPdu, reports}
+use Rattle.lldpa_c.proofs.news.news_of.Goals as goal
+
+-- what is read of a port is its own
+own : {A : Type 0} (f : PortState → A) (ports : List PortState) (i : ℕ) (port : PortState) (a : A) → slice_get ports i ≡ Some port → option_map f (slice_get ports i) ≡ Some a → f port ≡ a
+own f ports i port a e h =
+    let is : Some (f port) ≡ Some a = sym (ap (option_map f) e) ∙ h in
+    cc
+
+both_true : (a b : Bool) → a ≡ true → b ≡ true → (a && b) ≡ true
+both_true a b e h = rw (e, h) refl
+
+pub returns-in-Some : goal.returns-in-Some
+returns-in-Some c port there =
+    let ports = c.args.agent.now.ports in
+    let i = c.args.port in
+    let status = own (λ (p : PortState). p.status) ports i port _ there c.status.ensures.value in
+    let up = own (λ (p : PortState). p.machine.up) ports i port _ there c.is_up.ensures.value in
+    let table = own (λ (p : PortState). p.table) ports i port _ there c.table.ensures.value in
+    let receives_it : receives port.status ≡ true = ap receives status ∙ sym c.receives.ensures ∙ c.if-not-receives.false in
+    let is_up : port.machine.up ≡ true = up ∙ c.if-not-is_up.false in
+    let n = c.pdu_news.ensures in
+    let told : TellsPdu c.table.result.now.shown c.in-Some.pdu.now c.pdu_news.result = record { what = n.what; refused = n.refused; fault = n.fault; chassis = n.chassis; port = n.port } in
+    reports port c.args.octets.now c.in-Some.pdu.now c.pdu_news.result (both_true _ _ receives_it is_up) c.in-Some.ensures.value
+    (subst (λ (t : Contents). TellsPdu t c.in-Some.pdu.now c.pdu_news.result) (sym table) told)

@@ -1,0 +1,44 @@
+-- Neighbors that an agent holds, as C is told them.
+use Rattle.std.specs.Prelude.{◌≡◌, ℕ, not, List, [], ◌∷◌, take, Option, Some, None, is_none, slice_get}
+use Rattle.std.specs.Option.{option_map}
+use Rattle.lldp_pdu.specs.Check.{Check}
+use Rattle.lldp_table.specs.Events.{Neighbor}
+use Rattle.lldp_engine.specs.AgentState.{AgentState, PortState}
+use Rattle.lldpa_c.specs.declared.holder.LldpaAgent.{LldpaAgent}
+use Rattle.lldpa_c.specs.declared.held.LldpaHeld.{LldpaHeld}
+use Rattle.lldpa_c.specs.declared.answer.TheConstants.{OUT_OF_RANGE, NO_ROOM, NOT_OPEN, NO_PORT}
+use Rattle.lldpa_c.specs.Answer.{is_over}
+use Rattle.lldpa_c.specs.Frame.{has_no_port}
+use Rattle.lldpa_c.specs.Examined.{Tells}
+
+-- the neighbors of a port, in the order of its table; none of a port that there is not
+abbrev pub neighbors_on : Option PortState → List Neighbor
+neighbors_on None = []
+neighbors_on (Some port) = port.table.neighbors
+
+abbrev pub neighbors_at : AgentState → ℕ → List Neighbor
+neighbors_at agent port = neighbors_on (slice_get agent.ports port)
+
+-- Why a port's neighbors are not counted: the handle is not open, or there is no such port.
+abbrev pub count_checks : LldpaAgent → ℕ → List (Check ℕ)
+count_checks handle port =
+    record { fails = not handle.is_open; fault = NOT_OPEN }
+    ∷ record { fails = has_no_port handle.held.agent port; fault = NO_PORT }
+    ∷ []
+
+-- Why a neighbor is not told: the handle is not open, there is no such port, the port has no neighbor at that place, or
+-- its LLDPDU does not fit into so many octets.
+abbrev pub neighbor_checks : LldpaAgent → ℕ → ℕ → ℕ → List (Check ℕ)
+neighbor_checks handle port index room =
+    let found = slice_get (neighbors_at handle.held.agent port) index in
+    record { fails = not handle.is_open; fault = NOT_OPEN }
+    ∷ record { fails = has_no_port handle.held.agent port; fault = NO_PORT }
+    ∷ record { fails = is_none found; fault = OUT_OF_RANGE }
+    ∷ record { fails = is_over room (option_map (λ neighbor. neighbor.octets) found); fault = NO_ROOM }
+    ∷ []
+
+-- A neighbor is told: the octets of its last stored LLDPDU, all that these tell, and the seconds that are left of it.
+pub record TellsNeighbor (neighbor : Neighbor) (room : List ℕ) (told : LldpaHeld) : Type 0 where
+  pub octets : take told.pdu.extent room ≡ neighbor.octets
+  pub pdu : Tells neighbor.octets told.pdu
+  pub left : told.left ≡ neighbor.left

@@ -1,0 +1,64 @@
+-- Seconds that pass, one or several.
+use Rattle.std.specs.Prelude.{◌≡◌, ℕ, zero, suc, ◌+◌, ◌<◌, ◌≤◌, true, false, List, [], ◌∷◌, length, map}
+use Rattle.lldp_transmit.specs.declared.event.Mark.{Mark}
+use Rattle.lldp_engine.specs.AgentState.{AgentState, PortState}
+use Rattle.lldp_engine.specs.Event.{tick}
+use Rattle.lldp_engine.specs.Past.{Past, with_event}
+use Rattle.lldp_engine.specs.Standing.{Stands}
+use Rattle.lldp_engine.specs.Code.Step.{agent_after, agent_marks}
+use Rattle.lldpa_c.specs.declared.holder.LldpaAgent.{LldpaAgent}
+use Rattle.lldpa_c.specs.declared.marks.LldpaMarks.{LldpaMarks}
+use Rattle.lldpa_c.specs.declared.ticks.LldpaTicks.{LldpaTicks}
+use Rattle.lldpa_c.specs.Marks.{numbered, marks_told}
+
+-- how many neighbors these ports hold
+abbrev pub held_by : List PortState → ℕ
+held_by [] = 0
+held_by (port ∷ ports) = length port.table.neighbors + held_by ports
+
+-- how many neighbors an agent holds
+abbrev pub neighbors_held : AgentState → ℕ
+neighbors_held agent = held_by agent.ports
+
+-- so many neighbors aged out: the agent holds fewer by that number
+abbrev pub AgesOut : AgentState → AgentState → ℕ → Type 0
+AgesOut before after gone = gone + neighbors_held after ≡ neighbors_held before
+
+-- an agent after so many ticks
+abbrev pub ticked : ℕ → AgentState → AgentState
+ticked zero agent = agent
+ticked (suc n) agent = agent_after tick (ticked n agent)
+
+-- the same past with so many ticks more
+abbrev pub with_ticks : ℕ → Past → Past
+with_ticks zero past = past
+with_ticks (suc n) past = with_event (with_ticks n past) tick
+
+-- at the next tick no port sends and no neighbor ages out
+pub record IsQuiet (agent : AgentState) : Type 0 where
+  pub sends : agent_marks tick agent ≡ []
+  pub ages : neighbors_held (agent_after tick agent) ≡ neighbors_held agent
+
+-- What the last of so many ticks did: these ports sent, and so many neighbors aged out; without ticks nothing.
+abbrev pub LastDid : ℕ → AgentState → List (ℕ × Mark) → ℕ → Type 0
+LastDid zero agent sent gone = (sent ≡ []) × (gone ≡ 0)
+LastDid (suc n) agent sent gone = (sent ≡ agent_marks tick (ticked n agent)) × AgesOut (ticked n agent) (ticked (suc n) agent) gone
+
+-- So many ticks were taken of those that were asked for. At each of them but the last nothing was sent and nobody aged
+-- out; if fewer were taken, something was at the last.
+pub record Takes (asked taken : ℕ) (before after : AgentState) (sent : List (ℕ × Mark)) (gone : ℕ) : Type 0 where
+  pub few : taken ≤ asked
+  pub is : after ≡ ticked taken before
+  pub last : LastDid taken before sent gone
+  pub quiet : (k : ℕ) → k + 1 < taken → IsQuiet (ticked k before)
+  pub why : taken < asked → (sent ≡ []) × (gone ≡ 0) → ⊥
+  pub stands : (past : Past) → Stands past before → Stands (with_ticks taken past) after
+
+-- They are taken if the handle is open. Else nothing is told.
+pub record TicksTaken (before : LldpaAgent) (asked : ℕ) (marks_before : LldpaMarks) (told_before : LldpaTicks) (answer : ℕ)
+    (after : LldpaAgent) (marks : LldpaMarks) (told : LldpaTicks) : Type 0 where
+  pub taken : before.is_open ≡ true → (answer ≡ 0) × (after.is_open ≡ true)
+      × ((sent : List (ℕ × Mark)) × (marks_told marks ≡ map numbered sent)
+      × Takes asked told.taken before.held.agent after.held.agent sent told.aged_out)
+  pub closed : before.is_open ≡ false →
+      (answer ≡ 102) × (after.is_open ≡ false) × (marks ≡ marks_before) × (told ≡ told_before)

@@ -1,0 +1,127 @@
+//! The neighbors that an agent holds.
+ghost use Rattle.std.specs.Prelude.{◌≡◌, ◌<◌, ◌≤◌, ℕ, None, Some, length, drop, slice_get};
+ghost use Rattle.lldp_table.specs.Events.{Neighbor};
+ghost use Rattle.lldp_engine.specs.AgentState.{IsPort};
+ghost use Rattle.lldpa_c.specs.Answer.{answer_of};
+ghost use Rattle.lldpa_c.specs.Frame.{Keeps};
+ghost use Rattle.lldpa_c.specs.Held.{neighbors_at, count_checks, neighbor_checks, TellsNeighbor};
+
+use crate::answer::{NO_PORT, NOT_OPEN, OK, OUT_OF_RANGE};
+use crate::examine::{LldpaExamined, tell_examined};
+use crate::giving::give;
+use crate::holder::LldpaAgent;
+use lldp_engine::Agent;
+use lldp_table::Entry;
+use std::alloc::Global;
+
+/// A neighbor that a port holds.
+#[repr(C)]
+#[derive(Clone, Copy)]
+pub struct LldpaHeld {
+    /// What its last stored LLDPDU tells.
+    pub pdu: LldpaExamined,
+    /// The seconds until it ages out.
+    pub left: u32,
+}
+
+/// How many neighbors a port holds.
+#[unsafe(no_mangle)]
+pub extern "C" fn lldpa_neighbor_count(
+    alloc: Global,
+    agent: &mut LldpaAgent,
+    port: u32,
+    count: &mut u32,
+) -> u8
+    ensures count { result ≡ 0 → count.new ≡ length (neighbors_at agent.old.held.agent port) }
+    ensures answer { result ≡ answer_of (count_checks agent.old port) }
+    ensures kept { Keeps agent.old agent.new }
+    ensures refused { ¬ (result ≡ 0) → count.new ≡ count.old }
+{
+    let Some(held) = agent.take(alloc) else {
+        return NOT_OPEN;
+    };
+    if port >= u32::from(held.ports()) {
+        agent.put(held);
+        return NO_PORT;
+    }
+    *count = u32::from(held.table(port as u8).len());
+    agent.put(held);
+    OK
+}
+
+/// Tells a neighbor, its octets in the front of the room.
+fn tell_entry(entry: &Entry<'_>, room: &mut [u8], told: &mut LldpaHeld) -> u8
+    ensures fits { length entry.now.octets ≤ length room.old → result ≡ 0 }
+    ensures over { length room.old < length entry.now.octets → result ≡ 101 }
+    ensures told { result ≡ 0 → TellsNeighbor entry.now room.new told.new }
+    ensures rest { result ≡ 0 →
+        drop told.new.pdu.extent room.new ≡ drop told.new.pdu.extent room.old }
+    ensures refused { ¬ (result ≡ 0) → (room.new ≡ room.old) × (told.new ≡ told.old) }
+{
+    let octets = entry.octets();
+    let mut length = 0;
+    let answer = give(octets, room, &mut length);
+    if answer != OK {
+        return answer;
+    }
+    tell_examined(octets, &mut told.pdu);
+    told.left = u32::from(entry.left());
+    OK
+}
+
+/// Tells the neighbor of a port at a place of its table.
+fn tell_neighbor(agent: &Agent, port: u8, index: u32, room: &mut [u8], told: &mut LldpaHeld) -> u8
+    requires { IsPort agent.now port }
+    ensures none { slice_get (neighbors_at agent.now port) index ≡ None → result ≡ 100 }
+    ensures fits { (neighbor : Neighbor) →
+        slice_get (neighbors_at agent.now port) index ≡ Some neighbor →
+        length neighbor.octets ≤ length room.old → result ≡ 0 }
+    ensures over { (neighbor : Neighbor) →
+        slice_get (neighbors_at agent.now port) index ≡ Some neighbor →
+        length room.old < length neighbor.octets → result ≡ 101 }
+    ensures told { (neighbor : Neighbor) →
+        slice_get (neighbors_at agent.now port) index ≡ Some neighbor → result ≡ 0 →
+        TellsNeighbor neighbor room.new told.new }
+    ensures rest { result ≡ 0 →
+        drop told.new.pdu.extent room.new ≡ drop told.new.pdu.extent room.old }
+    ensures refused { ¬ (result ≡ 0) → (room.new ≡ room.old) × (told.new ≡ told.old) }
+{
+    let table = agent.table(port);
+    if index >= u32::from(table.len()) {
+        return OUT_OF_RANGE;
+    }
+    tell_entry(&table.entry(index as u8), room, told)
+}
+
+/// The neighbor of a port at a place of its table, from 0: its LLDPDU into the caller's room, what
+/// that tells, and the seconds left.
+#[unsafe(no_mangle)]
+pub extern "C" fn lldpa_neighbor(
+    alloc: Global,
+    agent: &mut LldpaAgent,
+    port: u32,
+    index: u32,
+    room: &mut [u8],
+    told: &mut LldpaHeld,
+) -> u8
+    ensures told { (neighbor : Neighbor) →
+        slice_get (neighbors_at agent.old.held.agent port) index ≡ Some neighbor → result ≡ 0 →
+        TellsNeighbor neighbor room.new told.new }
+    ensures rest { result ≡ 0 →
+        drop told.new.pdu.extent room.new ≡ drop told.new.pdu.extent room.old }
+    ensures answer { result
+        ≡ answer_of (neighbor_checks agent.old port index (length room.old)) }
+    ensures kept { Keeps agent.old agent.new }
+    ensures refused { ¬ (result ≡ 0) → (room.new ≡ room.old) × (told.new ≡ told.old) }
+{
+    let Some(held) = agent.take(alloc) else {
+        return NOT_OPEN;
+    };
+    if port >= u32::from(held.ports()) {
+        agent.put(held);
+        return NO_PORT;
+    }
+    let answer = tell_neighbor(&held, port as u8, index, room, told);
+    agent.put(held);
+    answer
+}

@@ -1,3 +1,0 @@
-module lldpa/examples/go
-
-go 1.19

@@ -1,0 +1,25 @@
+"""What asks a running lldpa-live, and tells people and programs what it answers.
+
+`Client` asks a running lldpa-live; `neighbor_object` makes JSON's object of a neighbor that was
+shown; `since_of` reads since when each neighbor is there.
+"""
+from importlib import import_module
+from typing import TYPE_CHECKING
+
+if TYPE_CHECKING:
+    from .as_json import neighbor_object
+    from .connection import Client
+    from .live_lines import since_of
+
+__all__ = ["Client", "neighbor_object", "since_of"]
+
+
+# what is loaded when it is first used: lldpa-live needs none of them
+LATER = {"Client": ".connection", "neighbor_object": ".as_json", "since_of": ".live_lines"}
+
+
+def __getattr__(name: str) -> object:
+    """Loads the module of a name that is used for the first time."""
+    if name in LATER:
+        return getattr(import_module(LATER[name], __name__), name)
+    raise AttributeError(f"module {__name__!r} has no attribute {name!r}")

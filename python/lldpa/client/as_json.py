@@ -1,0 +1,86 @@
+"""Shows and their parts as objects for JSON.
+
+Texts are Unicode where their octets are UTF-8. Where they are not, a text is escaped as the agent
+shows it, and `octets` beside it has the hexadecimal of each such text by its key.
+"""
+
+from __future__ import annotations
+
+from dataclasses import asdict
+from typing import Any, Mapping, Optional
+
+from .live_lines import Since
+from ..organizational import organizational_object, said_by
+from ..agent.show import Identifier, LocalChassis, Neighbor, Port, Show
+from ..texts import shown_octets, with_text
+
+NOBODY: Since = {}
+
+
+def show_object(show: Show, since: Since = NOBODY) -> dict[str, Any]:
+    """What a show tells, under `ports`, `counters`, `chassis`, `configuration` as it has them."""
+    told: dict[str, Any] = {}
+    if show.ports:
+        told["ports"] = [port_object(port, since) for port in show.ports]
+    if show.counters:
+        told["counters"] = {port: asdict(counters) for port, counters in show.counters.items()}
+    if show.chassis is not None:
+        told["chassis"] = chassis_object(show.chassis)
+    if show.configuration is not None:
+        told["configuration"] = asdict(show.configuration)
+    return told
+
+
+def chassis_object(chassis: LocalChassis) -> dict[str, Any]:
+    """What the agent says of itself."""
+    told: dict[str, Any] = asdict(chassis)
+    return with_texts(told, {"name": chassis.name, "descr": chassis.descr})
+
+
+def port_object(port: Port, since: Since = NOBODY) -> dict[str, Any]:
+    """A port and its neighbors."""
+    return {
+        "name": port.name,
+        "neighbors_held": port.neighbors_held,
+        "octets": port.octets,
+        "too_many": port.too_many,
+        "neighbors": [neighbor_object(neighbor, since) for neighbor in port.neighbors],
+    }
+
+
+def neighbor_object(neighbor: Neighbor, since: Since = NOBODY) -> dict[str, Any]:
+    """A neighbor, by the names that `lldpa.Neighbor` has for its parts."""
+    capabilities = neighbor.capabilities
+    told: dict[str, Any] = {
+        "port": neighbor.port,
+        "place": neighbor.place,
+        "id": neighbor.id,
+        "since": since.get((neighbor.port, neighbor.id)),
+        "chassis": identifier_object(neighbor.chassis),
+        "port_id": identifier_object(neighbor.port_id),
+        "ttl": neighbor.ttl,
+        "expires": neighbor.expires,
+        "name": None,
+        "descr": None,
+        "port_descr": None,
+        "capabilities": None if capabilities is None else dict(capabilities),
+        "management": list(neighbor.management),
+        "org": [{"kind": kind, "octets": octets} for kind, octets in neighbor.org],
+        "unknown": [{"type": number, "octets": octets} for number, octets in neighbor.unknown],
+        **organizational_object(said_by(neighbor.org)),
+    }
+    return with_texts(told, {"name": neighbor.name, "descr": neighbor.descr,
+                             "port_descr": neighbor.port_descr})
+
+
+def with_texts(told: dict[str, Any], shown: Mapping[str, Optional[str]]) -> dict[str, Any]:
+    """An object with the texts of a show added by their keys."""
+    for key, text in shown.items():
+        if text is not None:
+            with_text(key, shown_octets(text), told)
+    return told
+
+
+def identifier_object(identifier: Identifier) -> dict[str, Any]:
+    """A chassis ID or port ID."""
+    return with_texts({"kind": identifier.kind}, {"text": identifier.text})

@@ -1,0 +1,103 @@
+"""A neighbor for people: all that it says, in fewer lines than a terminal has."""
+
+from __future__ import annotations
+
+import time
+from typing import Iterator, List, Mapping, Optional, Sequence, Tuple
+
+from .. import clock
+from .live_lines import Since
+from ..organizational import rows_of, said_by
+from .people import address_text, identifier_text, name_of, port_of
+from ..agent.show import Counters, Identifier, Neighbor, Port, counted
+from ..agent.shown import SAID_KEYS
+from ..texts import cut, padded, printable, readable, wrapped
+
+MOST_LINES = 29
+MOST_WIDTH = 1_000_000
+Pair = Tuple[str, str]
+
+
+def details(ports: Sequence[Port], since: Since, width: int) -> list[str]:
+    """Each neighbor of these ports in at most 29 lines, with an empty line between two.
+
+    The lines are wrapped at a width, and cut where 29 are not enough.
+    """
+    lines: List[str] = []
+    for neighbor in (one for port in ports for one in port.neighbors):
+        lines += [""] if lines else []
+        lines += lines_of(neighbor, since.get((neighbor.port, neighbor.id)), width)
+    return lines
+
+
+def discarded(counters: Mapping[str, Counters]) -> list[str]:
+    """Returns a line for each port at which parts of frames were discarded: nobody is shown with
+    them."""
+    return [f"{readable(port)}: {counted(of.tlvs_discarded, 'TLV')} discarded since the start"
+            for port, of in counters.items() if of.tlvs_discarded]
+
+
+def lines_of(neighbor: Neighbor, since: Optional[str], width: int) -> list[str]:
+    """The lines of one neighbor."""
+    head = f"{readable(neighbor.port)}: {name_of(neighbor)} {port_of(neighbor)}"
+    pairs = [pair for pair in pairs_of(neighbor, since) if pair[1]]
+    indent = max(len(heading) for heading, _ in pairs) + 4
+    spare = MOST_LINES - 1 - len(pairs)
+    lines = [cut(head, width)]
+    for heading, text in pairs:
+        wanted = wrapped(text, max(min(width, MOST_WIDTH) - indent, 1))
+        given = wanted[:1 + spare]
+        if len(given) < len(wanted):
+            given[-1] = f"{given[-1]} {wanted[len(given)]}"
+        spare -= len(given) - 1
+        fronts = [padded(f"  {heading}", indent), *[" " * indent] * (len(given) - 1)]
+        lines += [cut(front + part, width) for front, part in zip(fronts, given)]
+    return lines
+
+
+def pairs_of(neighbor: Neighbor, since: Optional[str]) -> Iterator[Pair]:
+    """What is told of a neighbor, under headings."""
+    yield "Heard", heard(neighbor, since)
+    yield "Chassis ID", with_kind(neighbor.chassis)
+    yield "Port ID", with_kind(neighbor.port_id)
+    yield "Port", readable(neighbor.port_descr or "")
+    yield "Name", readable(neighbor.name or "")
+    yield "Description", readable(neighbor.descr or "")
+    yield "Capabilities", ", ".join(capability if is_on else f"{capability} (off)" for
+                                    capability, is_on in (neighbor.capabilities or {}).items())
+    yield "Management", ", ".join(map(address_text, neighbor.management))
+    said = said_by(neighbor.org)
+    together: dict[str, list[str]] = {}
+    for row in rows_of(said):
+        text = f"{row.heading} {row.text}" if row.group else row.text
+        together.setdefault(row.group or row.heading, []).append(text)
+    yield from ((heading, "; ".join(texts)) for heading, texts in together.items())
+    yield "Other TLVs", ", ".join(f"{kind} {octets or 'empty'}" for kind, octets in [
+        *said.rest, *others_of(neighbor)])
+
+
+def others_of(neighbor: Neighbor) -> Iterator[Pair]:
+    """What else it says: TLVs of reserved types, and keys that are not known here."""
+    for key, value in neighbor.said:
+        if key not in SAID_KEYS and not key.startswith("org."):
+            yield readable(key), readable(value)
+
+
+def heard(neighbor: Neighbor, since: Optional[str]) -> str:
+    """Since when it is there, and how long it may be silent."""
+    left = f"{neighbor.expires} s of {neighbor.ttl} s left"
+    return left if since is None else f"since {local_time(since)}, {left}"
+
+
+def local_time(utc: str) -> str:
+    """A time of an lldpa-live as people here write it."""
+    try:
+        seconds = clock.seconds_of(utc)
+    except ValueError:
+        return printable(utc)
+    return time.strftime("%Y-%m-%d %H:%M:%S", time.localtime(seconds))
+
+
+def with_kind(identifier: Identifier) -> str:
+    """A chassis ID or port ID with its kind."""
+    return f"{identifier.kind} {identifier_text(identifier)}"

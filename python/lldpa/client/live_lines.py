@@ -1,0 +1,42 @@
+"""What lldpa-live tells of itself, in lines `live.KEY=VALUE` and `live.PORT.KEY=VALUE`."""
+
+from __future__ import annotations
+
+import re
+from typing import Dict, Iterable, Mapping, Tuple
+
+LINE = re.compile(r"live\.(?:([^.=]+)\.)?([a-z-]+)(?:\.([0-9]+))?=(.*)")
+
+# when a neighbor came, by its port and its MSAP identifier
+Since = Mapping[Tuple[str, str], str]
+
+
+class LiveLines:
+    """These lines by their keys, those of the ports apart; since when each neighbor is there, and
+    the number of each chassis. A line of another form is passed over."""
+
+    def __init__(self, lines: Iterable[str]) -> None:
+        self.own: Dict[str, str] = {}
+        self.ports: Dict[str, Dict[str, str]] = {}
+        self.since: Dict[Tuple[str, str], str] = {}
+        self.numbers: Dict[str, int] = {}
+        for found in filter(None, map(LINE.fullmatch, lines)):
+            port, key, number, value = found.groups()
+            if key == "since" and number and port:
+                when, _, sender = value.partition(" ")
+                self.since[port, sender] = when
+            elif key == "chassis" and number:
+                self.numbers[value] = int(number)
+            elif number is None:
+                of = self.own if port is None else self.ports.setdefault(port, {})
+                of[key] = value
+
+    @property
+    def is_up(self) -> bool:
+        """Whether the agent answers: it is not silent, and not one that waits to be opened."""
+        return self.own.get("agent", "running") == "running"
+
+
+def since_of(lines: Iterable[str]) -> Dict[Tuple[str, str], str]:
+    """Returns when each neighbor came, of the lines that lldpa-live tells of itself."""
+    return LiveLines(lines).since

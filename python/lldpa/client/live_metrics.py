@@ -1,0 +1,91 @@
+"""What lldpa-live tells of itself in its lines `live.KEY=VALUE`, in Prometheus' text format."""
+
+from __future__ import annotations
+
+from typing import Iterator, Mapping, NamedTuple, Optional
+
+from .. import clock
+from .exposition import lines_of
+from .live_lines import LiveLines
+
+UP = ("lldpa_up", "gauge", "Whether lldpa-live answers and its agent does, 1 or 0.")
+
+
+class State(NamedTuple):
+    """A metric with a sample for each state that there can be: 1 for the one that is."""
+
+    key: str
+    name: str
+    text: str
+    states: tuple[str, ...]
+
+
+class OfPorts(NamedTuple):
+    """A metric of each port; a value that is a word counts 1 where it is this one."""
+
+    key: str
+    name: str
+    kind: str
+    text: str
+    word: Optional[str] = None
+
+
+STATES = (
+    State("agent", "lldpa_agent_state", "What the agent does, 1 for what it is.",
+          ("running", "silent", "waiting")),
+    State("log", "lldpa_log_state", "What has become of the log, 1 for what it is.",
+          ("full", "off", "on", "stalled")),
+)
+OF_PORTS = (
+    OfPorts("interface", "lldpa_interface_present", "gauge",
+            "Whether the interface of the port is there, 1 or 0.", "present"),
+    OfPorts("link", "lldpa_link_up", "gauge", "Whether the port has a carrier, 1 or 0.", "up"),
+    OfPorts("kernel-drops", "lldpa_kernel_drops_total", "counter",
+            "Frames that the kernel dropped since lldpa-live did not read them in time."),
+    OfPorts("limit-drops", "lldpa_limit_drops_total", "counter",
+            "Frames that came faster than a port may, dropped before the agent."),
+    OfPorts("unsent", "lldpa_unsent_total", "counter",
+            "Frames of the agent that the interface did not take."),
+    OfPorts("left-out", "lldpa_left_out_total", "counter",
+            "Frames of the agent that a standstill left out: the last of each port was sent."),
+)
+
+
+def live_lines(told: LiveLines) -> Iterator[str]:
+    """The metrics of an lldpa-live; of what it does not tell there is none."""
+    yield from lines_of(*UP, [({}, int(told.is_up))])
+    if "began" in told.own:
+        start = clock.seconds_of(told.own["began"])
+        yield from lines_of("lldpa_start_time_seconds", "gauge",
+                            "When lldpa-live began, in seconds since 1970.", [({}, start)])
+    for state in STATES:
+        if state.key in told.own:
+            samples = [({"state": one}, int(told.own[state.key] == one)) for one in state.states]
+            yield from lines_of(state.name, "gauge", state.text, samples)
+    if "agent-restarts" in told.own:
+        yield from lines_of("lldpa_agent_restarts_total", "counter",
+                            "Agents that ended or hung, and whose place another one took.",
+                            [({}, int(told.own["agent-restarts"]))])
+    if "settings-refused" in told.own:
+        yield from lines_of("lldpa_settings_refused", "gauge",
+                            "Settings that were not taken when they were last read.",
+                            [({}, int(told.own["settings-refused"]))])
+    if "log-lines-lost" in told.own:
+        yield from lines_of("lldpa_log_lines_lost_total", "counter",
+                            "Lines of the agent that are in no file of the log.",
+                            [({}, int(told.own["log-lines-lost"]))])
+    for one in OF_PORTS:
+        yield from lines_of(one.name, one.kind, one.text, [
+            ({"port": port}, number_of(one, values))
+            for port, values in told.ports.items() if one.key in values])
+
+
+def number_of(one: OfPorts, values: Mapping[str, str]) -> int:
+    """The value of a port as a number."""
+    value = values[one.key]
+    return int(value) if one.word is None else int(value == one.word)
+
+
+def down_lines() -> list[str]:
+    """All that there is to tell where nobody answers."""
+    return list(lines_of(*UP, [({}, 0)]))

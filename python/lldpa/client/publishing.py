@@ -1,0 +1,90 @@
+"""Metrics of lldpa-live, written where Prometheus, or a collector of its files, finds them.
+
+So that it never looks healthy when it is dead, `lldpa_up 0` is written if nobody answers; and a
+file is written whole or not at all.
+"""
+
+from __future__ import annotations
+
+import os
+from contextlib import suppress
+from typing import Optional, Sequence
+
+from ..faults import LldpaFault
+from ..agent.framing import Refused
+from .live_lines import LiveLines
+from .live_metrics import down_lines
+from .connection import Client, Gone, give_up_root
+from .metrics import metrics
+from ..agent.show import Show, ShowFault, read_show
+from ..organizational.kinds import load
+
+SECONDS_TO_ANSWER = 10.0  # of each question; what asks comes again soon
+
+
+class NotWritten(LldpaFault):
+    """A file that could not be written, and why."""
+
+
+def publish(path: str, file: Optional[str]) -> None:
+    """Writes the metrics of lldpa-live at a control socket to a file, or to standard output.
+
+    Once that is written it raises what `Client` raises where nobody answers, and Refused where the
+    lldpa-live does and its agent does not. Raises NotWritten where the file can't be written.
+    """
+    try:
+        told, lines = asked(path, file is None)
+    except (Refused, Gone, ShowFault, OSError):
+        write(down_lines(), file)
+        raise
+    except ValueError as fault:  # whoever answers, that is not lldpa-live
+        write(down_lines(), file)
+        raise Gone(f"no answer of lldpa-live: {fault}") from None
+    write(lines, file)
+    if not told.is_up:
+        raise Refused(f"the agent is {told.own['agent']}")
+
+
+def asked(path: str, is_printed: bool) -> tuple[LiveLines, list[str]]:
+    """What lldpa-live at a control socket tells of itself, and its metrics: without those of the
+    agent where that does not answer. Root is kept where a file is to be written."""
+    with Client(path, SECONDS_TO_ANSWER) as client:
+        if is_printed:
+            load()
+            give_up_root()
+        live = client.ask("live")
+        told = LiveLines(live)
+        if not told.is_up:
+            return told, metrics(Show(), live)
+        shown = read_show(client.ask("show neighbors") + client.ask("show statistics"))
+        return told, metrics(shown, live)
+
+
+def write(lines: Sequence[str], file: Optional[str]) -> None:
+    """Writes lines to a file that takes the place of the one there, or to standard output."""
+    text = "".join(line + "\n" for line in lines)
+    if file is None:
+        print(text, end="")
+        return
+    try:
+        replace(file, text)
+    except OSError as error:
+        raise NotWritten(f"{file}: {error.strerror}") from None
+
+
+def replace(file: str, text: str) -> None:
+    """Lets a file have that text: the one before stands there until this one is whole."""
+    import tempfile  # which loads much
+    folder, name = os.path.split(os.path.abspath(file))
+    number, path = tempfile.mkstemp(prefix=f".{name}.", dir=folder)
+    try:
+        with open(number, "w", encoding="utf-8") as new:
+            os.fchmod(new.fileno(), 0o644)  # the collector is another user
+            new.write(text)
+            new.flush()
+            os.fsync(new.fileno())
+        os.replace(path, file)
+    except BaseException:
+        with suppress(OSError):
+            os.unlink(path)
+        raise

@@ -1,0 +1,226 @@
+"""The commands for people: what is asked for each, and what is told of the answers.
+
+`lldpa-ctl` and the console of `lldpa-live` take the same ones. What a command needs of its own is
+loaded with it.
+"""
+
+from __future__ import annotations
+
+from typing import Any, Callable, Dict, List, NamedTuple, Sequence, Tuple
+
+from .live_lines import LiveLines, since_of
+from ..agent.framing import Refused, command
+from .people import PORT_VLAN, count_of, reasons, table
+from ..agent.show import Show, read_show
+from ..organizational.kinds import load, reader_of
+
+Lines = Sequence[str]
+Answers = Sequence[Lines]
+SHOWS = ("neighbors", "statistics", "chassis", "configuration", "interfaces")
+OF_PORTS = ("neighbors", "statistics")  # the shows that ports can follow
+SET_PORTS = ("configure", "ports")
+OF_LINES = ("up", "down", "rx", "tick")  # words of the agent's lines, which shorten nothing
+# what lldpcli calls otherwise
+OF_LLDPCLI = {("show", "interfaces"): ("interfaces",),
+              ("show", "neighbors", "details"): ("details",),
+              ("show", "neighbors", "summary"): ("neighbors",),
+              ("show", "statistics", "summary"): ("statistics", "summary")}
+# why the agent refuses a word; other refusals are of a whole line
+OF_A_WORD = ("unknown command", "no such port", "not a number", "out of range", "bad text",
+             "extra word")
+
+
+class Question(NamedTuple):
+    """The lines to ask, and what their answers say as lines of a width and as JSON, for which
+    `further` lines are asked too."""
+
+    lines: Sequence[str]
+    text: Callable[[Answers, int], List[str]]
+    object: Callable[[Answers], Any]
+    further: Sequence[str] = ()
+
+
+def question(words: Sequence[str]) -> Question:
+    """Returns what a command asks, whose words may be shortened if no other begins so. Raises
+    Refused if a word of it has no meaning here."""
+    words = in_full(words, COMMANDS)
+    for front, short in OF_LLDPCLI.items():
+        if tuple(words[:len(front)]) == front:
+            words = [*short, *words[len(front):]]
+    if words[0] in OWN:
+        return OWN[words[0]](words[1:])
+    if words[0] == "show" and len(words) > 2 and words[1] in OF_PORTS:
+        return ask_show_of(words[1], listed(words[2:]))
+    if tuple(words[:2]) == SET_PORTS and len(words) > 2 and "," in words[2]:
+        return ask_lines([command(*words[:2], port, *words[3:]) for port in listed(words[2:3])])
+    return ask_lines([command(*words)])
+
+
+def ask_neighbors(rest: Sequence[str]) -> Question:
+    """The table."""
+    reader_of(*PORT_VLAN)
+    ports = listed(rest)
+
+    def text(answers: Answers, width: int) -> List[str]:
+        show = only(read_show([*answers[0], *answers[2]]), ports)
+        return table(show.ports, width) + reasons(show, LiveLines(answers[1]).ports, width)
+    return Question(["show neighbors", "live", "show configuration"], text,
+                    lambda answers: neighbors_object(answers, ports))
+
+
+def ask_details(rest: Sequence[str]) -> Question:
+    """All that neighbors say."""
+    from .details import details, discarded
+    load()
+    ports = listed(rest)
+
+    def text(answers: Answers, width: int) -> List[str]:
+        found = only(read_show([*answers[0], *answers[2]]), ports)
+        lines = details(found.ports, since_of(answers[1]), width)
+        return (lines or count_of(found.ports, width)) + discarded(found.counters)
+    return Question(["show neighbors", "live", "show statistics"], text,
+                    lambda answers: neighbors_object(answers, ports))
+
+
+def neighbors_object(answers: Answers, ports: Sequence[str]) -> Any:
+    """The neighbors, and since when each is there."""
+    from .as_json import show_object
+    return show_object(only(read_show(answers[0]), ports), since_of(answers[1]))
+
+
+def shown_object(show: Show) -> Any:
+    """What a show tells."""
+    from .as_json import show_object
+    return show_object(show)
+
+
+def ask_interfaces(rest: Sequence[str]) -> Question:
+    """The state of the ports."""
+    from .tallies import interface_lines, interfaces
+    ports = listed(rest)
+
+    def found(answers: Answers) -> List[Dict[str, Any]]:
+        show = read_show([*answers[0], *answers[1]])
+        all_of_them = interfaces(show, answers[2])
+        check(ports, [str(one["name"]) for one in all_of_them])
+        return [one for one in all_of_them if not ports or one["name"] in ports]
+    return Question(["show neighbors", "show configuration", "live"],
+                    lambda answers, width: interface_lines(found(answers), width),
+                    lambda answers: {"interfaces": found(answers)})
+
+
+def ask_statistics(rest: Sequence[str]) -> Question:
+    """The counters of ports, or the sums of all."""
+    from dataclasses import asdict
+    from .tallies import counter_lines, summed
+    is_summary = list(rest) == ["summary"]
+    ports = [] if is_summary else listed(rest)
+
+    def text(answers: Answers, width: int) -> List[str]:
+        counters = only(read_show(answers[0]), ports).counters
+        told = {"all": summed(counters.values())} if is_summary else counters
+        return counter_lines(told, width)
+
+    def as_object(answers: Answers) -> Any:
+        show = only(read_show(answers[0]), ports)
+        return {"summary": asdict(summed(show.counters.values()))} if is_summary else (
+            shown_object(show))
+    return Question(["show statistics"], text, as_object)
+
+
+def ask_live(rest: Sequence[str]) -> Question:
+    """lldpa-live's own lines."""
+    if rest:
+        raise Refused(f"extra word: {rest[0]} (nothing follows)")
+    return Question(["live"], lambda answers, width: list(answers[0]), lambda answers: {
+        key: value for key, _, value in (line.partition("=") for line in answers[0])})
+
+
+def ask_show_of(name: str, ports: Sequence[str]) -> Question:
+    """The lines of some ports of a show."""
+    def text(answers: Answers, width: int) -> List[str]:
+        check(ports, ports_of(read_show(answers[0])))
+        fronts = tuple(f"lldp.{port}." for port in ports)
+        return [line for line in answers[0] if line.startswith(fronts)]
+    if name == "neighbors":
+        return Question(["show neighbors"], text, lambda answers: neighbors_object(answers, ports),
+                        ["live"])
+    return Question([f"show {name}"], text,
+                    lambda answers: shown_object(only(read_show(answers[0]), ports)))
+
+
+def ask_lines(lines: Sequence[str]) -> Question:
+    """Lines of the agent, and their answers as they are."""
+    def text(answers: Answers, width: int) -> List[str]:
+        return [line for answer in answers for line in answer]
+    if lines == ["show neighbors"]:
+        return Question(lines, text, lambda answers: neighbors_object(answers, ()), ["live"])
+    return Question(lines, text, lambda answers: shown_object(read_show(answers[0])))
+
+
+OWN: Dict[str, Callable[[Sequence[str]], Question]] = {
+    "neighbors": ask_neighbors,
+    "details": ask_details,
+    "interfaces": ask_interfaces,
+    "statistics": ask_statistics,
+    "live": ask_live,
+}
+# the first words of all commands
+COMMANDS: Tuple[str, ...] = (*OWN, "show", "configure", "update")
+
+
+def in_full(words: Sequence[str], commands: Sequence[str]) -> List[str]:
+    """Returns the words of one of these commands, the first and what it shows in full."""
+    first, rest = completed(words[0], commands), list(words[1:])
+    return [first, *(completed(one, SHOWS) for one in rest[:1] if first == "show"),
+            *(rest[1:] if first == "show" else rest)]
+
+
+def completed(word: str, able: Sequence[str]) -> str:
+    """Returns the one of these words that begins with a word, or else the word itself."""
+    found = [one for one in able if one.startswith(word)] if word else []
+    return found[0] if len(found) == 1 and word not in (*able, *OF_LINES) else word
+
+
+def listed(words: Sequence[str]) -> List[str]:
+    """Names of ports, of words with commas between them; the word `ports` may stand before."""
+    some = words[1:] if list(words[:1]) == ["ports"] and len(words) > 1 else words
+    return [name for word in some for name in word.split(",")]
+
+
+def ports_of(show: Show) -> List[str]:
+    """The ports that a show tells of."""
+    return list(dict.fromkeys([*(port.name for port in show.ports), *show.counters]))
+
+
+def only(show: Show, ports: Sequence[str]) -> Show:
+    """What a show tells of some ports, of all where none is named. Raises Refused for another."""
+    if not ports:
+        return show
+    check(ports, ports_of(show))
+    counters = {name: of for name, of in show.counters.items() if name in ports}
+    return Show(tuple(port for port in show.ports if port.name in ports), counters,
+                configuration=show.configuration)
+
+
+def check(ports: Sequence[str], known: Sequence[str]) -> None:
+    """Raises Refused for a port that is not known."""
+    for port in ports:
+        if port not in known:
+            raise Refused(f"no such port: {port or 'nothing'} ({', '.join(known)})")
+
+
+def explanation(words: Sequence[str], text: str, commands: Sequence[str] = COMMANDS) -> str:
+    """What the agent says of a refused command, with the word that it is about and what may stand
+    in its place; `commands` are the first words that there are."""
+    if text not in OF_A_WORD or not words:
+        return text
+    if words[0] not in commands:
+        return f"{text}: {words[0]} ({', '.join(commands)})"
+    if words[0] == "configure":
+        from .refused import explained  # which is wanted seldom
+        return explained(command(*words), text)
+    if words[0] == "show" and (len(words) == 1 or words[1] not in SHOWS):
+        return f"{text}: {words[1] if len(words) > 1 else 'nothing follows'} ({', '.join(SHOWS)})"
+    first = 2 if words[0] == "show" else 1
+    return f"{text}: {words[first]} (nothing follows)" if len(words) > first else text

@@ -1,0 +1,50 @@
+"""Tables of ports for people: their state, and their counters."""
+
+from __future__ import annotations
+
+from dataclasses import fields
+from typing import Any, Dict, Iterable, List, Mapping, Sequence
+
+from .live_lines import LiveLines
+from .people import columns
+from ..agent.show import Counters, Show
+from ..texts import readable
+
+INTERFACES = ("PORT", "INTERFACE", "LINK", "STATUS", "NEIGHBORS")
+UNKNOWN = "?"
+ALL = "all"
+
+
+def interfaces(show: Show, live: Iterable[str]) -> list[Dict[str, Any]]:
+    """Each port of a configuration: whether its interface is there and its link is up, its status,
+    and how many neighbors it has. What is not told is None."""
+    states = LiveLines(live).ports
+    held = {port.name: port.neighbors_held for port in show.ports}
+    statuses: Mapping[str, str] = show.configuration.statuses if show.configuration else {}
+    return [{"name": name, **{key: states.get(name, {}).get(key) for key in ("interface", "link")},
+             "status": status, "neighbors": held.get(name)} for name, status in statuses.items()]
+
+
+def interface_lines(ports: Sequence[Mapping[str, Any]], width: int) -> list[str]:
+    """The table of `interfaces`."""
+    rows: List[Sequence[str]] = [INTERFACES]
+    for port in ports:
+        rows.append([UNKNOWN if value is None else readable(str(value)) for value in port.values()])
+    return columns(rows, width)
+
+
+def summed(counters: Iterable[Counters]) -> Counters:
+    """The sums of counters of several ports."""
+    some = list(counters)
+    return Counters(*(sum(getattr(one, field.name) for one in some) for field in fields(Counters)))
+
+
+def counter_lines(counters: Mapping[str, Counters], width: int) -> list[str]:
+    """A line for each port, and one for all of them where there are several."""
+    told = {readable(port): of for port, of in counters.items()}
+    if len(told) > 1:
+        told[ALL] = summed(counters.values())
+    names = [field.name for field in fields(Counters)]
+    rows = [["PORT", *(name.replace("_", "-").upper() for name in names)]]
+    rows += [[port, *(str(getattr(of, name)) for name in names)] for port, of in told.items()]
+    return columns(rows, width, len(names))

@@ -1,0 +1,107 @@
+"""What becomes of neighbors between two shows: who came, changed and went."""
+
+from __future__ import annotations
+
+import json
+import time
+from dataclasses import dataclass
+from typing import Dict, Iterable, Iterator, Sequence, Tuple
+
+from ..organizational import rows_of, said_by
+from .as_json import neighbor_object
+from .connection import Client
+from .live_lines import Since, since_of
+from .people import summary
+from .questions import only
+from ..agent.show import Identifier, Neighbor, Port, read_show
+from ..texts import printable, readable
+
+SECONDS_BETWEEN_LOOKS = 0.5
+
+Name = Tuple[str, Identifier, Identifier]
+CAME, CHANGED, GONE = "came", "changed", "gone"
+
+
+@dataclass(frozen=True)
+class NeighborNews:
+    """What happened to a neighbor: `came`, `changed` or `gone`; `changes` are texts such as
+    `chassis.name: a -> b` or `pvid: 120 -> 121`."""
+
+    what: str
+    neighbor: Neighbor
+    changes: tuple[str, ...] = ()
+
+
+class Watch:
+    """Compares each show of the neighbors with the one before."""
+
+    def __init__(self, ports: Iterable[Port]) -> None:
+        self.known = by_name(ports)
+
+    def news(self, ports: Iterable[Port]) -> Iterator[NeighborNews]:
+        """What happened since the show before, those that went first."""
+        before, self.known = self.known, by_name(ports)
+        for name, neighbor in before.items():
+            if name not in self.known:
+                yield NeighborNews(GONE, neighbor)
+        for name, neighbor in self.known.items():
+            if name not in before:
+                yield NeighborNews(CAME, neighbor)
+            elif differences := tuple(changes(before[name], neighbor)):
+                yield NeighborNews(CHANGED, neighbor, differences)
+
+
+def news_line(news: NeighborNews) -> str:
+    """What happened to a neighbor, for people: `eth0 came: switch-2 swp1 192.0.2.2`."""
+    said = f"{news.neighbor.port} {news.what}: {summary(news.neighbor)}"
+    return printable("; ".join([said, *news.changes]))
+
+
+def by_name(ports: Iterable[Port]) -> dict[Name, Neighbor]:
+    """The neighbors by port and MSAP identifier, which no two share."""
+    return {(one.port, one.chassis, one.port_id): one for port in ports for one in port.neighbors}
+
+
+def changes(old: Neighbor, new: Neighbor) -> Iterator[str]:
+    """What a neighbor says now and did not before, and the other way round. The seconds that
+    are left are no change."""
+    if old.ttl != new.ttl:
+        yield f"ttl: {old.ttl} -> {new.ttl}"
+    if old.said == new.said:
+        return
+    was, now = words_of(old), words_of(new)
+    for key in dict.fromkeys([*was, *now]):
+        if was.get(key) != now.get(key):
+            yield f"{key}: {was.get(key, 'nothing')} -> {now.get(key, 'nothing')}"
+
+
+def words_of(neighbor: Neighbor) -> Dict[str, str]:
+    """All that a neighbor says, by keys: in words where its meaning is known."""
+    said = said_by(neighbor.org)
+    plain = [(key, value) for key, value in neighbor.said if not key.startswith("org.")]
+    rest = [(f"org.{kind}", octets) for kind, octets in said.rest]
+    words: Dict[str, str] = {}
+    for key, value in [*plain, *((row.key, row.text) for row in rows_of(said)), *rest]:
+        text = readable(value) if value else "empty"
+        words[key] = f"{words[key]} {text}" if key in words else text
+    return words
+
+
+def watch(client: Client, some: Sequence[str], as_json: bool) -> None:
+    """A line for each neighbor of some ports, or of all, that comes, changes or goes, without end.
+    Raises Refused for a port that is not there."""
+    neighbors = Watch(only(read_show(client.ask("show neighbors")), some).ports)
+    while True:
+        time.sleep(SECONDS_BETWEEN_LOOKS)
+        ports = only(read_show(client.ask("show neighbors")), some).ports
+        now = time.strftime("%Y-%m-%dT%H:%M:%S%z")
+        for news in neighbors.news(ports):
+            since = since_of(client.ask("live")) if as_json else {}
+            line = news_object(news, now, since) if as_json else f"{now} {news_line(news)}"
+            print(line, flush=True)
+
+
+def news_object(news: NeighborNews, now: str, since: Since) -> str:
+    """What happened to a neighbor, as JSON in one line."""
+    told = {"time": now, "what": news.what, "changes": list(news.changes)}
+    return json.dumps({**told, "neighbor": neighbor_object(news.neighbor, since)})

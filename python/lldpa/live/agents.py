@@ -1,0 +1,171 @@
+"""The agent, and each one that takes its place: when it has ended, or when it is to have other
+options. The next one is told what the one before was, as the head of a file of the log says it."""
+
+from __future__ import annotations
+
+import asyncio
+import signal
+from dataclasses import replace
+from shutil import which
+from typing import Callable, List, Optional, Sequence
+
+from ..agent.child import Child, Ended, words_of
+from ..agent.framing import NO_ANSWER
+from ..agent.show import Show, read_show
+from ..agent.synchronous import AsyncAgent
+from ..clock import now
+from .beginning import Beginning
+from .given import Given, Options
+from .listener import check_listener
+from .log.session import Session
+from .outbox import Outbox
+from .patient import Patient
+from .senders import Senders
+
+SECONDS_TO_CONNECT = 3
+SECONDS_FOR_THE_LAST = 0.3  # agent to end, once another has its place
+SECONDS_BETWEEN = 60.0  # of two agents that end: the second one ends lldpa-live
+LINES_AT_ONCE = 1000
+ENVIRONMENT = {"LANG": "C"}  # of an agent, and nothing else
+NOT_FOR_IT = (signal.SIGINT, signal.SIGTERM)  # at which lldpa-live takes leave, and then ends it
+EVENTS = (b"tick", b"rx", b"up", b"down")  # what `senders` and `ports` have noted
+
+
+class Agents:
+    """The agent of a time: `patient` asks it."""
+
+    def __init__(self, names: List[str], given: Given, options: Options, outbox: Outbox,
+                 senders: Senders, session: Session, report: Callable[[str], None]) -> None:
+        self.names = names
+        self.given = given
+        self.options = options
+        self.outbox = outbox
+        self.senders = senders
+        self.session = session
+        self.report = report
+        self.patient: Patient
+        self.settings = Show()  # those in force
+        self.restarts = 0
+        self.last_end: Optional[float] = None
+        self.is_over = False  # whether none takes the place of one that ends
+
+    def words(self) -> List[str]:
+        """The words of the agent, for the log."""
+        return words_of(self.names, self.given.program, self.options)[1:]
+
+    async def begin(self) -> None:
+        """Opens the first agent, and the log with it."""
+        self.patient = Patient(await self.open(), self.report)
+        self.session.begin(self.words())
+        await self.note_settings()
+
+    async def open(self) -> AsyncAgent:
+        """Opens an agent, a child unless it is to be one that listens."""
+        if self.given.connect is None:
+            program, *words = words_of(self.names, self.given.program, self.options)
+            child = Child([which(program) or program, *words], ENVIRONMENT, NOT_FOR_IT)
+            return await AsyncAgent.of_child(child, self.outbox.take, timeout=None)
+        check_listener(self.given.connect)
+        connecting = AsyncAgent.connect(self.given.connect, on_frame=self.outbox.take,
+                                        timeout=None)
+        try:
+            return await asyncio.wait_for(connecting, SECONDS_TO_CONNECT)
+        except asyncio.TimeoutError:
+            raise Ended(None, NO_ANSWER) from None
+
+    async def exchange(self, lines: Sequence[bytes]) -> List[str]:
+        """Tells the agent lines, and gives its answer. If it has ended, the next one is told those
+        that are commands: it knows the others. Raises Ended if none takes its place."""
+        try:
+            return await self.patient.tell(lines)
+        except Ended as end:
+            await self.renew(end)
+        return await self.patient.tell(
+            [line for line in lines if line.partition(b" ")[0] not in EVENTS])
+
+    async def shown(self) -> Show:
+        """What the agent holds, and the settings in force."""
+        shows = (b"show neighbors", b"show chassis", b"show configuration")
+        show = read_show(await self.exchange(shows))
+        self.senders.note_held(show.ports)
+        return show
+
+    async def note_settings(self) -> None:
+        """Notes the settings in force, which outlive the agent."""
+        self.settings = read_show(await self.exchange((b"show chassis", b"show configuration")))
+        if self.settings.chassis is not None:
+            self.outbox.chassis = bytes.fromhex(self.settings.chassis.mac.replace(":", ""))
+
+    async def last_show(self) -> Show:
+        """What the agent holds, as far as that is known if it has ended."""
+        try:
+            return await self.shown()
+        except Ended:
+            return self.known()
+
+    def known(self) -> Show:
+        """What the agent holds, as far as that is known without it."""
+        return replace(self.settings, ports=self.senders.ports())
+
+    async def restore(self) -> None:
+        """Tells the first agent the neighbors that were there before, which `senders` know."""
+        head = [line.encode() for line in self.head(self.known())]
+        for place in range(0, len(head), LINES_AT_ONCE):
+            lines = head[place:place + LINES_AT_ONCE]
+            self.session.write([(now(), line) for line in lines])
+            for refusal in await self.exchange(lines):
+                raise Ended(None, f"the agent refused what the one before was told: {refusal}")
+
+    def head(self, show: Show) -> List[str]:
+        """The lines that bring another agent to where the one is that shows this."""
+        return [*Beginning(show, self.senders).lines(str(self.options["hostname"]))]
+
+    async def begin_log(self) -> None:
+        """Begins a new file of the log, with what brings an agent to where this one is."""
+        self.session.begin(self.words(), self.head(await self.shown()))
+
+    async def announce(self, address: Optional[str]) -> None:
+        """Lets an agent with another management address take the place of this one."""
+        head = self.head(await self.shown())
+        self.options["management"] = address
+        await self.patient.succeed(await self.next(head), SECONDS_FOR_THE_LAST)
+        self.report(f"the management address is {address or 'not announced any more'}")
+
+    async def grow(self, names: Sequence[str]) -> None:
+        """Lets an agent that has these ports too take the place of this one."""
+        show = await self.shown()
+        assert show.configuration is not None
+        status = "rx-only" if self.options.get("receive-only") else "rx-and-tx"
+        statuses = {**show.configuration.statuses, **dict.fromkeys(names, status)}
+        settings = replace(show.configuration, statuses=statuses)
+        self.names += names
+        head = self.head(replace(show, configuration=settings))
+        await self.patient.succeed(await self.next(head), SECONDS_FOR_THE_LAST)
+        await self.note_settings()
+
+    async def renew(self, end: Ended) -> None:
+        """Lets an agent take the place of one that has ended. Raises what it ended with if it is
+        not ours, or the second one within a minute."""
+        is_again = self.last_end is not None and now() - self.last_end < SECONDS_BETWEEN
+        if self.is_over or is_again or self.given.connect is not None:
+            raise end
+        self.last_end = now()
+        self.restarts += 1
+        self.report(f"{end.text}; another one takes its place")
+        head = self.head(self.known())
+        await self.patient.succeed(await self.next(head), 0)
+
+    async def next(self, head: Sequence[str]) -> AsyncAgent:
+        """Opens another agent, which is told this head; with it a new file of the log begins. What
+        its ports send meanwhile is lost."""
+        agent = await self.open()
+        try:
+            for place in range(0, len(head), LINES_AT_ONCE):
+                for refusal in await agent.tell(head[place:place + LINES_AT_ONCE]):
+                    raise Ended(None, f"the agent refused what the one before was told: {refusal}")
+        except BaseException:
+            await agent.close(0)
+            raise
+        self.outbox.frames.clear()
+        self.session.begin(self.words(), head)
+        return agent

@@ -1,0 +1,28 @@
+"""Who listens at a port of 127.0.0.1: the agent of --connect is root's, or of the own user."""
+
+from __future__ import annotations
+
+import os
+from typing import Iterator
+
+from ..agent.child import Ended
+
+TABLE = "/proc/net/tcp"
+LISTENS = "0A"
+ANYWHERE, HERE = "00000000", "0100007F"
+
+
+def check_listener(port: int) -> None:
+    """Raises Ended if another user listens at this port."""
+    for user in users_at(port):
+        if user not in (0, os.geteuid()):
+            raise Ended(None, f"another user listens at port {port}, with the number {user}")
+
+
+def users_at(port: int) -> Iterator[int]:
+    """The users of the sockets that listen there, as the kernel lists them."""
+    with open(TABLE, encoding="ascii") as table:
+        for words in map(str.split, table):
+            address, _, number = words[1].partition(":")
+            if words[3] == LISTENS and address in (ANYWHERE, HERE) and int(number, 16) == port:
+                yield int(words[7])

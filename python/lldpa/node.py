@@ -1,0 +1,47 @@
+"""A node of the tree in which lldpcli shows what is said."""
+from __future__ import annotations
+
+from typing import Iterable, List, Optional, Tuple
+
+# a key, its label for people (empty if the value says enough), and the value
+Attribute = Tuple[str, str, str]
+
+
+class Node:
+    """A node: its key, its label for people, its attributes, a text, and the nodes in it.
+
+    A text has a surrogate for each octet that is not UTF-8.
+    """
+
+    def __init__(self, key: str, label: str, attributes: Iterable[Attribute] = (),
+                 text: Optional[str] = None, nodes: Iterable[Node] = ()) -> None:
+        self.key = key
+        self.label = label
+        self.attributes: List[Attribute] = list(attributes)
+        self.text = text
+        self.nodes: List[Node] = list(nodes)
+
+    def add(self, key: str, label: str, text: Optional[object]) -> None:
+        """Adds a node that has only a text; adds nothing if the text is None."""
+        if text is not None:
+            self.nodes.append(Node(key, label, text=str(text)))
+
+
+def yes(is_so: bool) -> str:
+    """Returns lldpcli's word for true or false."""
+    return "yes" if is_so else "no"
+
+
+def text_of(octets: bytes) -> str:
+    """Returns a text of a neighbor, which lldpd ends at the first NUL."""
+    return octets.partition(b"\0")[0].decode("utf-8", "surrogateescape")
+
+
+def said_text(octets: Optional[bytes]) -> Optional[str]:
+    """Returns a text, None if no octet was sent."""
+    return text_of(octets) if octets else None
+
+
+def capital(name: str) -> str:
+    """Returns a name with its first letter as a capital."""
+    return name[:1].upper() + name[1:]

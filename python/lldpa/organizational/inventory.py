@@ -1,0 +1,130 @@
+"""TLVs of LLDP-MED (OUI 00-12-BB) about power and the inventory, and of RFC 8520 (OUI 00-00-5E)."""
+from __future__ import annotations
+
+from dataclasses import dataclass
+from functools import partial
+from typing import Any, List, Optional
+
+from ..node import Node, said_text
+from ..texts import readable_octets, with_text
+from .kinds import IANA, MED, Object, Said, Tlv, name_in, number, of, register, watts
+from .power import LLDPCLI_PD_SOURCES, PD_SOURCES, PRIORITIES, PSE_SOURCES
+
+DEVICES = {0: "PSE", 1: "PD"}
+# the kinds of inventory, from subtype 5 on
+INVENTORY = ("hardware", "firmware", "software", "serial", "manufacturer", "model", "asset")
+# lldpcli's names, the inventory in its order
+LLDPCLI_PSE_SOURCES = ("unknown", "Primary Power Source",
+                       "Backup Power Source / Power Conservation Mode", "unknown")
+LABELS = (("hardware", "Hardware Revision"), ("software", "Software Revision"),
+          ("firmware", "Firmware Revision"), ("serial", "Serial Number"),
+          ("manufacturer", "Manufacturer"), ("model", "Model"), ("asset", "Asset ID"))
+
+
+@of(MED, 4)
+@dataclass(frozen=True)
+class MedPower(Tlv):
+    """Extended Power via MDI, subtype 4; `power` is in tenths of a watt."""
+    key, heading, path, parent = "med-power", "MED power", "med.power", "lldp-med"
+    device: int
+    source: int
+    priority: int
+    power: int
+
+    @classmethod
+    def read(cls, octets: bytes) -> Optional[MedPower]:
+        """Reads a type (2 bits), a source (2), a priority (4), and the power in two octets."""
+        if len(octets) != 3:
+            return None
+        return cls(octets[0] >> 6, octets[0] >> 4 & 3, octets[0] & 15, number(octets[1:]))
+
+    @property
+    def device_name(self) -> Optional[str]:
+        """`PSE` or `PD`, None if the number is of neither."""
+        return DEVICES.get(self.device)
+
+    @property
+    def source_name(self) -> Optional[str]:
+        """Where the power of a PSE or a PD comes from."""
+        if self.device not in DEVICES:
+            return None
+        return (PD_SOURCES if self.device else PSE_SOURCES)[self.source]
+
+    @property
+    def priority_name(self) -> Optional[str]:
+        """The priority of the PD, None if its number is not known."""
+        return PRIORITIES[self.priority] if self.priority < len(PRIORITIES) else None
+
+    def words(self) -> str:
+        return (f"{self.device_name or f'device {self.device}'}, "
+                f"source {self.source_name or self.source}, "
+                f"priority {self.priority_name or self.priority}, {watts(self.power)}")
+
+    def value(self) -> Any:
+        return {"device": self.device_name, "source": self.source_name,
+                "priority": self.priority_name, "watts": self.power / 10}
+
+    def node(self) -> Node:
+        """Returns its node, with the power in milliwatts."""
+        node = Node("poe", "Extended Power-over-Ethernet")
+        sources = {0: LLDPCLI_PSE_SOURCES, 1: LLDPCLI_PD_SOURCES}.get(self.device, ())
+        node.add("device-type", "Power Type & Source", self.device_name or "unknown")
+        node.add("source", "Power Source", name_in(sources, self.source, "unknown"))
+        node.add("priority", "Power priority", self.priority_name or "unknown")
+        node.add("power", "Power Value", self.power * 100)
+        return node
+
+
+@dataclass(frozen=True)
+class Inventory(Tlv):
+    """Inventory, subtypes 5 to 11: its kind, of `INVENTORY`, and its text."""
+    key, heading, path, parent = "inventory", "Inventory", "med.inventory", "lldp-med"
+    kind: str
+    text: bytes
+
+    @property
+    def part(self) -> str:
+        return self.kind
+
+    def words(self) -> str:
+        return f"{self.kind} {readable_octets(self.text)}" if self.text else ""
+
+    @classmethod
+    def values(cls, said: Said) -> Object:
+        """Returns the texts by their kinds."""
+        texts: Object = {}
+        for one in said.all(cls):
+            with_text(one.kind, one.text, texts)
+        return {cls.path: texts}
+
+    @classmethod
+    def nodes(cls, said: Said) -> List[Node]:
+        """Returns the node of all texts, if there is one."""
+        texts = {one.kind: said_text(one.text) for one in said.all(cls)}
+        node = Node("inventory", "Inventory")
+        for kind, label in LABELS:
+            node.add(kind, label, texts.get(kind))
+        return [node] if node.nodes else []
+
+
+for place, name in enumerate(INVENTORY):
+    register(Inventory, MED, 5 + place, partial(Inventory, name), is_of_lldpd=True)
+
+
+@of(IANA, 1, is_of_lldpd=False)
+@dataclass(frozen=True)
+class MudUrl(Tlv):
+    """Manufacturer Usage Description, subtype 1 of RFC 8520."""
+    key, heading, path = "mud-url", "MUD URL", "mud_url"
+    url: bytes
+
+    @classmethod
+    def read(cls, octets: bytes) -> Optional[MudUrl]:
+        """Reads one octet or more."""
+        return cls(octets) if octets else None
+
+    def words(self) -> str:
+        return readable_octets(self.url)
+
+    def value(self) -> Any:
+        return with_text("text", self.url, {})

@@ -1,0 +1,65 @@
+"""What `lldpa-ctl --json` prints is as its schema says."""
+from __future__ import annotations
+
+import json
+import subprocess
+import sys
+import unittest
+from pathlib import Path
+from typing import Any, Set
+
+try:
+    import jsonschema
+except ImportError:  # Debian: python3-jsonschema
+    jsonschema = None
+
+from lldpa import Agent
+from lldpa.client import neighbor_object
+from served import CTL, PROGRAM, REPOSITORY, Served, frame, numbered, tlv
+
+SCHEMA = json.loads((REPOSITORY / "docs" / "lldpa-ctl.schema.json").read_text())
+JUDGED = json.loads((Path(__file__).parent / "judged.json").read_text())
+COMMANDS = (["show", "neighbors"], ["details"], ["show", "statistics"], ["statistics", "summary"],
+            ["show", "chassis"], ["show", "configuration"], ["interfaces"], [])
+
+
+@unittest.skipIf(jsonschema is None, "there is no jsonschema")
+class Schema(unittest.TestCase):
+    """Each answer, and neighbors of real senders and made ones."""
+
+    def told(self, path: str, *words: str) -> Any:
+        """What a command prints."""
+        ran = subprocess.run([sys.executable, CTL, "--control", path, "--json", *words],
+                             capture_output=True, text=True, check=True)
+        return json.loads(ran.stdout)
+
+    def test_answers(self) -> None:
+        odd = frame(b"\x04\x02\0\0\0\0\xff", b"\x05p\xff", 120, tlv(5, b"caf\xe9"), tlv(9, b"x"))
+        with Served(max_neighbors=128) as served:
+            for octets in (numbered(1), odd):
+                served.frame("eth0", octets)
+            for words in COMMANDS:
+                with self.subTest(words=words):
+                    told = self.told(served.path, *words)
+                    jsonschema.validate(told, SCHEMA)
+            neighbors = self.told(served.path, "show", "neighbors")["ports"][0]["neighbors"]
+            self.assertEqual(len(neighbors), 2)
+            for name in ("chassis", "ttl", "organizational"):
+                cut = {key: value for key, value in neighbors[0].items() if key != name}
+                port = {"name": "eth0", "neighbors_held": 1, "octets": 1, "too_many": False,
+                        "neighbors": [cut]}
+                with self.assertRaises(jsonschema.ValidationError):
+                    jsonschema.validate({"ports": [port]}, SCHEMA)
+
+    def test_neighbors_of_real_senders(self) -> None:
+        whole = {**SCHEMA["definitions"]["neighbor"], "definitions": SCHEMA["definitions"]}
+        self.assertGreater(len(JUDGED), 20)
+        judge, seen = jsonschema.Draft7Validator(whole), set()  # type: Any, Set[str]
+        with Agent.start(["eth0"], PROGRAM, receive_only=True, max_neighbors=4) as agent:
+            for one in JUDGED:
+                agent.frame("eth0", bytes.fromhex(one["frame"]))
+                for told in map(neighbor_object, agent.neighbors()):
+                    text = json.dumps({**told, "place": 1, "expires": 0})
+                    if text not in seen:
+                        judge.validate(told)
+                    seen.add(text)

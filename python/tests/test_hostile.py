@@ -1,0 +1,85 @@
+"""What asks, and an lldpa-live that was taken over, or is a stranger at its place."""
+
+from __future__ import annotations
+
+import os
+import socket
+import subprocess
+import threading
+import time
+import unittest
+from contextlib import suppress
+from pathlib import Path
+
+from lldpa.client.connection import Client, Gone
+from patience import eventually
+from served import CTL, REPOSITORY
+from support import FilesCase
+
+LLDPCTL = str(REPOSITORY / "bin" / "lldpctl")
+
+
+def rights_of(number: int) -> list[str]:
+    """Returns the users and groups of a process, as the kernel has them."""
+    lines = Path(f"/proc/{number}/status").read_text().splitlines()
+    return [line for line in lines if line.startswith(("Uid:", "Gid:", "Groups:"))]
+
+
+class Hostile(FilesCase):
+    """An lldpa-live that was taken over."""
+
+    def answers(self, *octets: bytes, pause: float = 0) -> str:
+        """The path of a socket at which the one who asks is sent these octets."""
+        path = str(self.folder / f"control-{len(os.listdir(self.folder))}")
+        listening = socket.socket(socket.AF_UNIX, socket.SOCK_STREAM)
+        self.addCleanup(listening.close)
+        listening.bind(path)
+        os.chmod(path, 0o666)
+        listening.listen()
+
+        def serve() -> None:
+            connection, _ = listening.accept()
+            with connection, suppress(OSError):
+                for some in octets:
+                    connection.sendall(some)
+                    time.sleep(pause)
+        threading.Thread(target=serve, daemon=True).start()
+        return path
+
+    def test_nothing_raw_is_printed(self) -> None:
+        for words in (["show", "chassis"], ["live"], ["configure", "x"], ["update"]):
+            path = self.answers(b"=1\nlocal-chassis.name=\x1b]0;x\x07\x9b2J\xe2\x80\xae\n")
+            told = subprocess.run([CTL, "--control", path, *words], capture_output=True,
+                                  check=False)
+            self.assertEqual(told.stdout.decode(), "local-chassis.name=\\x1b]0;x\\x07\\x9b2J"
+                             "\\xe2\\x80\\xae\n")
+
+    def test_an_octet_a_second_does_not_hold_it(self) -> None:
+        path = self.answers(b"=1\n", *[b"a"] * 600, pause=0.1)
+        with Client(path, seconds=1) as client, self.assertRaises(socket.timeout):
+            client.ask("update")
+        path = self.answers(b"=9\n", *[b"a\n"] * 9, pause=0.25)
+        with Client(path, seconds=2) as client:
+            self.assertEqual(client.ask("update"), ["a"] * 9)
+
+    def test_neither_a_line_nor_an_answer_is_without_end(self) -> None:
+        for octets, text in ((b"=1\n" + b"a" * 70_000, "a line of more than 64 kB"),
+                             (b"=99999999\n" + b"\n" * 9_000_000, "more than 128 MB"),
+                             (b"=" + b"9" * 5000 + b"\n", "no answer of lldpa-live")):
+            with Client(self.answers(octets, pause=30)) as client:
+                with self.assertRaisesRegex(Gone, text):
+                    client.ask("update")
+
+    @unittest.skipUnless(os.geteuid() == 0, "only root can give up root")
+    def test_root_is_given_up_before_anything_is_read(self) -> None:
+        nobody = ["\t".join([name, *["65534"] * 4]) for name in ("Uid:", "Gid:")]
+        for words in ([CTL, "--control", "PATH", "details"], [CTL, "--control", "PATH", "metrics"],
+                      [LLDPCTL, "-u", "PATH"]):
+            path = self.answers(b"", pause=60)
+            child = subprocess.Popen([path if word == "PATH" else word for word in words],
+                                     stdout=subprocess.DEVNULL)
+            self.addCleanup(child.wait)
+            self.addCleanup(child.kill)
+            self.assertTrue(eventually(
+                lambda: rights_of(child.pid)[:2] == nobody), rights_of(child.pid))
+            self.assertEqual(rights_of(child.pid)[2].split(), ["Groups:"])

@@ -1,0 +1,242 @@
+"""An lldpa-live between an agent and real links, and what was seen to go wrong with one."""
+
+from __future__ import annotations
+
+import os
+import signal
+import time
+from pathlib import Path
+
+from running_live import Live, OnLinks, on_links
+from patience import by_the_clock, eventually
+from served import numbered
+from wires import Peer
+
+
+@on_links
+class TestTime(OnLinks):
+    """Frames and seconds go in as they came, whenever that is."""
+
+    def test_stopped_lldpa_live_ages_out_nobody_who_was_heard(self) -> None:
+        live, peer = self.live("eth0", "--", "--receive-only"), self.peer()
+        peer.send(numbered(1, ttl=10))
+        self.assertTrue(eventually(live.neighbors))
+        live.signal(signal.SIGSTOP)
+        for _ in range(6):
+            time.sleep(2)
+            sent = now()
+            peer.send(numbered(1, ttl=10))
+        live.signal(signal.SIGCONT)
+        shown = live.ask("show neighbors")
+        self.assertIn("lldp.eth0.neighbors=1", shown)
+        self.assertIn("lldp.eth0.ageouts=0", live.ask("show statistics"))
+        self.assertGreater(seconds_left(shown), 10 - (now() - sent) - 1)
+
+    def test_stopped_lldpa_live_ages_out_who_was_not_heard(self) -> None:
+        live, peer = self.live("eth0", "--", "--receive-only"), self.peer()
+        peer.send(numbered(1, ttl=2))
+        self.assertTrue(eventually(lambda: "lldp.eth0.received=1" in live.ask("show statistics")))
+        live.signal(signal.SIGSTOP)
+        time.sleep(3.2)
+        sent = now()
+        peer.send(numbered(2))
+        live.signal(signal.SIGCONT)
+        shown = live.ask("show neighbors")
+        self.assertIn("lldp.eth0.neighbors=1", shown)
+        self.assertIn("lldp.eth0.1.port.ifname=p2", shown)
+        self.assertGreater(seconds_left(shown), 120 - (now() - sent) - 1)
+
+    def test_no_second_is_lost_or_told_twice(self) -> None:
+        live = self.live("--log", os.path.join(self.wires.folder, "log"), "eth0")
+        begins = begins_of_its_seconds(live)
+        live.signal(signal.SIGSTOP)
+        time.sleep(2.5)
+        live.signal(signal.SIGCONT)
+        begins += begins_of_its_seconds(live)
+        self.assertGreater(min(latest for _, latest in begins),
+                           max(earliest for earliest, _ in begins))
+        log = next(Path(self.wires.folder, "log").iterdir())
+        self.assertTrue(eventually(lambda: ticks_of(log) == live.seconds_told()))
+
+
+@on_links
+class TestLinks(OnLinks):
+    """Links come and go, and interfaces do."""
+
+    def test_link_that_goes_and_comes(self) -> None:
+        peer, live = self.peer(), self.live("eth0")
+        self.assertIsNotNone(peer.hears())
+        peer.send(numbered(1))
+        self.assertTrue(eventually(live.neighbors))
+        self.wires.set_link("peer0", "down")
+        self.assertTrue(eventually(lambda: "live.eth0.link=down" in live.ask("live")))
+        self.assertEqual(live.neighbors(), 1)
+        self.wires.set_link("peer0", "up")
+        self.assertTrue(eventually(lambda: "live.eth0.link=up" in live.ask("live")))
+        self.assertIsNotNone(peer.hears())
+
+    def test_forget_on_down_empties_the_table_and_sends_nothing(self) -> None:
+        live, peer = self.live("--forget-on-down", "eth0"), self.peer()
+        peer.send(numbered(1))
+        self.assertTrue(eventually(live.neighbors))
+        self.wires.set_link("eth0", "down")
+        self.assertTrue(eventually(lambda: not live.neighbors()))
+        self.assertIn("configuration.eth0.status=rx-and-tx", live.ask("show configuration"))
+        self.assertIn("lldp.eth0.shutdowns=0", live.ask("show statistics"))
+        self.wires.set_link("eth0", "up")
+        self.assertTrue(eventually(lambda: "live.eth0.link=up" in live.ask("live")))
+        peer.send(numbered(2))
+        self.assertTrue(eventually(live.neighbors))
+
+    def test_forget_on_down_keeps_a_status_that_was_set(self) -> None:
+        live = self.live("--forget-on-down", "eth0")
+        for status in ("rx-only", "disabled"):
+            live.ask(f"configure ports eth0 lldp status {status}")
+            self.wires.set_link("peer0", "down")
+            self.assertTrue(eventually(lambda: "live.eth0.link=down" in live.ask("live")))
+            self.assertIn(f"configuration.eth0.status={status}", live.ask("show configuration"))
+            self.wires.set_link("peer0", "up")
+            self.assertTrue(eventually(lambda: "live.eth0.link=up" in live.ask("live")))
+
+    def test_interface_that_goes_and_comes_back(self) -> None:
+        live = self.live("eth0", "--", "--receive-only")
+        self.wires.remove_link("eth0")
+        self.assertTrue(live.says("eth0: the interface is gone; waiting for the next of that name"))
+        self.assertIn("live.eth0.interface=awaited", live.ask("live"))
+        self.assertIn("live.eth0.link=down", live.ask("live"))
+        self.wires.add_link(0)
+        self.assertTrue(live.says("eth0: the interface is there, and in use"))
+        self.assertTrue(eventually(lambda: "live.eth0.link=up" in live.ask("live")))
+        self.peer().send(numbered(1))
+        self.assertTrue(eventually(live.neighbors))
+
+    def test_interface_that_comes_later(self) -> None:
+        live = self.live("eth1", "--", "--receive-only", awaits=False)
+        self.assertTrue(live.says("eth1: no such interface yet; waiting for it"))
+        self.wires.add_link(1)
+        self.assertTrue(eventually(lambda: "live.eth1.link=up" in live.ask("live")))
+        self.peer("peer1").send(numbered(1))
+        self.assertTrue(eventually(lambda: live.neighbors("eth1")))
+
+    def test_interface_that_is_renamed_and_named_back(self) -> None:
+        live, peer = self.live("eth0", "--", "--receive-only"), self.peer()
+        self.wires.set_link("eth0", "down")
+        self.wires.set_link("eth0", "name", "ethX")
+        self.wires.set_link("ethX", "up")
+        self.assertTrue(live.says("eth0: the interface is now ethX"))
+        self.assertIn("live.eth0.interface=awaited", live.ask("live"))
+        self.assertTrue(eventually(self.wires.all_up))
+        peer.send(numbered(1))
+        time.sleep(0.2)
+        self.assertEqual(live.neighbors(), 0)
+        self.assertIn("lldp.eth0.received=0", live.ask("show statistics"))
+        self.wires.set_link("ethX", "down")
+        self.wires.set_link("ethX", "name", "eth0")
+        self.wires.set_link("eth0", "up")
+        self.assertTrue(eventually(lambda: "live.eth0.link=up" in live.ask("live")))
+        peer.send(numbered(2))
+        self.assertTrue(eventually(live.neighbors))
+
+    def test_frame_of_a_link_that_went_meanwhile_counts(self) -> None:
+        live, peer = self.live("eth0", "--", "--receive-only"), self.peer()
+        live.signal(signal.SIGSTOP)
+        peer.send(numbered(1))
+        self.wires.set_link("eth0", "down")
+        time.sleep(0.2)
+        live.signal(signal.SIGCONT)
+        self.assertTrue(eventually(live.neighbors))
+
+    def test_frame_of_a_link_that_came_meanwhile_counts(self) -> None:
+        live, peer = self.live("eth0", "--", "--receive-only"), self.peer()
+        self.wires.set_link("eth0", "down")
+        self.assertTrue(eventually(lambda: "live.eth0.link=down" in live.ask("live")))
+        live.signal(signal.SIGSTOP)
+        self.wires.set_link("eth0", "up")
+        self.assertTrue(eventually(self.wires.all_up))
+        peer.send(numbered(1))
+        live.signal(signal.SIGCONT)
+        self.assertTrue(eventually(live.neighbors))
+
+
+@on_links
+class TestSending(OnLinks):
+    """What the agent sends goes out."""
+
+    @by_the_clock
+    def test_fast_start(self) -> None:
+        peer = self.peer()
+        self.live("eth0")
+        self.assertIsNotNone(peer.hears())
+        peer.send(numbered(1))
+        began = time.monotonic()
+        self.assertTrue(all(peer.hears() for _ in range(4)))
+        self.assertLess(time.monotonic() - began, 5)
+
+    def test_interface_that_is_replaced_during_a_standstill_is_used(self) -> None:
+        live = self.live("eth0", "--", "--receive-only")
+        for _ in range(3):
+            live.signal(signal.SIGSTOP)
+            self.wires.remove_link("eth0")
+            self.wires.add_link(0)
+            live.signal(signal.SIGCONT)
+            self.assertTrue(eventually(lambda: "live.eth0.link=up" in live.ask("live")))
+        self.peer().send(numbered(1))
+        self.assertTrue(eventually(lambda: live.neighbors() == 1))
+        self.assertNotIn("cannot be used", live.errors())
+
+    @by_the_clock
+    def test_two_lldpa_lives_see_each_other_and_take_leave(self) -> None:
+        here, there = self.live("eth0"), self.live("peer0", side="there")
+        self.assertTrue(eventually(here.neighbors) and eventually(lambda: there.neighbors("peer0")))
+        here.process.stdin.close()
+        self.assertEqual(here.ends(), 0)
+        self.assertTrue(eventually(lambda: not there.neighbors("peer0"), 1))
+
+    @by_the_clock
+    def test_of_missed_seconds_the_last_frame_goes_out(self) -> None:
+        peer, live = self.peer(), self.live("eth0")
+        live.ask("configure lldp tx-interval 2")
+        self.assertIsNotNone(peer.hears())
+        live.signal(signal.SIGSTOP)
+        while peer.hears(0.1):
+            pass
+        time.sleep(8)
+        live.signal(signal.SIGCONT)
+        self.assertIsNotNone(peer.hears(10))
+        self.assertEqual(heard_within(peer, 0.5), 0)
+
+
+def heard_within(peer: Peer, seconds: float) -> int:
+    """How many frames come in so many seconds."""
+    last, count = time.monotonic() + seconds, 0
+    while (left := last - time.monotonic()) > 0:
+        count += peer.hears(left) is not None
+    return count
+
+
+def now() -> float:
+    """The moment by the clock that lldpa-live goes by."""
+    return time.clock_gettime(time.CLOCK_BOOTTIME)
+
+
+def seconds_left(shown: list[str]) -> int:
+    """How long the first neighbor of a show is kept."""
+    return next(int(line.split("=")[1]) for line in shown if ".expires=" in line)
+
+
+def begins_of_its_seconds(live: Live) -> list[tuple[float, float]]:
+    """Between which moments it began to count seconds, by how many it has told again and again
+    for more than one second. They all overlap where none is lost or told twice."""
+    last, begins = now() + 1.2, []
+    while (before := now()) < last:
+        live.ask("show chassis")  # which it answers when it has told the seconds up to now
+        told = live.seconds_told()
+        begins.append((before - told - 1, now() - told))
+        time.sleep(0.02)
+    return begins
+
+
+def ticks_of(log: Path) -> int:
+    """The seconds of a log."""
+    lines = [line.split() for line in log.read_text().splitlines() if line.startswith("tick")]
+    return sum(int(words[1]) if words[1:] else 1 for words in lines)

@@ -1,0 +1,265 @@
+"""Who is heard since when, and the head of a log's later files."""
+
+from __future__ import annotations
+
+import time
+import unittest
+from typing import Dict, Optional
+
+from running_live import OnLinks, on_links
+from lldpa import Agent, read_show
+from lldpa.agent.show import Show
+from lldpa.client.live_lines import LiveLines, since_of
+from lldpa.clock import seconds_of
+from lldpa.live.beginning import Beginning
+from lldpa.live.senders import MOST_OF_A_PORT, Senders, said_by
+from patience import eventually
+from served import PROGRAM, frame, numbered, tlv
+
+EPOCH = "1970-01-01T00:00:00Z"
+CHASSIS = [b"\1cc", b"\2al", b"\3pc", b"\4\2\0\0\0\0\1", b"\4short", b"\5\1\xc0\0\2\1",
+           b"\5\2" + bytes(15) + b"\1", b"\5\7xx", b"\6if\\\xff", b"\7lo cal", b"\0A", b"\x09B"]
+PORTS = [b"\1al", b"\2pc", b"\3\2\0\0\0\0\1", b"\4\1\xc0\0\2\1", b"\5if", b"\6ci\x01", b"\7lo",
+         b"\x08C", b"\3short"]
+
+
+def id_of(number: int) -> str:
+    """The MSAP identifier of one of many neighbors."""
+    return f"mac=02:00:00:00:00:{number:02x} ifname=p{number}"
+
+
+class Saying(unittest.TestCase):
+    """Whose frame it is."""
+
+    def test_it_is_whom_the_agent_shows(self) -> None:
+        values = [b"\x00", b"a b\\\xff", b"123456", b"\x01\xc0\x00\x02\x01", b"\x02abcd",
+                  b"\x02" + bytes(range(16)), b"\x01" + bytes(16), b"x" * 255]
+        with Agent.start(["eth0"], PROGRAM, max_neighbors=128, receive_only=True) as agent:
+            for kind in (*range(10), 255):
+                for value in values:
+                    for sent in (frame(bytes([kind]) + value, b"\x05p", 120),
+                                 frame(b"\x07c", bytes([kind]) + value, 120)):
+                        agent.tick(121)
+                        agent.frame("eth0", sent)
+                        neighbor, = agent.neighbors()
+                        self.assertEqual(said_by(sent), (neighbor.id, 120))
+
+    def test_frames_of_nobody(self) -> None:
+        head, whole = numbered(1)[:14], numbered(1)[14:]
+        for end in range(18):  # the three TLVs have 9, 5 and 4 octets
+            self.assertIsNone(said_by(head + whole[:end]))
+        for bad in (whole[9:], whole[:9] + whole[:9], b"", b"\x02", tlv(1, b"\x07") + whole[9:],
+                    whole[:18] + tlv(2, b"\x05p") + whole[18:]):
+            self.assertIsNone(said_by(head + bad))
+
+
+class Noting(unittest.TestCase):
+    """What is noted, as seconds pass."""
+
+    def setUp(self) -> None:
+        self.senders = Senders()
+
+    def came(self, number: int = 1, port: str = "eth0") -> Optional[str]:
+        """When a neighbor came."""
+        return since_of(self.senders.about()).get((port, id_of(number)))
+
+    def set_back(self) -> None:
+        """Lets all have come long ago."""
+        for senders in self.senders.by_port.values():
+            for sender in senders.values():
+                sender.came = 0.0
+
+    def test_it_stays_while_the_neighbor_stays(self) -> None:
+        before = int(time.time())
+        self.senders.hear("eth0", numbered(1, 30))
+        came = self.came()
+        assert came is not None
+        self.assertTrue(before <= seconds_of(came) <= time.time())
+        self.set_back()
+        self.senders.second = 29
+        self.senders.hear("eth0", numbered(1, 30))
+        self.senders.second = 58
+        self.assertEqual(self.came(), EPOCH)
+        self.assertIsNone(self.came(1, "eth1"))
+
+    def test_it_is_another_where_the_neighbor_was_gone(self) -> None:
+        self.senders.hear("eth0", numbered(1, 30))
+        self.set_back()
+        self.senders.second = 30
+        self.assertIsNone(self.came())
+        self.senders.hear("eth0", numbered(1, 30))
+        self.assertNotIn(self.came(), (None, EPOCH))
+        self.set_back()
+        self.senders.hear("eth0", numbered(1, 0))
+        self.assertIsNone(self.came())
+        self.senders.hear("eth0", numbered(1, 30))
+        self.assertNotIn(self.came(), (None, EPOCH))
+
+    def test_a_port_that_may_not_receive_has_nobody(self) -> None:
+        for status, again in (("disabled", "rx-and-tx"), ("tx-only", "rx-only")):
+            self.senders.hear("eth0", numbered(1))
+            self.senders.hear("eth1", numbered(1))
+            self.senders.obey(f'configure "ports" eth0\tlldp status {status}'.encode())
+            self.senders.hear("eth0", numbered(1))
+            self.assertEqual([self.came(1, port) is None for port in ("eth0", "eth1")],
+                             [True, False])
+            self.senders.obey(f"configure ports eth0 lldp status {again}".encode())
+            self.assertIsNone(self.came())
+            self.senders.hear("eth0", numbered(1))
+            self.assertIsNotNone(self.came())
+
+    def test_other_commands_change_nothing(self) -> None:
+        self.senders.hear("eth0", numbered(1))
+        for line in (b"configure ports eth0 lldp status rx-only", b"update", b"", b"\xff",
+                     b"show neighbors", b"configure system hostname tx-only",
+                     b"configure ports eth1 lldp status disabled"):
+            self.senders.obey(line)
+            self.assertIsNotNone(self.came())
+
+    def test_a_flood_is_bounded(self) -> None:
+        with Agent.start(["eth0"], PROGRAM, max_neighbors=2) as agent:
+            for number in range(3 * MOST_OF_A_PORT):
+                octets = frame(b"\7%d" % number, b"\7p", 600)
+                agent.frame("eth0", octets)
+                self.senders.hear("eth0", octets)
+                if self.senders.is_full:
+                    self.senders.note_held(agent.show("neighbors").ports)
+                    self.assertEqual(set(self.senders.by_port["eth0"]),
+                                     {"local=0 local=p", "local=1 local=p"})
+                self.assertLessEqual(len(self.senders.by_port["eth0"]), MOST_OF_A_PORT + 1)
+        self.assertEqual(self.senders.too_many_until["eth0"], 600)
+        self.senders.second = 600
+        self.senders.hear("eth0", numbered(2, 30))
+        self.assertEqual(len(self.senders.about()), 2)
+        self.assertIsNotNone(self.came(2))
+
+    def test_each_chassis_has_a_number(self) -> None:
+        def numbers() -> Dict[str, int]:
+            return LiveLines(self.senders.about()).numbers
+        one, two = "mac=02:00:00:00:00:01", "mac=02:00:00:00:00:02"
+        self.senders.hear("eth0", numbered(1))
+        self.senders.hear("eth0", numbered(2))
+        self.senders.hear("eth1", numbered(1))
+        self.assertEqual(numbers(), {one: 1, two: 2})
+        self.senders.hear("eth0", numbered(1, 0))  # it goes at one of its ports
+        self.senders.hear("eth0", numbered(1))
+        self.assertEqual(numbers(), {one: 1, two: 2})
+        for port in ("eth0", "eth1"):
+            self.senders.hear(port, numbered(1, 0))
+        self.assertEqual(numbers(), {two: 2})
+        self.senders.hear("eth1", numbered(1))  # and comes again
+        self.assertEqual(numbers(), {two: 2, one: 3})
+
+    def test_the_numbers_of_a_flood_are_forgotten(self) -> None:
+        for number in range(2000):
+            name = b"\x07%d" % number
+            self.senders.hear("eth0", frame(name, name, 1))
+            self.senders.second += 1
+        self.assertEqual(self.senders.last_number, 2000)
+        self.assertLessEqual(len(self.senders.numbers), 4 * MOST_OF_A_PORT)
+
+    def test_lines_of_lldpa_live(self) -> None:
+        lines = ["live.began=2026-11-23T19:40:00Z", "live.eth0.kernel-drops=0",
+                 "live.eth0.since.1=2026-11-23T19:45:02Z mac=02:00:00:00:00:01 ifname=p1",
+                 "live.eth0.since.2=2026-11-23T19:46:02Z local=a ifname=b\\x20c"]
+        self.assertEqual(since_of(lines), {
+            ("eth0", id_of(1)): "2026-11-23T19:45:02Z",
+            ("eth0", "local=a ifname=b\\x20c"): "2026-11-23T19:46:02Z"})
+
+
+class Beginnings(unittest.TestCase):
+    """The last frames, and what a file of the log begins with."""
+
+    def begun(self, agent: Agent, senders: Senders, *words: str) -> list[str]:
+        """The tables of an agent that is new and is told the beginning."""
+        show = self.shown(agent)
+        senders.note_held(show.ports)
+        senders.downs = ["b"]
+        lines = list(Beginning(show, senders).lines("localhost"))
+        with Agent.start(["a", "b"], PROGRAM, **dict(word.split("=") for word in words)) as other:
+            for line in lines:
+                other.ask(line)
+            self.assertEqual(self.shown(other).configuration, show.configuration)
+            self.assertEqual(self.shown(other).chassis, show.chassis)
+            return other.ask("show neighbors")
+
+    def shown(self, agent: Agent) -> Show:
+        """What it shows."""
+        return read_show([line for what in ("neighbors", "chassis", "configuration")
+                          for line in agent.ask(f"show {what}")])
+
+    def test_every_kind_of_identifier_is_found(self) -> None:
+        senders = Senders()
+        with Agent.start(["a"], PROGRAM, max_neighbors=128) as agent:
+            for chassis in CHASSIS:
+                for port in PORTS:
+                    octets = frame(chassis, port, 9, tlv(5, b"n"))
+                    agent.frame("a", octets)
+                    senders.hear("a", octets)
+            neighbors = agent.neighbors()
+            self.assertEqual(len(neighbors), len(CHASSIS) * len(PORTS))
+            for neighbor in neighbors:
+                octets = senders.frame_of(neighbor)
+                assert octets is not None, neighbor
+                said = said_by(octets)
+                self.assertEqual(said and said.id, neighbor.id)
+
+    def test_order_ages_settings_and_want_of_room(self) -> None:
+        senders = Senders()
+        with Agent.start(["a", "b"], PROGRAM, max_neighbors=4) as agent:
+            def hears(port: str, octets: bytes) -> None:
+                agent.frame(port, octets)
+                senders.hear(port, octets)
+            for number in range(4):
+                hears("a", numbered(number, 100 + number, tlv(5, b"first")))
+            hears("a", numbered(9, 50))  # it finds no room
+            hears("b", numbered(7, 65535))
+            agent.tick(30)
+            senders.second += 30
+            hears("a", numbered(1, 40, tlv(6, b"changed")))
+            hears("a", numbered(2, 0))
+            hears("b", numbered(1, 1) + tlv(1, b"\7x"))
+            hears("b", frame(b"\7x", b"\7y", 30, tlv(3, b"\0\1")))  # which is refused
+            agent.configure("system", "description", "a \\ b")
+            agent.configure("system", "hostname", "")
+            agent.configure("lldp", "max-neighbors", "3")
+            agent.configure("ports", "b", "lldp", "status", "rx-only")
+            agent.tick(5)
+            senders.second += 5
+            shown = agent.ask("show neighbors")
+            self.assertIn("lldp.a.too-many=yes", shown)
+            self.assertEqual(self.begun(agent, senders, "max_neighbors=4"), shown)
+            self.assertEqual(senders.too_many_until["a"], 50)
+            agent.tick(15)
+            senders.second += 15
+            shown = agent.ask("show neighbors")
+            self.assertIn("lldp.a.too-many=no", shown)
+            self.assertEqual(self.begun(agent, senders, "max_neighbors=4"), shown)
+
+
+@on_links
+class OnARealLink(OnLinks):
+    """lldpa-live tells it."""
+
+    def test_lldpa_live_knows_since_when(self) -> None:
+        live = self.live("--stay", "eth0", "--", "--receive-only")
+
+        def told() -> Dict[str, str]:
+            return {who: when for (_, who), when in since_of(live.ask("live")).items()}
+        peer = self.peer()
+        before = int(time.time())
+        peer.send(numbered(1, 100))
+        peer.send(numbered(2, 2))
+        self.assertTrue(eventually(lambda: live.neighbors() == 2))
+        came = told()
+        self.assertEqual(set(came), {id_of(1), id_of(2)})
+        for when in came.values():
+            self.assertTrue(before <= seconds_of(when) <= time.time())
+        self.assertTrue(eventually(lambda: live.neighbors() == 1))
+        self.assertEqual(told(), {id_of(1): came[id_of(1)]})
+        peer.send(numbered(1, 100))
+        peer.send(numbered(3, 100))
+        self.assertTrue(eventually(lambda: live.neighbors() == 2))
+        self.assertEqual(told()[id_of(1)], came[id_of(1)])
+        live.ask("configure ports eth0 lldp status disabled")
+        self.assertEqual(told(), {})

@@ -1,0 +1,135 @@
+//! The neighbors of a port, and what a frame does to them.
+
+use crate::agent::Agent;
+use crate::fault::PduFault;
+use crate::reading::{examine, Examined, Info, Msap};
+use crate::sys;
+use alloc::vec;
+use alloc::vec::Vec;
+
+/// What a frame did.
+#[derive(Clone, Copy, Debug, PartialEq, Eq)]
+pub enum News<'f> {
+    /// It is no LLDP frame.
+    NotLldp,
+    /// The port does not receive, or its link is down: nobody looked at the frame.
+    Deaf,
+    /// Its LLDPDU has a fault.
+    Refused(PduFault),
+    /// A neighbor that was not held is stored.
+    New(Msap<'f>),
+    /// A neighbor that is held says something else, which is stored.
+    Changed(Msap<'f>),
+    /// A neighbor that is held says the same again.
+    Same(Msap<'f>),
+    /// There is no room for a neighbor that is not held.
+    Dropped(Msap<'f>),
+    /// A neighbor that was held leaves.
+    Gone(Msap<'f>),
+    /// A neighbor that is not held leaves.
+    Unknown(Msap<'f>),
+    /// What the archive says is not known to this crate: it is of another version.
+    Unexpected,
+}
+
+impl<'f> News<'f> {
+    /// The news that were told of a frame.
+    pub(crate) fn of(told: &sys::News, frame: &'f [u8]) -> News<'f> {
+        let at = |place: sys::Place| &frame[place.start..][..place.length];
+        let msap = Msap { chassis: at(told.chassis), port: at(told.port) };
+        match told.what {
+            1 => News::NotLldp,
+            2 => News::Deaf,
+            3 => u8::try_from(told.fault)
+                .ok()
+                .and_then(|fault| PduFault::check(fault).err())
+                .map_or(News::Unexpected, News::Refused),
+            4 => News::New(msap),
+            5 => News::Changed(msap),
+            6 => News::Same(msap),
+            7 => News::Dropped(msap),
+            8 => News::Gone(msap),
+            9 => News::Unknown(msap),
+            _ => News::Unexpected,
+        }
+    }
+}
+
+/// A neighbor that a port holds.
+#[derive(Clone, Debug, PartialEq, Eq)]
+pub struct Neighbor {
+    octets: Vec<u8>,
+    left: u32,
+}
+
+impl Neighbor {
+    /// Its LLDPDU without the End Of LLDPDU, at most 1500 octets.
+    #[must_use]
+    pub fn octets(&self) -> &[u8] {
+        &self.octets
+    }
+
+    /// The seconds until it ages out, at least 1.
+    #[must_use]
+    pub fn left(&self) -> u32 {
+        self.left
+    }
+
+    /// What its LLDPDU tells. None only if the archive is of another version.
+    #[must_use]
+    pub fn info(&self) -> Option<Info<'_>> {
+        match examine(&self.octets) {
+            Ok(Examined::Info(info)) => Some(info),
+            _ => None,
+        }
+    }
+}
+
+/// The neighbors of a port.
+#[derive(Debug)]
+#[must_use]
+pub struct Neighbors<'a> {
+    agent: &'a mut Agent,
+    port: u8,
+    next: u32,
+    count: u32,
+}
+
+impl<'a> Neighbors<'a> {
+    pub(crate) fn new(agent: &'a mut Agent, port: u8, count: u32) -> Neighbors<'a> {
+        Neighbors { agent, port, next: 0, count }
+    }
+}
+
+impl Iterator for Neighbors<'_> {
+    type Item = Neighbor;
+
+    fn next(&mut self) -> Option<Neighbor> {
+        let mut octets = vec![0u8; sys::NEIGHBOR_ROOM];
+        let mut told = sys::Held::default();
+        // SAFETY: the handle is open, the room has as many octets as are told, and what is told is a value of its own.
+        let answer = unsafe {
+            sys::lldpa_neighbor(
+                &mut *self.agent.handle,
+                self.port.into(),
+                self.next,
+                octets.as_mut_ptr(),
+                octets.len(),
+                &mut told,
+            )
+        };
+        if answer != sys::OK {
+            return None;
+        }
+        self.next += 1;
+        octets.truncate(told.pdu.extent);
+        Some(Neighbor { octets, left: told.left })
+    }
+
+    fn size_hint(&self) -> (usize, Option<usize>) {
+        let left = (self.count - self.next) as usize;
+        (left, Some(left))
+    }
+}
+
+impl ExactSizeIterator for Neighbors<'_> {}

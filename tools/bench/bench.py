@@ -1,0 +1,172 @@
+#!/usr/bin/env python3
+"""Measures lldpa beside plain C that does the same work (tools/bench/yardstick.c), all in one run.
+
+Each row is run by each program by turns, several times; the least processor time counts, less that of an empty
+trace. C by vectors, which checks nothing of the TLVs, is the limit. Instructions are counted by valgrind's callgrind
+where there is one, on a shorter trace; their columns begin with #. tshark and tcpdump read the frames of the mix too,
+where they are installed, and the captures that lldpa-capture reads. Needs Python and a C compiler.
+
+The rows are in bench_rows.py, what counts instructions in bench_counts.py, the readers of captures in
+bench_captures.py, and the picture in bench_picture.py.
+"""
+from __future__ import annotations
+
+import argparse
+import json
+import platform
+import re
+import shutil
+import subprocess
+import tempfile
+import time
+from pathlib import Path
+from typing import Any
+
+from bench_captures import AUDIT, audit_of_cabling, capture_rows, other_readers, seconds
+from bench_counts import counted, counted_start, library
+from bench_picture import picture, table as shown_table
+from bench_rows import PORTS, Row, rows
+
+TOP = Path(__file__).resolve().parents[2]
+HEADS = ["lldpa", "C", "ratio", "vectors"]
+
+
+def resident(words: list[str]) -> int:
+    """Takes the words of a program, gives the kilobytes of memory that it touched when it waits for its first line."""
+    child = subprocess.Popen(words, stdin=subprocess.PIPE, stdout=subprocess.DEVNULL)
+    time.sleep(0.2)
+    told = Path(f"/proc/{child.pid}/status").read_text()
+    child.communicate()
+    found = re.search(r"VmHWM:\s+(\d+)", told)
+    return int(found.group(1)) if found else 0
+
+
+def by_turns(row: Row, room: Path, sides: list[list[str]], times: int) -> list[float]:
+    """Takes a row, a folder, the words of programs and how often each runs, gives the least nanoseconds of each for
+    one thing of the row."""
+    whole, begin, things = row.traces(room, row.lines)
+    best = [[float("inf"), float("inf")] for _ in sides]
+    for _ in range(times):
+        for words, least in zip(sides, best):
+            least[0] = min(least[0], seconds(words, whole))
+            least[1] = min(least[1], seconds(words, begin))
+    return [1e9 * (all_of_it - before) / things for all_of_it, before in best]
+
+
+def start(program: str, room: Path) -> list[str]:
+    """Takes lldpa and a folder, gives lines on a start with one port and with 64 ports of 128."""
+    empty, lines = room / "empty", []
+    empty.write_text("")
+    for title, words in (("one port", ["eth0"]), ("64 ports of 128", ["--max-neighbors=128", *PORTS])):
+        least = min(seconds([program, *words], empty) for _ in range(20))
+        memory = resident([program, *words])
+        lines.append(f"start with {title}: {1e3 * least:.2f} ms of processor time, {memory} KB resident")
+    return lines
+
+
+def columns(figures: list[float], unit: str = "") -> str:
+    """Takes the figures of a row, gives its columns: ours, C's, the ratio, and C's by vectors."""
+    shown = [f"{value:.0f}{unit}" for value in figures]
+    ratio = [f"{figures[0] / figures[1]:.2f}"] if len(figures) > 1 else []
+    told = shown[:2] + ratio + shown[2:]
+    return "".join(f"{column:>11}" for column in told + [""] * (len(HEADS) - len(told)))
+
+
+def machine() -> str:
+    """Gives the processor and the system."""
+    found = re.search(r"model name\s*:\s*(.*)", Path("/proc/cpuinfo").read_text())
+    return f"{found.group(1) if found else platform.processor()}, {platform.system()} {platform.release()}"
+
+
+def compiled(room: Path) -> str:
+    """Takes a folder, gives the path of the yardstick, which it compiles there."""
+    yardstick = str(room / "yardstick")
+    subprocess.run(["cc", "-O2", "-o", yardstick, str(TOP / "tools/bench/yardstick.c")], check=True)
+    return yardstick
+
+
+def table(options: argparse.Namespace, room: Path, count: bool) -> list[dict[str, Any]]:
+    """Takes the options, a folder and whether to count instructions, gives the rows, printed as they come."""
+    heads = HEADS + [f"# {head}" for head in HEADS] if count else HEADS
+    print(" " * 34 + "".join(f"{head:>11}" for head in heads))
+    yardstick, told = compiled(room), []
+    for row in rows(options.program, room):
+        if options.only in row.title:
+            sides = row.sides(options.program, yardstick)
+            spent = by_turns(row, room, sides, options.times)
+            ran = counted(row, room, sides) if count else []
+            print(f"{row.title:34}{columns(spent, ' ns')}{columns(ran) if count else ''}", flush=True)
+            told.append({"title": row.title, "time": spent, "instructions": ran})
+    return told
+
+
+def measured(options: argparse.Namespace, room: Path) -> dict[str, Any]:
+    """Takes the options and a folder, gives the table as it is saved and drawn."""
+    count = bool(shutil.which("valgrind")) and not options.no_instructions
+    print(f"machine: {machine()}")
+    told: dict[str, Any] = {"machine": machine(), "rows": table(options, room, count)}
+    if count:
+        told["start_instructions"], told["library"] = counted_start(options.program, room), library()
+    told["start"], told["others"] = start(options.program, room), other_readers(room, options.times)
+    told["captures"] = capture_rows(room, options.times)
+    if options.only in AUDIT:
+        told["others"] += audit_of_cabling(room)
+    print("\n".join(told["start"] + told["others"] + told["captures"]))
+    return told
+
+
+def counted_anew(options: argparse.Namespace, room: Path, told: dict[str, Any]) -> None:
+    """Takes the options, a folder and the table that was kept, and counts the instructions in it anew."""
+    yardstick = compiled(room)
+    kept = {row["title"]: row for row in told["rows"]}
+    for row in rows(options.program, room):
+        ran = counted(row, room, row.sides(options.program, yardstick))
+        kept[row.title]["instructions"] = ran
+        print(f"{row.title:34}{columns(ran)}", flush=True)
+    told["start_instructions"], told["library"] = counted_start(options.program, room), library()
+    print(f"start with 64 ports of 128: {told['start_instructions']}")
+
+
+def kept(options: argparse.Namespace, room: Path) -> dict[str, Any]:
+    """Takes the options and a folder, gives the table that was kept, with what is to be measured anew."""
+    told: dict[str, Any] = json.loads(Path(options.saved).read_text())
+    if options.captures:
+        told["captures"] = capture_rows(room, options.times)
+        print("\n".join(told["captures"]))
+    if options.counts:
+        counted_anew(options, room, told)
+    return told
+
+
+def read_options() -> argparse.Namespace:
+    """Gives the options of the command line."""
+    parser = argparse.ArgumentParser(description=(__doc__ or "").splitlines()[0])
+    add = parser.add_argument
+    add("--program", default=str(TOP / "crates/lldpa/out/lldpa"), help="the built program")
+    add("--times", type=int, default=5, help="runs of each side; the least counts (default: 5)")
+    add("--only", default="", help="only rows with this text in their title")
+    add("--no-instructions", action="store_true", help="count no instructions")
+    add("--save", metavar="FILE", help="keep the table in this file")
+    add("--saved", metavar="FILE", help="measure nothing: take the table that was kept in this file")
+    add("--captures", action="store_true", help="with --saved, measure what reads captures")
+    add("--counts", action="store_true", help="with --saved, count the instructions of each row")
+    add("--table", metavar="FILE", help="write the table into this file, as docs/DECISIONS.md shows it")
+    add("--svg", metavar="FILE", help="draw the table into this file (docs/bench.svg is the one that the pages show)")
+    return parser.parse_args()
+
+
+def main() -> None:
+    """Measures, or takes what was kept; saves and draws it."""
+    options = read_options()
+    with tempfile.TemporaryDirectory() as folder:
+        told = (kept if options.saved else measured)(options, Path(folder))
+    if options.save:
+        Path(options.save).write_text(json.dumps(told, indent=1) + "\n")
+    if options.table:
+        Path(options.table).write_text(shown_table(told))
+    if options.svg:
+        Path(options.svg).write_text(picture(told))
+
+
+if __name__ == "__main__":
+    main()

@@ -1,0 +1,127 @@
+"""What other readers of frames and captures cost, beside lldpa's own scripts."""
+from __future__ import annotations
+
+import os
+import random
+import re
+import shutil
+import struct
+import subprocess
+import sys
+import time
+from pathlib import Path
+from typing import BinaryIO, Callable
+
+TOP = Path(__file__).resolve().parents[2]
+sys.path.append(str(TOP / "audit" / "tools"))
+import cabling  # noqa: E402
+from bench_rows import mix  # noqa: E402
+
+AUDIT = "an audit of 100,000 links from the shows of 2,000 hosts"
+PCAP = bytes.fromhex("d4c3b2a1020004000000000000000000ffff000001000000")
+
+
+def seconds(words: list[str], trace: Path) -> float:
+    """Takes the words of a program and its input, gives the processor time of one run."""
+    with trace.open("rb") as file:
+        child = subprocess.Popen(words, stdin=file, stdout=subprocess.DEVNULL, stderr=subprocess.DEVNULL)
+        _, status, usage = os.wait4(child.pid, 0)
+        child.returncode = status
+    if status != 0:
+        sys.exit(f"{words} ended with {status}")
+    return float(usage.ru_utime + usage.ru_stime)
+
+
+def spent(words: list[str]) -> tuple[float, float]:
+    """Takes the words of a program, gives the seconds of processor time of one run, and the megabytes of memory that
+    it took at most."""
+    child = subprocess.Popen(words, stdout=subprocess.DEVNULL, stderr=subprocess.DEVNULL)
+    ended, kilobytes = 0, ["0"]
+    while not ended:
+        kilobytes += re.findall(r"VmHWM:\s+(\d+)", Path(f"/proc/{child.pid}/status").read_text())
+        time.sleep(0.01)
+        ended, child.returncode, usage = os.wait4(child.pid, os.WNOHANG)
+    if child.returncode != 0:
+        sys.exit(f"{words} ended with {child.returncode}")
+    return usage.ru_utime + usage.ru_stime, int(kilobytes[-1]) / 1024
+
+
+def put_record(file: BinaryIO, octets: bytes, at: int, micros: int) -> None:
+    """Takes a file, a packet and its time in seconds and microseconds, and writes its record of a capture."""
+    file.write(struct.pack("<IIII", at, micros, len(octets), len(octets)) + octets)
+
+
+def write_mix(path: Path, frames: list[bytes], times: int) -> None:
+    """Takes a path and frames, and writes them so many times as a capture."""
+    with path.open("wb") as file:
+        file.write(PCAP)
+        for octets in frames * times:
+            put_record(file, octets, 0, 0)
+
+
+def write_small_frames(path: Path) -> None:
+    """Takes a path, and writes 200 MB of small frames that are not LLDP's, a thousand a second."""
+    rng = random.Random(3)
+    octets = [rng.randbytes(127) for _ in range(100)]
+    with path.open("wb") as file:
+        file.write(PCAP)
+        for i in range(1_400_000):
+            put_record(file, octets[i % 100], i // 1000, i % 1000 * 1000)
+
+
+def write_lldp_frames(path: Path) -> None:
+    """Takes a path, and writes 100,000 LLDP frames of the mix, a hundred a second."""
+    frames = mix(992, 32)
+    with path.open("wb") as file:
+        file.write(PCAP)
+        for i in range(100_000):
+            put_record(file, frames[i % len(frames)], i // 100, i % 100 * 10_000)
+
+
+def other_readers(room: Path, times: int) -> list[str]:
+    """Takes a folder and how often each runs, gives a line on each tool that prints what it reads of the mix."""
+    frames, capture, nothing = mix(992, 32), room / "mix.pcap", room / "nothing"
+    write_mix(capture, frames, 20)
+    nothing.write_text("")
+    lines = []
+    for tool, words in (("tcpdump", ["-nnv", "-r"]), ("tshark", ["-V", "-r"])):
+        if shutil.which(tool):
+            used = min(seconds([tool, *words, str(capture)], nothing) for _ in range(times))
+            lines.append(f"a frame of the mix, read and printed by {tool}: {1e9 * used / (20 * len(frames)):.0f} ns")
+    return lines
+
+
+CAPTURES: tuple[tuple[str, Callable[[Path], None]], ...] = (
+    ("a capture of 1.4 million small frames, none LLDP's", write_small_frames),
+    ("a capture of 100,000 LLDP frames", write_lldp_frames))
+CAPTURE_READERS = (("lldpa-capture", [sys.executable, str(TOP / "bin/lldpa-capture")]),
+                   ("tcpdump", ["tcpdump", "-nnv", "ether proto 0x88cc", "-r"]),
+                   ("tshark", ["tshark", "-V", "-Y", "lldp", "-r"]))
+
+
+def capture_row(title: str, capture: Path, times: int) -> str:
+    """Takes a capture and how often each reader runs, by turns, gives the line on it."""
+    readers = [(name, words) for name, words in CAPTURE_READERS if shutil.which(words[0])]
+    runs: dict[str, list[tuple[float, float]]] = {name: [] for name, _ in readers}
+    for _ in range(times):
+        for name, words in readers:
+            runs[name].append(spent([*words, str(capture)]))
+    told = [f"{name} {min(ran)[0]:.2f} s and {max(mb for _, mb in ran):.0f} MB" for name, ran in runs.items()]
+    return f"{title}: {', '.join(told)}"
+
+
+def capture_rows(room: Path, times: int) -> list[str]:
+    """Takes a folder and how often each reader runs, gives a line on each capture."""
+    lines = []
+    for title, write in CAPTURES:
+        capture = room / "capture.pcap"
+        write(capture)
+        lines.append(capture_row(title, capture, times))
+    return lines
+
+
+def audit_of_cabling(room: Path) -> list[str]:
+    """Takes a folder, gives a line on what an audit of 100,000 links costs, and the memory that it takes."""
+    words = cabling.Network(2000, 100).write(room)
+    used, _, megabytes = min(cabling.measured(words) for _ in range(3))
+    return [f"{AUDIT}: {used:.1f} s, {megabytes:.0f} MB"]

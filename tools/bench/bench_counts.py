@@ -1,0 +1,102 @@
+#!/usr/bin/env python3
+"""Counts the instructions of eight rows of the benchmark, and compares them with those of docs/bench.json.
+
+    python3 tools/bench/bench_counts.py [--program PROGRAM]
+
+A row that takes more than 1 % more than it did fails, also on a busy machine; with another C library than the counts
+were made with, more than 5 %. Needs valgrind; without it the status is 3. The last line is `N passed, M failed`. What
+is slower on purpose is counted anew by `tools/bench/bench.py --saved docs/bench.json --counts --save docs/bench.json
+--svg docs/bench.svg`.
+"""
+from __future__ import annotations
+
+import argparse
+import json
+import platform
+import re
+import shutil
+import subprocess
+import sys
+import tempfile
+from pathlib import Path
+from typing import Any
+
+from bench_rows import MANY, PORTS, Row, rows
+
+TOP = Path(__file__).resolve().parents[2]
+MOST, MOST_ELSEWHERE = 1.01, 1.05
+START = "start with 64 ports of 128"
+HELD = ("a frame of the mix, 32 held", "a frame of 36 octets", "a frame of the mix, 128 held",
+        "the same, names of one tag", "a tick of 64 ports of 128", "a shown line, 64 ports of 128",
+        "a sent frame, 64 ports")
+
+
+def instructions(words: list[str], trace: Path) -> int:
+    """Takes the words of a program and a trace, gives how many instructions it runs for it. The loader's count too, and
+    it reads the environment and the program's path: so neither is the caller's."""
+    program = Path(words[0])
+    run = [shutil.which("valgrind") or "valgrind", "--tool=callgrind", "--callgrind-out-file=/dev/null"]
+    with trace.open("rb") as file:
+        ran = subprocess.run([*run, f"./{program.name}", *words[1:]], stdin=file, stdout=subprocess.DEVNULL,
+                             stderr=subprocess.PIPE, text=True, check=True, cwd=program.parent, env={})
+    found = re.search(r"Collected : (\d+)", ran.stderr)
+    if not found:
+        sys.exit(f"valgrind does not tell what {words} took")
+    return int(found.group(1))
+
+
+def library() -> str:
+    """Gives the C library, and whether it finds AVX2, by which it chooses how it copies and searches."""
+    found = re.search(r"\bavx2\b", Path("/proc/cpuinfo").read_text())
+    return " ".join(platform.libc_ver()) + (" with AVX2" if found else "")
+
+
+def counted(row: Row, room: Path, sides: list[list[str]]) -> list[float]:
+    """Takes a row, a folder and the words of programs, gives the instructions of each for one thing of the row."""
+    whole, begin, things = row.traces(room, max(1, row.lines // 50))
+    return [(instructions(words, whole) - instructions(words, begin)) / things for words in sides]
+
+
+def counted_start(program: str, room: Path) -> int:
+    """Takes lldpa and a folder, gives the instructions of a start with 64 ports of 128 and an empty trace."""
+    empty = room / "empty"
+    empty.write_text("")
+    return instructions([program, *MANY, *PORTS], empty)
+
+
+def saved_counts(told: dict[str, Any]) -> dict[str, float]:
+    """Takes the table that was kept, gives what each row took by its title."""
+    counts = {row["title"]: row["instructions"][0] for row in told["rows"] if row["instructions"]}
+    return {**counts, START: told["start_instructions"]}
+
+
+def counts(program: str, room: Path) -> dict[str, float]:
+    """Takes lldpa and a folder, gives what each row that is held takes, by its title."""
+    held = [row for row in rows(program, room) if row.title in HELD]
+    found = {row.title: counted(row, room, [[program, *row.words]])[0] for row in held}
+    return {**found, START: counted_start(program, room)}
+
+
+def main() -> int:
+    """Compares, prints a line for each row, and gives the exit status."""
+    parser = argparse.ArgumentParser(description=(__doc__ or "").splitlines()[0])
+    parser.add_argument("--program", default=str(TOP / "crates/lldpa/out/lldpa"), help="the built program")
+    program = parser.parse_args().program
+    if not shutil.which("valgrind"):
+        print("skipped: counts of instructions, which need valgrind")
+        return 3
+    told = json.loads((TOP / "docs/bench.json").read_text())
+    saved, most = saved_counts(told), MOST if told["library"] == library() else MOST_ELSEWHERE
+    failed = 0
+    with tempfile.TemporaryDirectory() as folder:
+        now = counts(program, Path(folder))
+    for title, count in now.items():
+        slower = count > most * saved[title]
+        failed += slower
+        print(f"{'FAILED: ' if slower else ''}{title}: {count:.0f} instructions, {saved[title]:.0f} before")
+    print(f"{len(now) - failed} passed, {failed} failed")
+    return 1 if failed else 0
+
+
+if __name__ == "__main__":
+    sys.exit(main())

@@ -1,0 +1,94 @@
+"""The picture and the table of the benchmark: lldpa beside C, in words of those who have not read the benchmark."""
+from __future__ import annotations
+
+import html
+from typing import Any
+
+LEFT, WIDEST, TOP, BAR, WIDTH = 300, 330, 66, 15, 940
+# What the programs of a row are called here, in the order in which its figures stand.
+NAMES = ["lldpa", "plain C", "C that checks nothing, with vector instructions"]
+# What each row is called here.
+WORDS = {
+    "a frame of the mix, 32 held": "receive a typical frame, 32 neighbors",
+    "a frame of 36 octets": "receive the shortest frame, 36 octets",
+    "a frame of 1,514 octets": "receive the longest frame, 1,514 octets",
+    "a frame of the mix, 128 held": "receive a typical frame, 128 neighbors",
+    "a refresh, the last of 128": "refresh the last of 128 neighbors",
+    "the same, names of one tag": "the same, names chosen to collide",
+    "a tick of 64 ports, nothing due": "one second of 64 ports without neighbors",
+    "a tick of 64 ports of 128": "one second of 64 ports with 128 neighbors each",
+    "a shown line, 64 ports of 128": "print a line of the neighbor table",
+    "a sent frame, 64 ports": "send a frame",
+}
+CHANGED = {"a frame of the mix,": "a typical frame,", "resident": "of memory", "64 ports of 128": "64 ports",
+           "from the shows of": "from neighbor lists of"}
+FILLS = ["#3b7dd8", "#a9b4c2", "#d9b26f"]
+
+
+def in_words(line: str) -> str:
+    """Takes a line below the bars, gives it in words for all."""
+    for ours, theirs in CHANGED.items():
+        line = line.replace(ours, theirs)
+    return html.escape(line)
+
+
+def high(row: dict[str, Any]) -> int:
+    """Takes a row, gives its height: a bar for each figure, and a gap."""
+    return BAR * len(row["time"]) + 10
+
+
+def scale_of(rows: list[dict[str, Any]]) -> float:
+    """Takes the rows, gives the length of C's bar, by which the longest bar of all still fits."""
+    ratios: list[float] = [max(row["time"]) / row["time"][1] for row in rows]
+    return WIDEST / max(ratios)
+
+
+def bars(row: dict[str, Any], y: float, scale: float) -> list[str]:
+    """Takes a row, where it begins and the length of C's bar, gives its lines of the picture."""
+    ours, theirs = row["time"][:2]
+    middle = y + high(row) / 2
+    out = [f'<text x="{LEFT - 10}" y="{middle:.0f}" text-anchor="end">{html.escape(WORDS[row["title"]])}</text>']
+    for k, value in enumerate(row["time"]):
+        width, down = scale * value / theirs, y + 2 + BAR * k
+        out.append(f'<rect x="{LEFT}" y="{down}" width="{width:.0f}" height="13" fill="{FILLS[k]}"/>'
+                   f'<text x="{LEFT + 6 + width:.0f}" y="{down + 11}" font-size="11">{NAMES[k]} {value:.0f} ns</text>')
+    out.append(f'<text x="{WIDTH - 16}" y="{middle:.0f}" text-anchor="end">{ours / theirs:.2f} times plain C</text>')
+    return out
+
+
+def head(told: dict[str, Any], height: float) -> list[str]:
+    """Takes the table and the picture's height, gives the lines of its title."""
+    return [f'<svg xmlns="http://www.w3.org/2000/svg" width="{WIDTH}" height="{height}" viewBox="0 0 {WIDTH} {height}" '
+            'font-family="sans-serif" font-size="13">',
+            '<rect width="100%" height="100%" fill="white"/>',
+            '<text x="16" y="24" font-size="16">Processor time of the agent, beside C that does the same work</text>',
+            '<text x="16" y="44" fill="#555">shorter is better; the bar of plain C is as long in each row; on '
+            f'{html.escape(told["machine"])}</text>']
+
+
+def table(told: dict[str, Any]) -> str:
+    """Takes the table as it is saved, gives it as a page shows it: nanoseconds and instructions of each program."""
+    heads = ["ns", "ns, C", "ns, C by vectors", "instructions", "C's", "C's by vectors"]
+    lines = [f"| | {' | '.join(heads)} |", "|---|" + "---|" * len(heads)]
+    for row in told["rows"]:
+        figures = [value for side in ("time", "instructions") for value in (row[side] + [0, 0])[:3]]
+        cells = [f"{value:,.0f}" if value else "" for value in figures]
+        lines.append(f"| {WORDS[row['title']]} | {' | '.join(cells)} |")
+    return "\n".join(lines) + "\n"
+
+
+def picture(told: dict[str, Any]) -> str:
+    """Takes the table, gives its picture: bars for each row that C does too, and lines for the others."""
+    rows_of_c = [row for row in told["rows"] if len(row["time"]) > 1]
+    others = [row for row in told["rows"] if len(row["time"]) == 1]
+    end = TOP + sum(high(row) for row in rows_of_c)
+    foot = [f"{WORDS[row['title']]}: {row['time'][0]:.0f} ns" for row in others] + told["start"] + told["others"]
+    foot += told.get("captures", [])
+    out, y, scale = head(told, end + 34 + 19 * len(foot)), TOP, scale_of(rows_of_c)
+    for row in rows_of_c:
+        out += bars(row, y, scale)
+        y += high(row)
+    out.append(f'<path d="M{LEFT} {TOP - 6} V{end}" stroke="#444"/>')
+    for i, line in enumerate(foot):
+        out.append(f'<text x="16" y="{end + 24 + 19 * i}" fill="#555">{in_words(line)}</text>')
+    return "\n".join(out) + "\n</svg>\n"

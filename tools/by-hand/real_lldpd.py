@@ -1,0 +1,42 @@
+"""A real lldpd, for the scripts that compare it with this repository's programs."""
+from __future__ import annotations
+
+import json
+import os
+import re
+import subprocess
+from typing import Any
+
+from patience import eventually
+
+
+class Lldpd:
+    """A running lldpd, in a namespace, with its socket in a folder."""
+
+    def __init__(self, namespace: str, folder: str, *words: str) -> None:
+        os.makedirs("/run/lldpd", exist_ok=True)
+        self.socket = os.path.join(folder, namespace)
+        command = ["ip", "netns", "exec", namespace, "lldpd", "-d", "-u", self.socket, "-O", "/dev/null"]
+        self.process = subprocess.Popen([*command, *words], stdin=subprocess.DEVNULL,
+                                        stdout=subprocess.DEVNULL, stderr=subprocess.DEVNULL)
+        if not eventually(lambda: self.ask("-f", "keyvalue", "show", "configuration")):
+            raise SystemExit("no lldpd")
+
+    def ask(self, *words: str) -> bytes:
+        """Returns what lldpcli writes."""
+        command = ["lldpcli", "-u", self.socket, *words]
+        return subprocess.run(command, capture_output=True, check=False).stdout
+
+    def tell(self, command: str) -> None:
+        """Tells it a command, in which quotes hold a word together."""
+        self.ask(*(word.strip('"') for word in re.findall(r'"[^"]*"|\S+', command)))
+
+    def neighbors(self) -> list[Any]:
+        """Returns the interfaces with neighbors that it shows."""
+        shown = json.loads(self.ask("-f", "json0", "show", "neighbors", "details") or "{}")
+        return [one for part in shown.get("lldp", []) for one in part.get("interface", [])]
+
+    def close(self) -> None:
+        """Ends it."""
+        self.process.terminate()
+        self.process.wait()

@@ -1,0 +1,217 @@
+#!/usr/bin/env python3
+"""Compares what is read of organizationally specific TLVs with what lldpcli and tshark show of the same frames.
+
+    tools/by-hand/try-details.py [--program PATH] [--save FILE] [--octets]
+
+Frames of real senders (lldpd, ladvd, lldpad) come from python/tests/judged.json; further ones are sent by an lldpd that is
+configured for it, and frames with a TLV of each kind and with each value that has a name are made. Each goes over a link to a
+receiving lldpd, whose lldpcli is asked (-f json0), and to tshark. Each value that they show and each that is read here must be
+equal, but for what python/tests/judges.py and by_tshark.py list with its reason. --save keeps the frames with the answers
+of both, which python/tests/test_judged.py compares without them. --octets gives tshark each front of one of each kind too, and
+each of its octets changed to each other value. It needs Linux, root, and Debian's packages lldpd, iproute2
+and tshark. The last line is `N passed, M failed`.
+"""
+import argparse
+import json
+import os
+import pathlib
+import struct
+import subprocess
+import sys
+
+TOP = pathlib.Path(__file__).resolve().parents[2]
+sys.path[:0] = [str(TOP / "python"), str(TOP / "python" / "tests")]
+from by_tshark import compared, is_left_out, wanted  # noqa: E402
+from encoding import SAMPLES, encoded  # noqa: E402
+from judges import PARTS, Judged, compare, flat, leaves, sender_of_frame  # noqa: E402
+from patience import eventually  # noqa: E402
+from real_lldpd import Lldpd  # noqa: E402
+from served import frame, tlv  # noqa: E402
+from lldpa.organizational import read_tlv  # noqa: E402
+from test_organizational import changed  # noqa: E402
+from wires import Peer, Wires  # noqa: E402
+
+JUDGED = TOP / "python" / "tests" / "judged.json"
+# what an lldpd is told, by the name of what it then sends
+SENDERS = {
+    "lldpd-pse": (
+        "configure ports peer0 dot3 power pse supported enabled paircontrol powerpairs spare class class-3 type 2"
+        " source primary priority high requested 20000 allocated 15000",
+        "configure med location elin number 9115551212"),
+    "lldpd-pd": (
+        "configure ports peer0 dot3 power pd supported enabled powerpairs signal class class-4 type 1 source pse"
+        " priority critical requested 6500 allocated 0",
+        "configure ports peer0 med power pd source pse priority high value 5000",
+        "configure med location coordinate latitude 48.85667N longitude 2.2014W altitude 117.5 m datum WGS84"),
+    "lldpd-policies": (
+        "configure ports peer0 med policy application voice tagged vlan 500 priority voice dscp 46",
+        "configure ports peer0 med policy application guest-voice unknown",
+        "configure ports peer0 med policy application streaming-video vlan priority-tagged priority video dscp 34",
+        "configure med power pse source primary priority low value 15400"),
+    "lldpd-place": (
+        "configure med location address country US language en_US city Albany street \"Main Street\" number 7 room 9",
+        "configure inventory hardware-revision \"HW rev B\"",
+        "configure inventory firmware-revision \"FW 9\"",
+        "configure inventory serial-number \"SN-0001\"",
+        "configure inventory manufacturer \"Example Ltd\"",
+        "configure inventory model \"Phone 7\"",
+        "configure inventory asset \"asset-42\""),
+    "lldpd-custom": (
+        "configure lldp custom-tlv add oui 00,80,c2 subtype 1 oui-info 00,78",
+        "configure lldp custom-tlv add oui 00,80,c2 subtype 2 oui-info 06,00,7b",
+        "configure lldp custom-tlv add oui 00,80,c2 subtype 3 oui-info 00,78,06,6f,66,66,69,63,65",
+        "configure lldp custom-tlv add oui 00,80,c2 subtype 4 oui-info 05,88,cc,00,01,02",
+        "configure lldp custom-tlv add oui 00,80,c2 subtype 7 oui-info 03,00,00,00,07",
+        "configure lldp custom-tlv add oui 00,80,c2 subtype 11 oui-info 84,09",
+        "configure lldp custom-tlv add oui 00,12,0f subtype 5 oui-info 00,11,00,12,00,13,00,14,00,15",
+        "configure lldp custom-tlv add oui 00,12,0f subtype 4 oui-info 05,f2",
+        "configure lldp custom-tlv add oui 33,44,55 subtype 44 oui-info 45,45,45,45,45"),
+}
+
+
+def sent_by_lldpd(wires):
+    """The frames of an lldpd, by what it was told."""
+    hearing = Peer(wires, "eth0")
+    for name, commands in SENDERS.items():
+        sender = Lldpd(wires.there, wires.folder, "-M", "4", "-S", "a real peer", "-I", "peer0")
+        for command in commands:
+            sender.tell(command)
+        while hearing.hears(0.01):
+            pass
+        sender.ask("update")
+        yield name, hearing.hears()
+        sender.close()
+    hearing.close()
+
+
+def made():
+    """Frames with a TLV of each kind, and with each value that has a name."""
+    for number, sample in enumerate(SAMPLES):
+        (oui, subtype), octets = sample.kind, bytes.fromhex(sample.octets)
+        yield f"{oui}.{subtype}-{number}", bytes.fromhex(oui) + bytes([subtype]) + octets
+    for number in range(146):
+        yield f"mau-{number}", bytes.fromhex("00120f01036c01") + number.to_bytes(2, "big")
+    for bit in range(16):
+        yield f"advertised-{bit}", bytes.fromhex("00120f0103") + (1 << bit).to_bytes(2, "big") + b"\0\x1e"
+    for number in range(64):
+        yield f"power-{number}", bytes.fromhex("00120f02") + bytes([number >> 2 & 15, number & 3, number % 7])
+        yield f"power-at-{number}", (bytes.fromhex("00120f020f0103") + bytes([number << 2 & 0xF0 | number & 3])
+                                     + bytes.fromhex("00ff00c8"))
+        yield f"med-power-{number}", bytes.fromhex("0012bb04") + bytes([number << 2 & 0xF0 | number & 3]) + b"\0\x32"
+    for number in range(16):
+        yield f"policy-{number}", bytes.fromhex("0012bb02") + bytes([number, 0x43, 0xE9 & ~1 | number >> 2 & 1,
+                                                                     number << 6 & 0xC0 | 46])
+        yield f"power-bt-{number}", (bytes.fromhex("00120f020601045200ff00c8") + bytes.fromhex("0064006500660067")
+                                     + bytes([number << 4 | number & 3 << 2 | number >> 2, number << 4 | number, number])
+                                     + bytes.fromhex("03e7") + bytes([number & 7]) + bytes.fromhex("74003c"))
+        yield f"med-class-{number}", bytes.fromhex("0012bb01") + bytes([0, 1 << number & 0x3F | 1, number])
+    for kind in (*range(7), *range(16, 30), 128):
+        body = b"\x02NL" + bytes([kind, 2]) + b"ab"
+        yield f"civic-{kind}", bytes.fromhex("0012bb0302") + bytes([len(body)]) + body
+
+
+def with_tlv(body):
+    """A frame with this organizationally specific TLV. One of LLDP-MED stands behind that of its capabilities, without
+    which lldpd does not look at it."""
+    is_of_med = body.startswith(bytes.fromhex("0012bb")) and body[3] > 1
+    before = [tlv(127, bytes.fromhex("0012bb01003f03"))] if is_of_med else []
+    return frame(b"\x04\x02\0\0\0\0\1", b"\x05p1", 120, tlv(5, b"made"), *before, tlv(127, body))
+
+
+def shown_by_tshark(frames, room):
+    """What tshark shows of the organizationally specific TLVs of each frame."""
+    path = os.path.join(room, "frames.pcap")
+    with open(path, "wb") as file:
+        file.write(struct.pack("<IHHiIII", 0xA1B2C3D4, 2, 4, 0, 0, 65535, 1))
+        for octets in frames:
+            file.write(struct.pack("<IIII", 0, 0, len(octets), len(octets)) + octets)
+    told = subprocess.run(["tshark", "-r", path, "-T", "json"], capture_output=True, check=True).stdout
+    for one in json.loads(told.decode("utf-8", "replace"), object_pairs_hook=lambda pairs: pairs):
+        layers = dict(dict(dict(one)["_source"])["layers"])
+        bodies = [body for _, body in layers["lldp"] if isinstance(body, list)]
+        yield [list(leaves(body)) for body in bodies if ("lldp.tlv.type", "127") in body]
+
+
+def shown_by_lldpcli(frames, wires):
+    """What lldpcli shows of each frame."""
+    receiver = Lldpd(wires.here, wires.folder, "-r", "-M", "4", "-I", "eth0")
+    sending = Peer(wires, "peer0")
+    for octets in frames:
+        sending.send(octets)
+        shown, = eventually(receiver.neighbors)
+        yield shown
+        sending.send(sender_of_frame(octets))
+        eventually(lambda: not receiver.neighbors())
+    sending.close()
+    receiver.close()
+
+
+def compare_octets(room):
+    """How many fronts and changed octets are read as tshark reads them, and which are not. Those are passed over that stay
+    in hexadecimal, that have reserved bits, and that have a text with a NUL, which tshark cuts, or without UTF-8."""
+    equal, differences = 0, []
+    for sample in SAMPLES:
+        octets = bytes.fromhex(sample.octets)
+        variants = [(some, read_tlv(*sample.kind, some))
+                    for some in [*(octets[:end] for end in range(1, len(octets))), *changed(octets)]]
+        read = [(some, tlv) for some, tlv in variants if tlv is not None and encoded(tlv) == some and not has_odd_text(tlv)]
+        frames = [frame(b"\x04\x02\0\0\0\0\1", b"\x05p1", 120, tlv_of(sample.kind, some)) for some, _ in read]
+        for (some, tlv), (shown,) in zip(read, shown_by_tshark(frames, room)):
+            is_equal = [tuple(pair) for pair in compared(shown)] == wanted(sample.kind, tlv)
+            equal += is_equal
+            if not is_equal:
+                differences.append(f"{sample.kind} {some.hex()}: tshark shows {shown}, and read is {tlv}")
+    return equal, differences
+
+
+def has_odd_text(tlv):
+    """Whether a text in it has a NUL, or is no UTF-8."""
+    texts = [value for value in vars(tlv).values() if isinstance(value, bytes)] if not hasattr(tlv, "protocol") else []
+    texts += [text for _, text in getattr(tlv, "elements", ())]
+    return any(b"\0" in text or text != text.decode("utf-8", "replace").encode() for text in texts)
+
+
+def tlv_of(kind, octets):
+    """The TLV of a kind."""
+    return tlv(127, bytes.fromhex(kind[0]) + bytes([kind[1]]) + octets)
+
+
+def run(given, wires):
+    """The comparison."""
+    saved = json.loads(JUDGED.read_text()) if JUDGED.exists() else []
+    frames = {one["name"]: bytes.fromhex(one["frame"]) for one in saved if one["name"].startswith("real-")}
+    frames.update(sent_by_lldpd(wires))
+    frames.update((f"made-{name}", with_tlv(body)) for name, body in made())
+    told = zip(frames.items(), shown_by_tshark(frames.values(), wires.folder), shown_by_lldpcli(frames.values(), wires))
+    judged = [Judged(name, octets.hex(), [pair for pair in flat(lldpcli) if pair[0].startswith(PARTS)],
+                     [[pair for pair in pairs if not is_left_out(pair[0])] for pairs in tshark])
+              for (name, octets), tshark, lldpcli in told]
+    if given.save:
+        lines = [json.dumps(one._asdict()) for one in judged]
+        pathlib.Path(given.save).write_text("[\n" + ",\n".join(lines) + "\n]\n")
+    return judged
+
+
+def main():
+    """Runs the comparison, and cleans up."""
+    parser = argparse.ArgumentParser(description=__doc__, formatter_class=argparse.RawDescriptionHelpFormatter)
+    parser.add_argument("--program", default=str(TOP / "crates" / "lldpa" / "out" / "lldpa"))
+    parser.add_argument("--save", metavar="FILE")
+    parser.add_argument("--octets", action="store_true")
+    given = parser.parse_args()
+    wires = Wires()
+    os.chmod(wires.folder, 0o755)
+    try:
+        equal, differences = compare(run(given, wires), given.program)
+        print(f"{equal} values are those of lldpcli and tshark, {len(differences)} are not")
+        more, others = compare_octets(wires.folder) if given.octets else (0, [])
+    finally:
+        wires.close()
+    for text in differences + others:
+        print(f"FAILED: {text}")
+    print(f"{equal + more} passed, {len(differences + others)} failed")
+    return 1 if differences or others or not equal else 0
+
+
+if __name__ == "__main__":
+    sys.exit(main())

@@ -1,0 +1,171 @@
+#!/usr/bin/env python3
+"""Reads the same frames by the library, by lldpd's decoder and by systemd's sd-lldp, and compares
+what they tell and how long they take. Where they differ, a rule of docs/STANDARD.md must say so.
+
+    tools/by-hand/try-library-peers.py --peers FOLDER [--library FOLDER] [--frames FILE ..] [--count N]
+                               [--seed N] [--rounds N]
+
+The folder of the peers has the programs lldpd_decode and sd_decode, built over the sources of their
+projects: each is given `verdict FILE` and `bench FILE N`, with a frame in hexadecimal on each line
+of the file. That of the library is what tools/library/library.sh makes, as it does unless it is named.
+--frames names captures (pcap) and traces, beside those of docs and examples. The N frames, 300,000
+unless given, are those of all these, altered ones, and those of tools/model/fuzz.py. What the library
+tells is also compared with the model of tools/model/model.py. The last line is `N passed, M failed`.
+"""
+from __future__ import annotations
+
+import argparse
+import collections
+import pathlib
+import re
+import statistics
+import subprocess
+import sys
+import tempfile
+from typing import Iterator
+
+sys.dont_write_bytecode = True
+TOP = pathlib.Path(__file__).resolve().parents[2]
+sys.path.append(str(TOP / "tools" / "model"))
+import fuzz  # noqa: E402
+from library_peers import Frame, Told, compared, fault_of_ours, verdicts  # noqa: E402
+
+STANDARD = TOP / "docs" / "STANDARD.md"
+OURS = "the library"
+SAME = ("the same", "the same as the model")
+
+
+def pcap_frames(path: pathlib.Path) -> Iterator[bytes]:
+    """The frames of a capture."""
+    octets = path.read_bytes()
+    order, at = ("little" if octets[3] == 0xa1 else "big"), 24
+    while at + 16 <= len(octets):
+        end = at + 16 + int.from_bytes(octets[at + 8:at + 12], order)  # type: ignore[arg-type]
+        yield octets[at + 16:end]
+        at = end
+
+
+def captured_frames(paths: list[pathlib.Path]) -> list[bytes]:
+    """The frames of captures and of traces, each once."""
+    found: dict[bytes, None] = {}
+    for path in paths:
+        if path.suffix == ".pcap":
+            found.update(dict.fromkeys(pcap_frames(path)))
+            continue
+        for digits in re.findall(rb"^rx \S+ ((?:[0-9a-fA-F]{2})+)$", path.read_bytes(), re.M):
+            found[bytes.fromhex(digits.decode())] = None
+    return list(found)
+
+
+def corpus(captured: list[bytes], count: int, seed: int) -> list[bytes]:
+    """Captured frames, then altered ones of them and those of tools/model/fuzz.py in turn."""
+    dice = fuzz.Dice(seed)
+    frames = list(captured)
+    while len(frames) < count:
+        octets = dice.choice(captured)
+        for _ in range(dice.choice([1, 1, 1, 2, 3])):
+            octets = fuzz.altered_octets(dice, octets)
+        frames += [made for made in (octets, fuzz.frame(dice)) if made]
+    return frames[:count]
+
+
+def nanoseconds(command: list[str], rounds: int) -> float:
+    """The time a frame, the median of some rounds."""
+    times = []
+    for _ in range(rounds):
+        ran = subprocess.run(command, capture_output=True, text=True, check=True)
+        times.append(float(re.findall(r"ns_per_frame=([0-9.]+)", ran.stdout)[0]))
+    return statistics.median(times)
+
+
+def print_times(programs: dict[str, list[str]], files: dict[str, pathlib.Path],
+                rounds: int) -> None:
+    """The time a frame of each program over each file."""
+    for of_what, path in files.items():
+        for name, command in programs.items():
+            took = nanoseconds([*command, str(path), "600000"], rounds)
+            print(f"{of_what}, {name}: {took:.1f} ns a frame")
+
+
+def found_of(peer: str, frame: Frame, ours: Told, theirs: Told) -> str:
+    """How a program's answer compares: the same, a rule, or `?` and what is wrong."""
+    if peer != OURS:
+        return compared(peer, frame, ours, theirs)
+    fault = fault_of_ours(frame, ours)
+    return f"? {fault}" if fault else SAME[1]
+
+
+def judge(peer: str, frames: list[Frame], ours: list[Told], theirs: list[Told]) -> tuple[int, int]:
+    """Compares all that a program told, and prints how it differs. How much held, and did not."""
+    counts: collections.Counter[str] = collections.Counter()
+    for frame, our, their in zip(frames, ours, theirs):
+        found = found_of(peer, frame, our, their)
+        counts[found] += 1
+        if found.startswith("?") and counts[found] <= 3:
+            print(f"FAILED: {peer}: {found[2:]}: {frame.octets.hex()}")
+    page = STANDARD.read_text()
+    failed = sum(count for found, count in counts.items() if found.startswith("?"))
+    unsaid = [found for found in counts if found not in SAME and found not in page]
+    for found, count in counts.most_common():
+        print(f"{peer}: {count} {found}")
+    for found in unsaid:
+        print(f"FAILED: docs/STANDARD.md does not say: {found}")
+    return len(frames) - failed, failed + len(unsaid)
+
+
+def read_arguments() -> argparse.Namespace:
+    """The words of the command line."""
+    parser = argparse.ArgumentParser(description=(__doc__ or "").splitlines()[0])
+    parser.add_argument("--peers", type=pathlib.Path, required=True)
+    parser.add_argument("--library", type=pathlib.Path)
+    parser.add_argument("--frames", type=pathlib.Path, nargs="*", default=[])
+    parser.add_argument("--count", type=int, default=300000)
+    parser.add_argument("--seed", type=int, default=1)
+    parser.add_argument("--rounds", type=int, default=5)
+    return parser.parse_args()
+
+
+def built(library: pathlib.Path | None, room: pathlib.Path) -> str:
+    """The program over the library, built."""
+    if library is None:
+        library = room / "lib"
+        command = [TOP / "tools" / "library" / "library.sh", library]
+        subprocess.run(command, check=True, stdout=subprocess.DEVNULL)
+    program = room / "verdicts"
+    source = TOP / "tools" / "library" / "c" / "verdicts.c"
+    archive = library / "liblldpa.a"
+    subprocess.run(["cc", "-std=c99", "-O2", f"-I{library}", source, archive, "-o", program],
+                   check=True)
+    return str(program)
+
+
+def main() -> int:
+    """Makes the frames, asks each program, and compares."""
+    words = read_arguments()
+    ours = [*sorted((TOP / "docs").rglob("*.pcap")), *sorted((TOP / "examples").glob("*.trace"))]
+    captured = captured_frames([*ours, *words.frames])
+    octets = corpus(captured, words.count, words.seed)
+    print(f"{len(octets)} frames, {len(captured)} of captures and traces")
+    frames, passed, failed = [Frame(frame) for frame in octets], 0, 0
+    with tempfile.TemporaryDirectory() as name:
+        room = pathlib.Path(name)
+        files = {"captured frames": room / "captured", "all frames": room / "all"}
+        for path, which in zip(files.values(), (captured, octets)):
+            path.write_text("".join(f"{frame.hex()}\n" for frame in which))
+        programs = {OURS: built(words.library, room), "lldpd": str(words.peers / "lldpd_decode"),
+                    "sd-lldp": str(words.peers / "sd_decode")}
+        told = {peer: verdicts([program, "verdict", str(files["all frames"])])
+                for peer, program in programs.items()}
+        for peer, theirs in told.items():
+            assert len(theirs) == len(frames), f"{peer} tells of other frames"
+            held, not_held = judge(peer, frames, told[OURS], theirs)
+            passed, failed = passed + held, failed + not_held
+        timed = {f"{OURS}, without a walk": [programs[OURS], "examine"]}
+        timed |= {peer: [program, "bench"] for peer, program in programs.items()}
+        print_times(timed, files, words.rounds)
+    print(f"{passed} passed, {failed} failed")
+    return 1 if failed or not passed else 0
+
+
+if __name__ == "__main__":
+    sys.exit(main())

@@ -1,0 +1,375 @@
+#!/usr/bin/env python3
+"""Compares what lldpctl prints of lldpa-live with what lldpcli prints of an lldpd beside it, on the same two links.
+
+    tools/by-hand/try-lldpctl.py [--program PATH] [--verbose]
+
+At the far end an lldpd sends what it is configured to: TLVs of IEEE 802.1 and 802.3, LLDP-MED and custom ones. Then
+frames of real senders and made ones (python/tests/judged.json) are sent, and texts with every octet. At the near end
+stand `lldpd -r` and lldpa-live, which receive the same. Each command is asked in each of the forms plain, keyvalue,
+json and json0, and each key and each value is compared but for the age. A difference is a failure unless docs/LLDPD.md
+lists it. It needs Linux, root, and Debian's packages lldpd and iproute2. The last line is `N passed, M failed`.
+"""
+import argparse
+import collections
+import contextlib
+import json
+import os
+import pathlib
+import re
+import socket
+import subprocess
+import sys
+
+TOP = pathlib.Path(__file__).resolve().parents[2]
+sys.path[:0] = [str(TOP / "python"), str(TOP / "python" / "tests")]
+from running_live import Live  # noqa: E402
+from judges import flat, sender_of_frame  # noqa: E402
+from lldpa.lldpcli_forms.writing import LINE, one_line, shortened  # noqa: E402
+from lldpa.texts import printable  # noqa: E402
+from patience import eventually  # noqa: E402
+from real_lldpd import Lldpd  # noqa: E402
+from served import frame, tlv  # noqa: E402
+from wires import Wires, inside, ip  # noqa: E402
+
+PAGE = TOP / "docs" / "LLDPD.md"
+HEADING = "## `lldpctl`, in lldpcli's place"
+JUDGED = TOP / "python" / "tests" / "judged.json"
+FORMS = ("plain", "keyvalue", "json", "json0")
+COMMANDS = ("show neighbors", "show neighbors details", "show neighbors summary", "show neighbors details ports eth1",
+            "show neighbors ports eth0,eth1", "show interfaces", "show interfaces summary", "show interfaces ports eth0",
+            "show chassis", "show chassis summary", "show statistics", "show statistics summary",
+            "show statistics ports eth1", "show configuration")
+OF_NEIGHBORS = ("show neighbors details",)
+BATCH = 60  # at two ports, and an lldpd keeps 32 neighbors of one
+SIGN = re.compile(r"-(?=\d)|(?<=\d)[NSEW]")
+IDENTIFIER = re.compile(r"(chassis|port)\.(mac|ip|ifname|ifalias|local|unhandled|id|id\.type)|ChassisID|PortID")
+AGE = re.compile(r"Time: \d+ days?, [0-9:]+")
+COORDINATES = [(degrees, resolution) for degrees in (0, 48.8566613, -33.8567844, 0.5, -0.5, -1, 89.9999999, -0.001)
+               for resolution in (0, 5, 9, 10, 15, 22, 25, 34)]
+# what the lldpd at the far end is told, by what it then is
+SENDERS = {
+    "a switch": (
+        "configure ports peer0 dot3 power pse supported enabled paircontrol powerpairs spare class class-3",
+        "configure lldp custom-tlv add oui 00,80,c2 subtype 1 oui-info 00,78",
+        "configure lldp custom-tlv add oui 00,80,c2 subtype 2 oui-info 06,00,7b",
+        "configure lldp custom-tlv add oui 00,80,c2 subtype 3 oui-info 00,78,06,6f,66,66,69,63,65",
+        "configure lldp custom-tlv add oui 00,80,c2 subtype 3 oui-info 00,79,05,67,75,65,73,74",
+        "configure lldp custom-tlv add oui 00,80,c2 subtype 4 oui-info 05,88,cc,00,01,02",
+        "configure lldp custom-tlv add oui 00,12,0f subtype 4 oui-info 05,f2",
+        "configure lldp custom-tlv add oui 33,44,55 subtype 44 oui-info 45,45,45,45,45",
+        "configure lldp custom-tlv add oui 33,44,55 subtype 254"),
+    "a phone": (
+        "configure ports peer0 dot3 power pd supported enabled powerpairs signal class class-4",
+        "configure ports peer0 med policy application voice tagged vlan 500 priority voice dscp 46",
+        "configure ports peer0 med policy application guest-voice unknown",
+        "configure ports peer1 med policy application streaming-video vlan priority-tagged priority video dscp 34",
+        "configure ports peer0 med power pd source pse priority high value 5000",
+        "configure ports peer0 med location coordinate latitude 48.85667N longitude 2.2014W altitude 117.5 m datum WGS84",
+        "configure ports peer1 med location address country US language en_US city Albany number 7",
+        "configure inventory hardware-revision HW-B", "configure inventory firmware-revision FW-9",
+        "configure inventory serial-number SN-0001", "configure inventory manufacturer Example",
+        "configure inventory model Phone-7", "configure inventory asset asset-42"),
+    "a plain host": ("configure system description \"two words\"", "configure lldp portidsubtype ifname"),
+}
+# what makes the near lldpd say what lldpa-live says
+ALIKE = ("configure lldp portidsubtype ifname", "configure system description alike",
+         "configure system ip management pattern 192.0.2.1")
+
+
+class Comparison:
+    """Counts what is equal, what is listed, and what is neither."""
+
+    def __init__(self, is_verbose):
+        self.is_verbose = is_verbose
+        self.equal = 0
+        self.listed = collections.Counter()
+        self.failed = []
+        self.rows = listed_keys(PAGE.read_text())
+
+    def compare(self, where, theirs, ours):
+        """Compares the blocks of two answers: pairs of keys and values, by the neighbor or port that they tell of."""
+        for name in dict.fromkeys([*theirs, *ours]):
+            of_theirs, of_ours = by_key(theirs.get(name, [])), by_key(ours.get(name, []))
+            for key in dict.fromkeys([*of_theirs, *of_ours]):
+                self.compare_values(where, name, key, of_theirs.get(key, []), of_ours.get(key, []))
+            common = [key for key in dict.fromkeys(key for key, _ in theirs.get(name, [])) if key in of_ours]
+            if common != [key for key in of_ours if key in of_theirs]:
+                self.failed.append(f"{where}: {name}: the order of its keys")
+
+    def compare_values(self, where, name, key, theirs, ours):
+        """Compares the values of one key."""
+        if theirs == ours:
+            self.equal += len(ours)
+            return
+        row = self.row_of(where, key, theirs, ours)
+        if row is None:
+            self.failed.append(f"{where}: {name}: {key}: lldpcli {theirs}, lldpctl {ours}")
+            return
+        self.listed[row] += max(len(theirs), len(ours))
+        if self.is_verbose:
+            print(f"listed: {where}: {name}: {key}: lldpcli {theirs}, lldpctl {ours}")
+
+    def row_of(self, where, key, theirs, ours):
+        """What of the page lists a difference, None where nothing does."""
+        if escaped_alike(theirs) == escaped_alike(ours) and ("neighbors", "a text") in self.rows:
+            return "a text"
+        if [SIGN.sub("", str(value)) for value in theirs] == [SIGN.sub("", str(value)) for value in ours]:
+            return "a sign" if ("neighbors", "a sign") in self.rows else None
+        return next((row for show, row in self.rows if f": show {show}" in where
+                     and (key == row or key.startswith(row + "."))), None)
+
+
+def listed_keys(page):
+    """The shows in the first column of the page's table of differences, each with a key in the second."""
+    table = page.partition(HEADING)[2].partition("\n## ")[0]
+    rows = [line.split("|")[1:3] for line in table.splitlines() if line.startswith("|")]
+    return [(show, key) for shows, keys in rows for show in re.findall("`([^`]*)`", shows)
+            for key in (re.findall("`([^`]*)`", keys) or [keys.strip()])]
+
+
+def escaped_alike(values):
+    """Texts with all escaped that is escaped here in one form or another."""
+    return [printable(one_line(str(value))) for value in values]
+
+
+def by_key(pairs):
+    """The values of each key, in their order."""
+    found = {}
+    for key, value in pairs:
+        found.setdefault(key, []).append(value)
+    return found
+
+
+def blocks_of(form, octets):
+    """The blocks of an answer in a form: pairs of keys and values, by what they tell of."""
+    if form == "plain":
+        return named(plain_blocks(octets.decode("utf-8", "surrogateescape")))
+    if form == "keyvalue":
+        return named(keyvalue_blocks(octets.decode("utf-8", "surrogateescape")))
+    return named(json_blocks(json.loads(octets)))
+
+
+def named(blocks):
+    """Blocks by what they are of: a port, and of a neighbor its identifiers."""
+    found = {}
+    for port, pairs in blocks:
+        of = [one_line(str(value)) for key, value in pairs if IDENTIFIER.fullmatch(key)]
+        found.setdefault(" ".join([port, *of]), []).extend(pairs)
+    return found
+
+
+def plain_blocks(text):
+    """Of the form plain: what stands before the colon of a line is its key."""
+    title, *blocks = AGE.sub("Time", text).split(LINE + "\n")[1:]
+    yield "title", [("title", title)]
+    for block in filter(None, blocks):
+        pairs = []
+        for line in block.split("\n")[:-1]:
+            label, mark, value = line.partition(":")
+            pairs.append((label.strip(), value) if mark and not line.startswith(" " * 14) else ("further", line))
+        yield block.split("\n", 1)[0].split(",")[0], pairs
+
+
+def keyvalue_blocks(text):
+    """Of the form keyvalue."""
+    blocks = []
+    for line in text.split("\n")[:-1]:
+        key, _, value = line.partition("=")
+        root, _, rest = key.partition(".")
+        port, _, inner = rest.partition(".") if root == "lldp" else ("", "", rest)
+        if not blocks or blocks[-1][0] != f"{root} {port}" or inner == "via":
+            blocks.append((f"{root} {port}", []))
+        if inner != "age":
+            blocks[-1][1].append((inner, value))
+    return blocks
+
+
+def json_blocks(told):
+    """Of both forms of JSON."""
+    (root, inner), = told.items()
+    inner = inner[0] if isinstance(inner, list) else inner
+    some = inner.get("interface", inner)
+    for one in some if isinstance(some, list) else [some]:
+        name = one["name"] if "name" in one else next(iter(one)) if len(one) == 1 and root == "lldp" else ""
+        pairs = [(key.partition(f"{name}.")[2] if key.startswith(f"{name}.") else key, value) for key, value in flat(one)]
+        chassis = one.get(name, one).get("chassis") if isinstance(one.get(name, one), dict) else None
+        names = list(chassis) if isinstance(chassis, dict) and len(chassis) == 1 else []
+        yield f"{root} {name}", [(unnamed(key, names).removesuffix(".value"), value) for key, value in pairs
+                                 if key != "age"]
+
+
+def unnamed(key, names):
+    """A key without the name of a chassis, which stands in it where the chassis has one."""
+    front = f"chassis.{names[0]}." if names and names != ["id"] else None
+    return "chassis." + key[len(front):] if front and key.startswith(front) else key
+
+
+class Lab:
+    """Both ends."""
+
+    def __init__(self, program):
+        self.last = None
+        self.wires = Wires(2)
+        for side, interface, address in (("here", "eth0", 1), ("there", "peer0", 2)):
+            ip("-n", getattr(self.wires, side), "address", "add", f"192.0.2.{address}/24", "dev", interface)
+        os.chmod(self.wires.folder, 0o755)
+        self.lldpd = Lldpd(self.wires.here, self.wires.folder, "-r", "-I", "eth0,eth1")
+        self.live = Live(self.wires, "eth0", "eth1", "--no-description", "--", "--receive-only",
+                         "--management=192.0.2.1", program=program)
+        self.live.ask("configure system description alike")
+        for command in ALIKE:
+            self.lldpd.tell(command)
+        with inside(self.wires.there):
+            self.sending = [socket.socket(socket.AF_PACKET, socket.SOCK_RAW) for _ in range(2)]
+            for number, one in enumerate(self.sending):
+                one.bind((f"peer{number}", 0))
+
+    def lldpctl(self, form, command, name="lldpcli"):
+        """What lldpctl prints."""
+        done = subprocess.run([str(TOP / "bin" / name), "-u", self.live.control, "-f", form, *command.split()],
+                              capture_output=True, check=False)
+        if done.returncode or done.stderr:
+            raise SystemExit(f"{name} {command}: {done.stderr.decode()}")
+        return done.stdout
+
+    def compare(self, comparison, where, commands):
+        """Compares the answers to commands."""
+        for command in commands:
+            for form in FORMS:
+                theirs, ours = self.both(form, command)
+                try:
+                    of_theirs = blocks_of(form, theirs)
+                except ValueError:  # lldpcli leaves names that are keys, and one control character, without escapes
+                    whole = json.loads(self.lldpd.ask("-f", "json0", *command.split()), strict=False)
+                    short = {root: shortened(inner) for root, inner in whole.items()}
+                    of_theirs = named(json_blocks(short if form == "json" else whole))
+                    comparison.listed["JSON of lldpcli that is none"] += 1
+                comparison.compare(f"{where}: {command} -f {form}", of_theirs, blocks_of(form, ours))
+
+    def both(self, form, command):
+        """What both print, of counters that did not change meanwhile."""
+        words = ("-f", form, *command.split())
+        while True:
+            theirs, ours = self.lldpd.ask(*words), self.lldpctl(form, command)
+            if "statistics" not in command or theirs == self.lldpd.ask(*words):
+                return theirs, ours
+
+    def keys(self):
+        """How many neighbors both show."""
+        return [blocks.count(b".port.ttl=") for blocks in (self.lldpd.ask("-f", "keyvalue", "show", "neighbors"),
+                                                           self.lldpctl("keyvalue", "show neighbors"))]
+
+    @contextlib.contextmanager
+    def hearing(self, name, commands):
+        """An lldpd at the far end that was told commands and is heard, and then is no more."""
+        sender = Lldpd(self.wires.there, self.wires.folder, "-M", "4", "-S", "a real peer", "-I", "peer0,peer1")
+        try:
+            for command in commands:
+                sender.tell(command)
+            sender.tell("update")
+            if not eventually(self.is_still):
+                raise SystemExit(f"{name} is not heard: {self.keys()}")
+            yield
+        finally:
+            sender.close()
+        eventually(lambda: self.keys() == [0, 0])
+
+    def is_still(self):
+        """Whether both show two neighbors, and the same as a moment ago."""
+        before, self.last = self.last, (AGE.sub("", self.lldpd.ask("show", "neighbors", "details").decode()),
+                                        self.lldpctl("json0", "show statistics"))
+        return before == self.last and self.keys() == [2, 2]
+
+    def close(self):
+        """Ends both."""
+        for one in self.sending:
+            one.close()
+        self.live.close()
+        self.lldpd.close()
+        self.wires.close()
+
+
+def configured(lab, comparison):
+    """Senders that are lldpds."""
+    for name, commands in SENDERS.items():
+        with lab.hearing(name, commands):
+            lab.compare(comparison, name, COMMANDS)
+    lab.compare(comparison, "nobody", COMMANDS)
+
+
+def sent(lab, comparison, name, frames):
+    """Frames that are sent as they are, some at a time."""
+    for at in range(0, len(frames), BATCH):
+        some = frames[at:at + BATCH]
+        for number in range(2):  # one port behind the other, so that all come in one order
+            for octets in some[number::2]:
+                lab.sending[number].send(octets)
+            count = len(some[::2]) if number == 0 else len(some)
+            if not eventually(lambda: lab.keys() == [count, count]):
+                raise SystemExit(f"{name} {at}: {lab.keys()} of {count} are shown")
+        lab.compare(comparison, f"{name} {at}", OF_NEIGHBORS)
+        print(f"compared: {name} frames up to {at + len(some)}", flush=True)
+        for number, octets in enumerate(some):
+            lab.sending[number % 2].send(sender_of_frame(octets))
+        eventually(lambda: lab.keys() == [0, 0])
+
+
+def judged_frames():
+    """The frames of real senders, and made ones, each from a chassis of its own."""
+    for number, one in enumerate(json.loads(JUDGED.read_text())):
+        octets = bytes.fromhex(one["frame"])
+        rest = octets[16 + (int.from_bytes(octets[14:16], "big") & 511):]
+        yield octets[:14] + tlv(1, b"\x04\x02\0\0\x05" + number.to_bytes(2, "big")) + rest
+
+
+def place_of(degrees, resolution):
+    """Coordinates with that latitude, longitude and altitude."""
+    value, altitude = round(degrees * (1 << 25)), round(degrees * 256)
+    bits = (resolution << 122 | (value & (1 << 34) - 1) << 88 | resolution << 82 | (value & (1 << 34) - 1) << 48
+            | (resolution % 4) << 44 | min(resolution, 30) << 38 | (altitude & (1 << 30) - 1) << 8 | resolution % 5)
+    return bits.to_bytes(16, "big")
+
+
+def odd_frames():
+    """Names with each octet, texts with several, and identifiers of each kind."""
+    def chassis(number):
+        return b"\x04\x02\0\0\x09" + number.to_bytes(2, "big")
+    for number in range(1, 256):
+        octet = bytes([number])
+        yield frame(chassis(number), b"\x05p1", 120, tlv(4, octet + b"x"), tlv(5, b"a" + octet + b"b"), tlv(6, b"c" + octet))
+    texts = (b"", b"\0", b"a\0b", b"l1\nlldp.eth0.rid=7\r\nl3\n", "caf\u00e9 \u20ac \U0001f600".encode(), b"\xed\xa0\x80",
+             b"\xe2\x82", "a\u2028b\u2029\u0085c".encode(), "\u202eabc\u200b".encode(), b'"}\\u0041', b"on", b"yes", b"id")
+    for number, text in enumerate(texts, 300):
+        yield frame(chassis(number), b"\x05p1", 120, *(tlv(kind, text) for kind in (4, 5, 6)))
+    med = tlv(127, bytes.fromhex("0012bb01003f03"))
+    for number, (degrees, resolution) in enumerate(COORDINATES, 400):
+        yield frame(chassis(number), b"\x05p1", 120, med, tlv(127, bytes.fromhex("0012bb0301") + place_of(degrees, resolution)))
+    for kind in range(1, 8):
+        for number, body in enumerate((b"abc", b"\x01\x0a\0\0\x01", b"\x02" + bytes(15) + b"\x01")):
+            yield frame(bytes([kind]) + body + bytes([kind]) * (kind in (1, 2, 6, 7)), bytes([kind]) + body, 1000 + number)
+
+
+def main():
+    """Runs the comparison, and cleans up."""
+    parser = argparse.ArgumentParser(description=__doc__, formatter_class=argparse.RawDescriptionHelpFormatter)
+    parser.add_argument("--program", default=str(TOP / "crates" / "lldpa" / "out" / "lldpa"))
+    parser.add_argument("--verbose", action="store_true", help="print the differences that the page lists")
+    given = parser.parse_args()
+    os.makedirs("/run/lldpd", exist_ok=True)
+    comparison, lab = Comparison(given.verbose), Lab(given.program)
+    try:
+        configured(lab, comparison)
+        sent(lab, comparison, "judged", list(judged_frames()))
+        sent(lab, comparison, "odd", list(odd_frames()))
+    finally:
+        lab.close()
+    for row, count in comparison.listed.items():
+        print(f"{count} differences that the page lists: {row}")
+    for text in comparison.failed:
+        print(f"FAILED: {text}")
+    print(f"{comparison.equal} passed, {len(comparison.failed)} failed")
+    return 1 if comparison.failed or not comparison.equal else 0
+
+
+if __name__ == "__main__":
+    sys.exit(main())

@@ -1,0 +1,249 @@
+#!/bin/sh
+# Boots a Debian of its own in a container, and there installs the package, runs each command of the pages that needs
+# root and the service on a link, upgrades and purges it; then no file may be left.
+#     tools/by-hand/try-package.sh [ROOT]
+# ROOT is a folder with a Debian that has python3, systemd-sysv, dbus and iproute2, and is left as it is; unless given,
+# debootstrap makes one, which takes a minute and a network. It needs Linux, root, and Debian's packages
+# systemd-container and, without ROOT, debootstrap. LLDPA names the program, as for tools/release/package.sh. The last
+# line is `N passed, M failed`; where something is missing it says so, and its status is 77.
+set -u
+skip() {
+    echo "skipped: $1"
+    echo "0 passed, 0 failed"
+    exit 77
+}
+
+given=${1:+$(realpath -- "$1")}
+tools=$(realpath "$(dirname "$0")/..")
+[ "$(id -u)" -eq 0 ] || skip "this is not root"
+command -v systemd-nspawn > /dev/null || skip "there is no systemd-nspawn"
+[ -n "$given" ] || command -v debootstrap > /dev/null || skip "there is no debootstrap"
+room=$(mktemp -d) || exit 2
+trap 'rm -rf "$room"' EXIT
+root=$room/root
+if [ -n "$given" ]; then
+    cp -a "$given" "$root" || exit 1
+else
+    debootstrap --variant=minbase --include=python3,systemd-sysv,dbus,iproute2 bookworm "$root" > "$room/said" || exit 1
+fi
+mkdir "$root/root/packages"
+"$tools/release/package.sh" "$root/root/packages" || exit 1
+"$tools/release/package.sh" --revision 2 "$root/root/packages" || exit 1
+python3 "$tools/gate/examples.py" --as-root > "$root/root/commands" || exit 1
+
+# What runs there, once it has booted: each check is a line, `held` or `FAILED` with what was to hold.
+cat > "$root/root/try.sh" <<'EOF'
+#!/bin/bash
+export DEBIAN_FRONTEND=noninteractive
+cd /root/packages || exit
+check() {
+    local what=$1
+    shift
+    if "$@" > /root/said 2>&1; then echo "held: $what"; else echo "FAILED: $what: $(tail -n 3 /root/said)"; fi
+}
+# All files but logs and what dpkg and systemd write by themselves.
+listed() {
+    find /etc /usr /opt /srv /var/lib /run/lldpa -path /var/lib/dpkg -prune -o -printf '%p %M %u %g %l\n' 2> /dev/null |
+        grep -v '^/var/lib/systemd/\(timers\|random-seed\|catalog\)\|^/\(etc\|var/lib\|var/lib/systemd\) ' | sort
+}
+# Runs a command, which may go on until it is ended.
+for_a_while() {
+    local status
+    timeout 15 bash -c "$1" < /dev/null
+    status=$?
+    [ "$status" -eq 0 ] || [ "$status" -eq 124 ]
+}
+inactive() { ! systemctl is-active lldpa; }
+process() { systemctl show -p MainPID --value lldpa; }
+is_another() { [ "$old" != "$(process)" ]; }
+# Runs a command until it succeeds, for a minute at most.
+eventually() { for _ in $(seq 120); do "$@" && return; sleep 0.5; done; false; }
+answers() { lldpa-ctl show chassis | grep "$1"; }
+shows() { eventually answers "$1"; }
+finds() { python3 -c 'import lldpa.client'; }
+reads() { lldpa-capture --show /usr/share/doc/lldpa/docs/lab.pcap | lldpa --receive-only eth0 | grep -x lldp.eth0.neighbors=2; }
+
+notifies() { systemctl show -p Type -p StatusText lldpa | grep -c -x -e Type=notify -e 'StatusText=[0-9no]* neighbors\? on 1 port' | grep -x 2; }
+tells() { journalctl -u lldpa -g 'eth0 came: sender p1'; }
+# Runs a program in the place of the one that writes the metrics, with that unit's rights: 0 if each act is refused.
+confined() {
+    touch /boot/probe /home/probe
+    cat > /usr/probe.py <<'END'
+import os, socket, sys
+
+def refused(act):
+    try:
+        act()
+    except OSError:
+        return True
+    return False
+
+def look(folder):
+    if not os.listdir(folder):
+        raise OSError
+
+acts = [lambda: open("/etc/passwd"), lambda: open("/root/try.sh"), lambda: look("/boot"), lambda: look("/home"),
+        lambda: look("/var/lib/dpkg"), lambda: open("/run/systemd/private"), lambda: open("/usr/probe", "w"),
+        lambda: os.kill(1, 0), lambda: os.kill(os.getpid(), 0), lambda: socket.socket(socket.AF_INET),
+        lambda: socket.socket(socket.AF_PACKET, socket.SOCK_RAW), lambda: open("/dev/shm/probe", "w"),
+        lambda: open("/dev/mqueue/probe", "w")]
+allowed = [at for at, act in enumerate(acts) if not refused(act)]
+sys.exit(f"not refused: {allowed}" if allowed else 0)
+END
+    mkdir -p /run/systemd/system/lldpa-metrics.service.d
+    printf '%s\n' '[Service]' ExecStart= 'ExecStart=/usr/bin/python3 /usr/probe.py' \
+        > /run/systemd/system/lldpa-metrics.service.d/probe.conf
+    systemctl daemon-reload
+    systemctl start lldpa-metrics
+    local status
+    status=$(systemctl show -p ExecMainStatus --value lldpa-metrics)
+    rm -r /run/systemd/system/lldpa-metrics.service.d /usr/probe.py /boot/probe /home/probe
+    systemctl daemon-reload
+    journalctl -u lldpa-metrics -o cat -g 'not refused'
+    [ "$status" -eq 0 ]
+}
+# The same in the place of lldpa-live.
+confined_live() {
+    touch /boot/probe /var/log/probe
+    cat > /usr/probe.py <<'END'
+import os, socket, sys
+
+def refused(act):
+    try:
+        act()
+    except OSError:
+        return True
+    return False
+
+def look(folder):
+    if not os.listdir(folder):
+        raise OSError
+
+def connect(path, kind):
+    with socket.socket(socket.AF_UNIX, kind) as one:
+        one.connect(path)
+
+acts = [lambda: look("/boot"), lambda: look("/var/log"), lambda: open("/dev/shm/probe", "w"), lambda: look("/root"),
+        lambda: open("/dev/mqueue/probe", "w"), lambda: connect("/run/dbus/system_bus_socket", socket.SOCK_STREAM),
+        lambda: connect("/run/systemd/journal/socket", socket.SOCK_DGRAM), lambda: open("/usr/probe", "w"),
+        lambda: socket.socket(socket.AF_INET), lambda: os.kill(1, 0), lambda: open("/etc/probe", "w")]
+allowed = [at for at, act in enumerate(acts) if not refused(act)]
+sys.exit(f"not refused: {allowed}" if allowed else 0)
+END
+    mkdir -p /run/systemd/system/lldpa.service.d
+    printf '%s\n' '[Service]' Type=oneshot Restart=no WatchdogSec=0 ExecStart= 'ExecStart=/usr/bin/python3 /usr/probe.py' \
+        > /run/systemd/system/lldpa.service.d/probe.conf
+    systemctl daemon-reload
+    systemctl restart lldpa
+    local status
+    status=$(systemctl show -p ExecMainStatus --value lldpa)
+    rm -r /run/systemd/system/lldpa.service.d /usr/probe.py /boot/probe /var/log/probe
+    systemctl daemon-reload
+    journalctl -u lldpa -o cat -g 'not refused'
+    [ "$status" -eq 0 ]
+}
+published() { eventually grep -x "lldpa_up $1" /var/lib/prometheus/node-exporter/lldpa.prom; }
+stop_agent() { kill -STOP "$(cat "/proc/$(process)/task/$(process)/children" | tr ' ' '\n' | while read -r one; do
+    [ "$(cat "/proc/$one/comm" 2> /dev/null)" = lldpa ] && echo "$one"; done)"; }
+is_replaced() { lldpa-ctl live | grep -x live.agent-restarts=1; }
+# A neighbor that says once who it is, for an hour.
+say_once() {
+    python3 -c 'import socket
+sender = socket.socket(socket.AF_PACKET, socket.SOCK_RAW)
+sender.bind(("far", 0))
+sender.send(bytes.fromhex("0180c200000e02000000000b88cc02070402000000000b040305703206020e100a066b65657065720000"))'
+}
+keeps() { eventually sh -c 'lldpa-ctl neighbors | grep keeper'; }
+is_another_active() { is_another && systemctl is-active lldpa; }
+starts_anew() { eventually is_another_active; }
+# A neighbor at the other end of the link, which says again each second who it is.
+neighbor() {
+    python3 -c 'import socket, time
+sender = socket.socket(socket.AF_PACKET, socket.SOCK_RAW)
+sender.bind(("far", 0))
+while True:
+    sender.send(bytes.fromhex("0180c200000e02000000000a88cc0207040200000000010403057031060200780a0673656e6465720000"))
+    time.sleep(1)'
+}
+
+ip link add eth0 type veth peer name far && ip link set eth0 up && ip link set far up
+neighbor &
+listed > /root/before
+check "it installs" dpkg -i lldpa_*-1_*.deb
+check "it does not run before it is enabled" inactive
+check "its programs run" reads
+check "import lldpa finds the package" finds
+mkdir -p /var/lib/prometheus/node-exporter
+while read -r command; do
+    check "sudo $command" for_a_while "$command"
+    sleep 1
+done < /root/commands
+check "systemd is told how it goes" notifies
+check "the journal has who came" tells
+systemctl start lldpa-metrics
+check "its metrics are written" published 1
+check "what writes them may read, write, signal and connect no more than it needs" confined
+systemctl stop lldpa
+systemctl start lldpa-metrics
+check "metrics say that it does not answer" published 0
+rm -r /var/lib/prometheus
+systemctl restart lldpa
+check "the service answers" shows Station:on
+old=$(process)
+stop_agent
+check "an agent that hangs is replaced" eventually is_replaced
+say_once
+check "a neighbor is seen" keeps
+check "a restart is done" systemctl restart lldpa
+check "a restart keeps the table" keeps
+old=$(process)
+kill -STOP "$old"
+check "an lldpa-live that stands still is noticed, and the service starts anew" starts_anew
+mkdir -p /etc/lldpa.d && echo 'configure system description "of the folder"' > /etc/lldpa.d/a.conf
+check "it reloads" systemctl reload lldpa
+check "its settings are those of the folder" shows 'descr=of the folder'
+rm /etc/lldpa.d/a.conf
+check "the service keeps no right" grep -q '^CapEff:\s*0*$' "/proc/$(process)/status"
+sed -i 's/--role station/--role bridge/' /etc/default/lldpa
+old=$(process)
+check "it upgrades" dpkg -i lldpa_*-2_*.deb
+check "the upgrade starts the service anew" is_another
+check "an upgrade keeps the table" keeps
+check "a changed configuration stays" shows Bridge:on
+check "all files are as the package has them, but the configuration" \
+    bash -c '! dpkg --verify lldpa | grep -v " c /etc/default/lldpa"'
+check "lldpa-live may read, write and connect no more than it needs" confined_live
+check "it is removed" dpkg -r lldpa
+check "the service has ended" inactive
+check "it installs again" dpkg -i lldpa_*-2_*.deb
+check "it is purged" dpkg -P lldpa
+listed > /root/after
+check "no file is left" diff /root/before /root/after
+poweroff
+EOF
+chmod 755 "$root/root/try.sh"
+cat > "$root/etc/systemd/system/try.service" <<'EOF'
+[Unit]
+After=multi-user.target
+[Service]
+ExecStart=/root/try.sh
+StandardOutput=file:/root/tried
+EOF
+mkdir -p "$root/etc/systemd/system/multi-user.target.wants"
+ln -s ../try.service "$root/etc/systemd/system/multi-user.target.wants/try.service"
+# systemd wants a hierarchy of control groups, whatever this host has.
+unshare --mount --pid --fork --kill-child sh -c 'mount --make-rprivate / && mount -t proc proc /proc &&
+    { umount -R -l /sys/fs/cgroup; mount -t cgroup2 none /sys/fs/cgroup; } &&
+    exec timeout 300 systemd-nspawn --quiet --register=no --keep-unit --private-network -D "$0" -b' "$root" \
+    < /dev/null > "$room/said" 2>&1
+if ! [ -s "$root/root/tried" ]; then
+    tail -n 5 "$room/said"
+    skip "it does not boot here"
+fi
+cat "$root/root/tried"
+passed=$(grep -c '^held: ' "$root/root/tried")
+failed=$(grep -c '^FAILED: ' "$root/root/tried")
+wanted=$((29 + $(wc -l < "$root/root/commands")))
+[ $((passed + failed)) -eq "$wanted" ] || failed=$((failed + 1))
+echo "$passed passed, $failed failed"
+[ "$failed" -eq 0 ]

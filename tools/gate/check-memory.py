@@ -1,0 +1,277 @@
+#!/usr/bin/env python3
+"""Sees by the sources alone what types and contracts leave to reading.
+
+Memory: one type has the storage that is taken at opening, `Room`. So below the program no other module
+names a type that takes memory, no other type has a field with an allocator, only opening calls are
+handed one, by one name, and they hand it to opening calls alone, each once and for no more than what is
+to be held. `Global` comes from the runtime, and only the modules that read the words of the command line
+are handed it.
+
+Accesses: `Times` counts each get and set of a stored time. So its numbers are reached by `get`, `set`
+and `look` alone, and it cannot be copied; and `look`, which is not counted, is reached from
+`Table::entries` and `entry`, which no tick calls: the show of neighbors alone calls the one, and the tests
+the other. No type of a table has a field more, which could store the times again. A proof by hand could say of a count what it likes, so there is none but the two of `Count`, and
+those of the library for C, which move the pointer of a handle.
+
+    tools/gate/check-memory.py
+
+Mutants of tools/mutants that this script refuses break a rule each: with one of them, some rule must be seen broken.
+The last line is `N passed, M failed`.
+"""
+from __future__ import annotations
+
+import pathlib
+import re
+import sys
+
+TOP = pathlib.Path(__file__).resolve().parents[2]
+sys.path.insert(0, str(TOP / "tools" / "mutants"))
+
+from mutants import Mutant, others  # noqa: E402
+
+ITSELF = "tools/gate/check-memory.py"
+CRATES = TOP / "crates"
+BELOW_THE_PROGRAM = ("lldp_pdu", "lldp_table", "lldp_transmit", "lldp_text", "lldp_engine")
+ROOM = "lldp_table/src/room.rt"
+MOST_LINES_OF_ROOM = 100
+ROOM_TAKES = "Vec::with_capacity(alloc, capacity)?"
+ROOM_HAS = "{\n    items: Vec<T, A>,\n}"
+TAKES_MEMORY = r"\b(?:Vec|VecDeque|Box|String|Rc|Arc|HashMap|BTreeMap|vec!|format!|dyn)\b"
+ALLOCATOR = r"\b(\w+): (?:&(?:'\w+ )?)?(?:mut )?(?:A|Global|impl Allocator)\b"
+HOLDS_A_ROOM = r"\b(?:Room<\w+(?:<A>)?, A>|Table<A>|Port<A>)"
+OPENING_CALLS = ("open", "open_ports")
+# Each call that an allocator is handed on to, and the one module that makes it, once.
+HANDED_ON = (
+    ("Room::open(alloc, limit as usize)", "lldp_table/src/table.rt"),
+    ("Table::open(alloc, options.max_neighbors)", "lldp_engine/src/port.rt"),
+    ("Room::open(alloc.clone()?, options.ports.len())", "lldp_engine/src/agent/ports.rt"),
+    ("Port::open(alloc.clone()?, name.as_bytes(), options)", "lldp_engine/src/agent/ports.rt"),
+    ("open_ports(alloc, options)", "lldp_engine/src/agent.rt"),
+    ("Agent::open(alloc, &options)", "lldp_program/src/program.rt"),
+    ("run_matches(rt, alloc, &matches,", "lldp_program/src/program.rt"),
+    ("parse(alloc, words)", "lldp_program/src/program.rt"),
+)
+NO_HANDING_ON = r"\balloc: (?:A|Global)\b|\bstd::alloc\b"
+PROGRAM = "lldp_program/src/program.rt"
+READ_THE_WORDS = ("lldpa/src/main.rt", "lldp_program/src/program.rt", "lldp_program/src/arguments.rt")
+LIBRARY_OPENS = "lldpa_c/src/open.rt"
+LIBRARY_TAKES = ("Agent::open(alloc, &given)", "Box::new(alloc, agent)")
+HANDLES = "lldpa_c/proofs/handle/"
+WALKS = ("count/Count/add/Proof.antt", "count/Count/new/Proof.antt")
+# What may be reached how often, and from which modules of lldp_table alone.
+REACHED: tuple[tuple[str, dict[str, int]], ...] = (
+    (r"\bself\.each\b", {"times.rt": 3}),
+    (r"\bself\.each\[slot as usize\]", {"times.rt": 3}),
+    (r"\bTimes \{", {"times.rt": 4}),
+    (r"\blook\b", {"times.rt": 1}),
+    (r"\blefts_in\(", {"queue.rt": 1}),
+    (r"(?:\.|::)lefts\b", {"table.rt": 2}),
+    (r"\.(?:entries|entry)\(|::(?:entries|entry)\b(?!::)", {}),
+    (r"\bEntries \{", {"table.rt": 1}),
+    (r"\bCount::new\(", {"times.rt": 1}),
+    (r"\bTimes::new\(", {"queue.rt": 1}),
+    (r"\bQueue::new\(", {"table.rt": 1}),
+)
+# What looks at all times uncounted, and where those above the table may.
+LOOKS = r"\.(?:entries|entry)\(|::(?:entries|entry)\b(?!::)"
+LOOKING = {"lldp_engine/src/show/neighbor_lines.rt": 1}
+COUNTING = ("count.rt", "times.rt", "queue.rt")
+# The fields of what a table is made of.
+HOLDS = {"Count": "number", "Times": "each count", "Queue": "slots last times",
+         "Slot": "tag ttl length room", "Table": "slots order used queue limit too_many"}
+FIELD = r"(?:^|[{,])\s*(?:pub(?:\(crate\))? )?(?:ghost )?(\w+):"
+
+
+def without_comments(text: str) -> str:
+    """The code alone."""
+    return re.sub(r"//.*", "", text)
+
+
+class Sources:
+    """The sources of all crates, tests left out, by their names below `crates`."""
+
+    def __init__(self) -> None:
+        self.texts: dict[str, str] = {}
+        self.broken: list[str] = []
+        self.rules = 0
+        for path in sorted(CRATES.glob("*/src/**/*.rt")):
+            name = str(path.relative_to(CRATES))
+            if "/tests" not in name and not name.startswith("lldp_tests/"):
+                self.texts[name] = path.read_text()
+
+    def code(self, *crates: str) -> dict[str, str]:
+        """The code of some crates."""
+        texts = self.texts.items()
+        return {name: without_comments(text) for name, text in texts if name.startswith(crates)}
+
+    def see(self, is_so: bool, fault: str) -> None:
+        """Counts a rule, and keeps what breaks it."""
+        self.rules += 1
+        if not is_so:
+            self.broken.append(fault)
+
+
+def counts_of(pattern: str, texts: dict[str, str]) -> dict[str, int]:
+    """How often something is named in each text, where it is."""
+    counts = {name: len(re.findall(rf"(?<!fn ){pattern}", text)) for name, text in texts.items()}
+    return {name: count for name, count in counts.items() if count > 0}
+
+
+def functions_handed(code: str) -> list[str]:
+    """The functions that are handed an allocator, by name. One that does not call it `alloc` is told too."""
+    heads = re.findall(r"\bfn (\w+)(?:<[^(]*>)?\(([^{;]*?)\)", code)
+    taken = [(name, one) for name, all_taken in heads for one in re.findall(ALLOCATOR, all_taken)]
+    return [name if one == "alloc" else f"{name} ({one})" for name, one in taken]
+
+
+def fields(code: str) -> list[str]:
+    """The fields of structs and enums, a line for each."""
+    bodies = re.findall(r"\b(?:struct|enum) \w+[^{;]*\{(.*?)\n\}", code, re.S)
+    return [line.strip() for body in bodies for line in body.splitlines()]
+
+
+def see_room(sources: Sources) -> None:
+    """One module takes memory, once, and it is short enough to be read."""
+    text = sources.texts[ROOM]
+    code = re.sub(r"\bstd::alloc\b", "", without_comments(text))
+    lines = text.count("\n")
+    asked = code.count("alloc")
+    sources.see(lines <= MOST_LINES_OF_ROOM, f"{ROOM}: {lines} lines")
+    sources.see(asked == 2, f"{ROOM}: names its allocator {asked} times, and not twice")
+    sources.see(ROOM_TAKES in code, f"{ROOM}: takes something else")
+    is_kept = ROOM_HAS in code and code.count("Vec") == 2
+    sources.see(is_kept, f"{ROOM}: does not keep its Vec to itself")
+    for name, other in sources.code(*BELOW_THE_PROGRAM, "lldp_program").items():
+        takes = re.search(TAKES_MEMORY, other) is not None
+        sources.see(name == ROOM or not takes, f"{name}: names a type that takes memory")
+
+
+def see_fields(sources: Sources) -> None:
+    """Only `Room` has a field with an allocator; other types have rooms, or what has them."""
+    for name, code in sources.code(*BELOW_THE_PROGRAM).items():
+        for field in fields(code):
+            rest = re.sub(HOLDS_A_ROOM, "", field)
+            is_held = re.search(r"\b(?:A|Global)\b", rest) is not None
+            sources.see(name == ROOM or not is_held, f"{name}: has an allocator: {field}")
+
+
+def see_handed(sources: Sources) -> None:
+    """Only opening calls are handed an allocator, under one name, and it is handed on to them alone."""
+    for name, code in sources.code(*BELOW_THE_PROGRAM).items():
+        for function in functions_handed(code):
+            is_opening = function in OPENING_CALLS
+            sources.see(is_opening, f"{name}: {function} is handed an allocator")
+        bounded = set(re.findall(r"\b(\w+): [\w +]*\bAllocator\b", code))
+        sources.see(bounded <= {"A"}, f"{name}: an allocator of a type that is not A")
+    for name, code in sources.code(*BELOW_THE_PROGRAM, PROGRAM).items():
+        rest = re.sub(NO_HANDING_ON, "", code)
+        for call, _ in HANDED_ON:
+            rest = rest.replace(call, "")
+        goes_on = re.search(r"\balloc(?:ator)?\b", rest) is not None
+        sources.see(name == ROOM or not goes_on, f"{name}: an allocator goes elsewhere")
+
+
+def see_handed_on(sources: Sources) -> None:
+    """Each call that an allocator is handed on to stands once."""
+    code = sources.code("")
+    for call, module in HANDED_ON:
+        found = counts_of(re.escape(call), code)
+        sources.see(found == {module: 1}, f"{call} stands in {found}")
+
+
+def see_global(sources: Sources) -> None:
+    """`Global` is named as a type alone, and handed to those that read the words."""
+    for name, code in sources.code("lldp_", "lldpa/").items():
+        rest = re.sub(r"^use .*?;", "", code, flags=re.M | re.S)
+        rest = re.sub(r": Global\b[,)]|<A: Allocator = Global>", "", rest)
+        is_made = re.search(r"\bGlobal\b", rest) is not None
+        sources.see(not is_made, f"{name}: makes a Global of its own")
+    for name, code in sources.code("lldpa/", "lldp_program").items():
+        is_handed = re.search(r": Global\b|\bHostRuntime\b|\.alloc\(\)", code) is not None
+        sources.see(name in READ_THE_WORDS or not is_handed, f"{name}: is handed an allocator")
+
+
+def see_library(sources: Sources) -> None:
+    """The library for C takes memory where it opens an agent, for the agent and for the box behind a handle."""
+    code = sources.code("lldpa_c/")
+    for call in LIBRARY_TAKES:
+        found = counts_of(re.escape(call), code)
+        sources.see(found == {LIBRARY_OPENS: 1}, f"{call} stands in {found}")
+    for name, text in code.items():
+        rest = re.sub(r"\bspecs\.Box\b|\bBox<\w+(?:, A)?>|\bBox::(?:new\(alloc, agent\)|into_raw|from_raw)", "", text)
+        takes = re.search(TAKES_MEMORY, rest) is not None
+        sources.see(not takes, f"{name}: names a type that takes memory")
+
+
+def see_reached(sources: Sources) -> None:
+    """Stored times are reached by what is counted, or from `Table::entries` and `entry`, and are not copied."""
+    code = sources.code("lldp_table")
+    for pattern, modules in REACHED:
+        found = counts_of(pattern, code)
+        wanted = {f"lldp_table/src/{module}": times for module, times in modules.items()}
+        sources.see(found == wanted, f"{pattern} is reached from {found}")
+    found = counts_of(LOOKS, sources.code("lldp_engine", "lldp_program", "lldpa/"))
+    sources.see(found == LOOKING, f"all times are looked at from {found}")
+    for module in COUNTING:
+        text = code[f"lldp_table/src/{module}"]
+        derived = set(re.findall(r"#\[derive\((.*?)\)\]", text))
+        given = set(re.findall(r"^impl(?:<.*?>)? (\w+)(?:<.*?>)? for\b", text, re.M))
+        is_so = derived == {"Drop"} and given == {"Model"}
+        sources.see(is_so, f"{module}: has more than Drop and Model: {derived}, {given}")
+
+
+def see_stores(sources: Sources) -> None:
+    """What a table is made of has these fields and no other: one more could store times that no clause counts."""
+    code = "\n".join(sources.code("lldp_table").values())
+    for name, held in HOLDS.items():
+        body = re.search(rf"\bstruct {name}\b[^{{;]*\{{(.*?)\n\}}", code, re.S)
+        found = re.findall(FIELD, body[1]) if body else []
+        sources.see(found == held.split(), f"{name} has the fields {found}")
+
+
+def see_all(sources: Sources) -> None:
+    """All rules that the sources have to keep."""
+    see_room(sources)
+    see_fields(sources)
+    see_handed(sources)
+    see_handed_on(sources)
+    see_global(sources)
+    see_library(sources)
+    see_reached(sources)
+    see_stores(sources)
+
+
+def see_walks(sources: Sources) -> None:
+    """No proof is written by hand but those of `Count`, and those of what moves a handle of C's."""
+    for path in sorted(CRATES.glob("*/proofs/**/Proof.antt")):
+        name = str(path.relative_to(CRATES))
+        is_known = name in [f"lldp_table/proofs/{walk}" for walk in WALKS] or name.startswith(HANDLES)
+        sources.see(is_known, f"{name}: by hand")
+
+
+def with_mutant(mutant: Mutant) -> Sources:
+    """The sources with a mutant in them."""
+    sources = Sources()
+    for file, text in mutant.texts().items():
+        sources.texts[f"{mutant.crate}/{file}"] = text
+    return sources
+
+
+def main() -> int:
+    """Looks at all, and then at each mutant."""
+    sources = Sources()
+    see_all(sources)
+    see_walks(sources)
+    for mutant in others():
+        if mutant.refused_by == ITSELF:
+            wrong = with_mutant(mutant)
+            see_all(wrong)
+            sources.see(len(wrong.broken) > 0, f"{mutant.crate}/{mutant.name}: not seen")
+    for fault in sources.broken:
+        print(fault)
+    print(f"{sources.rules - len(sources.broken)} passed, {len(sources.broken)} failed")
+    return 1 if sources.broken else 0
+
+
+if __name__ == "__main__":
+    sys.exit(main())

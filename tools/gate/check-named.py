@@ -1,0 +1,134 @@
+#!/usr/bin/env python3
+"""Looks that what tools/named.txt names is tried by the gate: each mutant is an edit that the
+prover must refuse, and each worked example, row and vector is a transcript, a test, or a part of
+tools/gate/check.sh. A theorem alone does not count.
+
+    tools/gate/check-named.py           the last line is `N passed, M failed`
+    tools/gate/check-named.py --list    prints each name with where it is tried
+
+That the edits are refused and that the tests pass is seen by `rt ci`.
+"""
+from __future__ import annotations
+
+import pathlib
+import re
+import sys
+
+from counts import Counts
+
+TOP = pathlib.Path(__file__).resolve().parents[2]
+NAMED = TOP / "tools" / "named.txt"
+TESTS = TOP / "crates" / "lldp_tests" / "src"
+CHECK = (TOP / "tools" / "gate" / "check.sh").read_text()
+WORDS = (TOP / "tools" / "gate" / "words.sh").read_text()
+KINDS = ("body", "tested", "example")
+
+
+def fault_of_transcript(name: str) -> str | None:
+    """What is wrong where a transcript is named."""
+    missing = [end for end in ("args", "trace", "expect") if not (TOP / "examples" / f"{name}.{end}").is_file()]
+    return f"examples/{name}.{missing[0]} is missing" if missing else fault_of_script("tools/gate/examples.py")
+
+
+def fault_of_counters(name: str) -> str | None:
+    """What is wrong where a row of counters is named."""
+    rows = (TOP / "examples" / "receive-counters.rows").read_text().splitlines()[1:]
+    return None if name in [row.split()[0] for row in rows] else f"no row of counters is named {name}"
+
+
+def fault_of_vector(place: str) -> str | None:
+    """What is wrong where a vector is named, by its kind and its name."""
+    kind, _, name = place.partition(" ")
+    rows = [row.split("\t")[:2] for row in (TOP / "examples" / "vectors.rows").read_text().splitlines()]
+    return None if [kind, name] in rows else f"examples/vectors.rows has no row {place}"
+
+
+def fault_of_test(place: str) -> str | None:
+    """What is wrong where a test is named, with a row or none. Each of its modules is declared in the one above it."""
+    path, _, row = place.partition(": ")
+    *modules, function = path.split("::")
+    file = TESTS / "lib.rt"
+    for depth, module in enumerate(modules):
+        if not re.search(rf"^mod {module};$", file.read_text(), re.M):
+            return f"{file.relative_to(TOP)} does not declare {module}"
+        file = TESTS.joinpath(*modules[:depth + 1]).with_suffix(".rt")
+    text = file.read_text()
+    if not re.search(rf"^#\[test\]\nfn {function}\(", text, re.M):
+        return f"{file.relative_to(TOP)} has no test {function}"
+    return fault_of_row(file, text, row) if row else None
+
+
+def fault_of_row(file: pathlib.Path, text: str, row: str) -> str | None:
+    """What is wrong where a row of a test is named."""
+    return None if f'"{row}"' in text else f"{file.relative_to(TOP)} has no row {row}"
+
+
+def fault_of_shell(command: str) -> str | None:
+    """What is wrong where a command of tools/gate/words.sh is named."""
+    lines = [line.strip() for line in WORDS.splitlines()]
+    return fault_of_script("tools/gate/words.sh") if command in lines else f"tools/gate/words.sh does not run {command}"
+
+
+def fault_of_script(name: str) -> str | None:
+    """What is wrong where a script is named."""
+    if not (TOP / name).is_file():
+        return f"{name} is missing"
+    is_called = re.search(rf"^(part .*|python3 ){re.escape(name)} ", CHECK, re.M) or f" {name} " in CHECK
+    return None if is_called else f"tools/gate/check.sh does not call {name}"
+
+
+PLACES = {"transcript": fault_of_transcript, "counters": fault_of_counters, "vector": fault_of_vector,
+          "test": fault_of_test,
+          "shell": fault_of_shell, "script": fault_of_script}
+
+
+def fault_of_place(place: str) -> str | None:
+    """What is wrong with one place."""
+    kind, _, rest = place.partition(" ")
+    return PLACES[kind](rest) if kind in PLACES else f"{place} is no place where something is tried"
+
+
+def places(text: str) -> list[str]:
+    """The places of a line. A command for the shell may hold a comma, as a name may."""
+    kinds = "|".join(PLACES)
+    return re.split(rf", (?=(?:{kinds}) )", text)
+
+
+def fault_of_body(text: str) -> str | None:
+    """What is wrong where a mutant is named, by crate and name."""
+    crate, name = text.split(":")[0].split()
+    edit = TOP / "crates" / crate / "must-fail" / f"{name}.edit"
+    if not edit.is_file():
+        return f"{edit.relative_to(TOP)} is missing"
+    return None if re.search(r"^new: ", edit.read_text(), re.M) else f"{edit.relative_to(TOP)} changes nothing"
+
+
+def fault_of(kind: str, text: str) -> str | None:
+    """What is wrong with a line of the list, or None."""
+    if kind == "body":
+        return fault_of_body(text)
+    name, sign, where = text.partition(" = ")
+    if not sign or not name:
+        return "it does not say where it is tried"
+    faults = [fault for fault in map(fault_of_place, places(where)) if fault is not None]
+    return faults[0] if faults else None
+
+
+def main() -> int:
+    """Reads the list, and counts its lines."""
+    lines = [line for line in NAMED.read_text().splitlines() if line and not line.startswith("#")]
+    if sys.argv[1:] == ["--list"]:
+        print("\n".join(lines))
+        return 0
+    counts = Counts()
+    for line in lines:
+        kind, _, text = line.partition(" ")
+        fault = fault_of(kind, text) if kind in KINDS else "it is of no kind"
+        if fault is None and lines.count(line) > 1:
+            fault = "it is named twice"
+        counts.judge(fault, line)
+    return counts.end()
+
+
+if __name__ == "__main__":
+    sys.exit(main())

@@ -1,0 +1,165 @@
+#!/bin/sh
+# Builds the Debian package, and compares it with what tools/release/install.sh installs; runs what is in it; and sees
+# that what is installed is all taken away again, and that lintian, where it is installed, finds nothing.
+#     tools/gate/check-package.sh [PROGRAM]
+# No root is needed, and nothing is installed on this host. The last line is `N passed, M failed`; without dpkg-deb it
+# says so, and its status is 3.
+set -u
+LLDPA=$(realpath -- "${1:-$(dirname "$0")/../../crates/lldpa/out/lldpa}")
+export LLDPA
+cd "$(dirname "$0")/../.." || exit 2
+for needed in dpkg-deb dpkg strip objdump; do
+    command -v "$needed" > /dev/null || { echo "skipped: the package, since there is no $needed"; exit 3; }
+done
+. tools/gate/parts.sh
+
+# The files, folders and links of a tree, each with its mode and where it leads.
+listed() {
+    (cd "$1" && find . -mindepth 1 -printf '%P %M %l\n' | LC_ALL=C sort)
+}
+
+# Installs into a tree of its own.
+install_into() {
+    tree=$1
+    shift
+    DESTDIR=$tree tools/release/install.sh "$@" > "$room/said" 2>&1
+    judge $? "tools/release/install.sh $*: $(cat "$room/said")"
+}
+
+tools/release/package.sh "$room" > "$room/name" 2> "$room/said"
+judge $? "tools/release/package.sh: $(cat "$room/said")"
+package=$(cat "$room/name")
+dpkg-deb -x "$package" "$room/package"
+judge $? "dpkg-deb -x $package"
+
+# The package has what is installed under /usr, and these files besides.
+install_into "$room/usr" --python /usr/lib/python3/dist-packages /usr
+own='^usr/share/doc/lldpa/\(copyright\|changelog.Debian.gz\) \|^usr/share/lintian\>'
+listed "$room/package" | grep -v "$own" > "$room/packaged"
+listed "$room/usr" > "$room/installed"
+diff "$room/installed" "$room/packaged"
+judge $? "the package has other files than tools/release/install.sh installs"
+tools/release/install.sh --list --python /usr/lib/python3/dist-packages /usr | sort > "$room/out"
+(cd "$room/usr" && find . -type f -printf '%m /%P\n' -o -type l -printf 'link /%P %l\n') | sort > "$room/found"
+sed '/^link/!s/ [^ ]*$//' "$room/out" | sort | diff - "$room/found"
+judge $? "tools/release/install.sh --list tells other files than it installs"
+strip --remove-section=.comment --remove-section=.note "$room/usr/usr/bin/lldpa"
+diff -rq "$room/usr" "$room/package" | grep -v 'Only in .*package/usr/share' > "$room/out"
+[ ! -s "$room/out" ]
+judge $? "files differ: $(cat "$room/out")"
+
+# So it is with the prefix that is taken unless one is given, but for folders that Debian names otherwise.
+install_into "$room/local" --python /usr/local/lib/python3/dist-packages
+(cd "$room/local" && find . ! -type d | sed 's,/usr/local/,/usr/,; s,/site-functions/,/vendor-completions/,' | LC_ALL=C sort) > "$room/out"
+(cd "$room/usr" && find . ! -type d | LC_ALL=C sort) | diff "$room/out" -
+judge $? "the prefix /usr/local has other files than /usr"
+
+# All that is installed goes again, but for a configuration that was changed.
+for prefix in /usr /usr/local /opt/lldpa; do
+    install_into "$room/gone" --python /opt/python "$prefix"
+    DESTDIR=$room/gone tools/release/install.sh --uninstall --python /opt/python "$prefix" > "$room/said" 2>&1
+    left=$(find "$room/gone" ! -type d -o -name lldpa.d)
+    [ -z "$left" ]
+    judge $? "tools/release/install.sh --uninstall $prefix leaves $left"
+done
+install_into "$room/kept" /usr
+echo 'PORTS="swp1"' > "$room/kept/etc/default/lldpa"
+install_into "$room/kept" /usr
+DESTDIR=$room/kept tools/release/install.sh --uninstall /usr > "$room/said" 2>&1
+grep -qx 'PORTS="swp1"' "$room/kept/etc/default/lldpa"
+judge $? "tools/release/install.sh does not keep a configuration that was changed"
+
+# Each program has its page and its completions, and runs from the package. lldpctl is not among those on the path.
+for path in "$room"/package/usr/bin/* "$room/package/usr/lib/lldpa/bin/lldpctl"; do
+    name=${path##*/}
+    case $name in lldpa-live | lldpa-ctl) section=8 ;; *) section=1 ;; esac
+    for file in man/man$section/$name.$section.gz bash-completion/completions/$name zsh/vendor-completions/_$name; do
+        [ -f "$room/package/usr/share/$file" ]
+        judge $? "$name has no usr/share/$file"
+    done
+    "$path" --help > "$room/out" 2>&1 && grep -q "$name" "$room/out"
+    judge $? "$name --help of the package: $(head -c 200 "$room/out")"
+    [ "$("$path" --version)" = "$name $(dpkg-deb -f "$package" Version | sed 's/-[^-]*$//')" ]
+    judge $? "$name --version of the package: $("$path" --version)"
+done
+[ ! -e "$room/package/usr/bin/lldpctl" ] && [ ! -e "$room/package/usr/bin/lldpcli" ]
+judge $? "the package has a program of lldpd's name in usr/bin"
+"$room/package/usr/lib/lldpa/bin/lldpcli" -u "$room/none" show chassis > "$room/out" 2>&1
+grep -q "^lldpcli: nobody answers at $room/none" "$room/out"
+judge $? "lldpcli of the package: $(cat "$room/out")"
+[ -f "$room/package/usr/lib/lldpa/python/lldpa/py.typed" ]
+judge $? "the package has no py.typed"
+version=$(dpkg-deb -f "$package" Version)
+[ "lldpa ${version%-*}" = "$("$room/package/usr/bin/lldpa" --version)" ]
+judge $? "the package is $version, and the program says $("$LLDPA" --version)"
+(cd / && PYTHONDONTWRITEBYTECODE=1 PYTHONPATH=$room/package/usr/lib/python3/dist-packages \
+    /usr/bin/python3 -c 'import lldpa; print(lldpa.__file__)') > "$room/out" 2>&1
+[ "$(cat "$room/out")" = "$room/package/usr/lib/python3/dist-packages/lldpa/__init__.py" ]
+judge $? "import lldpa: $(cat "$room/out")"
+(cd / && PYTHONDONTWRITEBYTECODE=1 PYTHONPATH=$room/package/usr/lib/python3/dist-packages \
+    /usr/bin/python3 -m lldpa_audit --version) > "$room/out" 2>&1
+grep -q "^lldpa-audit " "$room/out"
+judge $? "python3 -m lldpa_audit: $(cat "$room/out")"
+# No link of an installed page leads to what is not installed.
+python3 tools/gate/check-links.py --installed "$room/package/usr/share/doc/lldpa" > "$room/out" 2>&1
+judge $? "links of installed pages: $(cat "$room/out")"
+dpkg-deb --info "$package" conffiles | grep -qx /etc/default/lldpa
+judge $? "/etc/default/lldpa is no configuration file of the package"
+units=$room/package/usr/lib/systemd/system
+grep -q '^ExecStart=/usr/bin/lldpa-live --program /usr/bin/lldpa ' "$units/lldpa.service" &&
+    grep -q '^ExecStart=/usr/bin/lldpa-ctl metrics ' "$units/lldpa-metrics.service"
+judge $? "the services of the package do not run its programs"
+[ -f "$units/lldpa-metrics.timer" ] && [ -f "$room/package/usr/share/lldpa/lldpa.rules.yml" ]
+judge $? "the package has no timer for metrics, or no rules for Prometheus"
+# The service reads the settings of its folder, which is there; below another prefix that is another.
+[ -d "$room/package/etc/lldpa.d" ] && [ -d "$room/local/etc/lldpa.d" ] &&
+    grep -q '^ExecStart=.* --config /etc/lldpa.conf --config /etc/lldpa.d ' "$units/lldpa.service"
+judge $? "the service of the package does not read /etc/lldpa.d"
+install_into "$room/opt" --python /opt/python /opt/lldpa
+[ -d "$room/opt/opt/lldpa/etc/lldpa.d" ] && grep -q \
+    '^ExecStart=/opt/lldpa/bin/lldpa-live .* --config /opt/lldpa/etc/lldpa.conf --config /opt/lldpa/etc/lldpa.d ' \
+    "$room/opt/opt/lldpa/lib/systemd/system/lldpa.service"
+judge $? "the service below /opt/lldpa does not read /opt/lldpa/etc/lldpa.d"
+
+# The package of the library has what tools/release/install.sh --library installs, and pkg-config finds it there.
+library_package() {
+    LLDPA_LIB_DIR=$room/built
+    export LLDPA_LIB_DIR
+    developed=$(tools/release/package.sh --library "$room" 2> "$room/said")
+    judge $? "tools/release/package.sh --library: $(cat "$room/said")"
+    dpkg-deb -x "$developed" "$room/developed"
+    install_into "$room/dev" --library /usr
+    listed "$room/developed" | grep -v '^usr/share/doc/lldpa-dev/\(copyright\|changelog.Debian.gz\) \|^usr/share/lintian\>' > "$room/packaged"
+    listed "$room/dev" | diff - "$room/packaged"
+    judge $? "the package of the library has other files than tools/release/install.sh --library installs"
+    DESTDIR=$room/dev tools/release/install.sh --uninstall --library /usr > "$room/said" 2>&1
+    left=$(find "$room/dev" ! -type d)
+    [ -z "$left" ]
+    judge $? "tools/release/install.sh --uninstall --library leaves $left"
+    if command -v pkg-config > /dev/null && command -v cc > /dev/null; then
+        told=$(dirname "$(find "$room/developed" -name lldpa.pc)")
+        # shellcheck disable=SC2046 # these are flags, each a word
+        cc examples/c/who.c -o "$room/who" $(PKG_CONFIG_LIBDIR=$told PKG_CONFIG_SYSROOT_DIR=$room/developed \
+            pkg-config --cflags --libs lldpa) > "$room/out" 2>&1 && "$room/who" docs/lab.pcap > "$room/out" 2>&1 &&
+            cmp -s "$room/out" examples/c/who.expect
+        judge $? "examples/c/who.c, built as pkg-config says: $(cat "$room/out")"
+    else
+        echo "skipped: a program that is built as pkg-config says, since there is no pkg-config or no cc"
+    fi
+}
+
+developed=
+if tools/library/library.sh "$room/built" > "$room/said" 2>&1; then
+    library_package
+else
+    echo "skipped: the package of the library: $(cat "$room/said")"
+fi
+
+if command -v lintian > /dev/null; then
+    # shellcheck disable=SC2086 # there may be no package of the library
+    lintian --fail-on error,warning --allow-root "$package" $developed > "$room/out" 2>&1 && [ ! -s "$room/out" ]
+    judge $? "lintian: $(cat "$room/out")"
+else
+    echo "skipped: lintian, which is not installed"
+fi
+finish

@@ -1,0 +1,66 @@
+#!/bin/sh
+# The parts of the gate.
+#     tools/gate/check.sh [--cheap | --built | --gate] [PROGRAM]
+# --cheap runs what needs no program, in a minute and a half; --built what tries PROGRAM, the one that the gate leaves
+# unless given; without an option both run. --gate proves and tests every crate between them (rt ci), and stops if what
+# is cheap fails. It needs sh, bash, python3 and a C compiler; what is skipped, since something is not installed, is said
+# and not counted. The last lines say where the time went, and the very last `N passed, M failed`.
+set -u
+cd "$(dirname "$0")/../.." || exit 2
+. tools/gate/parts.sh
+stage=all
+case ${1-} in --*) stage=${1#--} && shift ;; esac
+program=$(realpath -m -- "${1:-crates/lldpa/out/lldpa}")
+
+cheap() {
+    part "scripts" python3 tools/gate/check-scripts.py
+    part "imports of the Python packages" python3 tools/gate/imports.py
+    part "generated files" python3 tools/write/check.py
+    part "numbers of docs/TESTING.md" python3 tools/write/numbers.py --check
+    part "reference of the crates" python3 tools/write/reference.py
+    part "links of the pages" python3 tools/gate/check-links.py
+    part "what is tried by name" python3 tools/gate/check-named.py
+    part "whether each mutant can be applied" python3 tools/mutants/try.py --check
+    part "manual pages and units" tools/gate/manuals-and-units.sh
+    part "completions" python3 tools/gate/completions.py
+    part "memory and accesses, by the sources" python3 tools/gate/check-memory.py
+    part "types of the Python packages" tools/gate/types.sh
+}
+
+built() {
+    if [ ! -x "$program" ]; then
+        judge 1 "no program at $program: rt run in crates/lldpa builds it"
+        return
+    fi
+    part "transcripts, and examples of the pages" python3 tools/gate/examples.py "$program"
+    part "arguments and streams" tools/gate/words.sh "$program"
+    part "tests of the Python package" python3 tools/gate/test-python.py "$program"
+    part "audit of eight ports" python3 audit/tools/check.py --program "$program"
+    part "the library" python3 tools/library/check-library.py
+    part "arm64, by qemu" python3 tools/library/check-arm64.py
+    part "the package" tools/gate/check-package.sh "$program"
+    part "cut and altered frames, and full tables" python3 tools/model/check-frames.py "$program"
+    part "lines that are nearly right" python3 tools/model/check-words.py "$program"
+    part "refused memory" tools/gate/refuse-memory.sh "$program"
+    part "every value of each range" python3 tools/model/check-ranges.py "$program"
+    part "instructions" python3 tools/bench/bench_counts.py --program "$program"
+    part "answers over a connection" python3 tools/model/check-listen.py "$program"
+    part "traces of fixed seeds" python3 tools/model/fuzz.py --program "$program" --seed 1 --traces 4000
+    part "random traces" python3 tools/model/fuzz.py --program "$program" --seconds 20
+}
+
+case $stage in
+    all) cheap; built ;;
+    cheap) cheap ;;
+    built) built ;;
+    gate)
+        cheap
+        if [ "$failed" -eq 0 ]; then
+            part "proofs, mutants and tests (rt ci)" rt ci
+            built
+        else
+            echo "nothing is proved or built, since what is cheap fails"
+        fi ;;
+    *) sed -n 's/^# \{0,1\}//; 3,7p' "$0" >&2 && exit 2 ;;
+esac
+finish

@@ -1,0 +1,325 @@
+#!/usr/bin/env python3
+"""Runs the examples on the built program, and compares what they show.
+
+    python3 tools/gate/examples.py PROGRAM [NAME ...]
+    python3 tools/gate/examples.py --as-root
+
+The transcripts stand under examples/: NAME.args has the words, one a line, and NAME.trace the input. NAME.expect
+shows each line of the input behind `> `, a long one by its first octets and `...`, and below it what it writes.
+The last line of NAME.args may be a filter, `| grep TEXT` or `| grep -e TEXT -e TEXT`, as a shell would have it: of what
+is written the lines are shown that have one of the texts. A text is of small letters and hyphens, and some line that is
+shown has it; a filter of another form is a failure.
+Each is run four ways: its first lines, one more each time; without its last LF, which changes nothing; octet by
+octet; and in two pieces, cut at every place (but for inputs of more than 10,000 octets). A piece is written when
+the program has read the one before it. Each run must end with status 0 and say nothing on standard error.
+receive-counters.rows names counters of eth0 in its first line. Each row has the name of a transcript and the values of
+these counters, which are compared where `show statistics` stands behind its lines; other counters are not looked at.
+
+The examples of the pages and of the manual page are blocks whose first line begins with `$ `. Each such line
+is a command, with its input up to the line EOF where it ends with <<'EOF' or <<EOF; what stands below is what it
+writes, up to the next command. A status other than 0 is shown by the command `echo $?`. Nothing may come on standard
+error. The number of a port behind --listen stands for a free one. A block that takes too long has failed, and all that
+it started is ended. A block whose commands begin with sudo is left to tools/by-hand/try-package.sh, for which --as-root lists
+these commands; a block with commands of both kinds has failed.
+
+With names only those transcripts and their rows are run. The last line counts each way of each transcript, each row
+and each block.
+"""
+import array
+import concurrent.futures
+import contextlib
+import fcntl
+import functools
+import os
+import pathlib
+import re
+import signal
+import socket
+import subprocess
+import sys
+import tempfile
+import termios
+import time
+
+TOP = pathlib.Path(__file__).resolve().parents[2]
+
+# what a command that needs root begins with
+AS_ROOT = "$ sudo "
+
+# what some counters are after the lines of transcripts
+ROWS = TOP / "examples" / "receive-counters.rows"
+SHOW = b"show statistics\n"
+
+# for how long one run may take
+SECONDS = 60
+
+# the longest input that is cut at every place
+LONGEST_CUT = 10000
+
+
+def unread(pipe):
+    """How many octets of a pipe were not read yet."""
+    octets = array.array("i", [0])
+    fcntl.ioctl(pipe, termios.FIONREAD, octets)
+    return octets[0]
+
+
+def feed(ran, pieces):
+    """Writes each piece to a program when it has read the one before it, and then closes its input."""
+    pipe = ran.stdin.fileno()
+    end = time.monotonic() + SECONDS
+    for piece in pieces:
+        os.write(pipe, piece)
+        while unread(pipe) and ran.poll() is None and time.monotonic() < end:
+            os.sched_yield()
+    ran.stdin.close()
+
+
+def difference(written, wanted):
+    """Where two texts differ first, in words."""
+    got, want = written.splitlines(), wanted.splitlines()
+    place = next((at for at in range(len(got) + 1) if got[at:at + 1] != want[at:at + 1]), len(got))
+    return f"line {place + 1} of its output is {got[place:place + 1]}, and not {want[place:place + 1]}"
+
+
+def words_and_filter(args):
+    """The words of a file of arguments, and the texts of its filter: none without one, None if it cannot be read."""
+    words = args.splitlines()
+    if not words or not words[-1].startswith("|"):
+        return words, []
+    is_read = re.fullmatch(r"\| grep( [a-z][a-z-]*|( -e [a-z][a-z-]*)+)", words[-1])
+    return words[:-1], [word for word in words[-1].split()[2:] if word != "-e"] if is_read else None
+
+
+def lines_with(written, texts):
+    """The lines that have one of some texts, and all where there are none."""
+    lines = written.splitlines(keepends=True)
+    return b"".join(line for line in lines if not texts or any(text.encode() in line for text in texts))
+
+
+def fault_of_run(program, words, texts, run):
+    """What is wrong where the program is fed an input in pieces and is to show some lines, or None."""
+    pieces, wanted = run
+    with tempfile.TemporaryFile() as out, tempfile.TemporaryFile() as said:
+        ran = subprocess.Popen([program, *words], stdin=subprocess.PIPE, stdout=out, stderr=said)
+        try:
+            feed(ran, pieces)
+            status = ran.wait(SECONDS)
+        except (BrokenPipeError, subprocess.TimeoutExpired) as fault:
+            return f"it did not read its input to the end: {fault}"
+        finally:
+            ran.kill()
+            ran.wait()
+        out.seek(0)
+        said.seek(0)
+        written, told = lines_with(out.read(), texts), said.read()
+    if status != 0 or told:
+        return f"it ended with status {status}, and said {told[:300]!r}"
+    return None if written == wanted else difference(written, wanted)
+
+
+def steps_of(trace, shown):
+    """Each line of an input with what it writes, or a text that says where the two files differ."""
+    lines = trace.removesuffix(b"\n").split(b"\n") if trace else []
+    steps = []
+    for line in shown.splitlines(keepends=True):
+        if not line.startswith(b"> "):
+            steps[-1][1].append(line)
+            continue
+        if len(steps) == len(lines):
+            return f"it shows more than the {len(lines)} lines of the input"
+        steps.append((lines[len(steps)], []))
+        front = line[2:-1]
+        if front != steps[-1][0] and not (front.endswith(b"...") and steps[-1][0].startswith(front[:-3])):
+            return f"line {len(steps)} of the input is not what is shown"
+    return steps if len(steps) == len(lines) else f"it shows {len(steps)} of the {len(lines)} lines of the input"
+
+
+def ways(trace, steps):
+    """The ways in which an input is fed: the name of each, and its runs, each with its pieces and what it writes."""
+    fronts, texts = [b""], [b""]
+    for line, written in steps:
+        fronts.append(trace[:len(fronts[-1]) + len(line) + 1])
+        texts.append(texts[-1] + b"".join(written))
+    wanted = texts[-1]
+    yield "line by line", [([front], text) for front, text in zip(fronts, texts)]
+    if trace.endswith(b"\n"):
+        yield "without its last LF", [([trace[:-1]], wanted)]
+    if len(trace) > 1:
+        yield "octet by octet", [([trace[at:at + 1] for at in range(len(trace))], wanted)]
+    if 1 < len(trace) <= LONGEST_CUT:
+        yield "in two pieces", [([trace[:at], trace[at:]], wanted) for at in range(1, len(trace))]
+
+
+def fault_of_filter(texts, steps):
+    """What is wrong with the texts of a filter, or None."""
+    if texts is None:
+        return "its filter is not of the form | grep TEXT or | grep -e TEXT -e TEXT"
+    lines = b"".join(line for _, written in steps for line in written)
+    return next((f"no line that is shown has {text}" for text in texts if text.encode() not in lines), None)
+
+
+def transcripts(only):
+    """The name, words, texts of the filter and input of each transcript, and its lines with what they show."""
+    for args in sorted((TOP / "examples").glob("*.args")):
+        if not only or args.stem in only:
+            words, texts = words_and_filter(args.read_text())
+            trace = args.with_suffix(".trace").read_bytes()
+            steps = steps_of(trace, args.with_suffix(".expect").read_bytes())
+            fault = None if isinstance(steps, str) else fault_of_filter(texts, steps)
+            yield args.stem, words, texts, trace, fault or steps
+
+
+def run_transcripts(program, only):
+    """Runs each transcript in each way. Yields the name of each, and what is wrong, or None."""
+    with concurrent.futures.ProcessPoolExecutor() as pool:
+        for name, words, texts, trace, steps in transcripts(only):
+            if isinstance(steps, str):
+                yield name, steps
+                continue
+            for way, runs in ways(trace, steps):
+                faults = pool.map(functools.partial(fault_of_run, program, words, texts), runs, chunksize=16)
+                found = [(len(run[0][0]), fault) for run, fault in zip(runs, faults) if fault is not None]
+                yield f"{name}, {way}", found and f"{found[0][1]} (its first piece has {found[0][0]} octets)"
+
+
+def rows(only):
+    """The name of each row, its counters with their values, and its transcript, or a text that says what is wrong."""
+    counters, *table = [line.split() for line in ROWS.read_text().splitlines()]
+    shown = {one[0]: one for one in transcripts([])}
+    for name, *values in table:
+        if only and name not in only:
+            continue
+        fault = None
+        if name not in shown:
+            fault = "no transcript has this name"
+        elif len(values) != len(counters) - 1 or not all(re.fullmatch("[0-9]+", value) for value in values):
+            fault = f"it does not have {len(counters) - 1} numbers"
+        yield name, list(zip(counters[1:], values)), fault or shown[name]
+
+
+def run_rows(program, only):
+    """Runs the transcript of each row with its show. Yields the name of each row, and what is wrong, or None."""
+    for name, values, found in rows(only):
+        fault = found
+        if not isinstance(found, str):
+            texts = [f"lldp.eth0.{counter}=" for counter, _ in values]
+            wanted = "".join(f"{text}{value}\n" for text, (_, value) in zip(texts, values))
+            fault = fault_of_run(program, found[1], texts, ([found[3] + SHOW], wanted.encode()))
+        yield f"{name} in {ROWS.name}", fault
+
+
+def blocks():
+    """The name and the lines of each block of the pages and of the manual page."""
+    for path in [path for folder in (".", "docs", "examples") for path in sorted((TOP / folder).glob("*.md"))]:
+        for place, block in enumerate(re.findall(r"^```\w*\n(.*?)^```$", path.read_text(), re.M | re.S), 1):
+            yield f"{path.relative_to(TOP)}, block {place}", block.splitlines()
+    page = (TOP / "man" / "lldpa.1").read_text().replace("\\e", "\\").replace("\\-", "-").replace("\\&", "")
+    for place, block in enumerate(re.findall(r"^\.Bd -literal\n(.*?)^\.Ed$", page, re.M | re.S), 1):
+        yield f"manual page, block {place}", block.splitlines()
+
+
+def commands(lines):
+    """The lines of a block that are commands."""
+    return [line for line in lines if line.startswith("$ ")]
+
+
+def list_as_root():
+    """Prints each command that needs root, without sudo, in the order of the pages."""
+    for _, lines in blocks():
+        for command in commands(lines):
+            if command.startswith(AS_ROOT):
+                print(command.removeprefix(AS_ROOT))
+
+
+def script_and_output(lines):
+    """The commands of a block with their input, and what they write."""
+    script, wanted, is_input = [], [], False
+    for line in lines:
+        if is_input:
+            script.append(line)
+            is_input = line != "EOF"
+        elif line.startswith("$ "):
+            script.append(line[2:])
+            is_input = line.endswith(("<<'EOF'", "<<EOF"))
+        else:
+            wanted.append(line)
+    return "".join(f"{line}\n" for line in script), "".join(f"{line}\n" for line in wanted)
+
+
+def with_free_ports(text, script):
+    """The text with each port at which the script listens replaced by a free one."""
+    for number in sorted(set(re.findall(r"--listen[ =](\d+)", script))):
+        text = re.sub(rf"\b{number}\b", free_port(number), text)
+    return text
+
+
+@functools.lru_cache(None)
+def free_port(number):
+    """A port of this host at which nobody listens, the same one for the same number of the pages."""
+    with socket.socket() as one:
+        one.bind(("127.0.0.1", 0))
+        return str(one.getsockname()[1])
+
+
+def ended(ran):
+    """What a script wrote and said, or a text that says that it took too long; all that it started is then ended."""
+    try:
+        return ran.communicate(timeout=SECONDS)
+    except subprocess.TimeoutExpired:
+        return f"it took more than {SECONDS} seconds"
+    finally:
+        with contextlib.suppress(ProcessLookupError):
+            os.killpg(ran.pid, signal.SIGKILL)
+        ran.wait()
+
+
+def fault_of_block(lines, folder):
+    """What is wrong with a block, or None."""
+    script, wanted = (with_free_ports(text, script_and_output(lines)[0]) for text in script_and_output(lines))
+    ran = subprocess.Popen(["sh", "-c", f'PATH="{folder}:$PATH"\n{script}'], stdin=subprocess.DEVNULL, cwd=TOP, text=True,
+                           stdout=subprocess.PIPE, stderr=subprocess.PIPE, start_new_session=True)
+    found = ended(ran)
+    if isinstance(found, str):
+        return found
+    written, told = found
+    if told:
+        return f"standard error {told[:300]!r}"
+    if written != wanted:
+        return difference(written, wanted)
+    if ran.returncode != 0:
+        return f"it ended with status {ran.returncode}, which no `$ echo $?` shows"
+    return None
+
+
+def run_blocks(program):
+    """Runs each block. Yields the name of each, and what is wrong, or None."""
+    with tempfile.TemporaryDirectory() as folder:
+        (pathlib.Path(folder) / "lldpa").symlink_to(program)
+        for name, lines in blocks():
+            if lines and lines[0].startswith("$ "):
+                as_root = {command.startswith(AS_ROOT) for command in commands(lines)}
+                if as_root == {False}:
+                    yield f"{name} ({lines[0]})", fault_of_block(lines, folder)
+                elif as_root != {True}:
+                    yield f"{name} ({lines[0]})", "some of its commands begin with sudo, and others do not"
+
+
+def main():
+    """Runs them all."""
+    if sys.argv[1:] == ["--as-root"]:
+        list_as_root()
+        return 0
+    program, only = pathlib.Path(sys.argv[1]).resolve(), sys.argv[2:]
+    passed = failed = 0
+    for runs in (run_transcripts(program, only), run_rows(program, only), [] if only else run_blocks(program)):
+        for name, fault in runs:
+            passed, failed = passed + (not fault), failed + bool(fault)
+            if fault:
+                print(f"{name}: {fault}")
+    print(f"{passed} passed, {failed} failed")
+    return 0 if passed and not failed else 1
+
+
+if __name__ == "__main__":
+    sys.exit(main())

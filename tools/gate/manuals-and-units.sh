@@ -1,0 +1,30 @@
+#!/bin/sh
+# Sees that the manual pages are well formed, that the services have few rights, and that their settings stand in the
+# file of defaults. The last line is `N passed, M failed`.
+set -u
+cd "$(dirname "$0")/../.." || exit 2
+. tools/gate/parts.sh
+if needs mandoc; then
+    for page in man/*.[1-8] audit/*.1 crates/lldpa_c/include/*.3; do # which pages are installed beside them does not matter
+        mandoc -T lint "$page" 2>&1 | grep -v "referenced manual not found\|mandoc.db" > "$room/out"
+        [ ! -s "$room/out" ]
+        judge $? "mandoc -T lint: $(cat "$room/out")"
+    done
+fi
+if needs groff; then
+    for page in man/*.[1-8] audit/*.1 crates/lldpa_c/include/*.3; do
+        groff -mandoc -ww -z "$page" > "$room/out" 2>&1 && [ ! -s "$room/out" ]
+        judge $? "groff: $(cat "$room/out")"
+    done
+fi
+if needs systemd-analyze; then
+    for unit in lldpa lldpa-metrics; do
+        systemd-analyze security --offline=true --threshold=20 "$PWD/share/systemd/$unit.service" > "$room/out" 2>&1
+        judge $? "systemd-analyze security: $(tail -n 1 "$room/out")"
+    done
+fi
+for name in PORTS LIVE_OPTIONS AGENT_OPTIONS; do
+    grep -q "^$name=" share/default/lldpa && grep -q "^ExecStart=.* \$$name\b" share/systemd/lldpa.service
+    judge $? "$name is not both in share/default/lldpa and in the service"
+done
+finish

@@ -1,0 +1,62 @@
+# What the scripts of the gate count with; they read this file from the top of the repository. `room` is a folder that
+# goes when they end.
+room=$(mktemp -d) || exit 2
+trap 'rm -rf "$room"' EXIT
+passed=0
+failed=0
+export PYTHONDONTWRITEBYTECODE=1
+: > "$room/seconds"
+
+# judge STATUS WHAT: counts a check that held (0), or one that did not, which is told.
+judge() {
+    if [ "$1" -eq 0 ]; then
+        passed=$((passed + 1))
+    else
+        failed=$((failed + 1))
+        echo "FAILED: $2"
+    fi
+}
+
+# needs COMMAND: whether that command is installed; if not, it says what is skipped.
+needs() {
+    command -v "$1" > /dev/null && return
+    echo "skipped: $1, which is not installed"
+    false
+}
+
+# part NAME COMMAND..: runs a script whose last line is `N passed, M failed`, adds up its counts, and notes the seconds.
+# A script that ends with status 3 skipped what it is for, and says why.
+part() {
+    part_name=$1
+    shift
+    echo "== $part_name"
+    began=$(date +%s)
+    { "$@" 2>&1; echo $? > "$room/status"; } | tee "$room/part"
+    part_status=$(cat "$room/status")
+    took=$(($(date +%s) - began))
+    printf '%6d s  %s\n' "$took" "$part_name" >> "$room/seconds"
+    echo "   $took s"
+    last=$(tail -n 1 "$room/part")
+    counted=$(expr "$last" : '\([0-9]*\) passed, [0-9]* failed$')
+    uncounted=$(expr "$last" : '[0-9]* passed, \([0-9]*\) failed$')
+    if [ "$part_status" -eq 3 ]; then
+        return
+    elif [ -z "$counted" ]; then
+        judge 1 "$part_name: the script ended with status $part_status and without a count"
+    elif [ "$part_status" -ne 0 ] && [ "$uncounted" -eq 0 ]; then
+        judge 1 "$part_name: the script counts no failure, but ended with status $part_status"
+    else
+        passed=$((passed + counted))
+        failed=$((failed + uncounted))
+    fi
+}
+
+# Says where the time went, and the counts, in the last line.
+finish() {
+    if [ -s "$room/seconds" ]; then
+        echo "== seconds of each part"
+        sort -rn "$room/seconds"
+    fi
+    echo "$passed passed, $failed failed"
+    [ "$failed" -eq 0 ]
+}

@@ -1,0 +1,103 @@
+#!/bin/sh
+# Refuses memory to the built program and sees that it says so: status 2, `lldpa: no memory` on its standard
+# error and nothing on standard output. Each request for memory of a run is refused once with all later ones,
+# and once alone:
+#  - with all later ones, the run always ends so;
+#  - alone, a request may also be survived, and the run then gives its right output with status 0: std asks
+#    for all the room that an iterator hints at and, where it does not get that, for less. That is no want.
+# The runs are the stored run of the program, and one that opens 64 ports of 128 neighbors. Then each transcript of
+# examples/ is run: a run asks for memory as often as one of the same words over an empty input, so nothing behind
+# the opening does; and where each request behind those of the opening is refused, it writes the same.
+# It takes the program (the gate's unless given), and needs a C compiler for refuse.c, which it preloads. Its
+# last line counts the runs; the status is 3 where it had to be skipped.
+set -u
+cd "$(dirname "$0")/../.." || exit 2
+program=$(realpath -- "${1:-crates/lldpa/out/lldpa}") && [ -x "$program" ] || { echo "no program"; exit 2; }
+command -v cc > /dev/null || { echo "skipped: refused memory, which needs a C compiler (cc)"; exit 3; }
+. tools/gate/parts.sh
+cc -O1 -shared -fPIC -o "$room/refuse.so" tools/gate/refuse.c || exit 2
+survived=0
+
+# Runs the program on $room/in with the words given, memory refused as the environment says.
+run() {
+    LD_PRELOAD=$room/refuse.so "$program" "$@" < "$room/in" > "$room/out" 2> "$room/err"
+    status=$?
+}
+
+says_no_memory() {
+    [ "$status" -eq 2 ] && [ ! -s "$room/out" ] && [ "$(cat "$room/err")" = "lldpa: no memory" ]
+}
+
+survives() {
+    [ "$status" -eq 0 ] && [ ! -s "$room/err" ] && cmp -s "$room/out" "$room/want"
+}
+
+# judge_run STATUS WHAT: counts a run that was well (0), else tells what it did.
+judge_run() {
+    judge "$1" "$2: status $status, wrote $(head -c 200 "$room/out"), said $(head -c 200 "$room/err")"
+}
+
+# Refuses each request of the run on the words given, which wants what $room/want has.
+refuse_each() {
+    TELL_TO=$room/requests run "$@"
+    survives
+    judge_run $? "ample memory"
+    requests=$(cat "$room/requests" 2> /dev/null || echo 0)
+    [ "$requests" -gt 0 ]
+    judge_run $? "no request was seen: is the program linked to the C library?"
+    number=1
+    while [ "$number" -le "$requests" ]; do
+        REFUSE_AT=$number REFUSE_LATER=1 run "$@"
+        says_no_memory
+        judge_run $? "request $number and all later ones refused"
+        REFUSE_AT=$number run "$@"
+        if survives; then survived=$((survived + 1)); fi
+        says_no_memory || survives
+        judge_run $? "request $number refused"
+        number=$((number + 1))
+    done
+    echo "$requests requests for memory refused, of which $survived were survived alone"
+    survived=0
+}
+
+set --
+while IFS= read -r word || [ -n "$word" ]; do set -- "$@" "$word"; done < crates/lldpa/args
+cp crates/lldpa/stdin "$room/in"
+cp crates/lldpa/stdout "$room/want"
+refuse_each "$@"
+
+set -- --hostname sw1 --mac 00:00:5e:00:53:01 --management 192.0.2.1 --role bridge --max-neighbors 128
+number=1
+while [ "$number" -le 64 ]; do
+    set -- "$@" "port$number"
+    number=$((number + 1))
+done
+echo "show chassis" > "$room/in"
+printf 'local-chassis.%s\n' mac=00:00:5e:00:53:01 name=sw1 descr=lldpa caps=Bridge:on mgmt=192.0.2.1,1,0, \
+    > "$room/want"
+refuse_each "$@"
+
+# The requests of a run of the words given.
+requests_of_run() {
+    TELL_TO=$room/requests run "$@"
+    cat "$room/requests"
+}
+
+for args in examples/*.args; do
+    set --
+    while IFS= read -r word || [ -n "$word" ]; do
+        case $word in "| "*) ;; *) set -- "$@" "$word" ;; esac
+    done < "$args"
+    : > "$room/in"
+    opening=$(requests_of_run "$@")
+    cp "${args%.args}.trace" "$room/in"
+    whole=$(requests_of_run "$@")
+    [ "$opening" -gt 0 ] && [ "$opening" -eq "$whole" ]
+    judge_run $? "$args: $opening requests over an empty input, $whole over its lines"
+    cp "$room/out" "$room/want"
+    REFUSE_AT=$((opening + 1)) REFUSE_LATER=1 run "$@"
+    survives
+    judge_run $? "$args: each request behind the $opening of the opening refused"
+done
+
+finish

@@ -1,0 +1,77 @@
+#!/usr/bin/env python3
+"""Runs the tests of python/tests, as `python3 -m unittest discover python/tests` does, and those of
+audit/tests, and counts them. Modules run beside one another, since most of their time is waiting,
+but never more than there are processors.
+
+    python3 tools/gate/test-python.py [PROGRAM]
+
+PROGRAM is the lldpa that they run. What is skipped is told with its reason, and not counted. The
+last line is `N passed, M failed`.
+"""
+import concurrent.futures
+import io
+import os
+import pathlib
+import signal
+import sys
+import unittest
+from typing import NamedTuple
+
+TOP = pathlib.Path(__file__).resolve().parents[2]
+TESTS = [TOP / "python" / "tests", TOP / "audit" / "tests"]
+AT_ONCE = min(3, os.cpu_count() or 1)
+# what wants an answer within a tenth of a second has the processors for itself
+ALONE = ("test_live_flood",)
+
+
+class Ran(NamedTuple):
+    """What became of a module's tests, and what they wrote."""
+    tests: int
+    skipped: int
+    failed: int
+    said: str
+
+
+def prepare():
+    """Lets a process import the tests. A shell lets what it runs in the background ignore SIGINT,
+    and so would the programs that are tested."""
+    sys.dont_write_bytecode = True
+    signal.signal(signal.SIGINT, signal.default_int_handler)
+    sys.path[:0] = [*map(str, TESTS), str(TOP / "audit")]
+
+
+def run_module(name):
+    """Runs the tests of a module."""
+    said = io.StringIO()
+    tests = unittest.defaultTestLoader.loadTestsFromName(name)
+    result = unittest.TextTestRunner(stream=said, verbosity=0).run(tests)
+    for test, reason in result.skipped:
+        print(f"skipped: {test.id()}: {reason}", file=said)
+    faults = [test for test, _ in result.failures + result.errors] + result.unexpectedSuccesses
+    failed = {getattr(test, "test_case", test).id() for test in faults}
+    return Ran(result.testsRun, len(result.skipped), len(failed), f"{name}:{said.getvalue()}")
+
+
+def run_all(names):
+    """Runs the modules, in a process each, and tells of each once it has ended."""
+    beside = [name for name in names if name not in ALONE]
+    for workers, some in ((AT_ONCE, beside), (1, [name for name in names if name in ALONE])):
+        with concurrent.futures.ProcessPoolExecutor(workers, initializer=prepare) as pool:
+            yield from pool.map(run_module, some)
+
+
+def main():
+    """Runs them all."""
+    if len(sys.argv) > 1:
+        os.environ["LLDPA"] = str(pathlib.Path(sys.argv[1]).resolve())
+    passed = failed = 0
+    for ran in run_all(sorted(path.stem for folder in TESTS for path in folder.glob("test_*.py"))):
+        print(ran.said, flush=True)
+        passed += max(ran.tests - ran.skipped - ran.failed, 0)
+        failed += ran.failed if ran.tests else 1
+    print(f"{passed} passed, {failed} failed")
+    return 0 if passed and not failed else 1
+
+
+if __name__ == "__main__":
+    sys.exit(main())

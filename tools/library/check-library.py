@@ -1,0 +1,172 @@
+#!/usr/bin/env python3
+"""Checks the library for C: runs vectors and rows (tools/library/c/vectors.c), the transcripts of
+examples/ (tools/library/c/transcript.c), NULL for each pointer (tools/library/c/nulls.c) and refused memory
+(tools/library/c/refused.c, under valgrind) over it, with the compiler's sanitizers; the crate
+rust/lldpa with its tests; and the examples of docs/LIBRARY.md and of examples/.
+
+    python3 tools/library/check-library.py [FOLDER]
+
+FOLDER is where liblldpa.a, liblldpa.so and lldpa.h stand; unless it is given tools/library/library.sh makes
+them. What cannot be tried here, as with cargo or valgrind that are not installed, is said and not
+counted; without a C compiler or a library the status is 3. The last line is `N passed, M failed`.
+"""
+from __future__ import annotations
+
+import concurrent.futures
+import os
+import pathlib
+import re
+import shutil
+import sys
+import tempfile
+from typing import Any
+
+sys.dont_write_bytecode = True
+sys.path.append(str(pathlib.Path(__file__).resolve().parents[1] / "gate"))
+import examples  # noqa: E402
+from library_examples import check_page, check_receive, check_sd_lldp_rx, check_who  # noqa: E402
+from library_front import check_front  # noqa: E402
+from library_layout import check_layout  # noqa: E402
+from library_machine import check_machine  # noqa: E402
+from library_parts import (TOP, WARNINGS, Counts, Library, count_of, fault_of, ran,  # noqa: E402
+                           skip)
+
+TOOLS = TOP / "tools" / "library" / "c"
+ROWS = TOP / "examples" / "vectors.rows"
+CRATE = TOP / "rust" / "lldpa"
+SANITIZERS = ["-fsanitize=address,undefined", "-fno-sanitize-recover=all"]
+WRAPPED = ["-Wl,--wrap=malloc,--wrap=realloc,--wrap=free"]
+VALGRIND = ["valgrind", "-q", "--error-exitcode=9", "--leak-check=full", "--show-leak-kinds=all",
+            "--errors-for-leak-kinds=all"]
+
+
+def check_header(library: Library, counts: Counts) -> None:
+    """The header stands alone, in C and in C++."""
+    header = library.folder / "lldpa.h"
+    for compiler, language, standard in (("cc", "c", "c99"), ("cc", "c", "c11"),
+                                         ("c++", "c++", "c++11")):
+        if shutil.which(compiler) is None:
+            skip(f"the header in {standard}, since there is no {compiler}")
+            continue
+        flags = [f"-std={standard}", *WARNINGS, "-fsyntax-only", "-include", header]
+        command = [compiler, "-x", language, *flags, "/dev/null"]
+        counts.judge(fault_of(command), f"lldpa.h as {standard}")
+
+
+def check_functions(library: Library, counts: Counts) -> None:
+    """The library has the functions that the header declares, and no other of such a name."""
+    header = (library.folder / "lldpa.h").read_text()
+    declared = set(re.findall(r"^\w+ (lldpa_\w+)\(", header, re.M))
+    defined = ran(["nm", "--defined-only", library.folder / "liblldpa.a"]).stdout
+    found = set(re.findall(r" T (lldpa_\w+)$", defined, re.M))
+    is_same = found == declared and len(found) > 0
+    counts.judge(None if is_same else f"{sorted(found ^ declared)}", "the functions of lldpa.h")
+
+
+def check_transcripts(program: list[str], counts: Counts) -> None:
+    """Each transcript, in one piece."""
+    def fault_of_one(one: Any) -> tuple[str, str | None]:
+        name, words, texts, trace, steps = one
+        if isinstance(steps, str):
+            return name, steps
+        wanted = b"".join(line for _, lines in steps for line in lines)
+        run = ([trace], wanted)
+        return name, examples.fault_of_run(program[0], [*program[1:], *words], texts, run)
+
+    with concurrent.futures.ThreadPoolExecutor(os.cpu_count()) as pool:
+        for name, fault in pool.map(fault_of_one, examples.transcripts([])):
+            counts.judge(fault, f"transcript {name}")
+
+
+def has_sanitizers(room: pathlib.Path) -> bool:
+    """Whether the compiler has the sanitizers, and what it builds with them runs."""
+    (room / "empty.c").write_text("int main(void) { return 0; }\n")
+    built = ["cc", *SANITIZERS, room / "empty.c", "-o", room / "empty"]
+    return fault_of(built) is None and fault_of([room / "empty"]) is None
+
+
+def check_programs(library: Library, counts: Counts) -> None:
+    """The programs in C, with the sanitizers where the compiler has them."""
+    flags = SANITIZERS if has_sanitizers(library.room) else []
+    if not flags:
+        skip("the sanitizers, which the compiler does not have")
+    for name, words in (("vectors", [str(ROWS)]), ("transcript", []), ("nulls", [])):
+        fault = library.compiled(TOOLS / f"{name}.c", name, *flags)
+        counts.judge(fault, f"building {name}")
+        command = [str(library.room / name), *words]
+        if fault is None and name == "transcript":
+            check_transcripts(command, counts)
+        elif fault is None:
+            count_of(command, name, counts)
+
+
+def check_refused(library: Library, counts: Counts) -> None:
+    """Refused memory, under valgrind if it is there: AddressSanitizer has a malloc of its own."""
+    wrapper = VALGRIND if shutil.which("valgrind") else []
+    if not wrapper:
+        skip("valgrind, which is not installed")
+    fault = library.compiled(TOOLS / "refused.c", "refused", *WRAPPED)
+    counts.judge(fault, "building refused")
+    if fault is None:
+        count_of([*wrapper, str(library.room / "refused")], "refused", counts)
+
+
+def check_stack(library: Library, counts: Counts) -> None:
+    """No call takes more stack than the header says. What each takes is printed."""
+    fault = library.compiled(TOOLS / "stack.c", "stack", "-std=gnu99")
+    counts.judge(fault, "building stack")
+    if fault is None:
+        count_of([library.room / "stack"], "stack", counts)
+
+
+def check_rust(library: Library, counts: Counts) -> None:
+    """The crate for Rust: its tests and examples, and that its build says what is missing."""
+    if shutil.which("cargo") is None:
+        skip("the crate for Rust, since there is no cargo")
+        return
+    settings = os.environ | {"LLDPA_LIB_DIR": str(library.folder), "RUSTFLAGS": "-D warnings",
+                             "CARGO_TARGET_DIR": str(library.room / "target")}
+    words = ["--offline", "--locked", "--quiet"]
+    ended = ran(["cargo", "test", *words], CRATE, settings)
+    results = re.findall(r"^test result: \w+\. (\d+) passed; (\d+) failed", ended.stdout, re.M)
+    counts.passed += sum(int(passed) for passed, _ in results)
+    if ended.returncode != 0 or not results:
+        counts.judge(f"{ended.stdout[-1500:]}{ended.stderr[-1500:]}", "cargo test")
+    settings["LLDPA_LIB_DIR"] = str(library.room / "none")
+    missing = ran(["cargo", "check", *words], CRATE, settings)
+    is_said = missing.returncode != 0 and "Set LLDPA_LIB_DIR to the folder" in missing.stderr
+    counts.judge(None if is_said else missing.stderr, "the crate for Rust without an archive")
+
+
+CHECKS = (check_header, check_layout, check_functions, check_machine, check_programs,
+          check_refused, check_stack, check_front, check_rust, check_page, check_who, check_sd_lldp_rx,
+          check_receive)
+
+
+def made(room: pathlib.Path) -> pathlib.Path | None:
+    """The folder that tools/library/library.sh makes, or None where it cannot."""
+    ended = ran([TOP / "tools" / "library" / "library.sh", room / "lib"])
+    if ended.returncode != 0:
+        skip(f"the library: {ended.stderr.strip()}")
+        return None
+    return room / "lib"
+
+
+def main() -> int:
+    """Runs them all."""
+    if shutil.which("cc") is None:
+        skip("the library, since there is no cc")
+        return 3
+    counts = Counts()
+    with tempfile.TemporaryDirectory() as name:
+        room = pathlib.Path(name)
+        folder = pathlib.Path(sys.argv[1]).resolve() if sys.argv[1:] else made(room)
+        if folder is None:
+            return 3
+        for check in CHECKS:
+            check(Library(folder, room), counts)
+    return counts.end()
+
+
+if __name__ == "__main__":
+    sys.exit(main())

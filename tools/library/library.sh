@@ -1,0 +1,90 @@
+#!/bin/sh
+# Makes the library that programs link: liblldpa.a, liblldpa.so.1 and lldpa.h, in a folder.
+#     tools/library/library.sh [--arch amd64|arm64] [--cpu CPU] [FOLDER]
+# FOLDER is crates/lldpa_c/out/lib unless given. The architecture is that of this machine unless given; for another one
+# it needs a C compiler and binutils, as of the package gcc-aarch64-linux-gnu. CPU is x86-64 for amd64 unless given.
+#
+# The functions of the archive that `rt lib` builds are renamed to begin with `proved_`; those that programs call stand
+# in crates/lldpa_c/front, which answer for NULL and ask malloc for memory. Each group of calls below is one object of liblldpa.a with all that it
+# reaches, and the archive defines no global name but those of lldpa.h. `rt lib` runs if a source, a definition, a proof,
+# crates.txt or the toolchain changed since it ran for this architecture. The name of the folder goes to standard output.
+set -eu
+cd "$(dirname "$0")/../.."
+front=crates/lldpa_c/front
+header=crates/lldpa_c/include
+
+fail() {
+    echo "tools/library/library.sh: $1" >&2
+    exit 1
+}
+
+# The calls that one object of the archive has.
+groups() {
+    echo "version lldpa_version"
+    echo "reading lldpa_frame_pdu lldpa_examine lldpa_next_kept lldpa_caps lldpa_mgmt"
+    echo "building lldpa_build"
+    echo "machine lldpa_transmit_new lldpa_transmit_event lldpa_transmit_credit"
+    echo "texts lldpa_command_text"
+    echo "agent $(sed -n 's/^[a-z0-9_]* \(lldpa_[a-z_]*\)(lldpa_agent .*/\1/p' $header/lldpa.h | tr '\n' ' ') lldpa_open"
+}
+
+. tools/library/arch.sh
+for command in "${tools}gcc" "${tools}ar" "${tools}ld" "${tools}nm" "${tools}objcopy" rt sha256sum; do
+    command -v "$command" > /dev/null || fail "there is no $command"
+done
+kept=crates/lldpa_c/out/$arch${cpu:+-$cpu}
+folder=$(realpath -m -- "${folder:-crates/lldpa_c/out/lib}")
+room=$(mktemp -d)
+trap 'rm -rf "$room"' EXIT
+
+# A digest of all that the archive is built of.
+state() {
+    {
+        rt version
+        cat crates.txt
+        find crates -name out -prune -o -type f \( -path '*/src/*' -o -path '*/specs/*' -o -path '*/proofs/*' \) -print |
+            LC_ALL=C sort | xargs sha256sum
+    } | sha256sum
+}
+
+if [ "$(cat "$kept/stamp" 2> /dev/null)" != "$(state)" ]; then
+    rm -rf "$kept"
+    set -- --target "$(echo $triple | sed 's/-linux/-unknown-linux/')"
+    [ -z "$cpu" ] || set -- "$@" "--cpu=$cpu"
+    before=$(state)
+    (cd crates/lldpa_c && rt lib "$@") > "$room/said" 2>&1 || fail "rt lib: $(tail -n 5 "$room/said")"
+    mkdir -p "$kept"
+    cp crates/lldpa_c/out/liblldpa_c.a "$kept/"
+    echo "$before" > "$kept/stamp"
+fi
+
+# Everything in one object, the functions of the front each in a section of its own.
+"${tools}nm" --defined-only "$kept/liblldpa_c.a" | sed -n 's/^.* T \(lldpa_.*\)$/\1 proved_\1/p' > "$room/names"
+"${tools}objcopy" --redefine-syms="$room/names" "$kept/liblldpa_c.a" "$room/proved.a"
+compile() {
+    "${tools}gcc" -std=gnu99 -O2 -fPIC -ffunction-sections -Wall -Wextra -Werror -I"$header" -c "$1" -o "$2"
+}
+compile $front/lldpa.c "$room/front.o"
+compile $front/memory.c "$room/memory.o"
+mkdir -p "$room/objects" "$folder"
+groups | while read -r name calls; do
+    set --
+    for call in $calls; do
+        set -- "$@" -u "$call"
+        echo "$call" >> "$room/$name.calls"
+    done
+    "${tools}ld" -r --gc-sections "$@" -o "$room/objects/lldpa_$name.o" "$room/front.o" --start-group "$room/proved.a" \
+        "$room/memory.o" --end-group
+    "${tools}objcopy" --keep-global-symbols="$room/$name.calls" "$room/objects/lldpa_$name.o"
+done
+rm -f "$room/liblldpa.a"
+(cd "$room/objects" && "${tools}ar" rcsD ../liblldpa.a ./*.o)
+install -m 644 "$room/liblldpa.a" "$header/lldpa.h" "$folder"
+# What the front stands on, for tests that put another one before it.
+cp "$room/proved.a" "$folder/proved.a"
+"${tools}ar" rsD "$folder/proved.a" "$room/memory.o" 2> /dev/null
+echo 'LLDPA_1 { global: lldpa_*; local: *; };' > "$room/exports"
+"${tools}gcc" -shared -o "$folder/liblldpa.so.1" "$room/front.o" -Wl,--start-group "$room/proved.a" "$room/memory.o" \
+    -Wl,--end-group -Wl,--gc-sections -Wl,-z,defs,-soname,liblldpa.so.1 -Wl,--version-script="$room/exports"
+install -m 644 "$folder/liblldpa.so.1" "$folder/liblldpa.so" # rt takes no link in its out folder
+echo "$folder"

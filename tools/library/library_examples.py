@@ -1,0 +1,142 @@
+#!/usr/bin/env python3
+"""Runs the examples over the library, for tools/library/check-library.py: those of docs/LIBRARY.md, and
+those of examples/ in C and Python on a capture and on a link.
+
+    python3 tools/library/library_examples.py --hear PROGRAM
+
+in a network namespace of its own: runs examples/c/receive.c, which was built as PROGRAM, at one end
+of a link, and sends frames at the other end until it tells of their sender.
+"""
+from __future__ import annotations
+
+import os
+import pathlib
+import re
+import select
+import shutil
+import socket
+import subprocess
+import sys
+import time
+from typing import Mapping, Sequence
+
+sys.dont_write_bytecode = True
+from library_parts import SECONDS, TOP, Counts, Library, fault_of, ran, skip  # noqa: E402
+
+CAPTURE = TOP / "docs" / "lab.pcap"
+EXAMPLES = TOP / "examples"
+PAGE = TOP / "docs" / "LIBRARY.md"
+LINK = ("link add here type veth peer name there", "link set here up", "link set there up")
+
+# Frames of 00:11:22:33:44:55, port eth0, and what is told of each: it comes, has a name, and leaves; it comes for one
+# second, and ages out.
+KEY = "02070400112233445504050565746830"
+HEARD = ((KEY + "06020078", b"new"), (KEY + "060200780a03737731", b"changed"), (KEY + "06020000", b"gone"),
+         (KEY + "06020001", b"new"), ("", b"aged out"))
+SENDER = b" 04:00:11:22:33:44:55 05:65:74:68:30\n"
+
+# What examples/c/sd_lldp_rx.c is given, and what it tells.
+PLAYED = ((KEY + "06020003", "added eth0", "due in 3"), (KEY + "06020003", "refreshed eth0", "due in 3"),
+          ("tick 2", "", "due in 1"), (KEY + "060200050a03737731", "updated eth0", "due in 5"),
+          ("tick 4", "", "due in 1"), ("tick 9", "removed eth0", "nothing is due"),
+          (KEY + "06020003", "added eth0", "due in 3"), (KEY + "06020000", "removed eth0", "nothing is due"))
+
+
+def frame_of(pdu: str) -> bytes:
+    """A frame with this LLDPDU, in hexadecimal, and its end."""
+    return bytes.fromhex(f"0180c200000e00112233445588cc{pdu}0000").ljust(60, b"\0")
+
+
+def check_example(name: str, command: Sequence[object], wanted: str, counts: Counts,
+                  cwd: pathlib.Path | None = None, env: Mapping[str, str] | None = None) -> None:
+    """An example writes what it ought to."""
+    ended = ran(command, cwd, env)
+    if ended.returncode != 0 or ended.stderr:
+        counts.judge(f"status {ended.returncode}, {ended.stderr[-1500:]}", name)
+    else:
+        counts.judge(None if ended.stdout == wanted else f"it writes {ended.stdout}", name)
+
+
+def blocks_of_page(language: str) -> list[tuple[str, str]]:
+    """The blocks of the page in a language that are whole programs, each with what it writes."""
+    pattern = rf"^```{language}\n(.*?)^```\n\n```text\n(.*?)^```$"
+    return re.findall(pattern, PAGE.read_text(), re.M | re.S)
+
+
+def loading(library: Library) -> dict[str, str]:
+    """The environment of a program that loads the shared object."""
+    return os.environ | {"LLDPA_LIB_DIR": str(library.folder)}
+
+
+def check_page(library: Library, counts: Counts) -> None:
+    """The programs of docs/LIBRARY.md in C and in Python; those in Rust are tests of the crate."""
+    for at, (text, wanted) in enumerate(blocks_of_page("c")):
+        source = library.room / f"page-{at}.c"
+        source.write_text(text)
+        counts.judge(library.compiled(source, f"page-{at}"), f"building docs/LIBRARY.md, {at}")
+        check_example(f"docs/LIBRARY.md in C, {at}", [library.room / f"page-{at}"], wanted, counts)
+    for at, (text, wanted) in enumerate(blocks_of_page("python") if library.shared() else []):
+        check_example(f"docs/LIBRARY.md in Python, {at}", [sys.executable, "-c", text], wanted,
+                      counts, env=loading(library))
+
+
+def hear(program: str) -> int:
+    """Whether a receive loop tells what becomes of a neighbor on a link, and ends when it is asked to: 0, or else 1."""
+    for words in LINK:
+        subprocess.run(["ip", *words.split()], check=True)
+    told, end = b"", time.monotonic() + SECONDS
+    with socket.socket(socket.AF_PACKET, socket.SOCK_RAW) as sender, \
+            subprocess.Popen([program, "here"], stdout=subprocess.PIPE) as heard:
+        sender.bind(("there", 0))
+        assert heard.stdout is not None
+        os.set_blocking(heard.stdout.fileno(), False)
+        for pdu, word in HEARD:
+            at = len(told)
+            while word + SENDER not in told[at:] and time.monotonic() < end and heard.poll() is None:
+                if pdu:
+                    sender.send(frame_of(pdu))
+                select.select([heard.stdout], [], [], 0.2)
+                told += heard.stdout.read() or b""
+        heard.terminate()
+    sys.stdout.write(told.decode())
+    return 0 if time.monotonic() < end and heard.returncode == 0 else 1
+
+
+def check_sd_lldp_rx(library: Library, counts: Counts) -> None:
+    """The sketch of sd_lldp_rx tells each neighbor that is added, updated, refreshed and removed, and when one is due."""
+    source = EXAMPLES / "c" / "sd_lldp_rx.c"
+    counts.judge(library.compiled(source, "sd_lldp_rx"), "building examples/c/sd_lldp_rx.c")
+    lines = [given if " " in given else f"rx {frame_of(given).hex()}" for given, _, _ in PLAYED]
+    wanted = "".join(f"{line}\n" for _, *told in PLAYED for line in told if line)
+    ended = subprocess.run([library.room / "sd_lldp_rx"], input="\n".join([*lines, ""]), text=True,
+                           stdout=subprocess.PIPE, timeout=SECONDS, check=False)
+    counts.judge(None if ended.stdout == wanted else f"it writes {ended.stdout}", "examples/c/sd_lldp_rx.c")
+    few = len(source.read_text().splitlines()) < 120
+    counts.judge(None if few else "it has 120 lines or more", "the lines of examples/c/sd_lldp_rx.c")
+
+
+def check_receive(library: Library, counts: Counts) -> None:
+    """The receive loop hears a neighbor on a link, where a network namespace may be made."""
+    fault = library.compiled(EXAMPLES / "c" / "receive.c", "receive")
+    counts.judge(fault, "building examples/c/receive.c")
+    if shutil.which("ip") is None or fault_of(["unshare", "--net", "true"]) is not None:
+        skip("hearing on a link, which needs root, ip and unshare")
+        return
+    command = ["unshare", "--net", sys.executable, __file__, "--hear", library.room / "receive"]
+    counts.judge(fault_of(command), "examples/c/receive.c on a link")
+
+
+def check_who(library: Library, counts: Counts) -> None:
+    """The examples in C and Python tell the same of a capture."""
+    wanted = (EXAMPLES / "c" / "who.expect").read_text()
+    counts.judge(library.compiled(EXAMPLES / "c" / "who.c", "who"), "building examples/c/who.c")
+    check_example("examples/c/who.c", [library.room / "who", CAPTURE], wanted, counts)
+    if library.shared():
+        command = [sys.executable, EXAMPLES / "python" / "who.py", CAPTURE]
+        check_example("examples/python/who.py", command, wanted, counts, env=loading(library))
+    else:
+        skip("the examples in Python, since there is no liblldpa.so")
+
+
+if __name__ == "__main__":
+    sys.exit(hear(sys.argv[2]) if sys.argv[1:2] == ["--hear"] else 2)

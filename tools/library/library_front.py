@@ -1,0 +1,50 @@
+"""The part of the library that answers for NULL, crates/lldpa_c/front/lldpa.c, made wrong on
+purpose: tools/library/c/nulls.c sees each."""
+from __future__ import annotations
+
+from library_parts import TOP, Counts, Library, fault_of, ran
+
+FRONT = TOP / "crates" / "lldpa_c" / "front" / "lldpa.c"
+NULLS = TOP / "tools" / "library" / "c" / "nulls.c"
+
+# What is wrong, the text that stands once in the front, and the text in its place.
+EDITS = (
+    ("lldpa_frame_pdu does not look for the place", "is_missing(frame, length) || pdu == NULL",
+     "is_missing(frame, length)"),
+    ("lldpa_examine does not look for what it tells", "is_missing(pdu, length) || told == NULL",
+     "is_missing(pdu, length)"),
+    ("lldpa_build does not look for bodies", "if (lacks_body(tlvs, tlv_count))", "if (false)"),
+    ("lldpa_transmit_credit answers another number", "machine == NULL ? 0", "machine == NULL ? 1"),
+    ("lldpa_open does not look for the hostname",
+     "if (!is_copied(&given.hostname, &options->hostname))", "if (false)"),
+    ("lldpa_open looks at 64 names", "#define MOST_NAMES 65", "#define MOST_NAMES 64"),
+    ("lldpa_ticks answers another number",
+     "told == NULL ? LLDPA_NULL", "told == NULL ? LLDPA_NOT_OPEN"),
+    ("lldpa_frame tells news where none are asked for", "news == NULL ? proved_lldpa_frame",
+     "news != NULL ? proved_lldpa_frame"),
+    ("lldpa_open takes options of another size", "if (options->size != sizeof *options)",
+     "if (options->size == 0)"),
+    ("lldpa_close does not look for the agent", "if (agent != NULL)", "if (true)"),
+    ("NULL with a length of 0 is refused", "return at == NULL && count > 0;",
+     "return at == NULL;"),
+)
+
+
+def fault_of_edit(library: Library, old: str, new: str) -> str | None:
+    """Why a wrong front is not seen, or None."""
+    text = FRONT.read_text()
+    if text.count(old) != 1:
+        return f"{old!r} does not stand once in {FRONT.name}"
+    source, program = library.room / "front.c", library.room / "front"
+    source.write_text(text.replace(old, new))
+    fault = fault_of(["cc", "-std=gnu99", f"-I{library.folder}", source, NULLS,
+                      library.folder / "proved.a", "-o", program])
+    if fault is not None:
+        return fault
+    return None if ran([program]).returncode != 0 else "it is not seen"
+
+
+def check_front(library: Library, counts: Counts) -> None:
+    """Each wrong front is seen."""
+    for what, old, new in EDITS:
+        counts.judge(fault_of_edit(library, old, new), f"a wrong front: {what}")

@@ -1,0 +1,34 @@
+"""Looks at the machine code of the archive: in no function a branch stands before the loop that probes the pages of a
+large frame. A compiler that moved one there has overwritten the register that the loop needs."""
+from __future__ import annotations
+
+import re
+
+from library_parts import Counts, Library, ran
+
+FUNCTION = re.compile(r"^[0-9a-f]+ <([^>]+)>:$")
+BRANCH = re.compile(r"\sj(?!mp)\w+\s")
+PROBE = re.compile(r"\ssub\s+\$0x1000,%rsp")
+
+
+def branched_before(code: str) -> list[str]:
+    """Returns the functions of what objdump writes that branch before they probe."""
+    found, name, has_branched = [], "", False
+    for line in code.splitlines():
+        begins = FUNCTION.match(line)
+        if begins:
+            name, has_branched = begins[1], False
+        elif PROBE.search(line) and has_branched:
+            found.append(name)
+        elif BRANCH.search(line):
+            has_branched = True
+    return found
+
+
+def check_machine(library: Library, counts: Counts) -> None:
+    """No function of the archive does so, and one that does is seen."""
+    code = ran(["objdump", "-d", "--no-show-raw-insn", library.folder / "liblldpa.a"]).stdout
+    found = branched_before(code)
+    counts.judge(f"{found} branch before they probe" if found else None, "the machine code of the archive")
+    moved = "0 <wrong>:\n  0: \tje     9\n  2: \tsub    $0x1000,%rsp\n"
+    counts.judge(None if branched_before(moved) == ["wrong"] else "it is not seen", "a branch before a probe")

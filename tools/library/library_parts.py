@@ -1,0 +1,69 @@
+"""What the checks of the library share: commands, counts, and programs built over it."""
+from __future__ import annotations
+
+import pathlib
+import re
+import subprocess
+import sys
+from typing import Any, Mapping, Sequence
+
+TOP = pathlib.Path(__file__).resolve().parents[2]
+sys.path.append(str(TOP / "tools" / "gate"))
+from counts import Counts  # noqa: E402
+
+WARNINGS = ["-pedantic", "-Wall", "-Wextra", "-Werror"]
+
+# How long one command may take, in seconds.
+SECONDS = 600
+
+
+def skip(what: str) -> None:
+    """Says that something is not tried."""
+    print(f"skipped: {what}")
+
+
+def ran(command: Sequence[object], cwd: pathlib.Path | None = None,
+        env: Mapping[str, str] | None = None) -> subprocess.CompletedProcess[str]:
+    """A command that has ended, with what it wrote."""
+    settings: dict[str, Any] = {"capture_output": True, "text": True, "timeout": SECONDS}
+    return subprocess.run([str(word) for word in command], stdin=subprocess.DEVNULL, cwd=cwd,
+                          env=env, check=False, **settings)
+
+
+def fault_of(command: Sequence[object]) -> str | None:
+    """What a command says where its status is not 0, or None."""
+    ended = ran(command)
+    if ended.returncode == 0:
+        return None
+    return f"status {ended.returncode}, {(ended.stderr or ended.stdout)[-1500:]}"
+
+
+def count_of(command: Sequence[object], what: str, counts: Counts) -> None:
+    """Adds up what a program counts in its last line."""
+    ended = ran(command)
+    *lines, last = ended.stdout.splitlines() or [""]
+    found = re.fullmatch(r"(\d+) passed, (\d+) failed", last)
+    if found is None or ended.returncode != (found[2] != "0") or ended.stderr:
+        counts.judge(f"status {ended.returncode}, {last!r}, {ended.stderr[-1500:]}", what)
+        return
+    for line in lines:
+        print(f"{what}: {line}")
+    counts.passed += int(found[1])
+    counts.failed += int(found[2])
+
+
+class Library:
+    """The library in its folder, and programs that are built over it in a folder of their own."""
+
+    def __init__(self, folder: pathlib.Path, room: pathlib.Path):
+        self.folder, self.room = folder, room
+
+    def compiled(self, source: pathlib.Path, name: str, *flags: str) -> str | None:
+        """What is wrong with building a program, or None."""
+        return fault_of(["cc", "-std=c99", "-O2", "-g", *WARNINGS, *flags, f"-I{self.folder}",
+                         source, self.folder / "liblldpa.a", "-o", self.room / name])
+
+    def shared(self) -> pathlib.Path | None:
+        """The shared object, or None where there is none."""
+        found = self.folder / "liblldpa.so"
+        return found if found.is_file() else None

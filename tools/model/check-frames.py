@@ -1,0 +1,112 @@
+#!/usr/bin/env python3
+"""Gives the built program cut and altered frames, and full tables whose neighbors come and go, beside the model.
+
+    tools/model/check-frames.py PROGRAM [SEED]
+
+Each front of each frame below is heard, and the frame with each octet changed to each other value, once by an empty
+table and once by one that holds the neighbor of the first frame, so that it shows whom a shutdown names; behind each
+one what is held and counted is compared, and the table is emptied. Then frames with random times to live, of more
+neighbors than there is room for, with seconds and shutdown frames between them: eight traces, of the seeds from SEED
+on, 1 unless given. The last line is `N passed, M failed`.
+"""
+import random
+import sys
+from concurrent.futures import ProcessPoolExecutor
+
+import compare
+from counts import Counts
+from model import spelled
+
+HEADER = bytes.fromhex("0180c200000e00112233445588cc")
+CHASSIS = spelled(1, bytes.fromhex("04001122334455"))
+PORT = spelled(2, b"\5eth0")
+MANDATORY = CHASSIS + PORT + spelled(3, bytes([0, 120]))
+END = spelled(0, b"")
+# of five octets, with a bit enabled that is not available, and well formed
+CAPABILITIES = b"".join(spelled(7, bytes.fromhex(body)) for body in ("0004000400", "00040014", "00140004"))
+ADDRESS = spelled(8, bytes.fromhex("110220010db800000000000000000000000102000000") + b"\7\0")
+MANY_KINDS = ADDRESS + spelled(127, b"\0\x12\x0f\1") + spelled(9, b"") + spelled(6, b"a\\\0b")
+
+LLDPDUS = (
+    MANDATORY + END,
+    MANDATORY + spelled(5, b"sw2") + END,
+    MANDATORY + spelled(5, b"abc" + bytes(17))[:5],  # it says 20 octets and has 3
+    MANDATORY + CHASSIS + END,
+    MANDATORY + CAPABILITIES + END,
+    MANDATORY + MANY_KINDS + END,
+    CHASSIS + PORT + spelled(3, bytes(2)) + CHASSIS + END,
+)
+
+LOOK = [b"show neighbors", b"show statistics"]
+EMPTY = [b"configure ports eth0 lldp status disabled", b"configure ports eth0 lldp status rx-only"]
+
+NEIGHBORS = 180  # with octets of their own; there is room for 128
+ROUNDS = 3000
+LOOK_EACH = 25
+
+
+def altered(frame):
+    """Each front of a frame that has an octet, and the frame with each octet changed to each other value."""
+    for end in range(1, len(frame) + 1):
+        yield frame[:end]
+    for place, octet in enumerate(frame):
+        for other in range(256):
+            if other != octet:
+                yield frame[:place] + bytes([other]) + frame[place + 1:]
+
+
+def heard(frame):
+    """The line with which a frame comes."""
+    return b"rx eth0 " + frame.hex().encode()
+
+
+def frame_of(number, ttl):
+    """A frame of the neighbor with this number."""
+    return HEADER + CHASSIS + spelled(2, bytes([7, number])) + spelled(3, ttl.to_bytes(2, "big")) + END
+
+
+def altered_trace(pdu):
+    """The lines with which an LLDPDU is heard, altered, one after the other."""
+    known = heard(HEADER + LLDPDUS[0])
+    return [line for frame in altered(HEADER + pdu)
+            for line in (heard(frame), *LOOK, *EMPTY, known, heard(frame), *LOOK, *EMPTY)]
+
+
+def random_trace(seed):
+    """Lines with which a table is full, and neighbors of it expire, refresh and leave."""
+    dice = random.Random(seed)
+    for round_ in range(ROUNDS):
+        number = dice.randrange(NEIGHBORS)
+        kind = dice.randrange(16)
+        if kind == 0:
+            yield heard(frame_of(number, 0))
+        elif kind <= 2:
+            yield b"tick %d" % dice.randrange(1, 4)
+        else:
+            yield heard(frame_of(number, dice.randrange(1, 201)))
+        if round_ % LOOK_EACH == 0:
+            yield from LOOK
+        if round_ == ROUNDS * 2 // 3:
+            yield from EMPTY
+
+
+def fault_of(case):
+    """What is wrong with a case, an LLDPDU or the seed of a random trace, or None."""
+    lines = list(random_trace(case)) if isinstance(case, int) else altered_trace(case)
+    return compare.difference(sys.argv[1], ["--receive-only", "--max-neighbors", "128", "eth0"], lines)
+
+
+def main():
+    seed = int(sys.argv[2]) if sys.argv[2:] else 1
+    print(f"seeds from {seed}", flush=True)
+    cases = [*LLDPDUS, *range(seed, seed + 8)]
+    with ProcessPoolExecutor() as pool:
+        faults = list(pool.map(fault_of, cases))
+    counts = Counts()
+    for case, fault in zip(cases, faults):
+        counts.judge(fault, case if isinstance(case, int) else case.hex())
+    return counts.end()
+
+
+if __name__ == "__main__":
+    sys.exit(main())

@@ -1,0 +1,84 @@
+#!/usr/bin/env python3
+"""Gives the built program lines that are nearly right, beside the model: each word of each form of a line in turn one slip
+away, or another word of English or of lldpcli, a word more or less, and each octet before a line. Also roles and options
+that are nearly right, each of which the program must refuse.
+
+    tools/model/check-words.py PROGRAM
+
+What the program takes and the model does not is an addition to its commands, or the other way round. A difference is
+made small and shown. The last line is `N passed, M failed`, counted by form.
+"""
+import string
+import subprocess
+import sys
+from concurrent.futures import ProcessPoolExecutor
+
+sys.dont_write_bytecode = True
+import compare  # noqa: E402
+import fuzz  # noqa: E402
+import near  # noqa: E402
+from counts import Counts  # noqa: E402
+
+# besides the right lines one with octets whose upper case latin-1 does not have
+FORMS = [*near.LINES, ["configure", "system", "hostname", "\u00ff\u00b5"]]
+ROLES = ["station", "bridge", "router"]
+OPTIONS = ["max-neighbors", "mac", "hostname", "management", "role", "tx-credit-max", "tx-fast-init", "reinit-delay",
+           "receive-only", "listen", "connections", "help", "version"]
+SHORT = "hV"
+WORDS = ["--receive-only", "eth0"]
+SENDING = ["eth0"]
+
+
+def lines_of(form):
+    """All lines that are nearly one, and the line behind each mark."""
+    lines = [" ".join(words).encode("latin-1") for words in near.lines_near(form)]
+    whole = " ".join(form).encode("latin-1")
+    for mark in near.MARKS:
+        lines += [mark + whole, mark + b" " + whole, whole + b" " + mark, mark]
+    return lines
+
+
+def fault_of(form):
+    """What differs of a form, or None."""
+    for words in (WORDS, SENDING):
+        lines = lines_of(form)
+        if compare.difference(sys.argv[1], words, lines) is not None:
+            words, lines = fuzz.made_small(compare.difference, sys.argv[1], words, lines)
+            return f"{compare.difference(sys.argv[1], words, lines)}\n{fuzz.as_command(sys.argv[1], words, lines)}"
+    return None
+
+
+def roles():
+    """The arguments with a role that there is not."""
+    words = [*near.WORDS, *(other for role in ROLES for other in near.near(role)), ""]
+    return [["--role", word, "eth0"] for word in dict.fromkeys(words) if word not in ROLES and not word.startswith("-")]
+
+
+def options():
+    """The arguments with an option that there is not, long or short."""
+    words = [*near.WORDS, *(other for option in OPTIONS for other in near.misspelled(option))]
+    names = [word for word in dict.fromkeys(words) if word.partition("=")[0] not in OPTIONS and word]
+    shorts = [f"-{letter}" for letter in string.ascii_letters + string.digits if letter not in SHORT]
+    longs = [form for name in names for form in ([f"--{name}", "eth0"], [f"--{name}=1", "eth0"])]
+    return [*longs, *([short, "eth0"] for short in shorts)]
+
+
+def is_taken(arguments):
+    """Whether the program runs with these arguments."""
+    return subprocess.run([sys.argv[1], *arguments], stdin=subprocess.DEVNULL, capture_output=True).returncode != 2
+
+
+def main():
+    with ProcessPoolExecutor() as pool:
+        faults = list(pool.map(fault_of, FORMS))
+        for arguments in (roles(), options()):
+            taken = [words for words, is_so in zip(arguments, pool.map(is_taken, arguments, chunksize=50)) if is_so]
+            faults.append(f"{len(taken)} taken: {taken[:5]}" if taken else None)
+    counts = Counts()
+    for name, fault in zip([*(" ".join(form) for form in FORMS), "roles", "options"], faults):
+        counts.judge(fault, f"near {name}")
+    return counts.end()
+
+
+if __name__ == "__main__":
+    sys.exit(main())

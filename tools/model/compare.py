@@ -1,0 +1,165 @@
+"""Runs lldpa on words and a trace, over standard input or over connections, and compares what it answers with what the
+model of tools/model/model.py, the table of wrong arguments in docs/TRACE.md and the judge of tools/model/judge.py
+say."""
+import pathlib
+import re
+import socket
+import subprocess
+import sys
+import time
+
+sys.path.append(str(pathlib.Path(__file__).resolve().parents[1] / "gate"))
+import judge  # noqa: E402
+import model  # noqa: E402
+
+# stands for the number of a free port of this host, which differs from run to run
+FREE_PORT = "FREE"
+
+SECONDS = 60
+
+# how the program tells of wrong arguments, as docs/TRACE.md has it
+WRONG_WORDS = (
+    r"error: unexpected argument '(?P<word>.+)' found",
+    r"error: invalid value '(?P<value>.*)' for '(?P<option>--[a-z-]+) <.*",
+    r"error: the argument '(?P<twice>--[a-z-]+)( <\w+>)?' cannot be used multiple times",
+    r"error: a value is required for '(?P<option>--[a-z-]+) <.*",
+    r"error: unexpected value '(?P<value>.*)' for '(?P<option>--receive-only)' found.*",
+)
+
+
+def free_port():
+    """A number of a port of this host at which nobody listens now."""
+    with socket.socket() as one:
+        one.bind(("127.0.0.1", 0))
+        return str(one.getsockname()[1])
+
+
+def connected(number, program):
+    """A connection to the program, or None where it ended before it listened."""
+    end = time.monotonic() + SECONDS
+    while time.monotonic() < end:
+        try:
+            return socket.create_connection(("127.0.0.1", int(number)), timeout=SECONDS)
+        except ConnectionRefusedError:
+            if program.poll() is not None:
+                return None
+            time.sleep(0.001)
+    return None
+
+
+def asked(client, octets):
+    """Sends octets over a connection, and gives all that is answered."""
+    answer = b""
+    client.sendall(octets)
+    client.shutdown(socket.SHUT_WR)
+    while piece := client.recv(65536):
+        answer += piece
+    client.close()
+    return answer
+
+
+def cut_at_lines(octets, count):
+    """The octets in so many pieces, each but the last ended by an LF or empty."""
+    lines = re.findall(rb"[^\n]*\n|[^\n]+", octets)
+    size = len(lines) // count
+    pieces = [b"".join(lines[at * size:(at + 1) * size]) for at in range(count - 1)]
+    return pieces + [b"".join(lines[(count - 1) * size:])]
+
+
+def number_of_connections(words):
+    """How many connections the words ask for. A word behind `--` is a port, whatever it looks like."""
+    try:
+        given, _ = model.read_words(words)
+    except model.NoRun:
+        return 1
+    return given.get("connections", 1)
+
+
+def answer_over_connections(program, words, trace):
+    """What the program answers over connections, of which each brings a piece of the trace."""
+    number = free_port()
+    words = [word.replace(FREE_PORT, number) for word in words]
+    ran = subprocess.Popen([program, *words], stdin=subprocess.DEVNULL, stdout=subprocess.PIPE, stderr=subprocess.PIPE)
+    answer = b""
+    try:
+        for piece in cut_at_lines(trace, number_of_connections(words)):
+            client = connected(number, ran)
+            if client is None:
+                break
+            answer += asked(client, piece)
+        written, told = ran.communicate(timeout=SECONDS)
+    except (subprocess.TimeoutExpired, OSError):
+        return None, b"", b""
+    finally:
+        ran.kill()
+        ran.wait()
+    return ran.returncode, answer + written, told
+
+
+def answer_of_program(program, words, trace):
+    """Status, output and standard error; a program that does not end has no status."""
+    if any(FREE_PORT in word for word in words):
+        return answer_over_connections(program, words, trace)
+    try:
+        ran = subprocess.run([program, *words], input=trace, capture_output=True, timeout=SECONDS)
+    except subprocess.TimeoutExpired:
+        return None, b"", b""
+    return ran.returncode, ran.stdout, ran.stderr
+
+
+def is_told(complaint, words):
+    """Whether what is said of wrong words has a form of the table in docs/TRACE.md, and names what is wrong."""
+    first = complaint.split("\n")[0]
+    found = next(filter(None, (re.fullmatch(form, first) for form in WRONG_WORDS)), None)
+    if found is None:
+        return False
+    named = found.groupdict()
+    if "word" in named:
+        return any(word.startswith(named["word"]) for word in words)
+    if "twice" in named:
+        return sum(word.partition("=")[0] == named["twice"] for word in words) > 1
+    is_given = any(word.partition("=")[0] == named["option"] for word in words)
+    return is_given and named.get("value", "") in " ".join(["", *words]).replace("=", " ")
+
+
+def fault_of_refusal(status, output, complaint, words):
+    """What is wrong where the reader of words answers by itself, or None."""
+    if status == 0:
+        is_well = output and not complaint
+    else:
+        is_well = is_told(complaint.decode("utf-8", "replace"), words) and not output
+    return None if is_well else f"status {status} with {output[:200]!r} and {complaint[:200]!r}"
+
+
+def difference(program, words, lines):
+    """What program and model answer otherwise, or None."""
+    trace = b"\n".join(lines)
+    status, output, complaint = answer_of_program(program, words, trace)
+    wanted_status, wanted, wanted_complaint = model.run([word.replace(FREE_PORT, "1") for word in words], trace)
+    if status != wanted_status:
+        return f"status {status}, the model says {wanted_status}; standard error: {complaint[:200]!r}"
+    if wanted_complaint is None:
+        return fault_of_refusal(status, output, complaint, words)
+    if complaint.decode("latin-1") != (wanted_complaint and wanted_complaint + "\n"):
+        return f"standard error {complaint[:200]!r}, the model says {wanted_complaint!r}"
+    if output == wanted.encode("latin-1"):
+        return None
+    got, want = output.split(b"\n"), wanted.encode("latin-1").split(b"\n")
+    place = next(at for at in range(len(got) + 1) if got[at:at + 1] != want[at:at + 1])
+    return f"output line {place + 1}: {got[place:place + 1]}, the model says {want[place:place + 1]}"
+
+
+def is_run(words):
+    """Whether the words open an agent over standard input."""
+    try:
+        model.opened(words)
+    except model.NoRun:
+        return False
+    return not any(FREE_PORT in word for word in words)
+
+
+def judged(program, words, lines):
+    """What the judge of the windows finds wrong, or None."""
+    if not is_run(words):
+        return None
+    return judge.judged(lambda words, trace: answer_of_program(program, words, trace)[1], words, lines)

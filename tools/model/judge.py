@@ -1,0 +1,281 @@
+#!/usr/bin/env python3
+"""A second judge of when ports send, beside tools/model/model.py, with which it shares no state.
+
+It is handed words, a trace and the frames that the program sent at each event, and asks of each event, by whole lists
+alone, what the definitions of lldp_transmit and lldp_engine say: whether a port stops there, whether a frame is due there, and whether no run of
+events that ends there would hold more frames than the greatest credit and one for each second after its first event.
+A frame has to go exactly where both hold, so none goes late. There is no timer, no credit and no table here: each
+question goes back over the events.
+
+    python3 tools/model/judge.py PROGRAM WORDS.. < TRACE
+"""
+import functools
+import re
+import sys
+from typing import NamedTuple, Optional
+
+import model
+
+# a comment one octet too long, whose answer shows where that of the line before it ends
+MARK = b"#" * 4097
+MARK_ANSWER = b"error: line too long"
+
+# so many seconds are judged at most, since each question goes over all events
+MOST_TICKS = 300
+
+# what is no local change; every other event is a setting, and one
+NO_CHANGES = ("tick", "frame", "link", "status")
+
+
+class Event(NamedTuple):
+    """An event: its kind, the port that it is for (None where it is for all), and what it brings."""
+    kind: str
+    port: Optional[str] = None
+    value: object = None
+
+
+def events_of_line(line):
+    """The events of a line that was accepted: as many seconds as it tells, one other event, or none (a show)."""
+    words = model.Words(line.decode("latin-1")).left
+    if words[0] == "tick":
+        return [Event("tick")] * int(words[1] if words[1:] else 1)
+    if words[0] == "rx":
+        return [Event("frame", words[1], bytes.fromhex(words[2]))]
+    if words[0] in ("up", "down"):
+        return [Event("link", words[1], words[0] == "up")]
+    if words[0] == "update":
+        return [Event("update")]
+    if words[:2] == ["configure", "ports"]:
+        return [Event("status", words[2], words[5])]
+    return [Event(words[2], None, words[3])] if words[0] == "configure" else []
+
+
+def single_seconds(lines):
+    """The lines with each line of several seconds as so many lines of one. None where they cannot be judged: they are
+    too many, one is as long as a mark, or a word that tells seconds is quoted."""
+    single, ticks = [], 0
+    for line in lines:
+        words = re.split(rb"[ \t]+", line.strip(b" \t"))
+        is_several = words[0] == b"tick" and len(words) == 2 and re.fullmatch(rb"0*[1-9][0-9]{0,4}", words[1])
+        count = int(words[1]) if is_several and int(words[1]) <= 65535 else 1
+        ticks += count
+        if ticks > MOST_TICKS + len(lines) or len(line) > 4096 or b"tick" in line and b'"' in line:
+            return None
+        single += [b"tick"] * count if count > 1 else [line]
+    return single
+
+
+def answers(output):
+    """The lines that stand before each mark's answer."""
+    found, held = [], []
+    for line in output.split(b"\n"):
+        if line == MARK_ANSWER:
+            found.append(held)
+            held = []
+        else:
+            held.append(line)
+    return found
+
+
+class Port:
+    """What the definitions say of one port at each position of the list of its events. `sent` are the positions at
+    which an ordinary frame went."""
+
+    def __init__(self, name, options, events, sent):
+        self.name = name
+        self.options = options
+        self.events = events
+        self.sent = sent
+        self.ticks_to = [0]
+        self.sent_to = [0]
+        for k, event in enumerate(events):
+            self.ticks_to.append(self.ticks_to[-1] + (event.kind == "tick"))
+            self.sent_to.append(self.sent_to[-1] + (k in sent))
+        for question in ("active", "stops", "starts", "learned", "stored", "live", "left", "signal"):
+            setattr(self, question, functools.lru_cache(None)(getattr(self, question)))
+
+    def ticks(self, i, k):
+        """How many seconds there are at positions i to k."""
+        return self.ticks_to[k + 1] - self.ticks_to[i] if i <= k else 0
+
+    def last(self, kind, k, other):
+        """What the last event of this kind at or before k brought, or the other where there is none."""
+        found = (e.value for e in reversed(self.events[:k + 1]) if e.kind == kind and e.port in (None, self.name))
+        return next(found, other)
+
+    def status(self, k):
+        return self.last("status", k, "rx-only" if self.options.receive_only else "rx-and-tx")
+
+    def hears(self, k):
+        return self.status(k) in ("rx-and-tx", "rx-only")
+
+    def allowed(self, k):
+        return self.status(k) in ("rx-and-tx", "tx-only")
+
+    def up(self, k):
+        return self.last("link", k, True)
+
+    # ---- receiving
+    def learned(self, k):
+        """The sound LLDPDU that is heard at k, or None."""
+        event = self.events[k]
+        is_heard = event.kind == "frame" and event.port == self.name and self.hears(k - 1) and self.up(k - 1)
+        octets = event.value if is_heard else b""
+        if octets[:6] + octets[12:14] != bytes.fromhex("0180c200000e88cc") or len(octets) > 1514:
+            return None
+        try:
+            return model.Lldpdu(octets[14:])
+        except model.UnsoundLldpdu:
+            return None
+
+    def purges(self, k):
+        return self.hears(k - 1) and not self.hears(k)
+
+    def stored(self, k):
+        """Whether an LLDPDU is stored at k: its neighbor is live, or there is room for one more."""
+        heard = self.learned(k)
+        if heard is None or heard.ttl == 0:
+            return False
+        names = {self.learned(p).name for p in range(k) if self.learned(p) is not None}
+        live = [name for name in names if self.live(name, k - 1)]
+        limit = int(self.last("max-neighbors", k - 1, self.options.max_neighbors))
+        return heard.name in live or len(live) < limit
+
+    def live(self, name, k):
+        """Whether the last event up to k that says something of this neighbor stored it, and has not run out."""
+        for p in range(k, -1, -1):
+            heard = self.learned(p)
+            if self.purges(p) or heard is not None and heard.name == name and heard.ttl == 0:
+                return False
+            if heard is not None and heard.name == name and self.stored(p):
+                return self.ticks(p + 1, k) < heard.ttl
+        return False
+
+    def is_new(self, k):
+        return self.stored(k) and not self.live(self.learned(k).name, k - 1)
+
+    # ---- transmitting
+    def stops(self, k):
+        return k >= 0 and self.active(k - 1) and not self.allowed(k)
+
+    def starts(self, k):
+        waits = self.options.reinit_delay
+        is_free = all(self.ticks(s + 1, k) >= waits for s in range(k) if self.stops(s))
+        return (self.events[k].kind == "tick" and self.allowed(k) and self.up(k) and not self.active(k - 1)
+                and is_free)
+
+    def active(self, k):
+        """Whether a start came, and since then neither a stop nor a link that went."""
+        for p in range(k, -1, -1):
+            if self.stops(p) or not self.up(p):
+                return False
+            if self.starts(p):
+                return True
+        return False
+
+    def last_start(self, k):
+        return next(p for p in range(k, -1, -1) if self.starts(p))
+
+    def signal(self, k):
+        """Why a frame is wanted at k: "start", "change", "new", "timer", or None."""
+        if not self.active(k):
+            return None
+        if self.starts(k):
+            return "start"
+        if self.events[k].kind not in NO_CHANGES:
+            return "change"
+        if self.is_new(k):
+            return "new"
+        s = next((s for s in range(k - 1, -1, -1) if self.signal(s)), None)
+        ends = self.events[k].kind == "tick" and s is not None and self.ticks(s + 1, k) == self.distance(s)
+        return "timer" if ends else None
+
+    def left(self, k):
+        """How many signals of a burst are left after k."""
+        if k < 0 or not self.active(k):
+            return 0
+        start = self.last_start(k)
+        opened = next((p for p in range(k, start - 1, -1)
+                       if self.signal(p) == "new" and (p == start or self.left(p - 1) == 0)), None)
+        if opened is None:
+            return 0
+        taken = sum(self.signal(p) in ("new", "timer") for p in range(opened, k + 1))
+        return max(0, self.options.tx_fast_init - taken)
+
+    def distance(self, s):
+        return 1 if self.left(s) > 0 else int(self.last("tx-interval", s, 30))
+
+    def is_due(self, k):
+        """Whether a signal since the start has had no frame yet."""
+        if not self.active(k):
+            return False
+        return any(self.signal(s) and self.sent_to[k] == self.sent_to[s] for s in range(self.last_start(k), k + 1))
+
+    def is_open(self, k):
+        """Whether no run of events that ends at k would hold too many frames with one more there."""
+        most = self.options.tx_credit_max
+        return all(self.sent_to[k] - self.sent_to[i] + 1 <= most + self.ticks(i + 1, k) for i in range(k + 1))
+
+    def fault(self, k, shut_down):
+        """What is wrong with what went at k, or None."""
+        if shut_down != self.stops(k):
+            return "a shutdown frame goes where the port does not stop, or lacks where it does"
+        if (k in self.sent) != (self.is_due(k) and self.is_open(k)):
+            return f"due: {self.is_due(k)}, open: {self.is_open(k)}, sent: {k in self.sent}"
+        return None
+
+
+def is_shutdown(frame):
+    """Whether a frame that the agent sent says that it leaves: its third TLV is a TTL of 0."""
+    tlvs, _ = model.cut(frame[14:])
+    return tlvs[2].body == b"\0\0"
+
+
+def fault_of(words, lines, said):
+    """What is wrong with what was said to each of these lines, or None. No line tells more than one second."""
+    given, names = model.read_words(words)
+    options = model.SimpleNamespace(**{**model.DEFAULTS, **given})
+    events, ordinary, shutdowns = [], {name: set() for name in names}, {name: set() for name in names}
+    for line, written in zip(lines, said):
+        is_event = line.strip(b" \t")[:1] not in (b"", b"#") and not any(w.startswith(b"error: ") for w in written)
+        found = events_of_line(line) if is_event else []
+        for frame in (w.split(b" ") for w in written if w.startswith(b"tx ")):
+            if not found:
+                return f"a frame goes at {line[:60]!r}, which is no event"
+            kind = shutdowns if is_shutdown(bytes.fromhex(frame[2].decode())) else ordinary
+            kind[frame[1].decode()].add(len(events))
+        events += found
+    for name in names:
+        port = Port(name, options, events, ordinary[name])
+        for k in range(len(events)):
+            fault = port.fault(k, k in shutdowns[name])
+            if fault is not None:
+                return f"port {name}, event {k} ({events[k].kind}): {fault}"
+    return None
+
+
+def judged(run, words, lines):
+    """What is wrong with what a program does with words and lines, or None. `run` gives its output of an input."""
+    single = single_seconds(lines)
+    if single is None:
+        return None
+    said = answers(run(words, b"".join(line + b"\n" + MARK + b"\n" for line in single)))
+    if len(said) != len(single):
+        return f"{len(said)} answers to {len(single)} lines"
+    return fault_of(words, single, said)
+
+
+def main():
+    import subprocess
+
+    def run(words, trace):
+        return subprocess.run([sys.argv[1], *words], input=trace, capture_output=True, check=True).stdout
+
+    sys.setrecursionlimit(100000)
+    fault = judged(run, sys.argv[2:], sys.stdin.buffer.read().split(b"\n"))
+    print(fault or "each frame goes where it is due and the window is open, and nowhere else")
+    return 1 if fault else 0
+
+
+if __name__ == "__main__":
+    sys.exit(main())

@@ -1,0 +1,75 @@
+#!/bin/sh
+# Builds the program and the library for an architecture, in a folder.
+#     tools/release/build.sh [--arch amd64|arm64] [--cpu CPU] [FOLDER]
+# FOLDER is crates/lldpa/out/ARCH unless given. The architecture is that of this machine unless given; for another one it needs
+# gcc and binutils for it, as of the package gcc-aarch64-linux-gnu. CPU is x86-64, any processor of amd64, unless given.
+# In FOLDER are then
+#     lldpa          the program, linked to the GNU C library of the system, 2.34 or later
+#     lldpa-static   the same with all that it needs, for any Linux: it runs in an empty folder. It contains the GNU C
+#                    library, whose licence (LGPL) asks that lldpa.o is given with it, so that it can be linked anew
+#     lldpa.o        the program before it is linked
+#     lib            what tools/library/library.sh makes
+# What is built was proved for that architecture: the crates below `lldpa` and `lldpa_c` are proved once for all. The
+# name of FOLDER goes to standard output.
+set -eu
+cd "$(dirname "$0")/../.."
+fail() {
+    echo "tools/release/build.sh: $1" >&2
+    exit 1
+}
+
+. tools/library/arch.sh
+for command in "${tools}gcc" "${tools}strip" rt; do
+    command -v "$command" > /dev/null || fail "there is no $command"
+done
+kit=$(dirname "$(rt doc)")
+folder=$(realpath -m -- "${folder:-crates/lldpa/out/$arch}")
+mkdir -p "$folder"
+room=$(mktemp -d)
+trap 'rm -rf "$room"' EXIT
+
+# The crates that crates.txt names behind a crate, and those below them.
+named_by() {
+    sed -n "s/^$1\( [a-z]*\)*: *//p" crates.txt
+}
+below() {
+    for crate in $(named_by "$1"); do
+        if [ -d "crates/$crate" ]; then
+            echo "$crate"
+            below "$crate"
+        fi
+    done
+}
+
+# rt links what it compiles for this machine alone, so the program is compiled by the command that rt runs.
+compile_program() {
+    (cd crates/lldpa && rt check) || return
+    set -- --crate-name lldpa src/main.rt --extern "std=$kit/rlibs/std.rlib" -L "dependency=$kit/rlibs"
+    for crate in $(named_by lldpa); do
+        if [ -d "crates/$crate" ]; then
+            set -- "$@" --extern "$crate=$PWD/crates/$crate/out/rlib/$crate.rlib"
+        else
+            set -- "$@" --extern "$crate=$kit/rlibs/$crate.rlib"
+        fi
+    done
+    for crate in $(below lldpa | sort -u); do
+        set -- "$@" -L "dependency=$PWD/crates/$crate/out/rlib"
+    done
+    set -- "$@" --antt-project "$kit/rattle/logic/antt-project.json" --logic-built "$kit/logic_built" --links lldpa= \
+        --incremental out/incremental --toolchain "$kit/toolchain" --backend llvm -o "$folder/lldpa.o" \
+        --target "$(echo $triple | sed 's/-linux/-unknown-linux/')"
+    [ -z "$cpu" ] || set -- "$@" "--cpu=$cpu"
+    (cd crates/lldpa && "$kit/bin/rattle" build "$@")
+}
+
+compile_program > "$room/said" 2>&1 || fail "the program is not built: $(tail -n 5 "$room/said")"
+for source in tools/release/platform.c crates/lldpa_c/front/memory.c; do
+    "${tools}gcc" -std=gnu99 -O2 -fPIE -Wall -Wextra -Werror -c "$source" -o "$room/$(basename "$source").o"
+done
+"${tools}gcc" -pie -Wl,-z,relro,-z,now "$folder/lldpa.o" "$room"/*.o -o "$folder/lldpa"
+"${tools}gcc" -static-pie "$folder/lldpa.o" "$room"/*.o -o "$folder/lldpa-static"
+"${tools}strip" "$folder/lldpa" "$folder/lldpa-static"
+set -- --arch "$arch"
+[ -z "$cpu" ] || set -- "$@" --cpu "$cpu"
+tools/library/library.sh "$@" "$folder/lib" > /dev/null
+echo "$folder"

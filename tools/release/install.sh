@@ -1,0 +1,217 @@
+#!/bin/sh
+# Installs lldpa under a prefix, /usr/local unless given: the program, those of bin/ with the Python package that they
+# stand on, the manual pages, completions for bash and zsh, the service with its configuration, a timer that writes its
+# metrics, alerts for Prometheus, and the documents.
+#     tools/release/install.sh [--list] [--uninstall] [--python FOLDER] [--library] [PREFIX]
+# With --list it only lists what it would install, and nothing need be built for that: mode, name and source of each
+# file, and where each link leads. With --uninstall it takes away what it installs, but for a configuration that was
+# changed. `import lldpa` works for the python3 that looks into FOLDER, by itself the first one below the prefix where
+# python3 looks. DESTDIR, where it is set, is put in front. LLDPA names the program, crates/lldpa/out/lldpa unless it is
+# set.
+# With --library it installs the library for C in place of all that: the header, the archive and what pkg-config tells of
+# it. LLDPA_LIB_DIR, where it is set, names the folder that tools/library/library.sh made, crates/lldpa_c/out/lib unless it is set.
+# tools/release/package.sh makes its packages of what this installs under /usr.
+set -eu
+usage() {
+    echo "usage: tools/release/install.sh [--list] [--uninstall] [--python FOLDER] [--library] [PREFIX]" >&2
+    exit 2
+}
+
+list=
+uninstall=
+prefix=/usr/local
+looks=
+library=
+while [ $# -gt 0 ]; do
+    case $1 in
+        --list) list=yes ;;
+        --uninstall) uninstall=yes ;;
+        --library) library=yes ;;
+        --python)
+            [ $# -gt 1 ] || usage
+            looks=${2%/}
+            shift
+            ;;
+        /*) prefix=${1%/} ;;
+        *) usage ;;
+    esac
+    shift
+done
+program=$(realpath -m -- "${LLDPA:-$(dirname "$0")/../../crates/lldpa/out/lldpa}")
+built=$(realpath -m -- "${LLDPA_LIB_DIR:-$(dirname "$0")/../../crates/lldpa_c/out/lib}")
+cd "$(dirname "$0")/../.."
+umask 022
+root=${DESTDIR:-}
+packages=$prefix/lib/lldpa
+documents=$prefix/share/doc/lldpa
+# Debian's own folders stand below /usr, and the configuration of what is below /usr and /usr/local in /etc.
+case $prefix in
+    /usr) etc=/etc zsh=vendor-completions interpreter='/usr/bin/python3 -I' ;;
+    /usr/local) etc=/etc zsh=site-functions interpreter='/usr/bin/env -S python3 -I' ;;
+    *) etc=$prefix/etc zsh=site-functions interpreter='/usr/bin/env -S python3 -I' ;;
+esac
+
+# Where archives stand: below /usr in the folder of the architecture.
+archives=$prefix/lib
+[ "$prefix" != /usr ] || archives=$prefix/lib/$(dpkg-architecture -qDEB_HOST_MULTIARCH 2> /dev/null || true)
+archives=${archives%/}
+
+# The files of the library for C.
+library_files() {
+    echo "plain $built/lldpa.h $prefix/include/lldpa.h"
+    echo "plain $built/liblldpa.a $archives/liblldpa.a"
+    echo "told share/pkgconfig/lldpa.pc $archives/pkgconfig/lldpa.pc"
+    echo "packed crates/lldpa_c/include/lldpa.3 $prefix/share/man/man3/lldpa.3.gz"
+    echo "plain docs/LIBRARY.md $documents-dev/LIBRARY.md"
+    for file in examples/c/*.c examples/python/*.py; do
+        echo "plain $file $documents-dev/$file"
+    done
+}
+
+# Each file: how it is installed, where it is, and where it goes. The programs of bin/ stay beside their package.
+files() {
+    if [ -n "$library" ]; then
+        library_files
+        return
+    fi
+    echo "program $program $prefix/bin/lldpa"
+    for file in bin/*; do
+        echo "script $file $prefix/lib/lldpa/$file"
+    done
+    find python/lldpa audit/lldpa_audit -name '*.py' -o -name py.typed | while read -r file; do
+        echo "plain $file $prefix/lib/lldpa/$file"
+    done
+    for file in man/*.[1-8] audit/*.1; do
+        echo "packed $file $prefix/share/man/man${file##*.}/${file##*/}.gz"
+    done
+    for file in share/bash-completion/completions/*; do
+        echo "plain $file $prefix/$file"
+    done
+    for file in share/zsh/*; do
+        echo "plain $file $prefix/share/zsh/$zsh/${file##*/}"
+    done
+    for file in share/systemd/*; do
+        echo "unit $file $prefix/lib/systemd/system/${file##*/}"
+    done
+    for file in share/prometheus/*; do
+        echo "plain $file $prefix/share/lldpa/${file##*/}"
+    done
+    echo "plain share/tmpfiles.d/lldpa.conf $prefix/lib/tmpfiles.d/lldpa.conf"
+    echo "configuration share/default/lldpa $etc/default/lldpa"
+    echo "configuration share/settings/lldpa.conf $etc/lldpa.conf"
+    echo "configuration share/settings/README $etc/lldpa.d/README"
+    for file in README.md SECURITY.md docs/*.md audit/README.md; do
+        echo "page $file $documents/$file"
+    done
+    echo "packed CHANGELOG.md $documents/changelog.gz"
+    find docs audit/worked audit/*.schema.json -type f ! -name '*.md' | while read -r file; do
+        echo "plain $file $documents/$file"
+    done
+}
+
+# Each link: where it leads, and where it stands. lldpctl and lldpcli are beside their package alone, since lldpd has
+# programs of those names.
+links() {
+    [ -z "$library" ] || return 0
+    for file in bin/lldpa-*; do
+        echo "../lib/lldpa/$file $prefix/$file"
+    done
+    [ -n "$looks" ] || return 0
+    for file in python/lldpa audit/lldpa_audit; do
+        echo "$(realpath -m --relative-to="$looks" "$packages/$file") $looks/${file##*/}"
+    done
+}
+
+# Installs a file in its way.
+put() {
+    mkdir -p "$(dirname "$3")"
+    case $1 in
+        program) install -m 755 "$2" "$3" ;;
+        script)
+            sed "1s,.*,#!$interpreter," "$2" > "$3"
+            chmod 755 "$3"
+            ;;
+        plain) install -m 644 "$2" "$3" ;;
+        page) # of a link to what is not installed only the text stays
+            sed -zE 's,\[([^]]*)\]\((\.\./)?(crates|examples|man|tools|share|python|CONTRIBUTING|CHANGELOG|lldpa-audit\.1)[^)]*\),\1,g' \
+                "$2" > "$3"
+            chmod 644 "$3"
+            ;;
+        packed)
+            gzip -9nc "$2" > "$3"
+            chmod 644 "$3"
+            ;;
+        unit)
+            sed "s,/usr/local/,$prefix/,g; s,/etc/default/,$etc/default/,g; s,/etc/lldpa,$etc/lldpa,g" "$2" > "$3"
+            chmod 644 "$3"
+            ;;
+        told)
+            version=$(sed -n 's/^## \([0-9][0-9.]*\)$/\1/p' CHANGELOG.md | head -n 1)
+            sed "s,@prefix@,$prefix,; s,@libdir@,$archives,; s,@version@,$version," "$2" > "$3"
+            chmod 644 "$3"
+            ;;
+        configuration)
+            if [ -e "$3" ]; then
+                cmp -s "$2" "$3" || echo "$3 is left as it is"
+            else
+                install -m 644 "$2" "$3"
+            fi
+            ;;
+    esac
+}
+
+# Takes a file away; a configuration that was changed stays.
+take_away() {
+    if [ "$1" = configuration ] && [ -e "$3" ] && ! cmp -s "$2" "$3"; then
+        echo "$3 was changed, and stays"
+    else
+        rm -f "$3"
+    fi
+}
+
+if [ -z "$looks" ]; then
+    looks=$(python3 -c 'import site; print(*site.getsitepackages(), sep="\n")' |
+        awk -v front="$prefix/" 'index($0, front) == 1 && !found++')
+fi
+if [ -n "$list" ]; then
+    files | while read -r way source name; do
+        case $way in program | script) mode=755 ;; *) mode=644 ;; esac
+        echo "$mode $name ${source#"$PWD/"}"
+    done
+    links | while read -r target name; do
+        echo "link $name $target"
+    done
+    exit
+fi
+if [ -n "$uninstall" ]; then
+    files | while read -r way source name; do
+        take_away "$way" "$source" "$root$name"
+    done
+    links | while read -r _ name; do
+        rm -f "$root$name"
+    done
+    if [ -n "$library" ]; then
+        rm -rf "$root$documents-dev"
+        echo "uninstalled from $root$prefix"
+        exit
+    fi
+    rm -rf "$root$prefix/lib/lldpa" "$root$prefix/share/lldpa" "$root$documents"
+    [ ! -d "$root$etc/lldpa.d" ] || rmdir --ignore-fail-on-non-empty "$root$etc/lldpa.d"
+    echo "uninstalled from $root$prefix"
+    exit
+fi
+if [ -n "$library" ]; then
+    [ -f "$built/liblldpa.a" ] || { echo "no $built/liblldpa.a: tools/library/library.sh makes it" >&2; exit 1; }
+    looks=none
+else
+    [ -f "$program" ] || { echo "no $program: build the program with rt run in crates/lldpa" >&2; exit 1; }
+fi
+files | while read -r way source name; do
+    put "$way" "$source" "$root$name"
+done
+links | while read -r target name; do
+    mkdir -p "$(dirname "$root$name")"
+    ln -sfn "$target" "$root$name"
+done
+[ -n "$looks" ] || echo "for import lldpa, put $packages/python and $packages/audit on PYTHONPATH: python3 does not look below $prefix"
+echo "installed under $root$prefix"

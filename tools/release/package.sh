@@ -1,0 +1,153 @@
+#!/bin/sh
+# Makes a Debian package, lldpa_VERSION-REVISION_ARCH.deb, of what tools/release/install.sh installs under /usr; or with --library
+# lldpa-dev_VERSION-REVISION_ARCH.deb, of what tools/release/install.sh --library does.
+#     tools/release/package.sh [--library] [--arch ARCH] [--revision N] [FOLDER]
+# The package is written to FOLDER, the one where this is called unless given, and its name to standard output. VERSION is
+# the newest of CHANGELOG.md and must be what the program says of itself. N, 1 unless given, is for a second package of
+# one version. LLDPA names the program, crates/lldpa/out/lldpa unless it is set. With --arch, amd64 or
+# arm64, it takes what tools/release/build.sh --arch ARCH made; a program for another machine says its version by qemu. Who makes it is named by DEBFULLNAME
+# and DEBEMAIL, and else is who made the last commit. It needs dpkg-deb, dpkg and binutils, and no root.
+set -eu
+usage() {
+    echo "usage: tools/release/package.sh [--library] [--arch ARCH] [--revision N] [FOLDER]" >&2
+    exit 2
+}
+
+fail() {
+    echo "tools/release/package.sh: $1" >&2
+    exit 1
+}
+
+revision=1
+architecture=
+name=lldpa
+folder=.
+while [ $# -gt 0 ]; do
+    case $1 in
+        --revision)
+            [ $# -gt 1 ] || usage
+            revision=$2
+            shift
+            ;;
+        --arch)
+            [ $# -gt 1 ] || usage
+            architecture=$2
+            shift
+            ;;
+        --library) name=lldpa-dev ;;
+        -*) usage ;;
+        *) folder=$1 ;;
+    esac
+    shift
+done
+folder=$(realpath -- "$folder")
+here=$(dpkg --print-architecture)
+built=$(realpath -- "$(dirname "$0")/../../crates/lldpa/out")${architecture:+/$architecture}
+if [ -n "$architecture" ]; then
+    export LLDPA_LIB_DIR="${LLDPA_LIB_DIR:-$built/lib}"
+fi
+architecture=${architecture:-$here}
+tools=
+emulator=
+if [ "$architecture" != "$here" ]; then
+    DEB_HOST_MULTIARCH=$(dpkg-architecture -f -a "$architecture" -qDEB_HOST_MULTIARCH 2> /dev/null)
+    export DEB_HOST_MULTIARCH
+    tools=$DEB_HOST_MULTIARCH-
+    emulator="qemu-${DEB_HOST_MULTIARCH%%-*} -L /usr/$DEB_HOST_MULTIARCH"
+fi
+program=$(realpath -- "${LLDPA:-$built/lldpa}")
+cd "$(dirname "$0")/../.."
+[ -x "$program" ] || fail "no $program: build the program with rt run in crates/lldpa"
+version=$(sed -n 's/^## \([0-9][0-9.]*\)$/\1/p' CHANGELOG.md | head -n 1)
+# shellcheck disable=SC2086 # the emulator is several words
+said=$($emulator "$program" --version)
+[ "$said" = "lldpa $version" ] || fail "CHANGELOG.md begins with $version, and the program says: $said"
+version=$version-$revision
+maker="${DEBFULLNAME:-$(git log -1 --format=%an)} <${DEBEMAIL:-$(git log -1 --format=%ae)}>"
+# The same sources give the same package: its moment is that of the last commit.
+SOURCE_DATE_EPOCH=${SOURCE_DATE_EPOCH:-$(git log -1 --format=%ct)}
+export SOURCE_DATE_EPOCH
+umask 022
+room=$(mktemp -d)
+trap 'rm -rf "$room"' EXIT
+tree=$room/tree
+
+# The newest GNU C library that the program asks for.
+c_library() {
+    "${tools}objdump" -T "$program" | grep -o 'GLIBC_[0-9.]*' | sort -uV | tail -n 1 | sed 's/GLIBC_//'
+}
+
+control() {
+    cat << END
+Package: lldpa
+Version: $version
+Architecture: $architecture
+Maintainer: $maker
+Installed-Size: $(du -sk --apparent-size "$tree" | cut -f 1)
+Depends: libc6 (>= $(c_library)), python3:any (>= 3.9)
+Suggests: graphviz
+Section: net
+Priority: optional
+Description: agent for the Link Layer Discovery Protocol (LLDP)
+ lldpa keeps the neighbors that LLDP tells of on up to 64 ports, and sends
+ this host's own frames. It takes the main commands of lldpcli, and what it
+ does with the lines that it reads is proved. The programs beside it are in
+ Python and not proved: lldpa-live puts it on network interfaces, lldpa-ctl
+ asks it, lldpa-capture reads captures, and lldpa-audit compares a plan of
+ the cabling with who is seen. There is a package for Python, too.
+END
+}
+
+# The package of the library for C.
+library_control() {
+    cat << END
+Package: lldpa-dev
+Version: $version
+Architecture: $architecture
+Maintainer: $maker
+Installed-Size: $(du -sk --apparent-size "$tree" | cut -f 1)
+Depends: libc6-dev
+Section: libdevel
+Priority: optional
+Description: agent for the Link Layer Discovery Protocol (LLDP) - library for C
+ With these files a program in C, or in a language that calls C, reads and
+ builds LLDPDUs, and runs an agent of its own. Every call of the library is
+ proved to do what its definition says. It is a static archive with a header
+ and a file for pkg-config.
+END
+}
+
+changelog() {
+    cat << END
+$name ($version) unstable; urgency=medium
+
+  * lldpa ${version%-*}. What it brings stands in changelog.gz.
+
+ -- $maker  $(date -u -R -d "@$SOURCE_DATE_EPOCH")
+END
+}
+
+if [ "$name" = lldpa ]; then
+    DESTDIR=$tree LLDPA=$program tools/release/install.sh --python /usr/lib/python3/dist-packages /usr > /dev/null
+    "${tools}strip" --remove-section=.comment --remove-section=.note "$tree/usr/bin/lldpa"
+else
+    DESTDIR=$tree tools/release/install.sh --library /usr > /dev/null
+    find "$tree" -name '*.a' -exec "${tools}strip" -D --strip-debug --remove-section=.comment --remove-section=.note {} +
+fi
+changelog | gzip -9n > "$tree/usr/share/doc/$name/changelog.Debian.gz"
+install -m 644 share/debian/copyright "$tree/usr/share/doc/$name/copyright"
+mkdir -p "$tree/usr/share/lintian/overrides"
+sed "s/^lldpa:/$name:/" share/debian/lintian-overrides > "$tree/usr/share/lintian/overrides/$name"
+mkdir "$room/DEBIAN"
+if [ "$name" = lldpa ]; then
+    control > "$room/DEBIAN/control"
+    printf '%s\n' /etc/default/lldpa /etc/lldpa.conf /etc/lldpa.d/README > "$room/DEBIAN/conffiles"
+    install -m 755 share/debian/postinst share/debian/prerm share/debian/postrm "$room/DEBIAN"
+else
+    library_control > "$room/DEBIAN/control"
+fi
+(cd "$tree" && find usr -type f -exec md5sum {} + | LC_ALL=C sort -k 2) > "$room/DEBIAN/md5sums"
+mv "$room/DEBIAN" "$tree/DEBIAN"
+package=$folder/${name}_${version}_$architecture.deb
+dpkg-deb --root-owner-group --build "$tree" "$package" > "$room/said" || fail "$(cat "$room/said")"
+echo "$package"

@@ -1,0 +1,40 @@
+/*
+ * What the program asks of C on a platform for which the toolchain has no archive, beside memory: its arguments, and
+ * the number of the last error.
+ */
+#include <errno.h>
+#include <string.h>
+
+static size_t argument_count;
+static char **arguments;
+
+/* The C library gives a constructor what it gives main. */
+__attribute__((constructor)) static void keep_arguments(int count, char **words)
+{
+    argument_count = (size_t)count;
+    arguments = words;
+}
+
+/* Copies the argument at a place. Answers its length, -1 if there is none, or -2 if it has more than `most` octets. */
+long rattle_arg(size_t at, char *room, size_t most)
+{
+    if (at >= argument_count) {
+        return -1;
+    }
+    size_t length = strlen(arguments[at]);
+    if (length > most) {
+        return -2;
+    }
+    memcpy(room, arguments[at], length);
+    return (long)length;
+}
+
+int rattle_errno(void)
+{
+    return errno;
+}
+
+void rattle_set_errno(int number)
+{
+    errno = number;
+}

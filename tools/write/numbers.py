@@ -1,0 +1,136 @@
+#!/usr/bin/env python3
+"""Counts what docs/TESTING.md says of how this is tested.
+
+    tools/write/numbers.py [--check | --parts [FOLDER]]
+
+Without --check it prints the table. With it, it fails if a number of the page is off by more than
+a twentieth; the last line is then `N passed, M failed`. --parts prints how many lines people keep
+by hand, part by part, here or in another checkout of the repository.
+
+Lines are those that are not blank. People keep by hand what git keeps as text, without what a
+script or a program wrote: theorems of transcripts, vectors, the reference of the crates, figures
+and pictures, expected outputs, recorded answers of other programs, and locks of other packages.
+"""
+import collections
+import fnmatch
+import pathlib
+import re
+import subprocess
+import sys
+
+TOP = pathlib.Path(__file__).resolve().parents[2]
+WRITTEN = ("*/Transcripts.antt", "*/Rows.antt", "*/rows.rt", "*/REFERENCE.md", "*/bench.json", "*.svg",
+           "*.expect", "*.pcap", "*/Cargo.lock", "*/judged.json", "*/tests/lldpd/*", "*/leaf1.json",
+           "*/host01.xml")
+PARTS = (("proved code", "crates/*/src/*"), ("definitions", "crates/*/specs/*"),
+         ("proofs", "crates/*/proofs/*"), ("mutants", "crates/*/must-fail/*"),
+         ("mutants", "tools/mutants/*.edits"), ("mutants", "tools/*.edit"),
+         ("library for C and Rust", "rust/*"), ("library for C and Rust", "crates/lldpa_c/*"),
+         ("audit", "audit/*"), ("audit", "*/lldpa/audit/*"), ("audit", "python/tests/*audit*"),
+         ("Python package", "python/lldpa/*"), ("tests of the Python package", "python/tests/*"),
+         ("scripts", "tools/*"), ("scripts", ".ci/*"), ("pages and manual pages", "*.md"),
+         ("pages and manual pages", "man/*"), ("examples", "examples/*"), ("the rest", "*"))
+CRATES = TOP / "crates"
+FUNCTION = r"^\s*(?:pub(?:\(\w+\))? )?(?:const )?fn \w+"
+
+
+def files(pattern, without="lldp_tests"):
+    """The files of the crates with that pattern, in no path of which the other text stands."""
+    found = sorted(CRATES.glob(pattern))
+    return [path for path in found if without not in path.relative_to(CRATES).as_posix()]
+
+
+def lines(paths):
+    """How many lines the files have that are not blank."""
+    return sum(bool(line.strip()) for path in paths for line in path.read_text(errors="replace").splitlines())
+
+
+def occurrences(pattern, paths):
+    """How often the pattern stands in the files."""
+    return sum(len(re.findall(pattern, path.read_text(), re.M)) for path in paths)
+
+
+def traces_of_fixed_seeds():
+    """How many traces the gate compares each time, by the call in tools/gate/check.sh."""
+    return int(re.search(r"fuzz\.py .*--traces (\d+)", (TOP / "tools" / "gate" / "check.sh").read_text())[1])
+
+
+def numbers():
+    """What is counted, and how much it is."""
+    sources = files("*/src/**/*.rt")
+    tests = sorted([*TOP.glob("python/tests/test_*.py"), *TOP.glob("audit/tests/test_*.py")])
+    return {
+        "lines that people keep by hand, in all": sum(kept_by_hand(TOP).values()),
+        "lines of proved code, contracts and comments among them": lines(sources),
+        "functions written in it, each proved to meet its contract": occurrences(FUNCTION, sources),
+        "lines of definitions that contracts cite (`specs`, without `specs/Code`)":
+            lines(files("*/specs/**/*.antt", "/Code")),
+        "lines of proofs, without those that a script writes": lines(files("*/proofs/**/*.antt", "Transcripts")),
+        "mutants that the prover refuses in each run of the gate (`must-fail`)":
+            len(files("*/must-fail/*.edit")),
+        "mutants that are tried when their crate changes (`tools/mutants`)":
+            occurrences(r"^mutant ", (TOP / "tools" / "mutants").glob("*.edits")),
+        "transcripts, each run in one piece, in two and octet by octet": len(list((TOP / "examples").glob("*.args"))),
+        "tests of the crates on the built code (`lldp_tests`)":
+            occurrences(r"^\s*#\[test\]", sorted(CRATES.glob("lldp_tests/src/**/*.rt"))),
+        "tests of the Python programs, with real sockets, links and peers": occurrences(r"^    (?:async )?def test_", tests),
+        "traces of fixed seeds beside an independent model, besides 20 seconds of random ones": traces_of_fixed_seeds(),
+    }
+
+
+def part_of(name):
+    """The part that a file is of."""
+    if "lldp_tests" in name:
+        return "tests of the crates"
+    return next(part for part, pattern in PARTS if fnmatch.fnmatch(name, pattern))
+
+
+def kept_by_hand(top):
+    """How many lines of each part people keep by hand, in a checkout."""
+    names = subprocess.run(["git", "ls-files", "-z"], cwd=top, stdout=subprocess.PIPE, text=True,
+                           check=True).stdout
+    found = collections.Counter()
+    for name in filter(None, names.split("\0")):
+        path, is_written = pathlib.Path(top, name), any(fnmatch.fnmatch(name, one) for one in WRITTEN)
+        if path.is_file() and not path.is_symlink() and not is_written:
+            found[part_of(name)] += lines([path])
+    return found
+
+
+def print_parts(top):
+    """Prints the lines of each part that people keep by hand, and their sum."""
+    found = kept_by_hand(top)
+    for part, number in found.most_common():
+        print(f"{number:7,}  {part}")
+    print(f"{sum(found.values()):7,}  in all")
+
+
+def said():
+    """The numbers of the page by what they count."""
+    rows = re.findall(r"^\| ([\d,]+) \| (.*) \|$", (TOP / "docs" / "TESTING.md").read_text(), re.M)
+    return {what: int(number.replace(",", "")) for number, what in rows}
+
+
+def main():
+    """Prints or checks the table."""
+    if sys.argv[1:2] == ["--parts"]:
+        print_parts(*(sys.argv[2:] or [TOP]))
+        return 0
+    counted = numbers()
+    if sys.argv[1:] != ["--check"]:
+        print("| | |\n|---|---|")
+        for what, number in counted.items():
+            print(f"| {number:,} | {what} |")
+        return 0
+    told, failed = said(), 0
+    for what, number in counted.items():
+        is_near = what in told and abs(told[what] - number) * 20 <= number
+        failed += not is_near
+        if not is_near:
+            print(f"docs/TESTING.md: {what}: {told.get(what, 'not told')}, counted {number}")
+    print(f"{len(counted) - failed} passed, {failed} failed")
+    return 1 if failed else 0
+
+
+if __name__ == "__main__":
+    sys.exit(main())
