@@ -38,8 +38,8 @@ class FaultLines:
         self.plan = plan
         self.names = tables.names
         self.mismatches = mismatches or {}
-        right = Verdict.RIGHT
-        faults = [one for one in findings if one.verdict not in (right, Verdict.KNOWN)]
+        right, known = Verdict.RIGHT, Verdict.KNOWN
+        faults = [one for one in findings if one.verdict is not right and one.verdict is not known]
         if self.mismatches:
             faults += [one for one in findings
                        if one.verdict is right and one.end in self.mismatches]
