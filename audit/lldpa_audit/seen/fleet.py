@@ -80,7 +80,7 @@ def neighbor_of(_: str, chassis: str, kind: str, port_id: str, name: str, manage
     """A neighbor by its labels."""
     settings = none_if_empty(Settings(number(max_frame_size) or None, number(pvid) or None))
     return neighbor(plain(chassis), kind, plain(port_id), plain(name), plain(port_descr),
-                    [plain(management.partition(",")[0])], settings)
+                    [plain(management)], settings)
 
 
 def label(labels: Labels, name: str) -> str:

@@ -3,7 +3,7 @@ from __future__ import annotations
 
 import ipaddress
 from functools import lru_cache
-from typing import Optional, Sequence
+from typing import Iterable, Optional, Sequence
 
 from ..names import Seen
 from ..link_settings import Settings
@@ -18,7 +18,7 @@ UNNAMED = ("",)
 
 
 def neighbor(chassis: str, kind: str, port_id: str, name: str = "", descr: str = "",
-             addresses: Sequence[str] = (), settings: Optional[Settings] = None) -> Seen:
+             addresses: Iterable[str] = (), settings: Optional[Settings] = None) -> Seen:
     """Returns a neighbor by what it says, under each name that it has. Texts are empty if it does
     not say them, and `kind` is that of the port ID, by lldpcli's word for it.
 
@@ -34,8 +34,10 @@ def neighbor(chassis: str, kind: str, port_id: str, name: str = "", descr: str =
 
 # many neighbors have the same texts: each is kept, and handed on by a process, once
 @lru_cache(MOST_KEPT)
-def names_of_host(name: str, *addresses: str) -> tuple[str, ...]:
-    """Returns the names of a host by its System Name, its chassis ID and its addresses."""
+def names_of_host(name: str, chassis: str, *addresses: str) -> tuple[str, ...]:
+    """Returns the names of a host by its System Name, its chassis ID and its addresses. In a show a
+    comma ends an address."""
+    addresses = (chassis, *[address.partition(",")[0] for address in addresses])
     return texts(name, *[form for address in addresses for form in names_of_address(address)])
 
 

@@ -1,6 +1,7 @@
 """The ports of a show and their neighbors, as an audit looks at them."""
 from __future__ import annotations
 
+from functools import lru_cache
 from sys import intern
 from typing import Iterable, Iterator, Sequence, Tuple
 
@@ -8,7 +9,7 @@ from lldpa.agent.show import Port, Show, ShowFault, read_show, unescaped
 
 from ..names import NAMELESS, Seen
 from .listing import Listing, Ports, need_few_lines
-from .neighbor import neighbor
+from .neighbor import MOST_KEPT, neighbor
 from .quickshow import NAMES, USUAL_PORT
 from .tlvs import IS_SETTING, settings_of_tlvs
 
@@ -49,8 +50,9 @@ def port_by_port(text: str) -> Iterator[Tuple[str, Sequence[Seen]]]:
     for found in USUAL_PORT.finditer(text):
         if found.start() > at:
             yield from seen_ports(only_ports(text[at:found.start()]))
-        _, name, chassis, kind, port_id, further = found.groups()
-        yield intern(name), (seen_neighbor(chassis, kind, port_id, NAMES.findall(further)),)
+        _, name, chassis, kind, port_id, *usual, further = found.groups("")
+        said = NAMES.findall(further) if further else ()
+        yield intern(name), (seen_neighbor(chassis, kind, port_id, said, *usual),)
         at = found.end()
     if at < len(text):
         yield from seen_ports(read_show(text[at:-1].split("\n")))
@@ -77,24 +79,26 @@ def seen_at(port: Port) -> Sequence[Seen]:
     return (*seen, NAMELESS) if port.too_many else tuple(seen)
 
 
-def seen_neighbor(chassis: str, kind: str, port_id: str, said: Iterable[Tuple[str, str]]) -> Seen:
-    """Returns a neighbor by its chassis ID, the kind of its port ID, that ID, and what else it
-    said."""
-    name, descr = "", ""
-    addresses, tlvs = [], []
+def seen_neighbor(chassis: str, kind: str, port_id: str, said: Iterable[Tuple[str, str]],
+                  descr: str = "", name: str = "", management: str = "") -> Seen:
+    """Returns a neighbor by its chassis ID, the kind of its port ID, that ID, what else it said,
+    and what of that is known already."""
+    addresses, tlvs = [management], []
     for key, value in said:
         if key == "chassis.name":
-            name = plain(value)
+            name = value
         elif key == "port.descr":
-            descr = plain(value)
+            descr = value
         elif key == "chassis.mgmt":
-            addresses.append(plain(value.partition(",")[0]))
+            addresses.append(value)
         elif IS_SETTING.fullmatch(key):
             tlvs.append((key, value))
     settings = settings_of_tlvs(tuple(tlvs)) if tlvs else None
-    return neighbor(plain(chassis), kind, plain(port_id), name, descr, addresses, settings)
+    return neighbor(plain(chassis), kind, plain(port_id), plain(name), plain(descr),
+                    map(plain, addresses), settings)
 
 
+@lru_cache(MOST_KEPT)
 def plain(text: str) -> str:
     """Returns a text of a show as people write it."""
     return unescaped(text).decode(errors="surrogateescape") if "\\" in text else text
