@@ -30,19 +30,19 @@ counts = {True: 0, False: 0}
 
 
 def judge(holds, text):
-    """Counts a check, and tells of one that failed."""
+    """Counts a check, and reports it if it failed."""
     counts[bool(holds)] += 1
     print(text if holds else f"FAILED: {text}", flush=True)
 
 
 def numbers(live):
-    """The numbers that lldpa-live and its agent tell."""
+    """Returns the numbers that lldpa-live and its agent report."""
     lines = [line.split("=", 1) for line in live.ask("live") + live.ask("show statistics")]
     return {key: int(value) for key, value in lines if value.isdigit()}
 
 
 def take(live, peer, moments, folder, keep, number, sent):
-    """Has the quiet port's neighbors send, and takes a moment."""
+    """Lets the quiet port's neighbors send, and takes a moment."""
     for place in range(5):
         if place != number % 5:
             peer.send(numbered(place, 30, tlv(5, b"moment %d" % number)))

@@ -81,7 +81,7 @@ def cycle_in(graph: Graph) -> str | None:
 
 
 def is_below(module: Name, name: str) -> bool:
-    """Returns whether a module is that of this name, or stands below it."""
+    """Returns whether a module is that of this name, or below it."""
     parts = tuple(name.split("."))
     return module[:len(parts)] == parts
 

@@ -47,7 +47,7 @@ def wrapped(program: pathlib.Path) -> pathlib.Path:
 
 
 def check_program(program: pathlib.Path, counts: Counts) -> None:
-    """The transcripts of examples/, each in one piece, and random traces beside the model."""
+    """Runs the transcripts of examples/, each in one piece, and random traces, and compares them with the model."""
     script = wrapped(program)
     native().check_transcripts([str(script)], counts)
     command = [sys.executable, MODEL / "fuzz.py", "--program", script, "--traces", TRACES, "--seed", "1"]
@@ -57,7 +57,7 @@ def check_program(program: pathlib.Path, counts: Counts) -> None:
 
 
 def check_library(folder: pathlib.Path, room: pathlib.Path, counts: Counts) -> None:
-    """The programs in C over the library."""
+    """Runs the programs in C over the library."""
     for name, words in (("vectors", [str(native().ROWS)]), ("nulls", []), ("refused", []), ("transcript", [])):
         more = WRAPPED if name == "refused" else []
         fault = fault_of([COMPILER, "-std=c99", "-O2", *WARNINGS, *more, f"-I{folder}", TOOLS / f"{name}.c",

@@ -26,14 +26,14 @@ COMMANDS["max-neighbors"] = model.OPENING["max_neighbors"]
 
 
 def near_round_ones(greatest):
-    """The numbers near a power of two or of ten, and near the ends."""
+    """Returns the numbers near a power of two or of ten, and near the ends."""
     round_ones = [2 ** power for power in range(18)] + [10 ** power for power in range(6)] + [greatest]
     near = {one + step for one in round_ones for step in (-1, 0, 1)}
     return sorted(number for number in near if 0 <= number <= greatest + 1)
 
 
 def runs():
-    """The words and lines of each run."""
+    """Returns the words and lines of each run."""
     for option, greatest in model.OPENING.items():
         for number in range(greatest + 2):
             yield [model.option_word(option), str(number), "eth0"], SHOWS
