@@ -1,12 +1,12 @@
 #!/usr/bin/env python3
 """Compares lldpa with plain C that does the same work (tools/bench/yardstick.c), all in one run.
 
-Each row is run by each program by turns, several times; the least processor time counts, less that of an empty
-trace. C by vectors, which checks nothing of the TLVs, is the limit. Instructions are counted by valgrind's callgrind
-where there is one, on a shorter trace; their columns begin with #. tshark and tcpdump read the frames of the mix too,
-where they are installed, and the captures that lldpa-capture reads. Needs Python and a C compiler.
+The programs run each row by turns, several times; the least processor time counts, less that of an empty trace. C by
+vectors, which checks nothing of the TLVs, is the limit. If valgrind is installed, its callgrind counts instructions on
+a shorter trace; their columns begin with #. If tshark and tcpdump are installed, they read the frames of the mix and
+the captures of lldpa-capture too. Needs Python and a C compiler.
 
-The rows are in bench_rows.py, what counts instructions in bench_counts.py, the readers of captures in
+The rows are in bench_rows.py, the counting of instructions in bench_counts.py, the readers of captures in
 bench_captures.py, and the picture in bench_picture.py.
 """
 from __future__ import annotations

@@ -3,10 +3,10 @@
 
     python3 tools/bench/bench_counts.py [--program PROGRAM]
 
-A row that takes more than 1 % more than it did fails, also on a busy machine; with another C library than the counts
-were made with, more than 5 %. Needs valgrind; without it the status is 3. The last line is `N passed, M failed`. What
-is slower on purpose is counted anew by `tools/bench/bench.py --saved docs/bench.json --counts --save docs/bench.json
---svg docs/bench.svg`.
+A row fails if it takes over 1 % more than it did, even on a busy machine; over 5 % if the C library is not the one of
+the saved counts. Needs valgrind; without it the status is 3. The last line is `N passed, M failed`. If a row is slower
+on purpose, `tools/bench/bench.py --saved docs/bench.json --counts --save docs/bench.json --svg docs/bench.svg` counts
+it again.
 """
 from __future__ import annotations
 

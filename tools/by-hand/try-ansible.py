@@ -3,9 +3,9 @@
 
     tools/by-hand/try-ansible.py [--program PATH]
 
-At the far end of two links stands an lldpd, at the near end `lldpd -r` and lldpa-live, as in
-tools/by-hand/try-lldpctl.py. Ansible finds one lldpctl or the other on its path; each is told its socket by a script of
-two lines. All facts must be equal but for the age. It needs Linux, root, and Debian's packages lldpd, iproute2 and
+At the far end of two links runs an lldpd, at the near end `lldpd -r` and lldpa-live, as in
+tools/by-hand/try-lldpctl.py. Ansible finds one lldpctl or the other on its path; a script of two lines gives each its
+socket. All facts except the age must be equal. It needs Linux, root, and Debian's packages lldpd, iproute2 and
 ansible. The last line is `N passed, M failed`.
 """
 import argparse

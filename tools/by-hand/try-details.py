@@ -3,13 +3,13 @@
 
     tools/by-hand/try-details.py [--program PATH] [--save FILE] [--octets]
 
-Frames of real senders (lldpd, ladvd, lldpad) come from python/tests/judged.json; further ones are sent by an lldpd that is
-configured for it, and frames with a TLV of each kind and with each value that has a name are made. Each goes over a link to a
-receiving lldpd, whose lldpcli is asked (-f json0), and to tshark. Each value that they show and each that is read here must be
-equal, but for what python/tests/judges.py and by_tshark.py list with its reason. --save keeps the frames with the answers
-of both, which python/tests/test_judged.py compares without them. --octets gives tshark each front of one of each kind too, and
-each of its octets changed to each other value. It needs Linux, root, and Debian's packages lldpd, iproute2
-and tshark. The last line is `N passed, M failed`.
+The frames come from real senders (lldpd, ladvd, lldpad; python/tests/judged.json) and from an lldpd that is configured
+for it; others are made, with a TLV of each kind and with each value that has a name. Each is sent over a link to a
+receiving lldpd, whose lldpcli is asked (-f json0), and to tshark. The values that they show and those read here must be
+equal, except what python/tests/judges.py and by_tshark.py list with its reason. --save keeps the frames with the
+answers of both, which python/tests/test_judged.py compares without them. --octets also gives tshark each front of one
+of each kind, and each of its octets changed to each other value. It needs Linux, root, and Debian's packages lldpd,
+iproute2 and tshark. The last line is `N passed, M failed`.
 """
 import argparse
 import json

@@ -1,16 +1,16 @@
 #!/usr/bin/env python3
 """Reads the same frames by the library, by lldpd's decoder and by systemd's sd-lldp, and compares
-what they tell and how long they take. Where they differ, a rule of docs/STANDARD.md must say so.
+what they say and how long they take. If they differ, a rule of docs/STANDARD.md must say so.
 
     tools/by-hand/try-library-peers.py --peers FOLDER [--library FOLDER] [--frames FILE ..] [--count N]
                                [--seed N] [--rounds N]
 
 The folder of the peers has the programs lldpd_decode and sd_decode, built over the sources of their
 projects: each is given `verdict FILE` and `bench FILE N`, with a frame in hexadecimal on each line
-of the file. That of the library is what tools/library/library.sh makes, as it does unless it is named.
---frames names captures (pcap) and traces, beside those of docs and examples. The N frames, 300,000
-unless given, are those of all these, altered ones, and those of tools/model/fuzz.py. What the library
-tells is also compared with the model of tools/model/model.py. The last line is `N passed, M failed`.
+of the file. The folder of the library is what tools/library/library.sh makes, which runs unless one
+is given. --frames names captures (pcap) and traces, besides those of docs and examples. The N frames,
+300,000 unless given, are those of all these, altered ones, and those of tools/model/fuzz.py. What the
+library says is also compared with tools/model/model.py. The last line is `N passed, M failed`.
 """
 from __future__ import annotations
 

@@ -5,9 +5,9 @@
 
 At the far end an lldpd sends what it is configured to: TLVs of IEEE 802.1 and 802.3, LLDP-MED and custom ones. Then
 frames of real senders and made ones (python/tests/judged.json) are sent, and texts with every octet. At the near end
-stand `lldpd -r` and lldpa-live, which receive the same. Each command is asked in each of the forms plain, keyvalue,
-json and json0, and each key and each value is compared but for the age. A difference is a failure unless docs/LLDPD.md
-lists it. It needs Linux, root, and Debian's packages lldpd and iproute2. The last line is `N passed, M failed`.
+run `lldpd -r` and lldpa-live, which receive the same. Each command is asked in each of the forms plain, keyvalue, json
+and json0, and each key and each value except the age is compared. A difference is a failure unless docs/LLDPD.md lists
+it. It needs Linux, root, and Debian's packages lldpd and iproute2. The last line is `N passed, M failed`.
 """
 import argparse
 import collections

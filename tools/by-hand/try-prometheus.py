@@ -5,11 +5,11 @@
 
 In a network namespace of its own, an lldpa-live runs on a link, `lldpa-ctl metrics --output` writes a
 file each second, node_exporter's textfile collector reads it, and Prometheus has the rules of
-share/prometheus, as they are. Seen must be: lldpa-live up and no alert; LldpaDown when it was
-killed; none when it is back; LldpaMetricsOld when the file is no longer written. It takes two
-minutes, and is ended after five. It needs Linux, root and Debian's packages prometheus,
+share/prometheus, as they are. It must see lldpa-live up and no alert; LldpaDown when it is killed;
+no alert when it is back; LldpaMetricsOld when the file is no longer written. It takes two minutes,
+and is ended after five. It needs Linux, root and Debian's packages prometheus,
 prometheus-node-exporter and iproute2; PROGRAM is crates/lldpa/out/lldpa unless given. The last line
-is `N passed, M failed`; where something is missing it says so, and its status is 77.
+is `N passed, M failed`; if something is missing it says so, and its status is 77.
 """
 import json
 import os

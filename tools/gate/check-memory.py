@@ -1,17 +1,16 @@
 #!/usr/bin/env python3
-"""Sees by the sources alone what types and contracts leave to reading.
+"""Checks from the sources alone what types and contracts leave to a reader.
 
-Memory: one type has the storage that is taken at opening, `Room`. So below the program no other module
-names a type that takes memory, no other type has a field with an allocator, only opening calls are
-handed one, by one name, and they hand it to opening calls alone, each once and for no more than what is
-to be held. `Global` comes from the runtime, and only the modules that read the words of the command line
-are handed it.
+Memory: one type, `Room`, has the storage that is taken at opening. So below the program no other module names a type
+that takes memory, and no other type has a field with an allocator. Only opening calls are given one, by one name, and
+they pass it only to opening calls, each once and for no more than what is to be held. `Global` comes from the runtime,
+and only the modules that read the words of the command line are given it.
 
-Accesses: `Times` counts each get and set of a stored time. So its numbers are reached by `get`, `set`
-and `look` alone, and it cannot be copied; and `look`, which is not counted, is reached from
-`Table::entries` and `entry`, which no tick calls: the show of neighbors alone calls the one, and the tests
-the other. No type of a table has a field more, which could store the times again. A proof by hand could say of a count what it likes, so there is none but the two of `Count`, and
-those of the library for C, which move the pointer of a handle.
+Accesses: `Times` counts each get and set of a stored time. So only `get`, `set` and `look` reach its numbers, and it
+cannot be copied. `look`, which is not counted, is reached from `Table::entries` and `entry`, which no tick calls: only
+the show of neighbors calls the first, and only the tests the second. No type of a table has another field, which could
+store the times again. A proof by hand could say anything of a count, so there are only the two of `Count`, and those of
+the library for C, which move the pointer of a handle.
 
     tools/gate/check-memory.py
 

@@ -1,12 +1,12 @@
 #!/usr/bin/env python3
-"""Looks that what tools/named.txt names is tried by the gate: each mutant is an edit that the
+"""Checks that the gate tries what tools/named.txt names: each mutant is an edit that the
 prover must refuse, and each worked example, row and vector is a transcript, a test, or a part of
 tools/gate/check.sh. A theorem alone does not count.
 
     tools/gate/check-named.py           the last line is `N passed, M failed`
     tools/gate/check-named.py --list    prints each name with where it is tried
 
-That the edits are refused and that the tests pass is seen by `rt ci`.
+`rt ci` sees that the edits are refused and that the tests pass.
 """
 from __future__ import annotations
 

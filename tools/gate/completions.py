@@ -1,7 +1,7 @@
 #!/usr/bin/env python3
 """Compares what the completions for bash and zsh offer with what the programs say in --help, and
 completes words at some places of the cursor: a value behind its option, a word with others behind
-it, and what stands behind `--` or `<`.
+it, and what follows `--` or `<`.
 
     tools/gate/completions.py
 

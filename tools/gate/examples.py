@@ -4,25 +4,25 @@
     python3 tools/gate/examples.py PROGRAM [NAME ...]
     python3 tools/gate/examples.py --as-root
 
-The transcripts stand under examples/: NAME.args has the words, one a line, and NAME.trace the input. NAME.expect
-shows each line of the input behind `> `, a long one by its first octets and `...`, and below it what it writes.
-The last line of NAME.args may be a filter, `| grep TEXT` or `| grep -e TEXT -e TEXT`, as a shell would have it: of what
-is written the lines are shown that have one of the texts. A text is of small letters and hyphens, and some line that is
-shown has it; a filter of another form is a failure.
-Each is run four ways: its first lines, one more each time; without its last LF, which changes nothing; octet by
-octet; and in two pieces, cut at every place (but for inputs of more than 10,000 octets). A piece is written when
-the program has read the one before it. Each run must end with status 0 and say nothing on standard error.
+The transcripts are in examples/: NAME.args has the words, one a line, and NAME.trace the input. NAME.expect shows each
+line of the input behind `> `, a long one by its first octets and `...`, and below it what it writes. The last line of
+NAME.args may be a filter, `| grep TEXT` or `| grep -e TEXT -e TEXT`, as in a shell: only lines with one of the texts
+are shown. A text has small letters and hyphens, and some line that is shown has it; a filter of another form is a
+failure.
+Each is run four ways: its first lines, one more each time; without its last LF, which changes nothing; octet by octet;
+and in two pieces, cut at every place (except inputs of more than 10,000 octets). A piece is written when the program
+has read the one before it. Each run must end with status 0 and write nothing on standard error.
 receive-counters.rows names counters of eth0 in its first line. Each row has the name of a transcript and the values of
-these counters, which are compared where `show statistics` stands behind its lines; other counters are not looked at.
+these counters, which `show statistics` behind its lines must show; other counters are ignored.
 
-The examples of the pages and of the manual page are blocks whose first line begins with `$ `. Each such line
-is a command, with its input up to the line EOF where it ends with <<'EOF' or <<EOF; what stands below is what it
-writes, up to the next command. A status other than 0 is shown by the command `echo $?`. Nothing may come on standard
-error. The number of a port behind --listen stands for a free one. A block that takes too long has failed, and all that
-it started is ended. A block whose commands begin with sudo is left to tools/by-hand/try-package.sh, for which --as-root lists
-these commands; a block with commands of both kinds has failed.
+The examples of the pages and of the manual page are blocks whose first line begins with `$ `. Each such line is a
+command; if it ends with <<'EOF' or <<EOF, its input follows up to the line EOF. Below is what it writes, up to the next
+command. The command `echo $?` shows a status other than 0. Nothing may come on standard error. The number of a port
+behind --listen stands for a free one. A block that takes too long has failed, and all that it started is ended. A block
+whose commands begin with sudo is left to tools/by-hand/try-package.sh, for which --as-root lists these commands; a
+block with commands of both kinds has failed.
 
-With names only those transcripts and their rows are run. The last line counts each way of each transcript, each row
+If names are given, only those transcripts and their rows are run. The last line counts each way of each transcript, each row
 and each block.
 """
 import array

@@ -5,7 +5,7 @@ but never more than there are processors.
 
     python3 tools/gate/test-python.py [PROGRAM]
 
-PROGRAM is the lldpa that they run. What is skipped is told with its reason, and not counted. The
+PROGRAM is the lldpa that they run. What is skipped is reported with its reason, and not counted. The
 last line is `N passed, M failed`.
 """
 import concurrent.futures

@@ -1,10 +1,10 @@
 #!/usr/bin/env python3
 """Builds the program and the library for arm64, and runs them by qemu: all transcripts of examples/, the vectors, rows and
-transcripts of the library, NULL for each pointer, and random traces beside the model.
+transcripts of the library, NULL for each pointer, and random traces, which the model runs too.
 
     python3 tools/library/check-arm64.py [FOLDER]
 
-FOLDER is what tools/release/build.sh --arch arm64 made, and made anew unless it is given. Without gcc for arm64 or
+FOLDER is what tools/release/build.sh --arch arm64 made; unless it is given, that is made first. Without gcc for arm64 or
 qemu-user the status is 3. The last line is `N passed, M failed`.
 """
 from __future__ import annotations

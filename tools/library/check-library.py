@@ -6,8 +6,8 @@ rust/lldpa with its tests; and the examples of docs/LIBRARY.md and of examples/.
 
     python3 tools/library/check-library.py [FOLDER]
 
-FOLDER is where liblldpa.a, liblldpa.so and lldpa.h stand; unless it is given tools/library/library.sh makes
-them. What cannot be tried here, as with cargo or valgrind that are not installed, is said and not
+FOLDER has liblldpa.a, liblldpa.so and lldpa.h; unless it is given tools/library/library.sh makes them.
+What cannot be tried here, for instance since cargo or valgrind is not installed, is reported and not
 counted; without a C compiler or a library the status is 3. The last line is `N passed, M failed`.
 """
 from __future__ import annotations

@@ -5,7 +5,7 @@ those of examples/ in C and Python on a capture and on a link.
     python3 tools/library/library_examples.py --hear PROGRAM
 
 in a network namespace of its own: runs examples/c/receive.c, which was built as PROGRAM, at one end
-of a link, and sends frames at the other end until it tells of their sender.
+of a link, and sends frames at the other end until it reports their sender.
 """
 from __future__ import annotations
 

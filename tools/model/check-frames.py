@@ -1,5 +1,5 @@
 #!/usr/bin/env python3
-"""Gives the built program cut and altered frames, and full tables whose neighbors come and go, beside the model.
+"""Gives the built program and the model cut and altered frames, and full tables whose neighbors come and leave.
 
     tools/model/check-frames.py PROGRAM [SEED]
 

@@ -5,9 +5,9 @@
 
 A client asks a question whose answer is written in several pieces, and asks again when it has read all of it. Each
 answer has to come at once: a program that does not set TCP_NODELAY keeps the last piece back until the one before it
-was acknowledged, some 40 milliseconds each time. Where too many are late while the machine stands still, that is said
-and all are asked again, at most twice. Then clients come one after the other to a program that was asked to serve
-65,535, the greatest number; each is answered, and the program goes on. The last line is `N passed, M failed`.
+was acknowledged, some 40 milliseconds each time. If too many are late while the machine stands still, it says so and
+asks all again, at most twice. Then clients come one after another to a program that was asked to serve 65,535, the
+greatest number; each is answered, and the program keeps running. The last line is `N passed, M failed`.
 """
 import pathlib
 import socket

@@ -1,11 +1,11 @@
 #!/usr/bin/env python3
-"""Tries every value of every range on the built program, and one past each end, beside the model.
+"""Tries every value of every range on the built program and the model, and one past each end.
 
     tools/model/check-ranges.py PROGRAM
 
 Of the numbers of --listen and --connections, and of the seconds of `tick N`, which are too many to be tried one by one,
 it tries those near a power of two or of ten and those near the ends. It opens agents with a hostname of every length,
-and with every role, too: that no opening is refused for want of memory is not proved. The last line is
+and with every role, too: it is not proved that no opening is refused for lack of memory. The last line is
 `N passed, M failed`.
 """
 import sys

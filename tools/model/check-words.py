@@ -1,11 +1,11 @@
 #!/usr/bin/env python3
-"""Gives the built program lines that are nearly right, beside the model: each word of each form of a line in turn one slip
+"""Gives the built program and the model lines that are nearly right: each word of each form of a line in turn one slip
 away, or another word of English or of lldpcli, a word more or less, and each octet before a line. Also roles and options
 that are nearly right, each of which the program must refuse.
 
     tools/model/check-words.py PROGRAM
 
-What the program takes and the model does not is an addition to its commands, or the other way round. A difference is
+What the program accepts and the model does not is an addition to its commands, or the other way round. A difference is
 made small and shown. The last line is `N passed, M failed`, counted by form.
 """
 import string

@@ -1,6 +1,5 @@
-"""Runs lldpa on words and a trace, over standard input or over connections, and compares what it answers with what the
-model of tools/model/model.py, the table of wrong arguments in docs/TRACE.md and the judge of tools/model/judge.py
-say."""
+"""Runs lldpa on words and a trace, over standard input or over connections, and compares its answers with the model of
+tools/model/model.py, the table of wrong arguments in docs/TRACE.md and the judge of tools/model/judge.py."""
 import pathlib
 import re
 import socket

@@ -1,11 +1,11 @@
 #!/usr/bin/env python3
 """Runs lldpa and the model of tools/model/model.py on the same random words and traces, and compares the answers. Some
-of the traces also go to the judge of tools/model/judge.py, which looks when frames went.
+of the traces also go to the judge of tools/model/judge.py, which checks when frames were sent.
 
     python3 tools/model/fuzz.py [--program FILE] [--seed N] [--seconds S] [--traces N] [--judge-one-in N]
 
 Each trace has a seed of its own: trace K of a run has the seed N + K, so `--seed SEED --traces 1` runs one
-alone. The first seed is printed first. At the first difference the trace is made small and printed with its seed.
+alone. The first seed is printed first. After the first difference the trace is made small and printed with its seed.
 Without --seconds and --traces it runs for half a minute. The last line is `1 passed, 0 failed` or `0 passed, 1 failed`.
 """
 import argparse

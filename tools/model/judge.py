@@ -1,11 +1,11 @@
 #!/usr/bin/env python3
 """A second judge of when ports send, beside tools/model/model.py, with which it shares no state.
 
-It is handed words, a trace and the frames that the program sent at each event, and asks of each event, by whole lists
-alone, what the definitions of lldp_transmit and lldp_engine say: whether a port stops there, whether a frame is due there, and whether no run of
-events that ends there would hold more frames than the greatest credit and one for each second after its first event.
-A frame has to go exactly where both hold, so none goes late. There is no timer, no credit and no table here: each
-question goes back over the events.
+It takes words, a trace and the frames that the program sent at each event. For each event it computes, only from whole
+lists, what the definitions of lldp_transmit and lldp_engine say: whether a port stops there, whether a frame is due
+there, and whether no run of events that ends there would hold more frames than the greatest credit plus one for each
+second after its first event. A frame has to be sent exactly if both hold, so none is late. There is no timer, no credit
+and no table here: each question goes back over the events.
 
     python3 tools/model/judge.py PROGRAM WORDS.. < TRACE
 """

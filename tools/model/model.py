@@ -5,8 +5,8 @@
 
 takes the words of lldpa and a trace, and writes what lldpa must write, over connections as over standard output. It was
 written from the text of IEEE 802.1AB-2009 (clauses 8 and 9) and docs/TRACE.md, and shares no code with lldpa.
-tools/model/fuzz.py compares the two. Where lldpa's reader of words answers by itself (a bad option, --help), the
-model knows the status and not the text.
+tools/model/fuzz.py compares the two. If lldpa's reader of words answers by itself (a bad option, --help), the model
+knows the status and not the text.
 
 Time is a clock that counts ticks since opening; what lasts some ticks is kept as the time at which it ends.
 """

@@ -1,5 +1,5 @@
 """Words that are nearly right: a letter more, less or another, letters exchanged, a front of a word, another case, and
-words of ordinary English, of other command lines and of lldpcli. A program that takes one of them takes too much."""
+words of ordinary English, of other command lines and of lldpcli. A program that accepts one accepts too much."""
 
 LETTERS = "abcdefghijklmnopqrstuvwxyz0189-_.=+;:/?!"
 

@@ -2,12 +2,12 @@
 """Writes the transcripts of examples/ as theorems over the definitions alone, which the check of lldpa computes: from
 the words of the program to the options that they ask for, and from the octets of the input to those of the output, or
 to its lines that pass the filter of the transcript. Each row of receive-counters.rows is a theorem too, of the options
-and the input of its transcript: which lines of its counters `show statistics` behind that input gives.
+and the input of its transcript: which lines of its counters `show statistics` writes after that input.
 
     python3 tools/write/transcripts.py [FILE]
 
 They are written to FILE, crates/lldpa/proofs/Transcripts.antt unless given. A transcript of more than MOST_TICKS ticks
-is left out: of each moment the definitions ask for all before it.
+is left out: for each moment the definitions look at all before it.
 """
 import pathlib
 import re
