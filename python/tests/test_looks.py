@@ -41,8 +41,8 @@ class BesideAnAgent(unittest.TestCase):
         self.made += 1
 
     def tell(self, line: str) -> None:
-        """Sends the agent and the looks a line, and looks if that is due. If it is not, the tables
-        have nothing that the looks did not expect."""
+        """Sends the agent and the looks a line, and looks if that is due. If it is not due, checks
+        that the tables have nothing new."""
         word, port, digits, *_ = [*line.split(" "), "", ""]
         answer = self.agent.tell([line])
         self.looks.take_line(line.encode())
