@@ -19,4 +19,5 @@ pub mod Texts
 pub mod News
 pub mod Ticks
 pub mod Held
+pub mod Due
 pub mod Numbers

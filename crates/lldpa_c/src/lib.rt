@@ -9,6 +9,7 @@ mod answer;
 mod bodies;
 mod build;
 mod command;
+mod due;
 mod examine;
 mod faults;
 mod frame;

@@ -1,5 +1,5 @@
 -- What the sink of one line holds.
-use Rattle.std.specs.Prelude.{◌≡◌, ℕ, suc, zero, ◌≤◌, List, length, Bool, true, false}
+use Rattle.std.specs.Prelude.{◌≡◌, ℕ, suc, zero, ◌-◌, ◌≤◌, List, length, take, Bool, true, false, Option, Some, None, if◌then◌else◌}
 use Rattle.lldp_engine.specs.declared.show.one_line.OneLine.{OneLine}
 use Rattle.lldp_text.specs.Text.{ended}
 
@@ -13,3 +13,7 @@ after_line (suc before) false kept line = record { before = before; came = false
 abbrev pub KeepsOne : OneLine → OneLine → List ℕ → Type 0
 KeepsOne old new line =
     (new ≡ after_line old.before old.came old.line line) × (length old.line ≤ 2049 → length new.line ≤ 2049)
+
+-- the line that is wanted, without its LF, if it came
+abbrev pub line_kept : OneLine → Option (List ℕ)
+line_kept sink = if sink.came then Some (take (length sink.line - 1) sink.line) else None
