@@ -3,9 +3,11 @@ use Rattle.std.proofs.Common.{◌≡◌, ℕ, zero, suc, ◌+◌, ◌-◌, ◌<�
 use Rattle.std.specs.Prelude.{◌⊎◌, Option, None, min, max, nat_lt, slice_get, if◌then◌else◌}
 use Rattle.std.specs.List.{filter_map, cons_option}
 use Rattle.std.specs.Option.{option_map}
+use Rattle.std.proofs.Math.ListN.{drop_of_length-le}
 use Rattle.std.proofs.lemmas.Bool.{cases_lt, lt-ltb, le-ltb}
 use Rattle.std.proofs.lemmas.Bool.Decides.{nat_tests}
 use Rattle.lldp_table.specs.Events.{Neighbor}
+use Rattle.lldp_table.specs.Contents.{Contents}
 use Rattle.lldp_table.specs.Code.Steps.{aged}
 use Rattle.lldp_transmit.specs.declared.event.Mark.{Mark}
 use Rattle.lldp_transmit.specs.declared.event.Mark.TheVariants.{Quiet, Ordinary, Shutdown}
@@ -19,7 +21,7 @@ use Rattle.lldp_engine.specs.Port.Past.{Happened, port_after}
 use Rattle.lldp_engine.proofs.Readers.{ports_are}
 use Rattle.lldp_engine.specs.Standing.{Stands}
 use Rattle.lldp_engine.specs.Port.Event.{each_port, tick as port_tick}
-use Rattle.lldp_engine.specs.Code.PortStep.{port_step}
+use Rattle.lldp_engine.specs.Code.PortStep.{port_step, port_mark}
 use Rattle.lldp_engine.specs.Code.Step.{ports_step, marks_step, agent_after, agent_marks}
 use Rattle.lldpa_c.specs.Ticks.{held_by, neighbors_held, ticked, IsQuiet}
 use Rattle.lldpa_c.specs.Due.{sooner, until_sends, least_left, due_on, IsDue}
@@ -189,7 +191,7 @@ are_loud : (n i : ℕ) (ports : List PortState) → HaveCredit ports → IsNext 
     → held_by (ports_step (each_port port_tick) n i ports) ≡ held_by ports → ⊥
 are_loud n i [] c h none same = absurd h
 are_loud n i (p ∷ ports) c h none same =
-    let sent = sent_first i _ _ none in
+    let sent = sent_first i (port_mark port_tick n p) (marks_step (each_port port_tick) n (i + 1) ports) none in
     elim (one_next (due_of p) (due_on ports) h) [
       | inl here ↦ elim (one_next (least_left p.table.neighbors) (until_sends p.machine) here) [
           | inl ages ↦ omega (arith, neighbors_go p.table.neighbors ages, not_held n (i + 1) ports, same)
@@ -295,3 +297,39 @@ none_is_due agent e = record {
   never = λ _ k. quiet_before k agent (rw e tt);
   there = λ less. absurd (omega arith);
 }
+
+-- ---- on the way over neighbors and ports
+
+sooner_none : (o : Option ℕ) → sooner o None ≡ o
+sooner_none None = refl
+sooner_none (Some d) = refl
+
+pub least_more : (least found : Option ℕ) (left : ℕ) (x : Neighbor) (all rest ns : List Neighbor) → found ≡ sooner least (Some left) → left ≡ x.left → all ≡ x ∷ rest
+    → sooner least (least_left all) ≡ least_left ns → sooner found (least_left rest) ≡ least_left ns
+least_more least found left x all rest ns e f g h = rw (e, f) (sooner_assoc least (Some x.left) (least_left rest) ∙ (rw g at h))
+
+pub least_all : (least : Option ℕ) (all ns : List Neighbor) → all ≡ [] → sooner least (least_left all) ≡ least_left ns → least ≡ least_left ns
+least_all least all ns e h = sym (sooner_none least) ∙ (rw e at h)
+
+due_here : (ports : List PortState) (i : ℕ) (table : Contents) (m : Machine) → option_map (λ (p : PortState). p.table) (slice_get ports i) ≡ Some table
+    → option_map (λ (p : PortState). p.machine) (slice_get ports i) ≡ Some m
+    → due_on (drop i ports) ≡ sooner (sooner (least_left table.neighbors) (until_sends m)) (due_on (drop (suc i) ports))
+due_here [] i table m h k = absurd cc
+due_here (p ∷ ports) zero table m h k =
+    let one : p.table ≡ table = cc in
+    let other : p.machine ≡ m = cc in
+    rw (← one, ← other) refl
+due_here (p ∷ ports) (suc i) table m h k = due_here ports i table m h k
+
+pub due_more : (due found one left sends : Option ℕ) (ports : List PortState) (i : ℕ) (table : Contents) (m : Machine) → found ≡ sooner due one → one ≡ sooner left sends
+    → left ≡ least_left table.neighbors → sends ≡ until_sends m → option_map (λ (p : PortState). p.table) (slice_get ports i) ≡ Some table
+    → option_map (λ (p : PortState). p.machine) (slice_get ports i) ≡ Some m → sooner due (due_on (drop i ports)) ≡ due_on ports → sooner found (due_on (drop (i + 1) ports)) ≡ due_on ports
+due_more due found one left sends ports i table m e f g s t u h =
+    let here = due_here ports i table m t u in
+    let same : i + 1 ≡ suc i = omega arith in
+    rw (same, e, f, g, s) (sooner_assoc due _ (due_on (drop (suc i) ports)) ∙ ap (sooner due) (sym here) ∙ h)
+
+pub due_all : (due : Option ℕ) (ports : List PortState) (i : ℕ) → length ports ≤ i → sooner due (due_on (drop i ports)) ≡ due_on ports → due ≡ due_on ports
+due_all due ports i past h =
+    let none : drop i ports ≡ [] = drop_of_length-le ports past in
+    sym (sooner_none due) ∙ (rw none at h)

@@ -45,7 +45,7 @@ fn until_sends(machine: &Parts) -> Option<u16>
 }
 
 /// The fewest ticks that are left of a neighbor.
-fn least_left(table: &Table) -> Option<u16>
+fn least_left(table: &Table<Global>) -> Option<u16>
     ensures { result ≡ least_left table.now.shown.neighbors }
 {
     let mut least = None;
