@@ -1,14 +1,11 @@
 -- In how many ticks something happens, if nothing but ticks comes.
-use Rattle.std.specs.Prelude.{◌≡◌, ℕ, ◌+◌, ◌-◌, ◌<◌, ◌≤◌, true, false, not, ◌&&◌, nat_lt, min, max, if◌then◌else◌, List, [], ◌∷◌, Option, Some, None}
-use Rattle.lldp_pdu.specs.Check.{Check}
+use Rattle.std.specs.Prelude.{◌≡◌, ℕ, ◌+◌, ◌-◌, ◌<◌, ◌≤◌, ◌&&◌, nat_lt, min, if◌then◌else◌, List, [], ◌∷◌, Option, Some, None}
 use Rattle.lldp_table.specs.Events.{Neighbor}
 use Rattle.lldp_transmit.specs.Code.Machine.{Machine}
 use Rattle.lldp_engine.specs.AgentState.{AgentState, PortState}
 use Rattle.lldp_engine.specs.Past.{Past}
 use Rattle.lldp_engine.specs.Standing.{Stands}
-use Rattle.lldpa_c.specs.declared.answer.TheConstants.{NOT_OPEN}
 use Rattle.lldpa_c.specs.declared.due.TheConstants.{NEVER}
-use Rattle.lldpa_c.specs.declared.holder.LldpaAgent.{LldpaAgent}
 use Rattle.lldpa_c.specs.Ticks.{ticked, IsQuiet}
 
 -- the lesser of two numbers, if there are any
@@ -41,7 +38,3 @@ pub record IsDue (agent : AgentState) (seconds : ℕ) : Type 0 where
   pub quiet : (k : ℕ) → k + 1 < seconds → IsQuiet (ticked k agent)
   pub never : seconds ≡ NEVER → (k : ℕ) → IsQuiet (ticked k agent)
   pub there : seconds < NEVER → (past : Past) → Stands past agent → IsQuiet (ticked (seconds - 1) agent) → ⊥
-
--- why nothing is told of what is due: the handle is not open
-abbrev pub due_checks : LldpaAgent → List (Check ℕ)
-due_checks handle = record { fails = not handle.is_open; fault = NOT_OPEN } ∷ []

@@ -20,4 +20,5 @@ pub mod News
 pub mod Ticks
 pub mod Held
 pub mod Due
+pub mod Settings
 pub mod Numbers

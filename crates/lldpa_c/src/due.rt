@@ -2,8 +2,9 @@
 ghost use Rattle.std.specs.Prelude.{◌≡◌};
 ghost use Rattle.lldp_transmit.specs.Code.Parts.{machine_of_parts};
 ghost use Rattle.lldpa_c.specs.Answer.{answer_of};
-ghost use Rattle.lldpa_c.specs.Due.{sooner, until_sends, least_left, due_on, due_checks, IsDue};
+ghost use Rattle.lldpa_c.specs.Due.{sooner, until_sends, least_left, due_on, IsDue};
 ghost use Rattle.lldpa_c.specs.Frame.{Keeps};
+ghost use Rattle.lldpa_c.specs.Held.{open_checks};
 
 use crate::answer::{NOT_OPEN, OK};
 use crate::holder::LldpaAgent;
@@ -81,7 +82,7 @@ fn seconds_of(agent: &Agent) -> u32
 #[unsafe(no_mangle)]
 pub extern "C" fn lldpa_due(alloc: Global, agent: &mut LldpaAgent, seconds: &mut u32) -> u8
     ensures due { result ≡ 0 → IsDue agent.old.held.agent seconds.new }
-    ensures answer { result ≡ answer_of (due_checks agent.old) }
+    ensures answer { result ≡ answer_of (open_checks agent.old) }
     ensures kept { Keeps agent.old agent.new }
     ensures refused { ¬ (result ≡ 0) → seconds.new ≡ seconds.old }
 {

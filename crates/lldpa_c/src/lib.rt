@@ -27,6 +27,7 @@ mod news;
 mod open;
 mod options;
 mod place;
+mod settings;
 mod show;
 mod texts;
 mod ticks;
