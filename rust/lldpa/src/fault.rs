@@ -161,3 +161,39 @@ impl fmt::Display for NoPort {
 
 #[cfg(feature = "std")]
 impl std::error::Error for NoPort {}
+
+#[cfg(test)]
+mod tests {
+    use super::*;
+    use alloc::string::ToString;
+
+    /// The words that the archive has for a fault.
+    fn words(fault: u8) -> String {
+        let mut room = [0u8; sys::FAULT_ROOM];
+        let mut length = 0;
+        // SAFETY: the room has as many octets as are told, and nothing else is lent.
+        let answer = unsafe {
+            sys::lldpa_fault_text(fault.into(), room.as_mut_ptr(), room.len(), &mut length)
+        };
+        assert_eq!(answer, sys::OK);
+        String::from_utf8_lossy(&room[..length]).into_owned()
+    }
+
+    #[test]
+    fn texts_are_those_of_the_archive() {
+        for fault in 1..=8 {
+            assert_eq!(PduFault::check(fault).map_err(|fault| fault.to_string()), Err(words(fault)));
+        }
+        for fault in 11..=13 {
+            assert_eq!(BuildFault::check(fault).map_err(|fault| fault.to_string()), Err(words(fault)));
+        }
+        for fault in 21..=26 {
+            assert_eq!(OpenFault::check(fault).map_err(|fault| fault.to_string()), Err(words(fault)));
+        }
+        for fault in 31..=38 {
+            assert_eq!(CommandFault::check(fault).map_err(|fault| fault.to_string()), Err(words(fault)));
+        }
+        assert_eq!(OutOfRange.to_string(), words(100));
+        assert_eq!(NoPort.to_string(), words(103));
+    }
+}

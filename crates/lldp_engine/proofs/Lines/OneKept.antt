@@ -42,4 +42,4 @@ unfolding Takes
 wanted_line zero kept b [] given h gives = gives.none (ap (λ (s : OneLine). s.came) (sym h))
 wanted_line (suc before) kept b [] given h gives = gives.none (ap (λ (s : OneLine). s.came) (sym h))
 wanted_line zero kept b (x ∷ xs) given h gives = gives_kept 0 x b given (stays 0 (ended x) b xs (rw h.1.0 at h.2)) gives
-wanted_line (suc before) kept b (x ∷ xs) given h gives = wanted_line before (ended x) b xs given (rw h.1.0 at h.2) gives
+wanted_line (suc before) kept b (x ∷ xs) given h gives = wanted_line before kept b xs given (rw h.1.0 at h.2) gives

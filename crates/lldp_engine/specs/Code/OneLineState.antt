@@ -7,7 +7,7 @@ use Rattle.lldp_text.specs.Text.{ended}
 abbrev pub after_line : ℕ → Bool → List ℕ → List ℕ → OneLine
 after_line before true kept line = record { before = before; came = true; line = kept }
 after_line zero false kept line = record { before = 0; came = true; line = ended line }
-after_line (suc before) false kept line = record { before = before; came = false; line = ended line }
+after_line (suc before) false kept line = record { before = before; came = false; line = kept }
 
 -- a line came, and what is held is no longer than a line with its LF
 abbrev pub KeepsOne : OneLine → OneLine → List ℕ → Type 0

@@ -18,9 +18,9 @@ pub trait LineSink {
     /// How it is after it took a line.
     ghost takes: { Self → Self → List ℕ → Type 0 };
 
-    /// Lends the writer in which the next line is written, behind what stands there; None if no
-    /// line changes the sink any more. What is written there is taken as a line: at most 2,048
-    /// octets, and a line feed.
+    /// Lends the writer in which the next line is written, behind what stands there; None if it
+    /// takes that line whatever it is, as one that is not wanted, which nobody then writes. What is
+    /// written there is taken as a line: at most 2,048 octets, and a line feed.
     fn begin_line(&mut self) -> Option<&mut Writer>
         ensures* takes_line { sem 𝓛 (LendsRoom Self.row takes self.entry result) }
         ensures room { IfSome result (λ writer. length writer.now + 2049 ≤ 8192) };

@@ -6,8 +6,8 @@ ghost use Rattle.lldp_engine.specs.Code.OneLineState.{KeepsOne, line_kept};
 use crate::show::line::LineSink;
 use lldp_text::Writer;
 
-/// How many lines come before the one that is wanted, whether that one came, and the last line that
-/// was written, with its line feed. It is large, so whoever wants a line lends it.
+/// How many lines come before the one that is wanted, whether that one came, and what it is, with
+/// its line feed. It is large, so whoever wants a line lends it.
 #[derive(Drop)]
 pub struct OneLine {
     before: u32,
@@ -53,11 +53,11 @@ impl LineSink for OneLine {
         if self.came {
             return None;
         }
-        if self.before == 0 {
-            self.came = true;
-        } else {
+        if self.before > 0 {
             self.before -= 1;
+            return None;
         }
+        self.came = true;
         self.line.clear();
         Some(&mut self.line)
     }
