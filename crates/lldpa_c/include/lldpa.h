@@ -16,7 +16,7 @@
  * is LLDPA_NULL, or false or 0 where a function answers a bool or a number of frames, whatever else is given; nothing is
  * written, and lldpa_close does nothing.
  *
- * Stack: lldpa_show_line takes at most 28 KB, every other call at most 12.
+ * Stack: a call takes at most 12 KB.
  *
  * Memory: no function takes any but lldpa_open, and only lldpa_close gives it back. Nothing that a call was given is
  * kept once it has returned. Places are offsets in the octets that the caller gave.

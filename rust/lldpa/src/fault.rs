@@ -136,6 +136,16 @@ impl CommandFault {
     }
 }
 
+/// What the fault or the misuse of that number in `lldpa.h` is, in words. None if none has that number.
+#[must_use]
+pub fn fault_text(number: u32) -> Option<String> {
+    let mut room = [0u8; sys::FAULT_ROOM];
+    let mut length = 0;
+    // SAFETY: the room has as many octets as are told, and nothing else is lent.
+    let answer = unsafe { sys::lldpa_fault_text(number, room.as_mut_ptr(), room.len(), &mut length) };
+    (answer == sys::OK).then(|| String::from_utf8_lossy(&room[..length]).into_owned())
+}
+
 /// A number, or the length of an identifier, is not in its range.
 #[derive(Clone, Copy, Debug, PartialEq, Eq, Hash)]
 pub struct OutOfRange;
@@ -167,16 +177,8 @@ mod tests {
     use super::*;
     use alloc::string::ToString;
 
-    /// The words that the archive has for a fault.
     fn words(fault: u8) -> String {
-        let mut room = [0u8; sys::FAULT_ROOM];
-        let mut length = 0;
-        // SAFETY: the room has as many octets as are told, and nothing else is lent.
-        let answer = unsafe {
-            sys::lldpa_fault_text(fault.into(), room.as_mut_ptr(), room.len(), &mut length)
-        };
-        assert_eq!(answer, sys::OK);
-        String::from_utf8_lossy(&room[..length]).into_owned()
+        fault_text(fault.into()).expect("a fault")
     }
 
     #[test]
@@ -195,5 +197,6 @@ mod tests {
         }
         assert_eq!(OutOfRange.to_string(), words(100));
         assert_eq!(NoPort.to_string(), words(103));
+        assert!([0, 9, 27, 106, 256 + 21].iter().all(|number| fault_text(*number).is_none()));
     }
 }

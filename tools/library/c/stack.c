@@ -171,8 +171,8 @@ int main(void)
         {"lldpa_ticks", call_ticks, 12288},         {"lldpa_frame", call_frame, 12288},
         {"lldpa_neighbor", call_neighbor, 12288},   {"lldpa_command", call_command, 12288},
         {"lldpa_show_lines", call_show_lines, 12288}, {"lldpa_show_line", call_show_line, 12288},
-        {"lldpa_frame_of", call_frame_of, 12288},   {"lldpa_close", call_close, 12288},
-        {"lldpa_due", call_due, 12288},             {"lldpa_configuration", call_told, 1024},
+        {"lldpa_frame_of", call_frame_of, 12288},   {"lldpa_due", call_due, 1024},
+        {"lldpa_configuration", call_told, 1024},   {"lldpa_close", call_close, 12288},
     };
     unsigned passed = 0, failed = 0;
     size_t nothing = taken_by(call_nothing);
