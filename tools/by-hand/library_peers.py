@@ -61,15 +61,15 @@ Reason = tuple[str, set[str], Callable[[Frame], bool]]
 
 # Why the library accepts a frame that a peer refuses.
 TAKEN: list[Reason] = [
-    ("an LLDPDU without one is accepted", BOTH, lambda frame: not frame.has_end),
+    ("it may be missing", BOTH, lambda frame: not frame.has_end),
     ("one with a length above 0 ends the LLDPDU too", BOTH,
      lambda frame: frame.end is not None and frame.end.body != b""),
     ("a reserved subtype is accepted", LLDPD, has_odd_subtype),
-    ("of a longer one the first two octets are read", SD_LLDP,
+    ("only the first two octets of a longer one are read", SD_LLDP,
      lambda frame: len(frame.inside[2].body) > 2),
     ("A TLV in error is discarded and counted; the others are used", BOTH,
      lambda frame: frame.told is not None and frame.told.ttl > 0 and frame.told.discarded > 0),
-    ("With a TTL of 0 the sender's entry is deleted, and nothing else in the LLDPDU matters", BOTH,
+    ("A TTL of 0 deletes the sender's entry; the rest of the LLDPDU does not matter", BOTH,
      Frame.is_shutdown),
     ("Their organization defines what they mean", LLDPD, has_read_organization),
     ("1 to 31 octets of address", LLDPD, has_address_that_is_none),
@@ -77,10 +77,10 @@ TAKEN: list[Reason] = [
 
 # Why a peer accepts a frame that the library refuses, or does not take for an LLDP frame.
 REFUSED: list[Reason] = [
-    ("A frame goes to one of three group addresses", BOTH,
+    ("Frames are sent to one of three group addresses", BOTH,
      lambda frame: frame.octets[:6] != model.NEAREST_BRIDGE),
     ("it has 14 to 1,514 octets", BOTH, lambda frame: not 14 <= len(frame.octets) <= 1514),
-    ("An LLDPDU begins with a Chassis ID, a Port ID and a Time To Live, in this order", SD_LLDP,
+    ("It begins with Chassis ID, Port ID and Time To Live, in this order", SD_LLDP,
      lambda frame: frame.kinds[:3] != [1, 2, 3]),
 ]
 

@@ -100,7 +100,11 @@ judge $? "import lldpa: $(cat "$room/out")"
     /usr/bin/python3 -m lldpa_audit --version) > "$room/out" 2>&1
 grep -q "^lldpa-audit " "$room/out"
 judge $? "python3 -m lldpa_audit: $(cat "$room/out")"
-# Each link of an installed page leads to something that is installed.
+# The pages are those for operators, and no link of theirs leads to what is not installed.
+(cd "$room/package/usr/share/doc/lldpa" && find . -name '*.md' | LC_ALL=C sort | xargs) > "$room/out"
+[ "$(cat "$room/out")" = "./README.md ./SECURITY.md ./audit/README.md ./docs/CAPTURES.md ./docs/LLDPD.md \
+./docs/OPERATORS.md ./docs/PROGRAMS.md" ]
+judge $? "the package has other pages: $(cat "$room/out")"
 python3 tools/gate/check-links.py --installed "$room/package/usr/share/doc/lldpa" > "$room/out" 2>&1
 judge $? "links of installed pages: $(cat "$room/out")"
 dpkg-deb --info "$package" conffiles | grep -qx /etc/default/lldpa

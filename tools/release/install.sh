@@ -1,7 +1,7 @@
 #!/bin/sh
 # Installs lldpa under a prefix, /usr/local unless given: the program, those of bin/ with the Python package that they
 # need, the manual pages, completions for bash and zsh, the service with its configuration, a timer that writes its
-# metrics, alerts for Prometheus, and the documents.
+# metrics, alerts for Prometheus, and the pages for operators.
 #     tools/release/install.sh [--list] [--uninstall] [--python FOLDER] [--library] [PREFIX]
 # With --list it only lists what it would install, and nothing need be built for that: mode, name and source of each
 # file, and where each link leads. With --uninstall it removes what it installs, except a configuration that was
@@ -56,6 +56,12 @@ archives=$prefix/lib
 [ "$prefix" != /usr ] || archives=$prefix/lib/$(dpkg-architecture -qDEB_HOST_MULTIARCH 2> /dev/null || true)
 archives=${archives%/}
 
+# The pages for operators. The others of docs stay in the sources.
+pages="README.md SECURITY.md docs/OPERATORS.md docs/PROGRAMS.md docs/CAPTURES.md docs/LLDPD.md audit/README.md"
+others=$(for file in docs/*.md; do
+    case " $pages " in *" $file "*) ;; *) basename "$file" .md ;; esac
+done | paste -sd '|')
+
 # Lists the files of the library for C.
 library_files() {
     echo "plain $built/lldpa.h $prefix/include/lldpa.h"
@@ -100,11 +106,11 @@ files() {
     echo "configuration share/default/lldpa $etc/default/lldpa"
     echo "configuration share/settings/lldpa.conf $etc/lldpa.conf"
     echo "configuration share/settings/README $etc/lldpa.d/README"
-    for file in README.md SECURITY.md docs/*.md audit/README.md; do
+    for file in $pages; do
         echo "page $file $documents/$file"
     done
     echo "packed CHANGELOG.md $documents/changelog.gz"
-    find docs audit/worked audit/*.schema.json -type f ! -name '*.md' | while read -r file; do
+    find docs audit/worked audit/*.schema.json -type f ! -name '*.md' ! -name 'bench.*' | while read -r file; do
         echo "plain $file $documents/$file"
     done
 }
@@ -132,8 +138,9 @@ put() {
             chmod 755 "$3"
             ;;
         plain) install -m 644 "$2" "$3" ;;
-        page) # a link to what is not installed becomes its text
-            sed -zE 's,\[([^]]*)\]\((\.\./)?(crates|examples|man|tools|share|python|CONTRIBUTING|CHANGELOG|lldpa-audit\.1)[^)]*\),\1,g' \
+        page) # a link to a page that is not installed becomes its name; of other links only the text stays
+            sed -zE "s,\[([^]]*)\]\((\.\./)?(docs/)?($others)\.md[^)]*\),\1 (docs/\4.md in the sources),g
+                s,\[([^]]*)\]\((\.\./)?(crates|examples|man|tools|share|python|CONTRIBUTING|CHANGELOG|lldpa-audit\.1)[^)]*\),\1,g" \
                 "$2" > "$3"
             chmod 644 "$3"
             ;;
