@@ -170,7 +170,7 @@ uint8_t lldpa_transmit_credit(const lldpa_machine *machine)
 
 /* ---- The agent -------------------------------------------------------------------------------------------------- */
 
-/* Copies a text, where it is not missing. */
+/* Copies a text, if it is not missing. */
 static bool is_copied(lldpa_text *to, const lldpa_text *from)
 {
     if (is_missing(from->octets, from->length)) {

@@ -1,9 +1,9 @@
 /*
- * Does what the program lldpa does with a trace, over the library: the words are those of the program (but for
+ * Does what the program lldpa does with a trace, over the library: the words are those of the program (except
  * --listen), standard input is the trace, and standard output gets what the program would write.
  *     transcript [--max-neighbors N] [--mac MAC] [--hostname TEXT] [--management ADDRESS] [--role ROLE]
  *                [--tx-credit-max N] [--tx-fast-init N] [--reinit-delay N] [--receive-only] PORT ..
- * So each transcript of examples/ is one of the library too. The status is 2 where an agent is not opened.
+ * So each transcript of examples/ is one of the library too. The status is 2 if no agent is opened.
  */
 #include "fields.h"
 #include "lldpa.h"
@@ -83,7 +83,7 @@ static void set_option(lldpa_options *options, const char *name, const char *val
     }
 }
 
-/* Opens the agent that the words tell of. */
+/* Opens the agent that the words describe. */
 static void open_agent(agent_of_trace *told, char **words)
 {
     lldpa_options options = LLDPA_OPTIONS_INIT;
@@ -235,7 +235,7 @@ static int separates(char letter)
     return letter == ' ' || letter == '\t';
 }
 
-/* The words of a line, at most three and then one more for all others; -1 where a quote is wrong. */
+/* The words of a line, at most three and then one more for all others; -1 if a quote is wrong. */
 static int split(const char *line, size_t length, word words[4])
 {
     int count = 0;

@@ -16,7 +16,7 @@ static unsigned failed;
 static char *fields[MOST_FIELDS];
 static size_t field_count;
 
-/* Counts something that ought to hold, and tells it where it does not. */
+/* Counts something that ought to hold, and reports it if it does not. */
 static void holds(int is_so, const char *what)
 {
     if (is_so) {
@@ -120,7 +120,7 @@ static octets odd_octets(size_t length)
     return block;
 }
 
-/* Of octets that are no extent, and of a walk that was begun otherwise, the bodies still lie in the octets. */
+/* With octets that are not an extent, or a walk that was begun otherwise, the bodies are still in the octets. */
 static void walk_oddly(void)
 {
     for (unsigned done = 0; done < 500; done++) {
@@ -409,7 +409,7 @@ static void use_badly(lldpa_agent *agent, uint32_t ports)
               lines.length == 0, "lines behind the last");
 }
 
-/* Octets that are no frame and lines that are no command do no harm. */
+/* Octets that are not a frame and lines that are not a command do no harm. */
 static void use_oddly(lldpa_agent *agent)
 {
     for (unsigned done = 0; done < 300; done++) {
