@@ -78,7 +78,7 @@ class TestWords(unittest.TestCase):
 
 @on_links
 class TestStart(OnLinks):
-    """What it wants to begin."""
+    """What it needs to begin."""
 
     def test_only_existing(self) -> None:
         live = self.live("--only-existing", "eth0", "eth5")
@@ -147,7 +147,7 @@ class TestTerminal(OnLinks):
         self.begun = self.live("eth0", stdin=theirs, stdout=theirs)
 
     def read(self, until: str) -> str:
-        """What stands on the terminal, up to a text."""
+        """Returns what the terminal shows, up to a text."""
         text = ""
         while until not in text and select.select([self.ours], [], [], SECONDS)[0]:
             text += os.read(self.ours, 4096).decode()

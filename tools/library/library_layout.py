@@ -77,7 +77,7 @@ def rust_lists(text: str) -> Lists:
 
 
 def check_layout(library: Library, counts: Counts) -> None:
-    """The three say the same."""
+    """Checks that the three say the same."""
     header = header_lists((library.folder / "lldpa.h").read_text())
     proved: Lists = {}
     for file in [*sorted(CRATE.rglob("*.rt")), PARTS]:

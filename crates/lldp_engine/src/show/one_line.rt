@@ -6,8 +6,8 @@ ghost use Rattle.lldp_engine.specs.Code.OneLineState.{KeepsOne, line_kept};
 use crate::show::line::LineSink;
 use lldp_text::Writer;
 
-/// How many lines come before the one that is wanted, whether that one came, and what it is, with
-/// its line feed. It is large, so whoever wants a line lends it.
+/// How many lines come before the wanted one, whether that one came, and what it is, with its line
+/// feed. It is large, so a caller lends it.
 #[derive(Drop)]
 pub struct OneLine {
     before: u32,
@@ -25,7 +25,7 @@ impl OneLine {
         }
     }
 
-    /// Nothing is kept, and so many lines come before the one that is wanted.
+    /// Begins anew: so many lines come before the wanted one.
     pub(crate) fn want(&mut self, before: u32)
         ensures { self.new ≡ record { before = before; came = false; line = [] } }
     {
@@ -34,7 +34,7 @@ impl OneLine {
         self.line.clear();
     }
 
-    /// The line that is wanted, if it came, without its line feed.
+    /// Returns the wanted line without its line feed, if it came.
     pub fn line(&self) -> Option<&[u8]>
         ensures { option_map (λ line. line.now) result ≡ line_kept self.now }
     {
