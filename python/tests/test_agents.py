@@ -1,4 +1,4 @@
-"""An agent is replaced: an address of this host changes, or the agent ends or hangs."""
+"""An agent that ends or hangs is replaced."""
 
 from __future__ import annotations
 
@@ -9,80 +9,12 @@ from pathlib import Path
 
 from lldpa.client import since_of
 from patience import eventually
-from replaced import LONG, Replaced, address_in
+from replaced import LONG, Replaced
 from replays import Moments, differing
 from running_live import on_links
 from served import PROGRAM, numbered
-from wires import ip
 
 ANSWERS_ONCE = "read line; echo error: line too long"
-
-
-@on_links
-class Addresses(Replaced):
-    """The management address of this host is followed."""
-
-    def add(self, address: str, interface: str = "eth0", word: str = "add") -> None:
-        """Gives this host an address, or takes it away."""
-        ip("-n", self.wires.here, "address", word, f"{address}/24", "dev", interface)
-
-    def test_an_address_that_comes_changes_and_goes_is_at_the_peer(self) -> None:
-        live = self.begun()
-        self.assertIsNone(address_in(self.peers[0].hears() or b""))
-        before, began = self.neighbors(live), time.monotonic()
-        since = since_of(live.ask("live"))
-        moments = Moments(live)
-        moments.take()
-        self.add("192.0.2.7")
-        self.assertTrue(self.hears_address("192.0.2.7"))
-        self.assertTrue(self.hears_address("192.0.2.7", 1))
-        moments.take()
-        self.add("198.51.100.7")
-        self.add("192.0.2.7", word="del")
-        self.assertTrue(self.hears_address("198.51.100.7"))
-        moments.take()
-        self.add("198.51.100.7", word="del")
-        self.assertTrue(self.hears_address(None))
-        self.stays(before, began, live)
-        self.assertEqual(since_of(live.ask("live")), since)
-        moments.take()
-        self.assertEqual(live.errors().count("the management address is"), 3)
-        self.assertNotIn("gone", live.errors())
-        self.assertEqual(live.errors().count("came"), 4)
-        live.signal(signal.SIGTERM)
-        self.assertEqual(live.ends(), 0)
-        self.assertEqual(differing(self.log, moments), [])
-
-    def test_an_address_of_the_bridge_above_a_port_is_followed(self) -> None:
-        here = self.wires.here
-        ip("-n", here, "link", "add", "br0", "type", "bridge")
-        ip("-n", here, "link", "set", "br0", "up")
-        ip("-n", here, "link", "set", "eth0", "master", "br0")
-        self.begun()
-        self.add("192.0.2.9", "br0")
-        self.assertTrue(self.hears_address("192.0.2.9"))
-        ip("-n", here, "link", "set", "eth0", "nomaster")
-        self.assertTrue(self.hears_address(None))
-
-    def test_an_address_that_goes_again_within_two_seconds_changes_nothing(self) -> None:
-        live = self.begun()
-        agent = live.agent()
-        self.add("192.0.2.7")
-        self.add("192.0.2.7", word="del")
-        told = live.seconds_told()
-        self.assertTrue(eventually(lambda: live.seconds_told() >= told + 4))
-        self.assertEqual(live.agent(), agent)
-
-    def test_an_address_that_was_given_or_refused_is_not_followed(self) -> None:
-        for words in (["--no-management", "eth0"], ["eth0", "--", "--management", "192.0.2.1"]):
-            live = self.live(*words)
-            agent = live.agent()
-            self.add("192.0.2.7")
-            told = live.seconds_told()
-            self.assertTrue(eventually(lambda: live.seconds_told() >= told + 4))
-            self.assertEqual(live.agent(), agent)
-            live.close()
-            self.add("192.0.2.7", word="del")
 
 
 @on_links

@@ -3,8 +3,6 @@
 from __future__ import annotations
 
 import os
-import re
-import shutil
 import signal
 import subprocess
 import tempfile
@@ -17,9 +15,8 @@ from lldpa.live.links import LinkNews
 
 from running_live import Live, OnLinks, on_links
 from patience import eventually
+from real_lldpd import Lldpd, beside_lldpd
 from wires import inside, ip
-
-LLDPD = shutil.which("lldpd")
 
 
 def one(number: int, name: str, kind: str = "", permanent: bytes = b"",
@@ -107,7 +104,7 @@ class TestLate(OnLinks):
         live.signal(signal.SIGTERM)
         self.assertEqual(live.ends(), 0, live.errors())
 
-    @unittest.skipUnless(LLDPD, "it needs Debian's package lldpd")
+    @beside_lldpd
     def test_two_late_hosts_are_two_neighbors(self) -> None:
         """Both are started before their interface, and a real lldpd hears them."""
         self.others()
@@ -118,24 +115,16 @@ class TestLate(OnLinks):
             self.assertTrue(live.says("waiting for it"))
         for number in range(2):
             self.wires.add_link(number)
-        os.makedirs("/run/lldpd", exist_ok=True)
         os.chmod(self.wires.folder, 0o755)
-        path = os.path.join(self.wires.folder, "lldpd")
-        with inside(self.wires.there):
-            lldpd = subprocess.Popen([LLDPD, "-d", "-r", "-u", path, "-I", "peer0,peer1", "-O",
-                                      "/dev/null"], stdout=subprocess.DEVNULL,
-                                     stderr=subprocess.DEVNULL)
-        self.addCleanup(lldpd.wait)
-        self.addCleanup(lldpd.terminate)
+        lldpd = Lldpd(self.wires.there, self.wires.folder, "-r", "-I", "peer0,peer1")
+        self.addCleanup(lldpd.close)
         for live in lives:
             self.assertTrue(eventually(live.answers))
 
         def chassis() -> set[str]:
             for live in lives:
                 live.ask("update")
-            shown = subprocess.run(["lldpcli", "-u", path, "-f", "keyvalue", "show", "neighbors"],
-                                   capture_output=True, text=True, check=False).stdout
-            return set(re.findall(r"chassis\.mac=(.*)", shown))
+            return {mac for peer in ("peer0", "peer1") for mac in lldpd.values(f"{peer}.chassis.mac")}
 
         wanted = {self.address("eth0"), self.address("eth1")}
         self.assertEqual(len(wanted), 2)
