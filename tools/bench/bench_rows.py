@@ -12,8 +12,6 @@ PORTS = [f"eth{i}" for i in range(64)]
 LONG = "configure lldp tx-interval 3600\n"
 ONE_PORT = ["--receive-only", "eth0"]
 MANY = ["--receive-only", "--max-neighbors=128"]
-# What the programs of a row are called, in the order in which its figures stand.
-NAMES = ["lldpa", "C", "C by vectors, nothing checked"]
 
 
 # Frames

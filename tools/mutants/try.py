@@ -24,6 +24,7 @@ from mutants import CRATES, PROVER, TEST, TOP, Mutant, others, tried_by_the_gate
 
 sys.path.append(str(TOP / "tools" / "gate"))
 import kept  # noqa: E402
+from counts import Counts  # noqa: E402
 
 REFUSED = ": refused, as it must be"
 BY_SHAPE = " (only "
@@ -64,11 +65,10 @@ def check() -> int:
     """Looks at all mutants, also at those that the gate tries."""
     mutants = others() + tried_by_the_gate()
     names = [(mutant.crate, mutant.name) for mutant in mutants]
-    faults = [fault for fault in (fault_of(mutant, names) for mutant in mutants) if fault is not None]
-    for fault in faults:
-        print(f"FAILED: {fault}")
-    print(f"{len(mutants) - len(faults)} passed, {len(faults)} failed")
-    return 1 if faults or not mutants else 0
+    counts = Counts()
+    for mutant in mutants:
+        counts.judge(fault_of(mutant, names), mutant.name)
+    return counts.end()
 
 
 def copy_crates(folder: pathlib.Path) -> pathlib.Path:
