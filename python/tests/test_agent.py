@@ -149,7 +149,8 @@ class EndedAgents(unittest.TestCase):
 
     def test_an_agent_that_stops_is_waited_for_no_longer_than_its_timeout(self) -> None:
         give_up_in_a_minute(self)
-        with started(timeout=0.5) as agent:
+        with started() as agent:
+            agent.timeout = 0.5
             assert agent.pid is not None
             os.kill(agent.pid, signal.SIGSTOP)
             with self.assertRaises(Ended) as ended:

@@ -47,7 +47,8 @@ class AskedByTasks(unittest.IsolatedAsyncioTestCase):
             self.assertEqual(len(await agent.ask("show chassis")), 4)
 
     async def test_one_that_stops_and_one_that_was_closed(self) -> None:
-        async with await AsyncAgent.start(["eth0"], PROGRAM, timeout=0.5) as agent:
+        async with await AsyncAgent.start(["eth0"], PROGRAM) as agent:
+            agent.timeout = 0.5
             assert agent.pid is not None
             os.kill(agent.pid, signal.SIGSTOP)
             with self.assertRaisesRegex(Ended, "the agent does not answer"):

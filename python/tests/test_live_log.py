@@ -143,6 +143,7 @@ class TestOnce(OnLinks):
         self.assertEqual([line.split()[0] for line in table], ["PORT", "eth0", "eth1", "2"])
         self.assertIsNotNone(peers[0].hears(1, ttl=0))
 
+    @by_the_clock
     def test_status_tells_that_one_was_missing(self) -> None:
         peer = self.peer("peer1")
         live = self.live("--once", "1", "eth0", "eth1", awaits=False, reads_output=False)
