@@ -21,7 +21,8 @@ from lldpa.agent.shown import Counters
 from lldpa.limits import LONGEST_LINE
 from made_captures import LLDP, OTHER
 from patience import eventually
-from support import DEFAULT_FRAME, PROGRAM, kill
+from served import PROGRAM
+from support import DEFAULT_FRAME, kill
 
 def started(*ports: str, **options: lldpa.agent.synchronous.Option) -> Agent:
     """An agent with these ports, eth0 where there are none."""

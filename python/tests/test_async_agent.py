@@ -8,7 +8,8 @@ import unittest
 
 from lldpa.agent.synchronous import AsyncAgent, Closed, Ended, Refused
 from made_captures import LLDP
-from support import DEFAULT_FRAME, PROGRAM, kill
+from served import PROGRAM
+from support import DEFAULT_FRAME, kill
 
 
 class AskedByTasks(unittest.IsolatedAsyncioTestCase):

@@ -10,7 +10,7 @@ from typing import Iterator, List, Tuple
 from lldpa.agent.synchronous import MARK, MARK_ANSWER
 from lldpa.agent.show import (Configuration, Counters, Identifier, Neighbor, Show, ShowFault,
                               lines_of, read_show, unescaped)
-from support import PROGRAM, REPOSITORY
+from served import PROGRAM, REPOSITORY
 
 sys.path[1:1] = [str(REPOSITORY / "tools" / folder) for folder in ("model", "gate")]
 import fuzz  # type: ignore[import-not-found]  # noqa: E402
