@@ -1,7 +1,6 @@
 //! What is refused at opening is told. That no call takes memory behind it the types say, and
 //! tools/gate/refuse-memory.sh sees of the program.
-use super::open;
-use super::whole_shows::NAMES;
+use super::{NAMES, open};
 use linked_list_allocator::LocalHeap;
 use lldp_engine::OpenFault;
 use lldp_table::Table;
