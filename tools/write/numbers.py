@@ -127,7 +127,7 @@ def main():
         is_near = what in told and abs(told[what] - number) * 20 <= number
         failed += not is_near
         if not is_near:
-            print(f"docs/TESTING.md: {what}: {told.get(what, 'not told')}, counted {number}")
+            print(f"docs/TESTING.md: {what}: {told.get(what, 'missing')}, counted {number}")
     print(f"{len(counted) - failed} passed, {failed} failed")
     return 1 if failed else 0
 
