@@ -100,7 +100,7 @@ judge $? "import lldpa: $(cat "$room/out")"
     /usr/bin/python3 -m lldpa_audit --version) > "$room/out" 2>&1
 grep -q "^lldpa-audit " "$room/out"
 judge $? "python3 -m lldpa_audit: $(cat "$room/out")"
-# The pages are those for operators, and no link of theirs leads to what is not installed.
+# The pages are those for operators, and each of their links leads to something that is installed.
 (cd "$room/package/usr/share/doc/lldpa" && find . -name '*.md' | LC_ALL=C sort | xargs) > "$room/out"
 [ "$(cat "$room/out")" = "./README.md ./SECURITY.md ./audit/README.md ./docs/CAPTURES.md ./docs/LLDPD.md \
 ./docs/OPERATORS.md ./docs/PROGRAMS.md" ]

@@ -24,7 +24,7 @@ groups() {
     echo "reading lldpa_frame_pdu lldpa_examine lldpa_next_kept lldpa_caps lldpa_mgmt"
     echo "building lldpa_build"
     echo "machine lldpa_transmit_new lldpa_transmit_event lldpa_transmit_credit"
-    echo "texts lldpa_command_text"
+    echo "texts lldpa_command_text lldpa_fault_text"
     echo "agent $(sed -n 's/^[a-z0-9_]* \(lldpa_[a-z_]*\)(lldpa_agent .*/\1/p' $header/lldpa.h | tr '\n' ' ') lldpa_open"
 }
 
