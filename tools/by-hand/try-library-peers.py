@@ -24,7 +24,6 @@ import sys
 import tempfile
 from typing import Iterator
 
-sys.dont_write_bytecode = True
 TOP = pathlib.Path(__file__).resolve().parents[2]
 sys.path.append(str(TOP / "tools" / "model"))
 import fuzz  # noqa: E402
