@@ -4,8 +4,8 @@
     tools/gate/kept.py NAME COMMAND ..
 
 Runs the command, unless the files of READ and the versions of the compilers are those with which it last passed here.
-If something was skipped, the count is not kept. The states are in out/kept, which git ignores, so a clean clone runs everything.
-tools/mutants/try.py notes there which crates it tried. The last line is `N passed, M failed`.
+If something was skipped, the count is not kept. The states are in out/kept, which git ignores, so a clean clone runs
+everything. tools/mutants/try.py notes there which crates it tried. The last line is `N passed, M failed`.
 """
 from __future__ import annotations
 
