@@ -25,7 +25,7 @@ groups() {
     echo "building lldpa_build"
     echo "machine lldpa_transmit_new lldpa_transmit_event lldpa_transmit_credit"
     echo "texts lldpa_command_text"
-    echo "agent $(sed -n 's/^[a-z0-9_]* \(lldpa_[a-z_]*\)(lldpa_agent .*/\1/p' $header/lldpa.h | tr '\n' ' ') lldpa_open"
+    echo "agent $(sed -n 's/^[a-z0-9_]* \(lldpa_[a-z_]*\)(\(const \)*lldpa_agent .*/\1/p' $header/lldpa.h | tr '\n' ' ') lldpa_open"
 }
 
 . tools/library/arch.sh

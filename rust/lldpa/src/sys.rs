@@ -4,6 +4,7 @@
 use core::ffi::c_void;
 
 pub const OK: u8 = 0;
+pub const OUT_OF_RANGE: u8 = 100;
 
 /// The version of the header that these declarations are of.
 pub const VERSION: u32 = 10000;
@@ -211,9 +212,9 @@ extern "C" {
         marks: *mut Marks,
         news: *mut News,
     ) -> u8;
-    pub fn lldpa_neighbor_count(agent: *mut Agent, port: u32, count: *mut u32) -> u8;
+    pub fn lldpa_neighbor_count(agent: *const Agent, port: u32, count: *mut u32) -> u8;
     pub fn lldpa_neighbor(
-        agent: *mut Agent,
+        agent: *const Agent,
         port: u32,
         index: u32,
         room: *mut u8,
@@ -230,7 +231,7 @@ extern "C" {
     ) -> u8;
     pub fn lldpa_command_text(fault: u32, room: *mut u8, room_length: usize, length: *mut usize) -> u8;
     pub fn lldpa_show_lines(
-        agent: *mut Agent,
+        agent: *const Agent,
         show: u32,
         from: u32,
         room: *mut u8,
@@ -238,7 +239,7 @@ extern "C" {
         told: *mut Lines,
     ) -> u8;
     pub fn lldpa_show_line(
-        agent: *mut Agent,
+        agent: *const Agent,
         show: u32,
         line: u32,
         room: *mut u8,
@@ -246,7 +247,7 @@ extern "C" {
         length: *mut usize,
     ) -> u8;
     pub fn lldpa_frame_of(
-        agent: *mut Agent,
+        agent: *const Agent,
         port: u32,
         mark: u32,
         room: *mut u8,
