@@ -4,7 +4,7 @@ time to live and its system name.
 
     LLDPA_LIB_DIR=FOLDER who.py FILE.pcap
 
-FOLDER is where liblldpa.so stands; without it the linker's folders are searched.
+FOLDER is where liblldpa.so.1 stands; without it the linker's folders are searched.
 """
 from __future__ import annotations
 
@@ -39,7 +39,7 @@ class Kept(Structure):
 def library() -> ctypes.CDLL:
     """The library, with the types of what is called of it."""
     folder = os.environ.get("LLDPA_LIB_DIR")
-    found = ctypes.CDLL(os.path.join(folder, "liblldpa.so") if folder else "liblldpa.so")
+    found = ctypes.CDLL(os.path.join(folder, "liblldpa.so.1") if folder else "liblldpa.so.1")
     for name, answer, told in (("lldpa_frame_pdu", c_bool, Place),
                                ("lldpa_examine", c_uint8, Examined),
                                ("lldpa_next_kept", c_bool, Kept)):

@@ -85,6 +85,5 @@ cp "$room/proved.a" "$folder/proved.a"
 "${tools}ar" rsD "$folder/proved.a" "$room/memory.o" 2> /dev/null
 echo 'LLDPA_1 { global: lldpa_*; local: *; };' > "$room/exports"
 "${tools}gcc" -shared -o "$folder/liblldpa.so.1" "$room/front.o" -Wl,--start-group "$room/proved.a" "$room/memory.o" \
-    -Wl,--end-group -Wl,--gc-sections -Wl,-z,defs,-soname,liblldpa.so.1 -Wl,--version-script="$room/exports"
-install -m 644 "$folder/liblldpa.so.1" "$folder/liblldpa.so" # rt takes no link in its out folder
+    -Wl,--end-group -Wl,--gc-sections -Wl,-z,defs,-z,now,-soname,liblldpa.so.1 -Wl,--version-script="$room/exports"
 echo "$folder"
