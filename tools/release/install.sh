@@ -8,8 +8,8 @@
 # changed. `import lldpa` works for the python3 that looks into FOLDER, by itself the first one below the prefix where
 # python3 looks. DESTDIR, where it is set, is put in front. LLDPA names the program, crates/lldpa/out/lldpa unless it is
 # set.
-# With --library it installs the library for C in place of all that: the header, the archive and what pkg-config tells of
-# it. LLDPA_LIB_DIR, where it is set, names the folder that tools/library/library.sh made, crates/lldpa_c/out/lib unless it is set.
+# With --library it installs the library for C in place of all that: the header, the archive, the shared object and what
+# pkg-config tells of them. LLDPA_LIB_DIR, where it is set, names the folder that tools/library/library.sh made, crates/lldpa_c/out/lib unless it is set.
 # tools/release/package.sh makes its packages of what this installs under /usr.
 set -eu
 usage() {
@@ -60,6 +60,7 @@ archives=${archives%/}
 library_files() {
     echo "plain $built/lldpa.h $prefix/include/lldpa.h"
     echo "plain $built/liblldpa.a $archives/liblldpa.a"
+    echo "plain $built/liblldpa.so.1 $archives/liblldpa.so.1"
     echo "told share/pkgconfig/lldpa.pc $archives/pkgconfig/lldpa.pc"
     echo "packed crates/lldpa_c/include/lldpa.3 $prefix/share/man/man3/lldpa.3.gz"
     echo "plain docs/LIBRARY.md $documents-dev/LIBRARY.md"
@@ -110,9 +111,12 @@ files() {
 }
 
 # Each link: where it leads, and where it stands. lldpctl and lldpcli are beside their package alone, since lldpd has
-# programs of those names.
+# programs of those names. The linker finds the shared object by the name without a number.
 links() {
-    [ -z "$library" ] || return 0
+    if [ -n "$library" ]; then
+        echo "liblldpa.so.1 $archives/liblldpa.so"
+        return
+    fi
     for file in bin/lldpa-*; do
         echo "../lib/lldpa/$file $prefix/$file"
     done
