@@ -107,10 +107,10 @@ def tables() -> str:
             for name, body, *bits in rows_of("caps")]
     return HEAD + "".join([
         table("FAULTS", "LLDPDUs with the numbers of their faults.", "(&str, &[u8], u8)", faults),
-        table("TOLD", "What sound LLDPDUs tell.", "Told", [told(r) for r in rows_of("examine") if r[2] == "told"]),
+        table("TOLD", "What sound LLDPDUs say.", "Told", [told(r) for r in rows_of("examine") if r[2] == "told"]),
         table("CAPABILITIES", "Bodies with their bits.", "(&str, &[u8], Option<(u16, u16)>)", caps),
         table("ADDRESSES", "Bodies with what they have.", "(&str, &[u8], Option<Address>)",
               [address(row) for row in rows_of("mgmt")]),
-        table("BUILT", "What builders are given and give.", "Built", [built(row) for row in rows_of("build")]),
+        table("BUILT", "What builders are given and return.", "Built", [built(row) for row in rows_of("build")]),
         table("PLAYS", "Worked examples of causes and marks.", "Play", [play(row) for row in rows_of("machine")]),
         table("OPENINGS", "Openings and their faults.", "Opening", [opening(row) for row in rows_of("open")])])

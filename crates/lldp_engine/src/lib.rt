@@ -1,5 +1,5 @@
-//! The agent of the Link Layer Discovery Protocol: its ports, what they hear, its commands and its
-//! shows (IEEE 802.1AB-2009, clause 9).
+//! The agent of the Link Layer Discovery Protocol: its ports, what they receive, its commands and
+//! its shows (IEEE 802.1AB-2009, clause 9).
 #![tactic(auto)]
 
 mod agent;

@@ -1,7 +1,7 @@
 //! The proved reader, the transmit machine and the agent for C, and for what calls C.
 //!
-//! Each export calls one function of the crates below and states its clauses again. `lldpa.h`
-//! declares them.
+//! Each export calls one function of the crates below and restates its clauses. `lldpa.h` declares
+//! them.
 #![tactic(auto)]
 
 mod agent;

@@ -12,7 +12,7 @@ use crate::holder::LldpaAgent;
 use lldp_engine::{Agent, Show};
 use std::alloc::Global;
 
-/// The show of that number.
+/// Returns the show of that number.
 pub(crate) fn show_numbered(number: u32) -> Option<Show>
     ensures { result ≡ show_numbered number }
 {
@@ -26,8 +26,8 @@ pub(crate) fn show_numbered(number: u32) -> Option<Show>
 }
 
 /// Writes a line of a show into the caller's room.
-// Its frame is over a page. Inlined, LLVM has moved a branch of the export before the loop that
-// probes the pages, which overwrote the register that it needed.
+// Its stack frame exceeds a page. When it was inlined, LLVM moved a branch of the export before
+// the loop that probes the pages, and the loop overwrote the register that the branch needed.
 #[inline(never)]
 fn write(agent: &Agent, show: Show, line: u32, room: &mut [u8], written: &mut usize) -> u8
     ensures given { result ≡ 0 → IsLine agent.now show line (take written.new room.new) }
@@ -46,7 +46,7 @@ fn write(agent: &Agent, show: Show, line: u32, room: &mut [u8], written: &mut us
     }
 }
 
-/// One line of a show, without its line feed.
+/// Writes one line of a show, without its line feed.
 #[unsafe(no_mangle)]
 pub extern "C" fn lldpa_show_line(
     alloc: Global,

@@ -7,7 +7,7 @@ use crate::answer::OUT_OF_RANGE;
 use crate::giving::give;
 use lldp_engine::CommandFault;
 
-/// The fault of that number.
+/// Returns the fault of that number.
 fn fault_numbered(number: u32) -> Option<CommandFault>
     ensures { result ≡ fault_numbered number }
 {
@@ -24,7 +24,7 @@ fn fault_numbered(number: u32) -> Option<CommandFault>
     }
 }
 
-/// The line that tells a refusal of a command, without its line feed.
+/// Writes the line that reports a refused command, without its line feed.
 #[unsafe(no_mangle)]
 pub extern "C" fn lldpa_command_text(fault: u32, room: &mut [u8], written: &mut usize) -> u8
     ensures text { result ≡ 0 → IsText fault (take written.new room.new) }

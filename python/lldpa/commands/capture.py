@@ -32,7 +32,7 @@ def note(text: str) -> None:
 
 
 def parser_of_words() -> argparse.ArgumentParser:
-    """What reads the program's words."""
+    """Returns the parser of the program's words."""
     parser = argparse.ArgumentParser(
         prog=NAME, description=SUMMARY, epilog=EPILOG, allow_abbrev=False,
         formatter_class=argparse.RawDescriptionHelpFormatter)
@@ -49,7 +49,7 @@ def parser_of_words() -> argparse.ArgumentParser:
 
 
 def renamed(word: str) -> Tuple[str, str]:
-    """The interface that a word of --port is for, and the port's name."""
+    """Returns the interface that a word of --port is for, and the port's name."""
     interface, _, port = word.rpartition("=")
     if not is_port_name(port):
         raise ValueError(f"{port}: {PORT_NAME_RULE}")
@@ -57,7 +57,7 @@ def renamed(word: str) -> Tuple[str, str]:
 
 
 def source_of(word: str, names: Mapping[str, str]) -> Source:
-    """The capture that a word names."""
+    """Returns the capture that a word names."""
     front, mark, file = word.partition("=")
     if mark and is_port_name(front):
         return Source(file, front)
@@ -67,7 +67,7 @@ def source_of(word: str, names: Mapping[str, str]) -> Source:
 
 
 def write_trace(sources: List[Source], seconds: bool, shows: bool) -> int:
-    """Writes the trace; answers 1 where something of the captures is wanting, else 0."""
+    """Writes the trace. Returns 1 if something of the captures is missing, else 0."""
     faults: List[str] = []
     is_live = not all(os.path.isfile(source.file) for source in sources)
 
@@ -86,7 +86,7 @@ def write_trace(sources: List[Source], seconds: bool, shows: bool) -> int:
 
 
 def run(given: argparse.Namespace) -> int:
-    """Does what the words say; answers the status."""
+    """Does what the words say, and returns the status."""
     names: Dict[str, str] = dict(renamed(word) for word in given.port)
     sources = [source_of(word, names) for word in given.files]
     if [source.file for source in sources].count(STANDARD_INPUT) > 1:
@@ -98,7 +98,8 @@ def run(given: argparse.Namespace) -> int:
 
 
 def ports_for_words(sources: Sequence[Source]) -> List[str]:
-    """The ports of captures, none of which another program takes for an option. Raises ValueError.
+    """Returns the ports of captures. Raises ValueError if another program could take one for an
+    option.
     """
     ports = ports_of(sources)
     for port in ports:
@@ -108,12 +109,12 @@ def ports_for_words(sources: Sequence[Source]) -> List[str]:
 
 
 def main(words: Optional[Sequence[str]] = None) -> int:
-    """Runs the program on these words; answers its status."""
+    """Runs the program on these words, and returns its status."""
     return output.run(NAME, lambda: status_of(words), 1)
 
 
 def status_of(words: Optional[Sequence[str]]) -> int:
-    """The status, if the output does not fail."""
+    """Returns the status, if the output does not fail."""
     parser = parser_of_words()
     given = parser.parse_args(words)
     try:

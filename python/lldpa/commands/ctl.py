@@ -18,7 +18,7 @@ from ..faults import LldpaFault
 from ..texts import printable
 from ..version import add_version
 
-# what only some questions need is loaded where it is used, since a question is to be quick
+# modules that only some questions need are loaded there, since a question must be quick
 NO_PORT, UNKNOWN = "no such port", "unknown command"
 ALONE = ("watch", "metrics", "help")  # the commands that only this program has
 
@@ -48,7 +48,7 @@ lldpa-ctl(8) has the metrics, the keys of JSON and the control socket.
 
 
 def print_answer(client: Client, asked: Question, as_json: bool) -> None:
-    """What is told for a command."""
+    """Prints what is answered to a command."""
     answers = [answer(client, line) for line in asked.lines]
     if as_json:
         answers += [answer(client, line) for line in asked.further]
@@ -59,7 +59,7 @@ def print_answer(client: Client, asked: Question, as_json: bool) -> None:
 
 
 def answer(client: Client, line: str) -> list[str]:
-    """The answer to a line. Raises Refused with the word that the refusal is about."""
+    """Returns the answer to a line. Raises Refused with the word that the refusal is about."""
     try:
         return client.ask(line)
     except Refused as refused:
@@ -76,7 +76,7 @@ def answer(client: Client, line: str) -> list[str]:
 
 
 def read_words(words: Optional[Sequence[str]]) -> argparse.Namespace:
-    """The words of the program. Ends it with status 2 where they are bad."""
+    """Reads the words of the program. Ends it with status 2 if they are wrong."""
     parser = argparse.ArgumentParser(
         prog="lldpa-ctl",
         description="Asks a running lldpa-live who the neighbors are, and prints its answers.",
@@ -109,8 +109,8 @@ def read_words(words: Optional[Sequence[str]]) -> argparse.Namespace:
 
 
 def work_of(given: argparse.Namespace) -> Callable[[Client], None]:
-    """Returns what asks and prints what was asked for, with all loaded that it needs: nobody, which
-    root becomes, may not be able to read it."""
+    """Returns what asks and prints what was asked for, with all loaded that it needs: root becomes
+    nobody, which may not be able to read it."""
     words = given.words or ["neighbors"]
     if given.json:
         import json  # noqa: F401
@@ -127,7 +127,7 @@ def work_of(given: argparse.Namespace) -> Callable[[Client], None]:
 
 
 def said_of(fault: Exception, path: str) -> str:
-    """What is told of a fault, for people."""
+    """Returns what is reported of a fault, for people."""
     if isinstance(fault, (FileNotFoundError, ConnectionRefusedError)):
         return f"nobody answers at {path}: is lldpa-live running?"
     if isinstance(fault, PermissionError):
@@ -140,13 +140,13 @@ def said_of(fault: Exception, path: str) -> str:
 
 
 def main(words: Optional[Sequence[str]] = None) -> int:
-    """The program: 0 where all was answered, 1 where not, 2 where the words are bad."""
-    # what the terminal has no character for is written as a question mark
+    """Runs the program: 0 if all was answered, 1 if not, 2 if the words are wrong."""
+    # characters that the terminal does not have are written as a question mark
     return output.run("lldpa-ctl", lambda: status_of(words), 1, errors="replace")
 
 
 def status_of(words: Optional[Sequence[str]]) -> int:
-    """The status, if the output does not fail."""
+    """Returns the status, if the output does not fail."""
     given = read_words(words)
     try:
         if given.words == ["metrics"]:

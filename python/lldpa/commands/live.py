@@ -46,11 +46,11 @@ NUMBERS = {
     "log-keep": (1, 1000000, 1024, "keep N megabytes of logs in the folder (1024)"),
     "once": (1, 86400, None, "print a table once each port has a neighbor, or after N seconds"),
 }
-NOT_HERE = ("listen", "connections", "help", "version")  # options of lldpa that make it no child
+NOT_HERE = ("listen", "connections", "help", "version")  # options with which lldpa is not a child
 
 
 def main() -> int:
-    """Runs the program, and gives its status."""
+    """Runs the program, and returns its status."""
     is_closed = INPUT in missing_streams()
     report_all()
     given = words_given(sys.argv[1:])
@@ -74,7 +74,7 @@ def words_given(words: Sequence[str]) -> Given:
 
 
 def check_ports(parts: Sequence[str], parser: argparse.ArgumentParser) -> None:
-    """Ends the program where a name can be no port's, or two are the same."""
+    """Ends the program if a name cannot be a port's, or two are the same."""
     for part in parts:
         if not is_able(part):
             parser.error(f"{part}: a port's name has 1 to 15 letters, digits, -, _, / and : "
@@ -90,7 +90,7 @@ def check_ports(parts: Sequence[str], parser: argparse.ArgumentParser) -> None:
 
 
 def the_parser() -> argparse.ArgumentParser:
-    """What reads the words before `--`."""
+    """Returns the parser of the words before `--`."""
     parser = argparse.ArgumentParser(prog="lldpa-live", usage=USAGE, description=__doc__,
                                      epilog=EPILOG, allow_abbrev=False,
                                      formatter_class=argparse.RawDescriptionHelpFormatter)
@@ -110,7 +110,7 @@ def the_parser() -> argparse.ArgumentParser:
 
 
 def number_from(first: int, last: int) -> Callable[[str], int]:
-    """What reads a number of that range."""
+    """Returns a reader of numbers in that range."""
     def number(text: str) -> int:
         if not (text.isascii() and text.isdigit() and first <= int(text) <= last):
             raise argparse.ArgumentTypeError(f"{text} is no number from {first} to {last}")
@@ -119,7 +119,8 @@ def number_from(first: int, last: int) -> Callable[[str], int]:
 
 
 def options_of(words: Sequence[str], parser: argparse.ArgumentParser) -> Dict[str, Option]:
-    """The options of lldpa by their names. A word that follows one and is none is its value."""
+    """Returns the options of lldpa by their names. A word that follows one and is not one is its
+    value."""
     options: Dict[str, Option] = {}
     name = ""
     for word in words:

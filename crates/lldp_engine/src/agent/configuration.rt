@@ -19,7 +19,7 @@ const HOLD: u8 = 4;
 /// A text of at most 255 octets.
 pub(crate) type Text = ArrayVec<u8, 255>;
 
-/// How an agent is configured: what it was opened with for good, and what commands change.
+/// The configuration of an agent: what it was opened with for good, and what commands change.
 #[derive(Drop)]
 pub(crate) struct Configuration {
     pub(crate) mac: [u8; 6],
@@ -69,7 +69,7 @@ fn text_of(octets: &[u8]) -> Text
 }
 
 impl Configuration {
-    /// That of an agent with these options, whose hostname has at most 255 octets.
+    /// Returns that of an agent with these options, whose hostname has at most 255 octets.
     pub(crate) fn open(options: &Options<'_>) -> Configuration
         requires { length options.now.hostname.now ≤ 255 }
         ensures { result ≡ configuration_at_opening (options_of options.now) }
@@ -90,7 +90,7 @@ impl Configuration {
         }
     }
 
-    /// What an event makes of it.
+    /// Changes it as an event asks.
     pub(crate) fn take(&mut self, event: &Event<'_>)
         requires { HasShortText (event_of event.now) }
         ensures { self.new ≡ configured (event_of event.now) self.old }
@@ -115,21 +115,21 @@ impl Configuration {
         }
     }
 
-    /// The tx-interval in force, in seconds.
+    /// Returns the tx-interval in force, in seconds.
     pub(crate) fn interval(&self) -> u16
         ensures { result ≡ self.now.interval }
     {
         self.interval
     }
 
-    /// The limit of neighbors at opening.
+    /// Returns the limit of neighbors at opening.
     pub(crate) fn capacity(&self) -> u8
         ensures { result ≡ self.now.capacity }
     {
         self.capacity
     }
 
-    /// The TTL of an ordinary frame.
+    /// Returns the TTL of an ordinary frame.
     pub(crate) fn ttl(&self) -> u16
         ensures value { result ≡ sent_ttl self.now }
         ensures lives { 0 < result }

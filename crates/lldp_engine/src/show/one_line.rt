@@ -9,8 +9,8 @@ use crate::show::line::LineSink;
 use arrayvec::ArrayVec;
 use lldp_text::{Line, Writer};
 
-/// How many lines come before the one that is wanted, whether that one came, and the last line that
-/// was written, with its line feed.
+/// How many lines come before the wanted one, whether that one came, and the last line that was
+/// written, with its line feed.
 #[derive(Drop)]
 pub(crate) struct OneLine {
     before: u32,
@@ -29,7 +29,7 @@ impl OneLine {
         }
     }
 
-    /// The line that is wanted, if it came, without its line feed.
+    /// Returns the wanted line without its line feed, if it came.
     pub fn into_line(self) -> Option<Line>
         requires { length self.line ≤ 2049 }
         ensures none { self.came ≡ false → result ≡ None }
