@@ -17,7 +17,8 @@ PARTS = TOP / "crates" / "lldp_transmit" / "src" / "parts.rt"
 
 # The types of C, and of Rust and Rattle, by one name; a struct's is its name in small letters without a prefix.
 TYPES = {"uint8_t": "u8", "uint16_t": "u16", "uint32_t": "u32", "size_t": "usize", "bool": "bool", "void": "()",
-         "ticks_taken": "ticks", "tickstaken": "ticks", "parts": "machine"}
+         "ticks_taken": "ticks", "tickstaken": "ticks", "parts": "machine", "statistics_told": "statistics",
+         "configuration_told": "configuration"}
 
 # How many octets a type has, on the platforms that the library is built for.
 OCTETS = {"u8": 1, "u16": 2, "u32": 4, "usize": 8, "bool": 1, "pointer": 8, "const pointer": 8}
@@ -117,7 +118,7 @@ def check_assertions(library: Library, text: str, counts: Counts) -> None:
 
 
 def check_layout(library: Library, counts: Counts) -> None:
-    """The three say the same, and the front asserts it."""
+    """Checks that the three say the same, and that the front asserts it."""
     text = re.sub(r"/\*.*?\*/", "", (library.folder / "lldpa.h").read_text(), flags=re.S)
     check_assertions(library, text, counts)
     header = header_lists(text)

@@ -3,13 +3,14 @@ ghost use Rattle.std.specs.Prelude.{◌≡◌, ℕ, ◌<◌, ◌≤◌, length, 
 ghost use Rattle.std.specs.List.{AllByRecursion};
 ghost use Rattle.std.specs.Option.{option_map};
 ghost use Rattle.lldp_table.specs.Standing.{Stands as TableStands};
+ghost use Rattle.lldp_transmit.specs.Standing.{machine_of};
 ghost use Rattle.lldp_engine.specs.Options.{options_of, InRange, IsRefusal, fault_of};
 ghost use Rattle.lldp_engine.specs.Event.{event_of};
 ghost use Rattle.lldp_engine.specs.AgentState.{names_of, name_of, IsPort, Allows};
 ghost use Rattle.lldp_engine.specs.Configuration.{configured};
 ghost use Rattle.lldp_engine.specs.Place.{place_of};
-ghost use Rattle.lldp_engine.specs.Past.{Past, opened, with_event, past_of, marks_of};
-ghost use Rattle.lldp_engine.specs.Port.Past.{port_after, status_after, up_after, calls_after, counters_after};
+ghost use Rattle.lldp_engine.specs.Past.{Past, opened, with_event, past_of, marks_of, configuration_after};
+ghost use Rattle.lldp_engine.specs.Port.Past.{port_after, status_after, up_after, calls_after, counters_after, settings_of, causes_after};
 ghost use Rattle.lldp_engine.specs.Frames.{IsSent};
 ghost use Rattle.lldp_engine.specs.Sound.{AreSound};
 ghost use Rattle.lldp_engine.specs.Standing.{Stands};
@@ -33,6 +34,7 @@ use crate::port::Port;
 use crate::port::counters::Counters;
 use crate::port::status::Status;
 use lldp_table::{Room, Table};
+use lldp_transmit::Transmit;
 use std::alloc::{Allocator, Global};
 use std::marker::Model;
 
@@ -82,9 +84,11 @@ impl<A: Allocator> Agent<A> {
         })
     }
 
-    /// Returns its configuration.
-    pub(crate) fn configuration(&self) -> &Configuration
-        ensures { result.now ≡ self.now.configuration }
+    /// Returns its configuration: each part by the last command that set it, else as it was opened.
+    pub fn configuration(&self) -> &Configuration
+        ensures value { result.now ≡ self.now.configuration }
+        ensures past { (past : Past) → Stands past self.now →
+            result.now ≡ configuration_after past.options past.events }
     {
         &self.configuration
     }
@@ -173,6 +177,18 @@ impl<A: Allocator> Agent<A> {
             (calls_after past.options (past_of past port)) result.now.shown }
     {
         self.port(port).table()
+    }
+
+    /// Returns the transmit machine of a port: the one that the past's events leave.
+    pub fn machine(&self, port: u8) -> &Transmit
+        requires { IsPort self.now port }
+        ensures value { option_map (λ p. p.machine) (slice_get self.now.ports port)
+            ≡ Some result.now }
+        ensures past { (past : Past) → Stands past self.now →
+            result.now ≡ machine_of (settings_of past.options)
+            (causes_after past.options (past_of past port)) }
+    {
+        self.port(port).machine()
     }
 
     /// Returns the counters of a port: the definitions' numbers over its past, modulo 2^32.

@@ -104,6 +104,12 @@ impl<A: Allocator> Port<A> {
         &self.table
     }
 
+    pub(crate) fn machine(&self) -> &Transmit
+        ensures { result.now ≡ self.now.machine }
+    {
+        &self.transmit
+    }
+
     pub(crate) fn counters(&self) -> &Counters
         ensures { result.now ≡ self.now.counters }
     {

@@ -22,11 +22,15 @@ PROVED(lldpa_transmit_credit);
 PROVED(lldpa_open);
 PROVED(lldpa_tick);
 PROVED(lldpa_ticks);
+PROVED(lldpa_due);
 PROVED(lldpa_link);
 PROVED(lldpa_neighbor_count);
 PROVED(lldpa_neighbor);
+PROVED(lldpa_statistics);
+PROVED(lldpa_configuration);
 PROVED(lldpa_command);
 PROVED(lldpa_command_text);
+PROVED(lldpa_fault_text);
 PROVED(lldpa_show_lines);
 PROVED(lldpa_show_line);
 PROVED(lldpa_frame_of);
@@ -66,6 +70,14 @@ SIZE(marks, 129) AT(marks, items, 0) AT(marks, count, 128)
 SIZE(ticks_taken, 8) AT(ticks_taken, taken, 0) AT(ticks_taken, aged_out, 4)
 SIZE(news, 40) AT(news, chassis, 0) AT(news, port, 16) AT(news, what, 32) AT(news, fault, 36)
 SIZE(held, 72) AT(held, pdu, 0) AT(held, left, 64)
+SIZE(statistics_told, 36) AT(statistics_told, sent, 0) AT(statistics_told, shutdowns, 4)
+    AT(statistics_told, received, 8) AT(statistics_told, discarded, 12) AT(statistics_told, errors, 16)
+    AT(statistics_told, tlvs_discarded, 20) AT(statistics_told, unrecognized, 24) AT(statistics_told, ageouts, 28)
+    AT(statistics_told, drops, 32)
+SIZE(configuration_told, 96) AT(configuration_told, interval, 0) AT(configuration_told, hold, 4)
+    AT(configuration_told, ttl, 8) AT(configuration_told, reinit, 12) AT(configuration_told, fast_init, 16)
+    AT(configuration_told, credit_max, 20) AT(configuration_told, max_neighbors, 24) AT(configuration_told, ports, 28)
+    AT(configuration_told, status, 32)
 SIZE(lines, 16) AT(lines, length, 0) AT(lines, next, 8) AT(lines, done, 12)
 
 /* ---- NULL ---------------------------------------------------------------------------------------------------------- */
@@ -97,6 +109,14 @@ static uint8_t *room_at(uint8_t *at)
 uint32_t lldpa_version(void)
 {
     return LLDPA_VERSION;
+}
+
+uint8_t lldpa_fault_text(uint32_t fault, uint8_t *room, size_t room_length, size_t *length)
+{
+    if (is_missing(room, room_length) || length == NULL) {
+        return LLDPA_NULL;
+    }
+    return proved_lldpa_fault_text(fault, room_at(room), room_length, length);
 }
 
 /* ---- Reading ---------------------------------------------------------------------------------------------------- */
@@ -193,7 +213,7 @@ uint8_t lldpa_transmit_credit(const lldpa_machine *machine)
 
 /* ---- The agent -------------------------------------------------------------------------------------------------- */
 
-/* Copies a text, where it is not missing. */
+/* Copies a text, if it is not missing. */
 static bool is_copied(lldpa_text *to, const lldpa_text *from)
 {
     if (is_missing(from->octets, from->length)) {
@@ -246,6 +266,15 @@ uint8_t lldpa_ticks(lldpa_agent *agent, uint32_t count, lldpa_marks *marks, lldp
                                                           : proved_lldpa_ticks(agent, count, marks, told);
 }
 
+uint8_t lldpa_due(const lldpa_agent *agent, uint32_t *seconds)
+{
+    if (agent == NULL || seconds == NULL) {
+        return LLDPA_NULL;
+    }
+    lldpa_agent copy = *agent;
+    return proved_lldpa_due(&copy, seconds);
+}
+
 uint8_t lldpa_frame(lldpa_agent *agent, uint32_t port, const uint8_t *frame, size_t length, lldpa_marks *marks,
                     lldpa_news *news)
 {
@@ -278,6 +307,24 @@ uint8_t lldpa_neighbor(const lldpa_agent *agent, uint32_t port, uint32_t index, 
     }
     lldpa_agent copy = *agent;
     return proved_lldpa_neighbor(&copy, port, index, room_at(room), room_length, told);
+}
+
+uint8_t lldpa_statistics(const lldpa_agent *agent, uint32_t port, lldpa_statistics_told *told)
+{
+    if (agent == NULL || told == NULL) {
+        return LLDPA_NULL;
+    }
+    lldpa_agent copy = *agent;
+    return proved_lldpa_statistics(&copy, port, told);
+}
+
+uint8_t lldpa_configuration(const lldpa_agent *agent, lldpa_configuration_told *told)
+{
+    if (agent == NULL || told == NULL) {
+        return LLDPA_NULL;
+    }
+    lldpa_agent copy = *agent;
+    return proved_lldpa_configuration(&copy, told);
 }
 
 uint8_t lldpa_command(lldpa_agent *agent, const uint8_t *line, size_t length, uint32_t *show, lldpa_marks *marks)

@@ -121,9 +121,9 @@ impl LineSink for Filling<'_> {
         }
         if self.before > 0 {
             self.before -= 1;
-        } else {
-            self.is_wanted = true;
+            return None;
         }
+        self.is_wanted = true;
         self.line.clear();
         Some(&mut self.line)
     }

@@ -9,7 +9,7 @@ ghost use Rattle.lldpa_c.specs.Show.{IsLine, Shows, line_checks};
 use crate::answer::{NOT_OPEN, OUT_OF_RANGE};
 use crate::giving::give;
 use crate::holder::LldpaAgent;
-use lldp_engine::{Agent, Show};
+use lldp_engine::{Agent, OneLine, Show};
 use std::alloc::Global;
 
 /// Returns the show of that number.
@@ -40,9 +40,11 @@ fn write(agent: &Agent, show: Show, line: u32, room: &mut [u8], written: &mut us
         length room.old < length octets → result ≡ 101 }
     ensures refused { ¬ (result ≡ 0) → (room.new ≡ room.old) × (written.new ≡ written.old) }
 {
-    match agent.show_line(&show, line) {
+    let mut one = OneLine::new();
+    agent.keep_line(&show, line, &mut one);
+    match one.line() {
         None => OUT_OF_RANGE,
-        Some(octets) => give(octets.as_slice(), room, written),
+        Some(octets) => give(octets, room, written),
     }
 }
 

@@ -12,8 +12,8 @@ from typing import List, Mapping, NamedTuple, Optional, Tuple
 # the keys of what a neighbor says, except those of TLVs of other types, which have numbers
 SAID_KEYS = ("port.descr", "chassis.name", "chassis.descr", "chassis.caps", "chassis.mgmt")
 
-# a key that is not known here: a later agent may have it. It is none of those of the lines before,
-# since each of them occurs once.
+# a key that is not known here, as a later agent may have it; not one of the keys of earlier lines,
+# since each of those occurs once
 EARLIER = (r"(?:ttl|expires|(?:chassis|port)\.(?:mac|ip|ifname|ifalias|local|component|portcomp"
            r"|circuit|unhandled))(?:=|$)")
 FURTHER_KEY = rf"(?!{EARLIER}|(?:org|unknown)(?:\.|=|$))[a-z][a-z0-9-]*(?:\.[a-z0-9-]+)*"

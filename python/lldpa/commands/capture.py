@@ -14,13 +14,13 @@ from ..version import add_version
 
 NAME = "lldpa-capture"
 SUMMARY = "Writes the LLDP frames of captures as a trace for lldpa, with the seconds between them."
-FILE_HELP = """a capture, pcap or pcapng of Ethernet, or - for standard input; as PORT=FILE one
-whose frames all came in at that port"""
-PORT_HELP = """the port of all frames, or as INTERFACE=NAME of those of one interface; without it
-a frame's port is its interface in a pcapng file, and eth0 else"""
+FILE_HELP = """a capture of Ethernet, pcap or pcapng, or - for standard input; PORT=FILE names the
+port of all its frames"""
+PORT_HELP = """the port of all frames, or with INTERFACE=NAME of the frames of one interface; the
+default is the interface that a pcapng file names, or eth0"""
 EPILOG = """\
 example: lldpa-capture --show lab.pcap | lldpa --receive-only eth0
-lldpa-capture(1) has what is skipped, and the exit statuses.
+lldpa-capture(1) lists what is skipped, and the exit statuses.
 """
 SHOWS = ("show neighbors", "show statistics")
 ANY_INTERFACE = ""
@@ -41,9 +41,9 @@ def parser_of_words() -> argparse.ArgumentParser:
     parser.add_argument("--show", action="store_true",
                         help="end the trace with show neighbors and show statistics")
     parser.add_argument("--no-seconds", action="store_true",
-                        help="leave the seconds out, so that nobody ages out")
+                        help="omit the seconds, so that no neighbor ages out")
     parser.add_argument("--ports", action="store_true",
-                        help="write the names of the ports, and no trace")
+                        help="print the names of the ports, and no trace")
     add_version(parser)
     return parser
 
@@ -62,7 +62,7 @@ def source_of(word: str, names: Mapping[str, str]) -> Source:
     if mark and is_port_name(front):
         return Source(file, front)
     if mark and not os.path.exists(word):
-        raise ValueError(f"{front}: {PORT_NAME_RULE}; write another name in front of ={file}")
+        raise ValueError(f"{front}: {PORT_NAME_RULE}; write another name before ={file}")
     return Source(word, names.get(ANY_INTERFACE), names)
 
 
@@ -90,7 +90,7 @@ def run(given: argparse.Namespace) -> int:
     names: Dict[str, str] = dict(renamed(word) for word in given.port)
     sources = [source_of(word, names) for word in given.files]
     if [source.file for source in sources].count(STANDARD_INPUT) > 1:
-        raise ValueError("standard input can be read once")
+        raise ValueError("standard input can be read only once")
     if given.ports:
         print("\n".join(ports_for_words(sources)), flush=True)
         return 0

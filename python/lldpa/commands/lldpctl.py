@@ -25,27 +25,27 @@ LLDPCTL, LLDPCLI = "lldpctl", "lldpcli"
 HELP = f"""\
 usage: NAME [-u PATH] [-f FORM] COMMAND
 
-Asks a running lldpa-live, and prints its answer as lldpcli of lldpd does.
+Asks a running lldpa-live, and prints its answer like lldpcli of lldpd.
 
-  -u PATH  the control socket of lldpa-live ({DEFAULT_PATH} unless given)
-  -f FORM  {', '.join(FORMS)} (plain unless given)
-  -d, -s   taken and ignored
-  -h, --help  this
+  -u PATH  the control socket of lldpa-live (default {DEFAULT_PATH})
+  -f FORM  {', '.join(FORMS)} (default plain)
+  -d, -s   accepted and ignored
+  -h, --help  print this help
   -v, --version  print the version
 
-commands; lldpctl takes ports too, and without a command it shows all neighbors in detail;
-lldpcli without a command reads commands from standard input, up to exit:
+lldpctl without a command prints all that neighbors say, of the ports that you name or of all.
+lldpcli without a command reads commands from standard input, up to exit. The commands are:
   show neighbors [details | summary] [ports PORT,..]
   show interfaces [details | summary] [ports PORT,..]
   show chassis [details | summary]
   show statistics [summary] [ports PORT,..]
   show configuration
   watch [details | summary] [ports PORT,..] [limit N]
-  configure ...  those of lldpa(1)
+  configure ...  the commands of lldpa(1)
   update
 
 example: lldpctl -f keyvalue eth0
-lldpctl(1) says where this program stands, since lldpd has one of its name.
+lldpctl(1) says how to put this program on the path, since lldpd has one of the same name.
 """
 # lldpcli's words for what happens to a neighbor
 HAPPENED = {"came": "added", "changed": "updated", "gone": "deleted"}

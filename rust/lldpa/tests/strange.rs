@@ -2,8 +2,8 @@
 //! call takes what it does not know for success. `tools/library/check-library.py` makes the archive.
 
 use lldpa::{
-    examine, Agent, Builder, CommandFault, Machine, Mark, OpenFault, Options, PduFault, PortFault,
-    RangeFault, Show,
+    examine, fault_text, Agent, Builder, CommandFault, Machine, Mark, OpenFault, Options, PduFault,
+    PortFault, RangeFault, Show,
 };
 use std::panic::{catch_unwind, AssertUnwindSafe};
 
@@ -37,9 +37,11 @@ fn unknown_answers_are_faults() {
     assert_eq!(agent.link(0, true), Err(PortFault::Unexpected));
     assert_eq!(agent.neighbors(0).err(), Some(PortFault::Unexpected));
     assert_eq!(agent.frame_of(0, Mark::Ordinary), Err(PortFault::Unexpected));
+    assert_eq!(agent.statistics(0), Err(PortFault::Unexpected));
     assert_eq!(agent.command("update"), Err(CommandFault::Unexpected));
     assert_eq!(CommandFault::Unknown.line(), "error: unknown command");
-    assert!(panics(|| agent.tick()) && panics(|| agent.ticks(2)));
+    assert!(panics(|| agent.tick()) && panics(|| agent.ticks(2)) && panics(|| agent.due()));
+    assert!(panics(|| agent.configuration()) && panics(|| fault_text(1)));
     assert!(panics(|| agent.show(Show::Chassis)) && panics(|| agent.show_line(Show::Chassis, 0)));
     std::env::set_var("LLDPA_STRANGE", "another version");
     assert_eq!(Agent::open(&OPTIONS).err(), Some(OpenFault::Version));

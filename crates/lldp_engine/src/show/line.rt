@@ -18,9 +18,9 @@ pub trait LineSink {
     /// How it is after it took a line.
     ghost takes: { Self → Self → List ℕ → Type 0 };
 
-    /// Lends the writer for the next line, which is appended to what the writer holds; None if no
-    /// further line changes the sink. What is written is taken as a line: at most 2,048 octets, and
-    /// a line feed.
+    /// Lends the writer for the next line, which is appended to what the writer holds; None if the
+    /// sink takes that line whatever it is, as one that is not wanted, which nobody then writes.
+    /// What is written is taken as a line: at most 2,048 octets, and a line feed.
     fn begin_line(&mut self) -> Option<&mut Writer>
         ensures* takes_line { sem 𝓛 (LendsRoom Self.row takes self.entry result) }
         ensures room { IfSome result (λ writer. length writer.now + 2049 ≤ 8192) };

@@ -5,6 +5,7 @@ ghost use Rattle.lldp_engine.specs.Lines.{octets_of, lines_of};
 ghost use Rattle.lldp_engine.specs.Past.{Past, agent_of};
 ghost use Rattle.lldp_engine.specs.Standing.{Stands};
 ghost use Rattle.lldp_engine.specs.Takes.{Takes};
+ghost use Rattle.lldp_engine.specs.Code.OneLineState.{line_kept};
 
 use crate::agent::Agent;
 use crate::command::Show;
@@ -43,17 +44,32 @@ impl<A: Allocator> Agent<A> {
         }
     }
 
+    /// Keeps line `i` of a show, from 0, if the show has it, in a sink of the caller's. Beyond its
+    /// clauses: it goes through the lines before that one too, so use `show_lines` for several.
+    pub fn keep_line(&self, show: &Show, i: u32, sink: &mut OneLine)
+        ensures line { line_kept sink.new ≡ slice_get (lines_of show.now self.now) i }
+        ensures short { length sink.new.line ≤ 2049 }
+        ensures few { length (lines_of show.now self.now) ≤ 6127808 }
+        ensures past { (past : Past) → Stands past self.now →
+            line_kept sink.new ≡ slice_get (lines_of show.now (agent_of past)) i }
+    {
+        sink.want(i);
+        self.show_lines(show, sink);
+    }
+
     /// Returns line `i` of a show, from 0, without its line feed, or None if the show has no such
-    /// line. Beyond its clauses: it goes through the lines before that one too, so use `show_lines`
-    /// for several.
+    /// line. Beyond its clauses: it costs what `keep_line` does.
     pub fn show_line(&self, show: &Show, i: u32) -> Option<Line>
         ensures line { option_map octets_of result ≡ slice_get (lines_of show.now self.now) i }
         ensures few { IsSome result → i < 6127808 }
         ensures past { (past : Past) → Stands past self.now →
             option_map octets_of result ≡ slice_get (lines_of show.now (agent_of past)) i }
     {
-        let mut sink = OneLine::new(i);
-        self.show_lines(show, &mut sink);
-        sink.into_line()
+        let mut sink = OneLine::new();
+        self.keep_line(show, i, &mut sink);
+        let octets = sink.line()?;
+        let mut line = Line::new();
+        let _ = line.try_extend_from_slice(octets);
+        Some(line)
     }
 }

@@ -10,7 +10,7 @@ use std::test::Fail;
 /// A heap that holds more than the opening below.
 const AMPLE: usize = 400_000;
 
-/// Two ports that send, with two neighbors each at most.
+/// Returns options of two ports that send, with at most two neighbors each.
 fn sending() -> Options<'static> {
     Options {
         receive_only: false,
