@@ -10,17 +10,14 @@ qemu-user the status is 3. The last line is `N passed, M failed`.
 from __future__ import annotations
 
 import functools
-import importlib.util
+import importlib
 import os
 import pathlib
 import shutil
 import sys
 import tempfile
-import types
 
-sys.dont_write_bytecode = True
-from library_parts import (TOP, WARNINGS, Counts, count_of, fault_of, ran,  # noqa: E402
-                           side_by_side, skip)
+from library_parts import TOP, WARNINGS, Counts, fault_of, ran, side_by_side, skip
 
 COMPILER = "aarch64-linux-gnu-gcc"
 QEMU = ["qemu-aarch64", "-L", "/usr/aarch64-linux-gnu"]
@@ -28,17 +25,7 @@ TOOLS = TOP / "tools" / "library" / "c"
 MODEL = TOP / "tools" / "model"
 TRACES = "200"
 EM_AARCH64 = 183
-WRAPPED = ["-Wl,--wrap=malloc,--wrap=realloc,--wrap=free"]
-
-
-@functools.cache
-def native() -> types.ModuleType:
-    """Returns the script that checks the library of this machine."""
-    spec = importlib.util.spec_from_file_location("native", TOP / "tools" / "library" / "check-library.py")
-    assert spec is not None and spec.loader is not None
-    script = importlib.util.module_from_spec(spec)
-    spec.loader.exec_module(script)
-    return script
+NATIVE = importlib.import_module("check-library")
 
 
 def wrapped(program: pathlib.Path) -> pathlib.Path:
@@ -52,7 +39,7 @@ def wrapped(program: pathlib.Path) -> pathlib.Path:
 def check_program(program: pathlib.Path, counts: Counts) -> None:
     """Runs the transcripts of examples/, each in one piece, and random traces, and compares them with the model."""
     script = wrapped(program)
-    native().check_transcripts([str(script)], counts)
+    NATIVE.check_transcripts([str(script)], counts)
     command = [sys.executable, MODEL / "fuzz.py", "--program", script, "--traces", TRACES, "--seed", "1"]
     ended = ran(command)
     is_passed = ended.stdout.rstrip().endswith("1 passed, 0 failed")
@@ -61,22 +48,19 @@ def check_program(program: pathlib.Path, counts: Counts) -> None:
 
 def check_library(folder: pathlib.Path, room: pathlib.Path, counts: Counts) -> None:
     """Runs the programs in C over the library, and one over the shared object."""
-    qemu, rows = [*QEMU, "-E", f"LD_LIBRARY_PATH={folder}"], [str(native().ROWS)]
-    for name, words, linked in (("vectors", rows, "liblldpa.a"), ("vectors", rows, "liblldpa.so.1"),
-                                ("nulls", [], "liblldpa.a"), ("refused", [], "liblldpa.a"),
-                                ("transcript", [], "liblldpa.a")):
-        more = WRAPPED if name == "refused" else []
+    for name, linked in (("vectors", "liblldpa.a"), ("vectors", "liblldpa.so.1"), ("nulls", "liblldpa.a"),
+                         ("refused", "liblldpa.a"), ("transcript", "liblldpa.a")):
+        more = NATIVE.WRAPPED if name == "refused" else []
         fault = fault_of([COMPILER, "-std=c99", "-O2", *WARNINGS, *more, f"-I{folder}", TOOLS / f"{name}.c",
                           folder / linked, "-o", room / name])
         counts.judge(fault, f"building {name} for arm64 over {linked}")
-        if fault is None and name == "transcript":
-            native().check_transcripts([*qemu, str(room / name)], counts)
-        elif fault is None:
-            count_of([*qemu, str(room / name), *words], f"{name} on arm64 over {linked}", counts)
+        if fault is None:
+            command = [*QEMU, "-E", f"LD_LIBRARY_PATH={folder}", str(room / name)]
+            NATIVE.run_program(name, command, room, counts)
 
 
 def check_packages(folder: pathlib.Path, room: pathlib.Path, counts: Counts) -> None:
-    """Each Debian package can be made, and what is compiled in it is for arm64."""
+    """Checks that each Debian package can be made, and that what is compiled in it is for arm64."""
     for command in ("dpkg-deb", "dpkg-architecture"):
         if shutil.which(command) is None:
             skip(f"the packages for arm64, since there is no {command}")

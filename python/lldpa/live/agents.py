@@ -114,7 +114,7 @@ class Agents:
             lines = head[place:place + LINES_AT_ONCE]
             self.session.write([(now(), line) for line in lines])
             for refusal in await self.exchange(lines):
-                raise Ended(None, f"the agent refused what the one before was told: {refusal}")
+                raise Ended(None, f"the agent refused a line of the one before: {refusal}")
 
     def head(self, show: Show) -> List[str]:
         """Returns the lines that bring another agent to the state of the one that shows this."""
@@ -129,7 +129,7 @@ class Agents:
         head = self.head(await self.shown())
         self.options["management"] = address
         await self.patient.succeed(await self.next(head), SECONDS_FOR_THE_LAST)
-        self.report(f"the management address is {address or 'not announced any more'}")
+        self.report(f"the management address is {address or 'no longer announced'}")
 
     async def grow(self, names: Sequence[str]) -> None:
         """Replaces this agent by one that has these ports too."""
@@ -144,28 +144,29 @@ class Agents:
         await self.note_settings()
 
     async def renew(self, end: Ended) -> None:
-        """Replaces an agent that has ended. Raises what it ended with if it is not ours, or is the
-        second one within a minute."""
+        """Replaces an agent that has ended. Raises what it ended with if it is not ours, if it never
+        answered, or if it is the second one within a minute."""
         is_again = self.last_end is not None and now() - self.last_end < SECONDS_BETWEEN
-        if self.is_over or is_again or self.given.connect is not None:
+        is_known = self.settings.chassis is not None
+        if self.is_over or is_again or self.given.connect is not None or not is_known:
             raise end
         self.last_end = now()
         self.restarts += 1
-        self.report(f"{end.text}; another one takes its place")
+        self.report(f"{end.text}; another one replaces it")
         head = self.head(self.known())
         await self.patient.succeed(await self.next(head), 0)
 
     async def next(self, head: Sequence[str]) -> AsyncAgent:
         """Opens another agent, and sends it this head, with which a new file of the log begins.
         What its ports send until then is lost."""
-        agent = await self.open()
+        patient = Patient(await self.open(), self.report)
         try:
             for place in range(0, len(head), LINES_AT_ONCE):
-                for refusal in await agent.tell(head[place:place + LINES_AT_ONCE]):
-                    raise Ended(None, f"the agent refused what the one before was told: {refusal}")
+                for refusal in await patient.tell(head[place:place + LINES_AT_ONCE]):
+                    raise Ended(None, f"the agent refused a line of the one before: {refusal}")
         except BaseException:
-            await agent.close(0)
+            await patient.close(0)
             raise
         self.outbox.frames.clear()
         self.session.begin(self.words(), head)
-        return agent
+        return patient.agent

@@ -14,14 +14,14 @@ from ...organizational.kinds import load
 
 HELP = (
     "  neighbors [PORT..]        a table of the neighbors",
-    "  details [PORT..]          all that they say",
+    "  details [PORT..]          all that neighbors say",
     "  interfaces [PORT..]       the state of the ports",
-    "  statistics [PORT..]       the counters; statistics summary: their sums",
+    "  statistics [PORT..]       the counters, or with summary their sums",
     "  show neighbors | statistics | chassis | configuration",
     "  configure ...             changes the agent, see lldpa(1)",
-    "  update                    sends the present state",
-    "  live                      what lldpa-live says of itself",
-    "  help                      this",
+    "  update                    sends the current state",
+    "  live                      the state of lldpa-live itself",
+    "  help                      this help",
 )
 
 UNKNOWN = "unknown command"
@@ -31,8 +31,9 @@ Ask = Callable[[bytes], Awaitable[List[bytes]]]
 
 
 async def ports_of(ask: Ask) -> Sequence[Port]:
-    """Returns the ports with their neighbors."""
-    return read_show([line.decode("ascii") for line in await ask(b"show neighbors")]).ports
+    """Returns the ports with their neighbors, none while the agent does not answer."""
+    lines = [line.decode("ascii") for line in await ask(b"show neighbors")]
+    return () if "".join(lines).startswith(REFUSAL) else read_show(lines).ports
 
 
 def table_of(ports: Sequence[Port]) -> list[bytes]:
