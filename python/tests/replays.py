@@ -1,4 +1,4 @@
-"""For tests: whether a log, replayed, gives the tables that were there at some moments."""
+"""For tests: whether a log, replayed, gives the tables of some moments."""
 
 from __future__ import annotations
 
@@ -12,8 +12,8 @@ from served import PROGRAM
 
 
 class Moments:
-    """Asks an lldpa-live for its tables beside a command in words of their own, so that the log
-    has a line to find the moment by. (What is shown is not in the log.)"""
+    """Asks an lldpa-live for its tables, with a command in words of their own, so that the log has
+    a line by which the moment is found. (What is shown is not in the log.)"""
 
     def __init__(self, live: Live) -> None:
         self.live = live
@@ -21,7 +21,7 @@ class Moments:
         self.count = 0
 
     def take(self) -> None:
-        """Takes the tables of now: those that are the same before the command and behind it."""
+        """Takes the present tables: those that are the same before the command and after it."""
         self.count += 1
         line = f"update{' ' * self.count}"
         before = self.live.ask("show neighbors")
@@ -33,8 +33,8 @@ class Moments:
 
 
 def replayed(log: Path, line: str) -> Optional[list[str]]:
-    """The tables where that line stands in a log, as a replay of this file alone has them; None
-    where the line is not in it."""
+    """Returns the tables at that line of a log, as a replay of this file alone gives them, or None
+    if the line is not in it."""
     lines = log.read_text().split("\n")
     if line not in lines:
         return None
@@ -46,7 +46,8 @@ def replayed(log: Path, line: str) -> Optional[list[str]]:
 
 
 def differing(folder: Path, moments: Moments) -> list[str]:
-    """What is wrong with the logs of a folder: moments that none has, or whose tables differ."""
+    """Returns what is wrong with the logs of a folder: moments that none has, or whose tables
+    differ."""
     wrong = []
     for line, answer in moments.answers.items():
         found = {log.name: tables for log in sorted(folder.iterdir())

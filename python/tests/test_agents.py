@@ -1,5 +1,5 @@
 """An agent is replaced: an address of this host changes, the agent ends or hangs, lldpa-live is
-started anew."""
+started again."""
 
 from __future__ import annotations
 
@@ -23,7 +23,7 @@ LONG = 600  # seconds that frames of these tests last
 
 
 def address_in(octets: bytes) -> Optional[str]:
-    """The IPv4 management address that a frame announces."""
+    """Returns the IPv4 management address that a frame announces."""
     for kind, body in tlvs_of(octets):
         if kind == 8 and body[:2] == b"\5\1":
             return socket.inet_ntoa(body[2:6])
@@ -42,7 +42,7 @@ class Replaced(OnLinks):
         self.peers = [self.peer("peer0"), self.peer("peer1")]
 
     def begun(self, *words: str) -> Live:
-        """An lldpa-live with a log and three neighbors, told in different seconds."""
+        """Starts an lldpa-live with a log and three neighbors, which came in different seconds."""
         live = self.live("--log", str(self.log), "--events", *words, "eth0", "eth1")
         for number in (3, 1, 2):
             self.peers[0].send(numbered(number, LONG + number, tlv(5, b"sw%d" % number)))
@@ -52,11 +52,11 @@ class Replaced(OnLinks):
         return live
 
     def neighbors(self, live: Live) -> list[Neighbor]:
-        """The neighbors without their seconds left, which are behind it."""
+        """Returns the neighbors without their seconds left, which come last."""
         return read_show(live.ask("show neighbors")).neighbors
 
     def stays(self, before: list[Neighbor], began: float, live: Live) -> None:
-        """Sees that all neighbors are there as before, and their seconds left went on."""
+        """Checks that all neighbors are there as before, and that their seconds left went on."""
         after, went = self.neighbors(live), time.monotonic() - began
         self.assertEqual([(one.port, one.place, one.id, one.said) for one in after],
                          [(one.port, one.place, one.id, one.said) for one in before])
@@ -64,7 +64,7 @@ class Replaced(OnLinks):
             self.assertAlmostEqual(old.expires - new.expires, went, delta=2)
 
     def hears_address(self, address: Optional[str], peer: int = 0, seconds: float = 8) -> bool:
-        """Whether a peer comes to hear frames with that address, and meanwhile no shutdown."""
+        """Returns whether a peer comes to hear frames with that address, and no shutdown before."""
         last = time.monotonic() + seconds
         while (left := last - time.monotonic()) > 0:
             octets = self.peers[peer].hears(left)
@@ -80,7 +80,7 @@ class Addresses(Replaced):
     """The management address of this host is followed."""
 
     def add(self, address: str, interface: str = "eth0", word: str = "add") -> None:
-        """Gives this host an address, or takes it away."""
+        """Gives this host an address, or removes it."""
         ip("-n", self.wires.here, "address", word, f"{address}/24", "dev", interface)
 
     def test_an_address_that_comes_changes_and_goes_is_at_the_peer(self) -> None:
@@ -205,7 +205,8 @@ class Restarts(Replaced):
         self.state = Path(self.wires.folder, "state")
 
     def ended(self) -> tuple[list[Neighbor], float, dict[tuple[str, str], str]]:
-        """Lets one see neighbors and end; who was there, at which moment, and since when."""
+        """Lets one see neighbors and end; returns its neighbors, the moment, and since when each
+        was there."""
         live = self.begun("--state", str(self.state))
         since = since_of(live.ask("live"))
         neighbors, moment = self.neighbors(live), time.monotonic()

@@ -1,4 +1,4 @@
-"""Who is heard since when, and the head of a log's later files."""
+"""Which senders are heard since when, and the head of a log's later files."""
 
 from __future__ import annotations
 
@@ -24,7 +24,7 @@ PORTS = [b"\1al", b"\2pc", b"\3\2\0\0\0\0\1", b"\4\1\xc0\0\2\1", b"\5if", b"\6ci
 
 
 def id_of(number: int) -> str:
-    """The MSAP identifier of one of many neighbors."""
+    """Returns the MSAP identifier of one of many neighbors."""
     return f"mac=02:00:00:00:00:{number:02x} ifname=p{number}"
 
 
@@ -60,11 +60,11 @@ class Noting(unittest.TestCase):
         self.senders = Senders()
 
     def came(self, number: int = 1, port: str = "eth0") -> Optional[str]:
-        """When a neighbor came."""
+        """Returns when a neighbor came."""
         return since_of(self.senders.about()).get((port, id_of(number)))
 
     def set_back(self) -> None:
-        """Lets all have come long ago."""
+        """Makes all appear to have come long ago."""
         for senders in self.senders.by_port.values():
             for sender in senders.values():
                 sender.came = 0.0
@@ -141,7 +141,7 @@ class Noting(unittest.TestCase):
         self.senders.hear("eth0", numbered(2))
         self.senders.hear("eth1", numbered(1))
         self.assertEqual(numbers(), {one: 1, two: 2})
-        self.senders.hear("eth0", numbered(1, 0))  # it goes at one of its ports
+        self.senders.hear("eth0", numbered(1, 0))  # it leaves one of its ports
         self.senders.hear("eth0", numbered(1))
         self.assertEqual(numbers(), {one: 1, two: 2})
         for port in ("eth0", "eth1"):
@@ -171,7 +171,7 @@ class Beginnings(unittest.TestCase):
     """The last frames, and what a file of the log begins with."""
 
     def begun(self, agent: Agent, senders: Senders, *words: str) -> list[str]:
-        """The tables of an agent that is new and is told the beginning."""
+        """Returns the tables of a new agent that gets the beginning."""
         show = self.shown(agent)
         senders.note_held(show.ports)
         senders.downs = ["b"]
@@ -184,7 +184,7 @@ class Beginnings(unittest.TestCase):
             return other.ask("show neighbors")
 
     def shown(self, agent: Agent) -> Show:
-        """What it shows."""
+        """Returns what it shows."""
         return read_show([line for what in ("neighbors", "chassis", "configuration")
                           for line in agent.ask(f"show {what}")])
 
@@ -239,7 +239,7 @@ class Beginnings(unittest.TestCase):
 
 @on_links
 class OnARealLink(OnLinks):
-    """lldpa-live tells it."""
+    """lldpa-live reports it."""
 
     def test_lldpa_live_knows_since_when(self) -> None:
         live = self.live("--stay", "eth0", "--", "--receive-only")

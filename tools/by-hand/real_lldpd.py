@@ -28,7 +28,7 @@ class Lldpd:
         return subprocess.run(command, capture_output=True, check=False).stdout
 
     def tell(self, command: str) -> None:
-        """Tells it a command, in which quotes hold a word together."""
+        """Sends it a command, in which quotes hold a word together."""
         self.ask(*(word.strip('"') for word in re.findall(r'"[^"]*"|\S+', command)))
 
     def neighbors(self) -> list[Any]:

@@ -5,8 +5,8 @@
 
 In a network namespace of its own, an lldpa-live runs on a link, `lldpa-ctl metrics --output` writes a
 file each second, node_exporter's textfile collector reads it, and Prometheus has the rules of
-share/prometheus, as they are. Seen must be: lldpa-live up and no alert; LldpaDown when it was
-killed; none when it is back; LldpaMetricsOld when the file is no longer written. It takes two
+share/prometheus, as they are. It must see lldpa-live up and no alert; LldpaDown when it is killed;
+no alert when it is back; LldpaMetricsOld when the file is no longer written. It takes two
 minutes. It needs Linux, root and Debian's packages prometheus, prometheus-node-exporter and
 iproute2. LLDPA names the program. The last line is `N passed, M failed`.
 """

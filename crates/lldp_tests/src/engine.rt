@@ -1,5 +1,5 @@
 //! What no clause says of `lldp_engine`: that opening works if there is memory, and what code
-//! that the program does not run answers.
+//! answers that the program does not run.
 mod embedded;
 mod memory;
 mod opening;
@@ -10,7 +10,7 @@ use std::alloc::Allocator;
 use std::process::Abort;
 use std::test::Fail;
 
-/// As many ports as an agent can have.
+/// Names of as many ports as an agent can have.
 const NAMES: [&str; 64] = [
     "p00", "p01", "p02", "p03", "p04", "p05", "p06", "p07", "p08", "p09", "p10", "p11", "p12",
     "p13", "p14", "p15", "p16", "p17", "p18", "p19", "p20", "p21", "p22", "p23", "p24", "p25",
@@ -19,7 +19,7 @@ const NAMES: [&str; 64] = [
     "p52", "p53", "p54", "p55", "p56", "p57", "p58", "p59", "p60", "p61", "p62", "p63",
 ];
 
-/// An agent as the program opens it if nothing else is said, but that its ports only receive.
+/// Opens an agent as the program does by default, except that its ports only receive.
 fn open<A: Allocator + Clone>(
     rt: &impl Abort,
     alloc: A,
@@ -42,7 +42,7 @@ fn open<A: Allocator + Clone>(
     Agent::open(alloc, &options)
 }
 
-/// A frame with this LLDPDU comes on a port.
+/// Gives a port a frame with this LLDPDU.
 fn hear<A: Allocator>(
     rt: &impl Abort,
     agent: &mut Agent<A>,

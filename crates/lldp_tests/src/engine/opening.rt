@@ -3,7 +3,7 @@ use super::{NAMES, open};
 use lldp_engine::{CommandFault, Mark, OpenFault};
 use std::test::Fail;
 
-/// The numbers of the faults.
+/// Checks the numbers of the faults.
 #[test]
 fn numbers_of_faults(rt: HostRuntime) {
     for (fault, number) in [
@@ -37,7 +37,7 @@ fn quiet_is_the_default(rt: HostRuntime) {
     assert_eq!(rt; Mark::default(), Mark::Quiet);
 }
 
-/// No opening is refused if there is memory: every number of ports, with every limit.
+/// Checks that no opening is refused if there is memory: every number of ports, with every limit.
 #[test]
 fn every_size(rt: HostRuntime) -> Result<(), Fail> {
     for ports in 1..65 {
