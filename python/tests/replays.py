@@ -1,7 +1,8 @@
-"""For tests: whether a log, replayed, gives the tables of some moments."""
+"""For tests: whether a log, replayed, gives what was shown at some moments, and what was sent."""
 
 from __future__ import annotations
 
+import re
 import shlex
 import subprocess
 from pathlib import Path
@@ -9,6 +10,8 @@ from typing import Optional
 
 from running_live import Live
 from served import PROGRAM
+
+CLOCK = re.compile("^# [0-9]{4}-", re.M)  # which stands behind the head of a file
 
 
 class Moments:
@@ -32,17 +35,34 @@ class Moments:
             self.take()
 
 
+def answers(log: Path, told: str) -> list[str]:
+    """What the agent of a log's file answers to a text."""
+    first = log.read_text().partition("\n")[0]
+    run = subprocess.run([PROGRAM, *shlex.split(first[len("# lldpa "):])], input=told,
+                         capture_output=True, text=True, check=True)
+    return run.stdout.splitlines()
+
+
 def replayed(log: Path, line: str) -> Optional[list[str]]:
     """Returns the tables at that line of a log, as a replay of this file alone gives them, or None
     if the line is not in it."""
     lines = log.read_text().split("\n")
     if line not in lines:
         return None
-    before = lines[:lines.index(line)]
-    words = shlex.split(lines[0][len("# lldpa "):])
-    told = "\n".join([*before, "show neighbors", ""])
-    run = subprocess.run([PROGRAM, *words], input=told, capture_output=True, text=True, check=True)
-    return [one for one in run.stdout.splitlines() if one.startswith("lldp.")]
+    told = "\n".join([*lines[:lines.index(line)], "show neighbors", ""])
+    return [one for one in answers(log, told) if one.startswith("lldp.")]
+
+
+def sent(folder: Path, port: str) -> list[bytes]:
+    """The frames that a port sends in a replay of each file of a folder, one after the other; those
+    that it sends while it is told the head of a file count for nothing."""
+    frames: list[str] = []
+    for log in sorted(folder.iterdir(), key=lambda path: path.stat().st_mtime_ns):
+        told = log.read_text()
+        found = CLOCK.search(told)
+        in_head = len(answers(log, told[:found.start()])) if found else 0
+        frames += answers(log, told)[in_head:]
+    return [bytes.fromhex(line.split()[2]) for line in frames if line.startswith(f"tx {port} ")]
 
 
 def differing(folder: Path, moments: Moments) -> list[str]:

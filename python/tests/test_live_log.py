@@ -2,6 +2,7 @@
 
 from __future__ import annotations
 
+import os
 import re
 import signal
 import subprocess
@@ -142,6 +143,16 @@ class TestOnce(OnLinks):
         table = live.process.stdout.read().decode().splitlines()
         self.assertEqual([line.split()[0] for line in table], ["PORT", "eth0", "eth1", "2"])
         self.assertIsNotNone(peers[0].hears(1, ttl=0))
+
+    def test_it_waits_while_the_agent_does_not_answer(self) -> None:
+        peers = [self.peer("peer0"), self.peer("peer1")]
+        live = self.live("--once", "600", "eth0", "eth1", awaits=False, reads_output=False)
+        self.assertIsNotNone(peers[0].hears())
+        os.kill(live.agent(), signal.SIGSTOP)
+        self.assertTrue(live.says("another one takes its place"))
+        for peer, number in zip(peers, (1, 2)):
+            peer.send(numbered(number))
+        self.assertEqual(live.ends(), 0)
 
     @by_the_clock
     def test_status_tells_that_one_was_missing(self) -> None:

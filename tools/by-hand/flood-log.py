@@ -1,14 +1,20 @@
 #!/usr/bin/env python3
 """Floods one port of an lldpa-live that logs, and checks that the log of the others continues.
 
-    tools/by-hand/flood-log.py [--frames 3000000] [--most 2] [--keep 20]
+    tools/by-hand/flood-log.py [--frames 3000000] [--most 2] [--keep 20] [--minutes 10]
 
 One port receives so many frames of 200 neighbors, as long as they may be, as fast as possible; at
 another one five neighbors come, change and age out. The log's files have `most` megabytes each and
 `keep` together. At ten moments lldpa-live is asked for its tables, and must answer in time; a replay
 of the one file of that moment must give the same tables. The folder must never have more than it
-may, and no frame of the quiet port may be dropped. It needs Linux and root. LLDPA
-names the program. The last line is `N passed, M failed`.
+may, and no frame of the quiet port may be dropped.
+
+With --minutes one port has hostile frames for so long, another one quiet neighbors, and a third
+one's interface comes and goes, while settings are reloaded, questions asked, addresses changed,
+agents killed and stopped, and lldpa-live stands still: no frame of the quiet port may be lost, no
+neighbor be false, and nothing grow.
+
+It needs Linux and root. LLDPA names the program. The last line is `N passed, M failed`.
 """
 import argparse
 import pathlib
@@ -21,6 +27,7 @@ from counts import Counts  # noqa: E402
 from running_live import Live  # noqa: E402
 from replays import Moments, differing  # noqa: E402
 from served import numbered, tlv  # noqa: E402
+from unrest import Unrest  # noqa: E402
 from wires import Peer, Wires, flood  # noqa: E402
 
 LATE = 1.0
@@ -77,17 +84,29 @@ def compare(given, wires):
     print(live.errors(), end="")
 
 
+def disturb(given, wires):
+    """Does everything at once."""
+    unrest = Unrest(wires)
+    try:
+        unrest.run(60 * given.minutes)
+        unrest.judge(lambda holds, text: counts.that(text, holds))
+    finally:
+        print(unrest.live.errors()[-2000:], end="")
+        unrest.live.close()
+
+
 def main():
-    """Runs the flood."""
+    """Runs the flood, or the unrest."""
     parser = argparse.ArgumentParser(description=__doc__,
                                      formatter_class=argparse.RawDescriptionHelpFormatter)
     parser.add_argument("--frames", type=int, default=3_000_000)
     parser.add_argument("--most", type=int, default=2)
     parser.add_argument("--keep", type=int, default=20)
+    parser.add_argument("--minutes", type=float)
     given = parser.parse_args()
-    wires = Wires(2)
+    wires = Wires(3)
     try:
-        compare(given, wires)
+        (compare if given.minutes is None else disturb)(given, wires)
     finally:
         wires.close()
     return counts.end()

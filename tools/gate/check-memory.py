@@ -176,7 +176,7 @@ def see_handed_on(sources: Sources) -> None:
     code = sources.code("")
     for call, module in HANDED_ON:
         found = counts_of(re.escape(call), code)
-        sources.see(found == {module: 1}, f"{call} stands in {found}")
+        sources.see(found == {module: 1}, f"{call} is found in {found}")
 
 
 def see_global(sources: Sources) -> None:
@@ -197,7 +197,7 @@ def see_library(sources: Sources) -> None:
     code = sources.code("lldpa_c/")
     for call in LIBRARY_TAKES:
         found = counts_of(re.escape(call), code)
-        sources.see(found == {LIBRARY_OPENS: 1}, f"{call} stands in {found}")
+        sources.see(found == {LIBRARY_OPENS: 1}, f"{call} is found in {found}")
     for name, text in code.items():
         rest = re.sub(r"\bspecs\.Box\b|\bBox<\w+(?:, A)?>|\bBox::(?:new\(alloc, agent\)|into_raw|from_raw)", "", text)
         takes = re.search(TAKES_MEMORY, rest) is not None

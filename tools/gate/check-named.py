@@ -85,7 +85,7 @@ PLACES = {"transcript": fault_of_transcript, "counters": fault_of_counters, "vec
 def fault_of_place(place: str) -> str | None:
     """Returns what is wrong with one place, or None."""
     kind, _, rest = place.partition(" ")
-    return PLACES[kind](rest) if kind in PLACES else f"{place} is no place where something is tried"
+    return PLACES[kind](rest) if kind in PLACES else f"{place} is not a place that tries something"
 
 
 def places(text: str) -> list[str]:

@@ -70,7 +70,7 @@ def late_by_the_program(client):
         print(f"of {QUESTIONS} questions over a connection {late} were answered late")
         if late is None or late <= MOST_LATE or not left or seconds < NOTICEABLE:
             return late
-        print(f"asked again, since the machine stood still for {seconds:.2f} s meanwhile")
+        print(f"asked again, since the machine stood still for {seconds:.2f} s")
 
 
 def serves_the_most():

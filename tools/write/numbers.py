@@ -128,7 +128,7 @@ def main():
     told, counts = said(), Counts()
     for what, number in counted.items():
         is_near = what in told and abs(told[what] - number) * 20 <= number
-        counts.judge(None if is_near else f"{told.get(what, 'not told')}, counted {number}", f"docs/TESTING.md: {what}")
+        counts.judge(None if is_near else f"{told.get(what, 'missing')}, counted {number}", f"docs/TESTING.md: {what}")
     return counts.end()
 
 

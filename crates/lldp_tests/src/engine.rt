@@ -19,7 +19,7 @@ const NAMES: [&str; 64] = [
     "p52", "p53", "p54", "p55", "p56", "p57", "p58", "p59", "p60", "p61", "p62", "p63",
 ];
 
-/// Opens an agent as the program does by default, except that its ports only receive.
+/// Opens an agent with the program's defaults, except that its ports only receive.
 fn open<A: Allocator + Clone>(
     rt: &impl Abort,
     alloc: A,

@@ -144,10 +144,11 @@ class Agents:
         await self.note_settings()
 
     async def renew(self, end: Ended) -> None:
-        """Replaces an agent that has ended. Raises what it ended with if it is not ours, or is the
-        second one within a minute."""
+        """Replaces an agent that has ended. Raises what it ended with if it is not ours, if it never
+        answered, or if it is the second one within a minute."""
         is_again = self.last_end is not None and now() - self.last_end < SECONDS_BETWEEN
-        if self.is_over or is_again or self.given.connect is not None:
+        is_known = self.settings.chassis is not None
+        if self.is_over or is_again or self.given.connect is not None or not is_known:
             raise end
         self.last_end = now()
         self.restarts += 1
@@ -158,14 +159,14 @@ class Agents:
     async def next(self, head: Sequence[str]) -> AsyncAgent:
         """Opens another agent, and sends it this head, with which a new file of the log begins.
         What its ports send until then is lost."""
-        agent = await self.open()
+        patient = Patient(await self.open(), self.report)
         try:
             for place in range(0, len(head), LINES_AT_ONCE):
-                for refusal in await agent.tell(head[place:place + LINES_AT_ONCE]):
+                for refusal in await patient.tell(head[place:place + LINES_AT_ONCE]):
                     raise Ended(None, f"the agent refused what the one before was told: {refusal}")
         except BaseException:
-            await agent.close(0)
+            await patient.close(0)
             raise
         self.outbox.frames.clear()
         self.session.begin(self.words(), head)
-        return agent
+        return patient.agent

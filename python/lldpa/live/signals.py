@@ -24,10 +24,19 @@ class Signals:
         self.wants_reload = False
         self.reloading: Optional[asyncio.Future[None]] = None
         self.taken = [one for one in SIGNALS if signal.getsignal(one) != signal.SIG_IGN]
+        mask = signal.pthread_sigmask(signal.SIG_BLOCK, SIGNALS)
+        self.add_handlers()
+        signal.pthread_sigmask(signal.SIG_SETMASK, mask)
+
+    def add_handlers(self) -> None:
+        """Has the event loop call what each signal asks for. The loop reads signals from a pipe. A
+        flood fills it, which is no loss, and which the interpreter must not report: CPython takes a
+        lock for that in its signal handler, and may wait for itself for ever."""
         loop = asyncio.get_running_loop()
         for one in self.taken:
-            reloads = one == signal.SIGHUP and ground.given.stay
+            reloads = one == signal.SIGHUP and self.ground.given.stay
             loop.add_signal_handler(one, self.reload if reloads else self.stop)
+        signal.set_wakeup_fd(signal.set_wakeup_fd(-1), warn_on_full_buffer=False)
 
     def stop(self) -> None:
         """Ends lldpa-live, and leaves further signals to the system."""

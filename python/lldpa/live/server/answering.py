@@ -31,8 +31,9 @@ Ask = Callable[[bytes], Awaitable[List[bytes]]]
 
 
 async def ports_of(ask: Ask) -> Sequence[Port]:
-    """Returns the ports with their neighbors."""
-    return read_show([line.decode("ascii") for line in await ask(b"show neighbors")]).ports
+    """Returns the ports with their neighbors, none while the agent does not answer."""
+    lines = [line.decode("ascii") for line in await ask(b"show neighbors")]
+    return () if "".join(lines).startswith(REFUSAL) else read_show(lines).ports
 
 
 def table_of(ports: Sequence[Port]) -> list[bytes]:

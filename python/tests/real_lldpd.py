@@ -1,13 +1,17 @@
-"""A real lldpd, for the scripts that compare it with this repository's programs."""
+"""For tests and scripts: a real lldpd beside this repository's programs."""
 from __future__ import annotations
 
 import json
 import os
 import re
+import shutil
 import subprocess
+import unittest
 from typing import Any
 
 from patience import eventually
+
+beside_lldpd = unittest.skipUnless(shutil.which("lldpd"), "it needs Debian's package lldpd")
 
 
 class Lldpd:
@@ -35,6 +39,11 @@ class Lldpd:
         """Returns the interfaces with neighbors that it shows."""
         shown = json.loads(self.ask("-f", "json0", "show", "neighbors", "details") or "{}")
         return [one for part in shown.get("lldp", []) for one in part.get("interface", [])]
+
+    def values(self, key: str) -> set[str]:
+        """Returns the values that its neighbors have for a key, such as `peer0.chassis.mac`."""
+        shown = self.ask("-f", "keyvalue", "show", "neighbors").decode()
+        return set(re.findall(rf"^lldp\.{re.escape(key)}=(.*)$", shown, re.M))
 
     def close(self) -> None:
         """Ends it."""
