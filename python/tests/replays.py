@@ -11,7 +11,7 @@ from typing import Optional
 from running_live import Live
 from served import PROGRAM
 
-CLOCK = re.compile("^# [0-9]{4}-", re.M)  # which stands behind the head of a file
+CLOCK = re.compile("^# [0-9]{4}-", re.M)  # which follows the head of a file
 
 
 class Moments:
@@ -36,7 +36,7 @@ class Moments:
 
 
 def answers(log: Path, told: str) -> list[str]:
-    """What the agent of a log's file answers to a text."""
+    """Returns what the agent of a log's file answers to a text."""
     first = log.read_text().partition("\n")[0]
     run = subprocess.run([PROGRAM, *shlex.split(first[len("# lldpa "):])], input=told,
                          capture_output=True, text=True, check=True)
@@ -54,8 +54,8 @@ def replayed(log: Path, line: str) -> Optional[list[str]]:
 
 
 def sent(folder: Path, port: str) -> list[bytes]:
-    """The frames that a port sends in a replay of each file of a folder, one after the other; those
-    that it sends while it is told the head of a file count for nothing."""
+    """Returns the frames that a port sends in a replay of each file of a folder, one after another.
+    Those that it sends during the head of a file do not count."""
     frames: list[str] = []
     for log in sorted(folder.iterdir(), key=lambda path: path.stat().st_mtime_ns):
         told = log.read_text()
