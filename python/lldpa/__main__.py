@@ -1,4 +1,4 @@
-"""What the package has, as `python3 -m lldpa` tells it."""
+"""Prints what the package has: `python3 -m lldpa`."""
 from __future__ import annotations
 
 from . import __version__

@@ -1,4 +1,4 @@
-"""The wall clock as it is written, and the clock by which is waited."""
+"""The wall clock as it is written, and the clock for waiting."""
 
 from __future__ import annotations
 
@@ -23,13 +23,13 @@ def seconds_of(text: str) -> int:
 
 
 def now() -> float:
-    """Returns the present moment in seconds, by the clock that goes on while the machine sleeps."""
+    """Returns the present moment in seconds, by the clock that runs on while the machine sleeps."""
     return time.clock_gettime(time.CLOCK_BOOTTIME)
 
 
 class Waiting:
-    """How long something is awaited, by looks. Where this process itself stood still between two
-    looks, that counts as a second."""
+    """Measures how long something is awaited, by looks. If this process itself stood still between
+    two looks, that counts as a second."""
 
     def __init__(self) -> None:
         self.begin()
@@ -40,7 +40,7 @@ class Waiting:
         self.last = now()
 
     def look(self) -> float:
-        """How many seconds it is awaited."""
+        """Returns for how many seconds it has been awaited."""
         moment = now()
         self.seconds += min(moment - self.last, 1.0)
         self.last = moment

@@ -20,8 +20,8 @@ class Lldpd:
     def __init__(self, namespace: str, folder: str, *words: str) -> None:
         os.makedirs("/run/lldpd", exist_ok=True)
         self.socket = os.path.join(folder, namespace)
-        command = ["ip", "netns", "exec", namespace, "lldpd", "-d", "-u", self.socket, "-O", "/dev/null"]
-        self.process = subprocess.Popen([*command, *words], stdin=subprocess.DEVNULL,
+        command = ["ip", "netns", "exec", namespace, "lldpd", "-d", "-u", self.socket]
+        self.process = subprocess.Popen([*command, "-O", "/dev/null", *words], stdin=subprocess.DEVNULL,
                                         stdout=subprocess.DEVNULL, stderr=subprocess.DEVNULL)
         if not eventually(lambda: self.ask("-f", "keyvalue", "show", "configuration")):
             raise SystemExit("no lldpd")
@@ -32,7 +32,7 @@ class Lldpd:
         return subprocess.run(command, capture_output=True, check=False).stdout
 
     def tell(self, command: str) -> None:
-        """Tells it a command, in which quotes hold a word together."""
+        """Sends it a command, in which quotes hold a word together."""
         self.ask(*(word.strip('"') for word in re.findall(r'"[^"]*"|\S+', command)))
 
     def neighbors(self) -> list[Any]:

@@ -1,4 +1,4 @@
-"""For tests: an lldpa-live with neighbors whose table is to stay while its agent is replaced."""
+"""For tests: an lldpa-live with neighbors whose table must stay while its agent is replaced."""
 
 from __future__ import annotations
 
@@ -18,7 +18,7 @@ LONG = 600  # seconds that frames of these tests last
 
 
 def address_in(octets: bytes) -> Optional[str]:
-    """The IPv4 management address that a frame announces."""
+    """Returns the IPv4 management address that a frame announces."""
     for kind, body in tlvs_of(octets):
         if kind == 8 and body[:2] == b"\5\1":
             return socket.inet_ntoa(body[2:6])
@@ -37,7 +37,7 @@ class Replaced(OnLinks):
         self.peers = [self.peer("peer0"), self.peer("peer1")]
 
     def begun(self, *words: str) -> Live:
-        """An lldpa-live with a log and three neighbors, told in different seconds."""
+        """Starts an lldpa-live with a log and three neighbors, which came in different seconds."""
         live = self.live("--log", str(self.log), "--events", *words, "eth0", "eth1")
         for number in (3, 1, 2):
             self.peers[0].send(numbered(number, LONG + number, tlv(5, b"sw%d" % number)))
@@ -47,11 +47,11 @@ class Replaced(OnLinks):
         return live
 
     def neighbors(self, live: Live) -> list[Neighbor]:
-        """The neighbors without their seconds left, which are behind it."""
+        """Returns the neighbors without their seconds left, which come last."""
         return read_show(live.ask("show neighbors")).neighbors
 
     def stays(self, before: list[Neighbor], began: float, live: Live) -> None:
-        """Sees that all neighbors are there as before, and their seconds left went on."""
+        """Checks that all neighbors are there as before, and that their seconds left went on."""
         after, went = self.neighbors(live), time.monotonic() - began
         self.assertEqual([(one.port, one.place, one.id, one.said) for one in after],
                          [(one.port, one.place, one.id, one.said) for one in before])
@@ -59,7 +59,7 @@ class Replaced(OnLinks):
             self.assertAlmostEqual(old.expires - new.expires, went, delta=2)
 
     def hears_address(self, address: Optional[str], peer: int = 0, seconds: float = 8) -> bool:
-        """Whether a peer comes to hear frames with that address, and meanwhile no shutdown."""
+        """Returns whether a peer comes to hear frames with that address, and no shutdown before."""
         last = time.monotonic() + seconds
         while (left := last - time.monotonic()) > 0:
             octets = self.peers[peer].hears(left)

@@ -13,7 +13,7 @@ from typing import List, Optional
 REPOSITORY = Path(__file__).resolve().parents[2]
 PROGRAM = os.environ.get("LLDPA") or str(REPOSITORY / "crates" / "lldpa" / "out" / "lldpa")
 CAPTURE = str(REPOSITORY / "bin" / "lldpa-capture")
-# What a port eth0 sends where no option is given.
+# What a port eth0 sends if no option is given.
 DEFAULT_FRAME = bytes.fromhex(
     "0180c200000e02000000000188cc02070402000000000104050565746830060200790804657468300a096c6f63"
     "616c686f73740c056c6c6470610e04008000800000")
@@ -34,7 +34,7 @@ class FilesCase(unittest.TestCase):
         self.folder = Path(folder.name)
 
     def file(self, octets: bytes, name: str = "made") -> str:
-        """The path of a file with these octets."""
+        """Writes a file with these octets, and returns its path."""
         path = self.folder / name
         path.write_bytes(octets)
         return str(path)

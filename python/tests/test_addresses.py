@@ -25,7 +25,7 @@ STEPS = ((["add 192.0.2.7/24"], "192.0.2.7"),
 
 
 def makes(kind: str) -> bool:
-    """Whether this kernel has interfaces of a kind."""
+    """Returns whether this kernel has interfaces of a kind."""
     made = [subprocess.run(["ip", "link", word, "lldpa-try", "type", kind], check=False,
                            capture_output=True).returncode == 0 for word in ("add", "del")]
     return all(made)
@@ -35,7 +35,7 @@ def makes(kind: str) -> bool:
 @beside_lldpd
 @unittest.skipUnless(shutil.which("tshark"), "it needs Debian's package tshark")
 class AtPeers(Replaced):
-    """What is at real peers: lldpd at both links, tshark at the second one."""
+    """Judges by real peers: lldpd on both links, tshark on the second one."""
 
     def setUp(self) -> None:
         super().setUp()
@@ -48,7 +48,7 @@ class AtPeers(Replaced):
         self.assertTrue(eventually(lambda: "Capturing" in self.captured.read_text()))
 
     def output(self, *words: str) -> Path:
-        """Starts a program at the peer's side, and gives the file that it writes to."""
+        """Starts a program at the peer's side, and returns the file that it writes to."""
         path = Path(self.wires.folder, words[0])
         with inside(self.wires.there), path.open("wb") as file:
             program = subprocess.Popen(words, stdin=subprocess.DEVNULL, stdout=file, stderr=file)
@@ -57,7 +57,7 @@ class AtPeers(Replaced):
         return path
 
     def is_there(self, address: Optional[str]) -> bool:
-        """Whether both peers have that address of this host, or none, by its last frame."""
+        """Returns whether both peers have that address of this host by its last frame."""
         wanted = set() if address is None else {address}
         last = self.captured.read_text().splitlines()[-1]
         return (last == f"121\t{address or ''}"
@@ -116,7 +116,7 @@ class AtPeers(Replaced):
 
 
 def frames_of(peer: Peer) -> list[bytes]:
-    """The frames that a peer has heard."""
+    """Returns the frames that a peer has heard."""
     return list(iter(lambda: peer.hears(0.5), None))
 
 
@@ -125,7 +125,7 @@ class Addresses(Replaced):
     """The management address of this host is followed."""
 
     def add(self, address: str, interface: str = "eth0", word: str = "add") -> None:
-        """Gives this host an address, or takes it away."""
+        """Gives this host an address, or removes it."""
         ip("-n", self.wires.here, "address", word, f"{address}/24", "dev", interface)
 
     def test_an_address_that_comes_changes_and_goes_is_at_the_peer(self) -> None:

@@ -24,7 +24,7 @@ from patience import eventually
 from support import DEFAULT_FRAME, PROGRAM, kill
 
 def started(*ports: str, **options: lldpa.agent.synchronous.Option) -> Agent:
-    """An agent with these ports, eth0 where there are none."""
+    """Starts an agent with these ports, or with eth0 if there are none."""
     return Agent.start(ports or ["eth0"], PROGRAM, **options)
 
 
@@ -113,7 +113,7 @@ class Asked(unittest.TestCase):
 
 
 class EndedAgents(unittest.TestCase):
-    """Agents that are no more, or not there."""
+    """Agents that have ended, or do not exist."""
 
     def test_bad_words(self) -> None:
         for words, text in ((["a.b"], "lldpa: bad port name"), ([], "lldpa: no ports")):
@@ -169,7 +169,7 @@ class EndedAgents(unittest.TestCase):
         self.assertLess(most, 200_000_000)
 
     def program(self, text: str) -> str:
-        """The path of a program in the shell's language."""
+        """Writes a program in the shell's language, and returns its path."""
         folder = tempfile.TemporaryDirectory()
         self.addCleanup(folder.cleanup)
         path = Path(folder.name) / "program"
@@ -215,7 +215,7 @@ class Listening(unittest.TestCase):
         self.addCleanup(self.first.close)
 
     def connected(self) -> Optional[Agent]:
-        """An agent, if it listens."""
+        """Returns an agent, if it listens."""
         try:
             return Agent.connect(self.number)
         except ConnectionRefusedError:

@@ -86,7 +86,7 @@ class Ends(Replaced):
         self.assertEqual(live.errors(), f"lldpa-live: {program}: it ended\n")
 
     def program(self, words: str) -> str:
-        """A program of these words."""
+        """Returns the path of a shell script of these words."""
         path = Path(self.wires.folder, "program")
         path.write_text(f"#!/bin/sh\n{words}\n")
         path.chmod(0o755)

@@ -1,4 +1,4 @@
-"""The head of a log's later files, which brings an agent to where another one is."""
+"""The head of a log's later files, which brings a new agent to the state of another one."""
 
 from __future__ import annotations
 
@@ -20,7 +20,7 @@ class Beginnings(unittest.TestCase):
     """The last frames, and what a file of the log begins with."""
 
     def begun(self, agent: Agent, senders: Senders, *words: str) -> list[str]:
-        """The tables of an agent that is new and is told the beginning."""
+        """Returns the tables of a new agent that gets the beginning."""
         show = self.shown(agent)
         senders.note_held(show.ports)
         senders.downs = ["b"]
@@ -33,7 +33,7 @@ class Beginnings(unittest.TestCase):
             return other.ask("show neighbors")
 
     def shown(self, agent: Agent) -> Show:
-        """What it shows."""
+        """Returns what it shows."""
         return read_show([line for what in ("neighbors", "chassis", "configuration")
                           for line in agent.ask(f"show {what}")])
 

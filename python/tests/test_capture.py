@@ -1,4 +1,4 @@
-"""Captures that are made, and the packets that are read of them."""
+"""Captures that are made, and the packets that are read from them."""
 from __future__ import annotations
 
 import gzip
@@ -15,7 +15,7 @@ FRAMES: list[Frame] = [whole(OTHER), whole(LLDP, START + 1000), (START + SECOND,
 
 
 class Dripping(io.RawIOBase):
-    """A file of which each read gives few octets, as a pipe does."""
+    """A file whose reads each return few octets, as a pipe's do."""
 
     def __init__(self, octets: bytes, most: int) -> None:
         super().__init__()
@@ -29,12 +29,12 @@ class Dripping(io.RawIOBase):
 
 
 def packets(octets: bytes) -> list[Packet]:
-    """All packets of a capture."""
+    """Returns all packets of a capture."""
     return list(packets_of(io.BytesIO(octets)))
 
 
 def fault_of(octets: bytes) -> str:
-    """Why a capture cannot be read on, nothing where it can."""
+    """Returns why a capture cannot be read further, or nothing if it can."""
     try:
         packets(octets)
     except BadCapture as fault:
@@ -88,7 +88,7 @@ class Read(unittest.TestCase):
 
 
 class Compressed(unittest.TestCase):
-    """Captures that gzip compressed are read as they are."""
+    """Captures that gzip compressed are read unchanged."""
 
     def test_each_form(self) -> None:
         for name, form in FORMS.items():
@@ -124,10 +124,10 @@ class Compressed(unittest.TestCase):
 
 
 class InPlace(unittest.TestCase):
-    """What is passed over in place is what cannot matter."""
+    """What is skipped in place is what cannot matter."""
 
     def random_frames(self, dice: random.Random) -> list[Frame]:
-        """Frames, some of them LLDP's, at times that mostly go on."""
+        """Returns frames, some of them LLDP's, at times that mostly increase."""
         time, frames = START, []
         for _ in range(dice.randrange(60)):
             time += dice.choice([0, 1000, 10**6, SECOND, -1000, -SECOND, 7 * SECOND, -5 * SECOND])
@@ -154,13 +154,13 @@ class InPlace(unittest.TestCase):
             self.assertEqual(self.steps_back(looked), self.steps_back(everything))
 
     def steps_back(self, timed: "list[tuple[bytes, int]]") -> list["tuple[int, int]"]:
-        """Each step back of the time: from where, and to where."""
+        """Returns each step back of the time: from where, and to where."""
         times = [time for _, time in timed]
         return [(one, other) for one, other in zip(times, times[1:]) if other < one]
 
 
 class Damaged(unittest.TestCase):
-    """What cannot be read on says where."""
+    """What cannot be read further says where."""
 
     def test_no_captures(self) -> None:
         self.assertEqual(fault_of(b""), "it is empty")

@@ -24,7 +24,7 @@ class Files(FilesCase):
     """lldpa-capture on files."""
 
     def ran(self, *words: str) -> tuple[str, str, int]:
-        """What it writes, says and answers."""
+        """Runs it, and returns what it writes, says and answers."""
         done = run_capture(list(words), None, self.folder)
         return done.stdout, done.stderr, done.returncode
 
@@ -115,13 +115,13 @@ class Ports(FilesCase):
                           for number, port in enumerate(PORTS)]
 
     def frames(self, mac: bytes, peer: str, begin: int) -> list[Frame]:
-        """Nine frames at a port, of which each fourth is of its neighbor."""
+        """Returns nine frames at a port, of which each fourth is of its neighbor."""
         octets = lldp_frame(mac, peer.encode())
         return [whole(OTHER if place % 4 else octets, START + (begin + place * 7) * SECOND)
                 for place in range(9)]
 
     def compare(self, *words: str) -> None:
-        """Sees that an agent finds the neighbors in what lldpa-capture writes."""
+        """Checks that an agent finds the neighbors in what lldpa-capture writes."""
         done = run_capture(list(words))
         self.assertEqual((done.stderr, done.returncode), ("", 0))
         shown = subprocess.run([PROGRAM, "--receive-only", *PORTS], text=True, check=True,

@@ -130,7 +130,7 @@ class Answers(Program):
         self.assertTrue(55 < len(lines[1]) <= 60 and "…" in lines[1], lines[1])
 
     def on_a_terminal(self, width: int, *words: str, before: Sequence[str] = ()) -> bytes:
-        """What lldpa-ctl writes to a terminal of that width."""
+        """Returns what lldpa-ctl writes to a terminal of that width."""
         ours, theirs = pty.openpty()
         fcntl.ioctl(theirs, termios.TIOCSWINSZ, struct.pack("HHHH", 24, width, 0, 0))
         command = [*before, CTL, "--control", self.served.path, *words]

@@ -1,4 +1,4 @@
-"""What asks, and an lldpa-live that was taken over, or is a stranger at its place."""
+"""Clients of an lldpa-live that was taken over, or that is a stranger in its place."""
 
 from __future__ import annotations
 
@@ -20,7 +20,7 @@ LLDPCTL = str(REPOSITORY / "bin" / "lldpctl")
 
 
 def rights_of(number: int) -> list[str]:
-    """Returns the users and groups of a process, as the kernel has them."""
+    """Returns the users and groups of a process, from the kernel."""
     lines = Path(f"/proc/{number}/status").read_text().splitlines()
     return [line for line in lines if line.startswith(("Uid:", "Gid:", "Groups:"))]
 
@@ -29,7 +29,7 @@ class Hostile(FilesCase):
     """An lldpa-live that was taken over."""
 
     def answers(self, *octets: bytes, pause: float = 0) -> str:
-        """The path of a socket at which the one who asks is sent these octets."""
+        """Returns the path of a socket at which each client is sent these octets."""
         path = str(self.folder / f"control-{len(os.listdir(self.folder))}")
         listening = socket.socket(socket.AF_UNIX, socket.SOCK_STREAM)
         self.addCleanup(listening.close)

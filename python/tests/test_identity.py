@@ -21,13 +21,13 @@ from wires import inside, ip
 
 def one(number: int, name: str, kind: str = "", permanent: bytes = b"",
         is_ethernet: bool = True) -> LinkNews:
-    """An interface of that kind, whose address ends with its number."""
+    """Returns an interface of that kind, whose address ends with its number."""
     return LinkNews(number, name, True, True, is_ethernet, bytes([2, 0, 0, 0, 0, number]), kind,
                 permanent)
 
 
 class TestChassis(unittest.TestCase):
-    """Whose address names a host."""
+    """Which address names a host."""
 
     def test_permanent_address_of_the_first_port_that_is_hardware(self) -> None:
         known = [one(2, "docker0", "bridge"), one(3, "eth9", "", b"\2perm9"),
@@ -72,14 +72,14 @@ class TestLate(OnLinks):
     links = 0
 
     def others(self) -> None:
-        """Makes what is no port and no hardware: a bridge and a pair of veths."""
+        """Makes interfaces that are neither ports nor hardware: a bridge and a pair of veths."""
         ip("-n", self.wires.here, "link", "add", "docker0", "type", "bridge")
         ip("-n", self.wires.here, "link", "add", "vethA", "type", "veth", "peer", "name", "vethB")
         for name in ("docker0", "vethA", "vethB"):
             ip("-n", self.wires.here, "link", "set", name, "up")
 
     def address(self, name: str) -> str:
-        """The address of an interface of this side."""
+        """Returns the address of an interface of this side."""
         shown = subprocess.run(["ip", "-n", self.wires.here, "-br", "link", "show", name],
                                capture_output=True, text=True, check=True).stdout
         return shown.split()[2]
@@ -106,7 +106,7 @@ class TestLate(OnLinks):
 
     @beside_lldpd
     def test_two_late_hosts_are_two_neighbors(self) -> None:
-        """Both are started before their interface, and a real lldpd hears them."""
+        """Starts both before their interface; a real lldpd hears them."""
         self.others()
         ip("-n", self.wires.there, "link", "add", "br0", "type", "bridge")
         ip("-n", self.wires.there, "link", "set", "br0", "up")
@@ -132,7 +132,8 @@ class TestLate(OnLinks):
 
 
 def asked(live: Live, line: str) -> list[str]:
-    """What lldpa-live answers, the text of a refusal too, nothing while it does not answer."""
+    """Returns what lldpa-live answers, the text of a refusal too, or nothing while it does not
+    answer."""
     try:
         return live.ask(line)
     except OSError:
@@ -205,10 +206,10 @@ class TestAnnounced(OnLinks):
 
 
 def unsent(live: Live) -> int:
-    """How many frames did not go out."""
+    """Returns how many frames were not sent."""
     return number_of(live, "unsent")
 
 
 def number_of(live: Live, name: str) -> int:
-    """A number of lldpa-live about its port."""
+    """Returns a number of lldpa-live about its port."""
     return int(dict(line.split("=") for line in live.ask("live"))[f"live.eth0.{name}"])

@@ -28,7 +28,7 @@ class TestInterface(OnLinks):
         self.sender = self.peer()
 
     def number_of(self, name: str) -> int:
-        """The number of an interface of this side."""
+        """Returns the number of an interface of this side."""
         with inside(self.wires.here):
             links = Links()
             found = {news.name: news.number for news in links.first()}
@@ -36,14 +36,15 @@ class TestInterface(OnLinks):
         return found[name]
 
     def takes(self, octets: bytes, seconds: float = SECONDS) -> bool:
-        """Whether a frame from the other end is taken in time; it must then be whole."""
+        """Returns whether a frame from the other end is received in time; it must then be whole."""
         self.sender.send(octets)
         taken = [frame.octets for frame in eventually(lambda: self.interface.read(10), seconds)]
         self.assertIn(taken, ([], [octets]))
         return bool(taken)
 
     def refuses(self, octets: bytes) -> bool:
-        """Whether a frame from the other end is not taken, although it would be there by now."""
+        """Returns whether a frame from the other end is not received, although it would be there by
+        now."""
         return not self.takes(octets, 0.05)
 
     def test_what_is_taken(self) -> None:

@@ -1,4 +1,4 @@
-"""What is read of organizationally specific TLVs beside what lldpcli and tshark show of them.
+"""What is read of organizationally specific TLVs, and what lldpcli and tshark show of them.
 
 `judged.json` has frames of real senders and made ones, with what lldpcli 1.0.16 and tshark 4.0.17
 showed of each; `tools/by-hand/try-details.py --save` asks them again.

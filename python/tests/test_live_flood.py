@@ -27,20 +27,20 @@ FRAMES = [numbered(number) for number in range(200)]
 
 
 def seconds_to_answer(client: Client, line: str) -> float:
-    """How long the answer to a question takes."""
+    """Returns how long the answer to a question takes."""
     began = time.monotonic()
     client.ask(line)
     return time.monotonic() - began
 
 
 def resident(live: Live) -> int:
-    """The greatest resident set of lldpa-live, in KiB."""
+    """Returns the greatest resident set of lldpa-live, in KiB."""
     status = Path(f"/proc/{live.process.pid}/status").read_text()
     return int(re.search(r"VmHWM:\s*(\d+)", status)[1])
 
 
 def numbers(live: Live) -> dict[str, int]:
-    """How many frames were dropped, and how many were received."""
+    """Returns how many frames were dropped, and how many were received."""
     shown = "\n".join(live.ask("live") + live.ask("show statistics"))
     return {name: int(re.search(rf"[.]{name}=(\d+)$", shown, re.M)[1])
             for name in ("kernel-drops", "limit-drops", "received")}
@@ -134,7 +134,7 @@ class TestManyPorts(OnLinks):
 
 
 def is_connected(client: socket.socket) -> bool:
-    """Whether the other end is still there, which may have no room for what is sent."""
+    """Returns whether the other end still exists, which may have no room for what is sent."""
     with contextlib.suppress(BlockingIOError):
         try:
             client.send(b"\n")

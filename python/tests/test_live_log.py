@@ -27,7 +27,7 @@ class TestLog(OnLinks):
         self.folder = Path(self.wires.folder, "log")
 
     def logs(self) -> list[Path]:
-        """The files of the folder, oldest first."""
+        """Returns the files of the folder, oldest first."""
         return sorted(self.folder.iterdir(), key=lambda path: path.stat().st_mtime_ns)
 
     @by_the_clock
@@ -58,7 +58,7 @@ class TestLog(OnLinks):
         self.assertNotIn(b"nonsense", log)
 
     def live_a_little(self, live: Live, peer: Peer) -> None:
-        """Frames, questions, refused lines, links, seconds that were missed."""
+        """Sends frames, questions, refused lines, links, seconds that were missed."""
         for frame in (numbered(1), numbered(2), numbered(3, ttl=1)):
             peer.send(frame)
         self.assertTrue(eventually(lambda: "lldp.eth0.ageouts=1" in live.ask("show statistics")))
@@ -128,7 +128,7 @@ class TestLog(OnLinks):
 
 @on_links
 class TestOnce(OnLinks):
-    """A table once all are there."""
+    """A table as soon as each port has a neighbor."""
 
     links = 2
 
@@ -181,7 +181,7 @@ class TestConnect(OnLinks):
         eventually(lambda: "4711" in self.listening())
 
     def listening(self) -> str:
-        """What listens in the namespace."""
+        """Returns what listens in the namespace."""
         with inside(self.wires.here):
             return subprocess.run(["ss", "-tln"], capture_output=True, text=True).stdout
 

@@ -28,7 +28,7 @@ class Program(unittest.TestCase):
         self.served.frame("eth1", numbered(7, 120, tlv(5, b"there"), vlan))
 
     def run_it(self, program: str, *words: str, status: int = 0, said: str = "") -> str:
-        """What it prints; its status and what it says are looked at."""
+        """Returns what it prints; checks its status and its message."""
         told = subprocess.run([program, "-u", self.served.path, *words], check=False,
                               capture_output=True, text=True)
         name = program.rpartition("/")[2]
@@ -93,7 +93,7 @@ class Answers(Program):
 
 
 class Handed(Program):
-    """What is handed to lldpa-live."""
+    """What is passed on to lldpa-live."""
 
     def test_configuration(self) -> None:
         for words in ("configure lldp tx-interval 20", "conf lldp tx-ho 3",

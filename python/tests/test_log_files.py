@@ -20,7 +20,7 @@ LONG = [numbered(number, 600 + number, tlv(5, b"n%d" % number)).ljust(1514, b"\0
 
 
 def log_process(live: Live) -> int:
-    """The process that writes lldpa-live's log."""
+    """Returns the process that writes lldpa-live's log."""
     pid = live.process.pid
     children = Path(f"/proc/{pid}/task/{pid}/children").read_text().split()
     return next(int(one) for one in children if int(one) != live.agent())
@@ -37,7 +37,7 @@ class TestFiles(OnLinks):
         self.folder = Path(self.wires.folder, "log")
 
     def size(self) -> int:
-        """The octets of all logs."""
+        """Returns the octets of all logs."""
         return sum(path.stat().st_size for path in self.folder.iterdir())
 
     def test_each_file_replays_alone_to_the_tables_that_were_there(self) -> None:

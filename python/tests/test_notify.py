@@ -13,7 +13,7 @@ from lldpa.live.notify import Manager
 
 
 class Telling(unittest.TestCase):
-    """What is told, and when."""
+    """What is reported, and when."""
 
     def setUp(self) -> None:
         folder = tempfile.TemporaryDirectory()
@@ -22,7 +22,7 @@ class Telling(unittest.TestCase):
         self.addCleanup(self.heard.close)
 
     def manager(self, **environment: str) -> Manager:
-        """One that tells the test."""
+        """Returns one that reports to the test."""
         manager = Manager({"NOTIFY_SOCKET": self.heard.path, **environment})
         self.addCleanup(manager.close)
         return manager

@@ -15,13 +15,13 @@ HOSTILE = bytes([0x1B]) + b"[31m\r\n\x9b2J\x07\x00\xc2\x9b\xff\x7f\\"
 
 
 def neighbor(port: str, name: str, its_port: str, *said: tuple[str, str]) -> Neighbor:
-    """A neighbor with a name."""
+    """Returns a neighbor with a name."""
     return Neighbor(port, 1, Identifier("mac", "02:00:00:00:00:01"),
                     Identifier("ifname", its_port), 120, 98, (("chassis.name", name), *said))
 
 
 def port(name: str, *neighbors: Neighbor, too_many: bool = False) -> Port:
-    """A port and its neighbors."""
+    """Returns a port and its neighbors."""
     return Port(name, len(neighbors), 20, too_many, neighbors)
 
 
@@ -113,7 +113,7 @@ class Table(unittest.TestCase):
 
 
 class Escapes(unittest.TestCase):
-    """Nothing of a peer reaches a terminal as it is."""
+    """Nothing of a peer reaches a terminal unchanged."""
 
     def test_texts_of_a_neighbor_are_printable(self) -> None:
         management = bytes([10, 99]) + HOSTILE[:9] + bytes([2, 0, 0, 0, 1, 0])

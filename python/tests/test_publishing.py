@@ -1,4 +1,4 @@
-"""lldpa-ctl metrics --output: a file that is whole, and says so where nobody answers."""
+"""lldpa-ctl metrics --output: a file that is whole, and says so if nobody answers."""
 
 from __future__ import annotations
 
@@ -34,14 +34,14 @@ class Publishing(unittest.TestCase):
         self.file = self.folder / "lldpa.prom"
 
     def ctl(self, *words: str, said: str = "", status: int = 0, **options: Any) -> str:
-        """What lldpa-ctl prints; its status and what it says are looked at."""
+        """Returns what lldpa-ctl prints; checks its status and its message."""
         told = subprocess.run([CTL, "--control", self.served.path, "metrics", *words], check=False,
                               capture_output=True, text=True, timeout=SECONDS, **options)
         self.assertEqual((told.stderr, told.returncode), (said and f"lldpa-ctl: {said}\n", status))
         return told.stdout
 
     def names(self) -> List[str]:
-        """The files in the folder."""
+        """Returns the files in the folder."""
         return sorted(os.listdir(self.folder))
 
     def test_the_file_has_what_is_printed(self) -> None:
@@ -146,7 +146,7 @@ class Publishing(unittest.TestCase):
 
 
 def answer_once(listener: socket.socket, answer: bytes) -> None:
-    """Answers who connects, whatever is asked, and ends the connection."""
+    """Answers one client, whatever it asks, and ends the connection."""
     connection, _ = listener.accept()
     with connection:
         connection.settimeout(SECONDS)

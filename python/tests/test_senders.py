@@ -1,4 +1,4 @@
-"""Who is heard since when."""
+"""Which senders are heard since when."""
 
 from __future__ import annotations
 
@@ -18,7 +18,7 @@ EPOCH = "1970-01-01T00:00:00Z"
 
 
 def id_of(number: int) -> str:
-    """The MSAP identifier of one of many neighbors."""
+    """Returns the MSAP identifier of one of many neighbors."""
     return f"mac=02:00:00:00:00:{number:02x} ifname=p{number}"
 
 
@@ -54,11 +54,11 @@ class Noting(unittest.TestCase):
         self.senders = Senders()
 
     def came(self, number: int = 1, port: str = "eth0") -> Optional[str]:
-        """When a neighbor came."""
+        """Returns when a neighbor came."""
         return since_of(self.senders.about()).get((port, id_of(number)))
 
     def set_back(self) -> None:
-        """Lets all have come long ago."""
+        """Makes all appear to have come long ago."""
         for senders in self.senders.by_port.values():
             for sender in senders.values():
                 sender.came = 0.0
@@ -135,7 +135,7 @@ class Noting(unittest.TestCase):
         self.senders.hear("eth0", numbered(2))
         self.senders.hear("eth1", numbered(1))
         self.assertEqual(numbers(), {one: 1, two: 2})
-        self.senders.hear("eth0", numbered(1, 0))  # it goes at one of its ports
+        self.senders.hear("eth0", numbered(1, 0))  # it leaves one of its ports
         self.senders.hear("eth0", numbered(1))
         self.assertEqual(numbers(), {one: 1, two: 2})
         for port in ("eth0", "eth1"):
@@ -163,7 +163,7 @@ class Noting(unittest.TestCase):
 
 @on_links
 class OnARealLink(OnLinks):
-    """lldpa-live tells it."""
+    """lldpa-live reports it."""
 
     def test_lldpa_live_knows_since_when(self) -> None:
         live = self.live("--stay", "eth0", "--", "--receive-only")

@@ -1,4 +1,4 @@
-"""lldpa-live as a service: what systemd hears, what metrics say, and the lines of --events."""
+"""lldpa-live as a service: what systemd receives, what metrics say, and the lines of --events."""
 
 from __future__ import annotations
 
@@ -26,11 +26,11 @@ class Service(OnLinks):
         self.addCleanup(self.heard.close)
 
     def service(self, *words: str, seconds: float = 4, **options: Any) -> Live:
-        """An lldpa-live that tells the test how it goes, with a sign of life in so many seconds."""
+        """Starts an lldpa-live that reports to the test, with a sign of life in so many seconds."""
         return self.live("--stay", *words, env=self.heard.environment(seconds), **options)
 
     def metrics(self, live: Live) -> str:
-        """What Prometheus would be told."""
+        """Returns what Prometheus would get."""
         return subprocess.run([CTL, "--control", live.control, "metrics"], check=False,
                               capture_output=True, text=True).stdout
 
@@ -110,10 +110,10 @@ class Systemd(Service):
 
 
 class Events(Service):
-    """Who comes, changes and goes."""
+    """Neighbors that come, change and leave."""
 
     def told(self, live: Live) -> list[str]:
-        """The lines of neighbors on standard error."""
+        """Returns the lines of neighbors on standard error."""
         return re.findall("^lldpa-live: (eth0 (?:came|changed|gone): .*)$", live.errors(), re.M)
 
     def test_a_line_for_each_that_comes_changes_or_goes(self) -> None:

@@ -32,7 +32,7 @@ asyncio.run(flood())
 
 
 class TestExplained(unittest.TestCase):
-    """Which word is wrong, and what may stand there."""
+    """Which word is wrong, and what is allowed there."""
 
     def test_words_and_ranges(self) -> None:
         for line, text, wanted in (
@@ -71,7 +71,7 @@ class TestSettings(OnLinks):
         Path(self.wires.folder).chmod(0o755)
 
     def words(self) -> list[str]:
-        """The words of an lldpa-live with both."""
+        """Returns the words of an lldpa-live with both."""
         return ["--stay", "--config", str(self.file), "--config", str(self.folder)]
 
     def test_they_are_told_before_any_frame_goes_and_outlive_a_restart(self) -> None:

@@ -18,7 +18,7 @@ RX = f"rx eth0 {LLDP.hex()}\n"
 
 
 def slow_trace(frames: Sequence[Frame]) -> List[str]:
-    """The trace of a capture, by the rules of docs/CAPTURES.md packet by packet: the
+    """Returns the trace of a capture, by the rules of docs/CAPTURES.md packet by packet: the
     seconds before each LLDP frame, and at the end."""
     lines, passed, set_back, start, latest = [], 0, 0, frames[0][0], frames[0][0]
     for time, octets, length in [*frames, (frames[-1][0], b"", 0)]:
@@ -36,10 +36,10 @@ def slow_trace(frames: Sequence[Frame]) -> List[str]:
 
 
 class Traces(FilesCase):
-    """The lines that the package gives."""
+    """The lines that the package returns."""
 
     def trace(self, *sources: Source, seconds: bool = True) -> List[str]:
-        """The trace, and in `notes` and `faults` what was told."""
+        """Returns the trace; `notes` and `faults` get what was reported."""
         self.notes: List[str] = []
         self.faults: List[str] = []
         return list(trace_of(sources, Told(self.notes.append, self.faults.append), seconds))
@@ -147,7 +147,7 @@ class Program(FilesCase):
     """lldpa-capture."""
 
     def ran(self, *words: str, octets: Optional[bytes] = None) -> Tuple[str, str, int]:
-        """What it writes, says and answers."""
+        """Runs it, and returns what it writes, says and answers."""
         done = run_capture(list(words), octets, self.folder)
         return done.stdout, done.stderr, done.returncode
 

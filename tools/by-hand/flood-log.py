@@ -1,18 +1,18 @@
 #!/usr/bin/env python3
-"""Floods one port of an lldpa-live that logs, and sees that the log of the others goes on.
+"""Floods one port of an lldpa-live that logs, and checks that the log of the others continues.
 
     tools/by-hand/flood-log.py [--frames 3000000] [--most 2] [--keep 20] [--minutes 10]
 
-So many frames of 200 neighbors, as long as they may be, come in at one port as fast as it goes; at
+One port receives so many frames of 200 neighbors, as long as they may be, as fast as possible; at
 another one five neighbors come, change and age out. The log's files have `most` megabytes each and
-`keep` together. At ten moments lldpa-live is asked for its tables, and answers in time; each
-moment's tables must be those that a replay of its one file alone gives. The folder must never have
-more than it may, and no frame of the quiet port may be dropped.
+`keep` together. At ten moments lldpa-live is asked for its tables, and must answer in time; a replay
+of the one file of that moment must give the same tables. The folder must never have more than it
+may, and no frame of the quiet port may be dropped.
 
-With --minutes one port has hostile frames for so long, another one quiet neighbors, and a third
-one's interface comes and goes, while settings are reloaded, questions asked, addresses changed,
-agents killed and stopped, and lldpa-live stands still: no frame of the quiet port may be lost, no
-neighbor be false, and nothing grow.
+With --minutes one port receives hostile frames for so long, and another one those of five quiet
+neighbors; the interface of a third one comes and goes. Meanwhile settings are reloaded, questions
+asked, addresses changed, agents killed and stopped, and lldpa-live itself is stopped for a while.
+No frame of the quiet port may be lost, no neighbor be false, and nothing grow.
 
 It needs Linux and root. LLDPA names the program. The last line is `N passed, M failed`.
 """
@@ -37,19 +37,19 @@ counts = {True: 0, False: 0}
 
 
 def judge(holds, text):
-    """Counts a check, and tells of one that failed."""
+    """Counts a check, and reports it if it failed."""
     counts[bool(holds)] += 1
     print(text if holds else f"FAILED: {text}", flush=True)
 
 
 def numbers(live):
-    """The numbers that lldpa-live and its agent tell."""
+    """Returns the numbers that lldpa-live and its agent report."""
     lines = [line.split("=", 1) for line in live.ask("live") + live.ask("show statistics")]
     return {key: int(value) for key, value in lines if value.isdigit()}
 
 
 def take(live, peer, moments, folder, keep, number, sent):
-    """Has the quiet port's neighbors send, and takes a moment."""
+    """Lets the quiet port's neighbors send, and takes a moment."""
     for place in range(5):
         if place != number % 5:
             peer.send(numbered(place, 30, tlv(5, b"moment %d" % number)))
@@ -102,7 +102,7 @@ def disturb(given, wires):
 
 
 def main():
-    """Runs the flood, or the unrest."""
+    """Runs the flood, or everything at once."""
     parser = argparse.ArgumentParser(description=__doc__,
                                      formatter_class=argparse.RawDescriptionHelpFormatter)
     parser.add_argument("--frames", type=int, default=3_000_000)

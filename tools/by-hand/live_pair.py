@@ -20,7 +20,7 @@ SAID = ["--hostname", "bridge-one", "--management", "192.0.2.1", "--role", "brid
 
 
 def of_interface(namespace: str, name: str, field: str) -> str:
-    """Returns what the kernel tells of an interface: its address, or its index."""
+    """Returns a field that the kernel has of an interface: its address, or its index."""
     file = f"/sys/class/net/{name}/{field}"
     return subprocess.run(["ip", "netns", "exec", namespace, "cat", file], text=True,
                           capture_output=True, check=True).stdout.strip()
@@ -33,7 +33,7 @@ def lines_of(folder: Path) -> list[str]:
 
 
 class Recorded(Live):
-    """An lldpa-live with its log in a folder, of which all that it answers is kept."""
+    """An lldpa-live with its log in a folder, whose answers are all kept."""
 
     def __init__(self, wires: Wires, name: str, *words: str, **options: Any) -> None:
         self.log = Path(wires.folder, name)
@@ -150,7 +150,7 @@ def answers(program: str, words: list[str], trace: list[str]) -> list[str]:
 
 
 def without_ages(lines: list[str]) -> list[str]:
-    """Returns a show without the seconds that are left, by which two runs may differ."""
+    """Returns a show without the seconds left, by which two runs may differ."""
     return [re.sub("expires=.*", "expires=some", line) for line in lines]
 
 

@@ -1,16 +1,16 @@
 #!/usr/bin/env python3
 """Reads the same frames by the library, by lldpd's decoder and by systemd's sd-lldp, and compares
-what they tell and how long they take. Where they differ, a rule of docs/STANDARD.md must say so.
+what they say and how long they take. If they differ, a rule of docs/STANDARD.md must say so.
 
     tools/by-hand/try-library-peers.py --peers FOLDER [--library FOLDER] [--frames FILE ..] [--count N]
                                [--seed N] [--rounds N]
 
 The folder of the peers has the programs lldpd_decode and sd_decode, built over the sources of their
 projects: each is given `verdict FILE` and `bench FILE N`, with a frame in hexadecimal on each line
-of the file. That of the library is what tools/library/library.sh makes, as it does unless it is named.
---frames names captures (pcap) and traces, beside those of docs and examples. The N frames, 300,000
-unless given, are those of all these, altered ones, and those of tools/model/fuzz.py. What the library
-tells is also compared with the model of tools/model/model.py. The last line is `N passed, M failed`.
+of the file. The folder of the library is what tools/library/library.sh makes, which runs unless one
+is given. --frames names captures (pcap) and traces, besides those of docs and examples. The N frames,
+300,000 unless given, are those of all these, altered ones, and those of tools/model/fuzz.py. What the
+library says is also compared with tools/model/model.py. The last line is `N passed, M failed`.
 """
 from __future__ import annotations
 
@@ -36,7 +36,7 @@ SAME = ("the same", "the same as the model")
 
 
 def pcap_frames(path: pathlib.Path) -> Iterator[bytes]:
-    """The frames of a capture."""
+    """Returns the frames of a capture."""
     octets = path.read_bytes()
     order, at = ("little" if octets[3] == 0xa1 else "big"), 24
     while at + 16 <= len(octets):
@@ -46,7 +46,7 @@ def pcap_frames(path: pathlib.Path) -> Iterator[bytes]:
 
 
 def captured_frames(paths: list[pathlib.Path]) -> list[bytes]:
-    """The frames of captures and of traces, each once."""
+    """Returns the frames of captures and of traces, each once."""
     found: dict[bytes, None] = {}
     for path in paths:
         if path.suffix == ".pcap":
@@ -58,7 +58,7 @@ def captured_frames(paths: list[pathlib.Path]) -> list[bytes]:
 
 
 def corpus(captured: list[bytes], count: int, seed: int) -> list[bytes]:
-    """Captured frames, then altered ones of them and those of tools/model/fuzz.py in turn."""
+    """Returns captured frames, then altered ones of them and those of tools/model/fuzz.py in turn."""
     dice = fuzz.Dice(seed)
     frames = list(captured)
     while len(frames) < count:
@@ -70,7 +70,7 @@ def corpus(captured: list[bytes], count: int, seed: int) -> list[bytes]:
 
 
 def nanoseconds(command: list[str], rounds: int) -> float:
-    """The time a frame, the median of some rounds."""
+    """Returns the time for a frame, the median of some rounds."""
     times = []
     for _ in range(rounds):
         ran = subprocess.run(command, capture_output=True, text=True, check=True)
@@ -80,7 +80,7 @@ def nanoseconds(command: list[str], rounds: int) -> float:
 
 def print_times(programs: dict[str, list[str]], files: dict[str, pathlib.Path],
                 rounds: int) -> None:
-    """The time a frame of each program over each file."""
+    """Prints the time for a frame of each program over each file."""
     for of_what, path in files.items():
         for name, command in programs.items():
             took = nanoseconds([*command, str(path), "600000"], rounds)
@@ -88,7 +88,7 @@ def print_times(programs: dict[str, list[str]], files: dict[str, pathlib.Path],
 
 
 def found_of(peer: str, frame: Frame, ours: Told, theirs: Told) -> str:
-    """How a program's answer compares: the same, a rule, or `?` and what is wrong."""
+    """Returns how a program's answer compares: the same, a rule, or `?` and what is wrong."""
     if peer != OURS:
         return compared(peer, frame, ours, theirs)
     fault = fault_of_ours(frame, ours)
@@ -96,7 +96,7 @@ def found_of(peer: str, frame: Frame, ours: Told, theirs: Told) -> str:
 
 
 def judge(peer: str, frames: list[Frame], ours: list[Told], theirs: list[Told]) -> tuple[int, int]:
-    """Compares all that a program told, and prints how it differs. How much held, and did not."""
+    """Compares all that a program said, and prints how it differs. Returns how many held, and how many did not."""
     counts: collections.Counter[str] = collections.Counter()
     for frame, our, their in zip(frames, ours, theirs):
         found = found_of(peer, frame, our, their)
@@ -114,7 +114,7 @@ def judge(peer: str, frames: list[Frame], ours: list[Told], theirs: list[Told]) 
 
 
 def read_arguments() -> argparse.Namespace:
-    """The words of the command line."""
+    """Reads the words of the command line."""
     parser = argparse.ArgumentParser(description=(__doc__ or "").splitlines()[0])
     parser.add_argument("--peers", type=pathlib.Path, required=True)
     parser.add_argument("--library", type=pathlib.Path)
@@ -126,7 +126,7 @@ def read_arguments() -> argparse.Namespace:
 
 
 def built(library: pathlib.Path | None, room: pathlib.Path) -> str:
-    """The program over the library, built."""
+    """Returns the program over the library, built."""
     if library is None:
         library = room / "lib"
         command = [TOP / "tools" / "library" / "library.sh", library]

@@ -41,21 +41,21 @@ class Checks(Pair):
         counts.that(f"{self.mode}: {what}", eventually(holds, seconds))
 
     def check_both_see(self, number: int = 0) -> None:
-        """Both see each other on a link."""
+        """Checks that both see each other on a link."""
         self.check(f"lldpd sees lldpa on link {number}",
                    lambda: self.lldpd_sees(f"peer{number}.port.ifname=eth{number}"))
         self.check(f"lldpa sees lldpd on link {number}",
                    lambda: self.live.sees(f"eth{number}.1.port.descr=peer{number}"))
 
     def check_fields(self, theirs: list[str], ours: list[str]) -> None:
-        """lldpd sees fields of lldpa, and lldpa fields of lldpd."""
+        """Checks that lldpd sees fields of lldpa, and lldpa fields of lldpd."""
         for field in theirs:
             self.check(f"lldpd sees {field}", lambda: self.lldpd_sees(field))
         for field in ours:
             self.check(f"lldpa sees {field}", lambda: self.live.sees(field))
 
     def check_what_is_sent(self) -> None:
-        """Each field of both is seen on both links."""
+        """Checks that each field of both is seen on both links."""
         system = re.search(r'^PRETTY_NAME="?(.*?)"?$', Path("/etc/os-release").read_text(), re.M)
         descr = system[1] if system and self.mode == "child" else "lldpa"
         chassis, index = (of_interface(self.wires.there, "peer0", field)
@@ -75,7 +75,7 @@ class Checks(Pair):
                               [f"eth{number}.1.{field}" for field in ours])
 
     def check_changes(self) -> None:
-        """Changes at both ends are seen at the other."""
+        """Checks that changes at both ends are seen at the other."""
         for say, name, text, hold in ((self.live.say, "bridge-two", "with a space", 10),
                                       (self.lldpd.tell, "peer-two", "another text", 4)):
             say(f"configure system hostname {name}")
@@ -88,7 +88,7 @@ class Checks(Pair):
                                              "chassis.descr=another text", "ttl=8")])
 
     def check_statuses(self) -> None:
-        """A port that is disabled goes, and comes back."""
+        """Checks that a disabled port withdraws, and comes back."""
         self.live.say("configure ports eth0 lldp status disabled")
         self.check("a port that lldpa disables is gone at once",
                    lambda: self.lldpd_forgot("peer0"), 3)
@@ -102,12 +102,12 @@ class Checks(Pair):
         self.check_both_see()
 
     def was_told(self, port: str, state: str) -> bool:
-        """Returns whether that is the last that lldpa-live told of the link of a port."""
+        """Returns whether that is the last report of lldpa-live about the link of a port."""
         told = [line for line in lines_of(self.live.log) if line in (f"up {port}", f"down {port}")]
         return told[-1:] == [f"{state} {port}"]
 
     def check_links(self) -> None:
-        """A link that goes and comes is told, at either end."""
+        """Checks that a link that goes down and comes up is reported, at either end."""
         for end, port in (("peer0", "eth0"), ("eth1", "eth1")):
             for state in ("down", "up"):
                 self.wires.set_link(end, state)
@@ -115,7 +115,7 @@ class Checks(Pair):
             self.check_both_see(int(port[-1]))
 
     def check_what_is_taken(self) -> None:
-        """Of frames that come in, lldpa is told those without a tag that others sent."""
+        """Checks that lldpa gets only those received frames that have no tag and that others sent."""
         sender = Peer(self.wires, "peer0")
         for name, tag in (("ta", "81000000"), ("tb", "81000005"), ("tc", "88a80005"), ("un", "")):
             sender.send(HEAD + bytes.fromhex(tag + "88cc020407") + name.encode()
@@ -127,7 +127,7 @@ class Checks(Pair):
             self.check(f"a {what} is not", lambda: not self.was_taken(pattern), 0)
 
     def was_taken(self, pattern: str) -> bool:
-        """Returns whether lldpa was told a frame of that pattern."""
+        """Returns whether lldpa got a frame of that pattern."""
         return any(re.match(f"rx eth. {pattern}", line) for line in lines_of(self.live.log))
 
     def received(self) -> int:
@@ -136,7 +136,7 @@ class Checks(Pair):
         return int(found["lldp.peer0.rx.rx"])
 
     def check_missed_seconds(self) -> None:
-        """Seconds of a standstill are told, and of their frames the last goes out."""
+        """Checks that seconds of a standstill are passed on, and that the last one of their frames is sent."""
         self.live.say("configure lldp tx-interval 1")
         before, told = self.received(), self.live.seconds_told()
         eventually(lambda: self.live.seconds_told() > told + 1 and self.received() > before)
@@ -152,13 +152,13 @@ class Checks(Pair):
         self.live.say("configure lldp tx-interval 2")
 
     def check_age(self, whose: str, seconds: float, is_gone: Callable[[], object]) -> None:
-        """A neighbor that says no more is there for so many seconds yet, and then goes."""
+        """Checks that a neighbor that says no more is held for so many more seconds, and then ages out."""
         time.sleep(seconds)
         self.check(f"{whose} that was killed is there yet", lambda: not is_gone(), 0)
         self.check(f"{whose} that was killed ages out", is_gone, 5)
 
     def check_ends_of_lldpd(self) -> None:
-        """lldpa sees at once that lldpd has ended, and in time that it was killed."""
+        """Checks that lldpa sees at once that lldpd has ended, and in time that it was killed."""
         self.check_both_see()
         self.kill_lldpd()
         shown = dict(line.split("=", 1) for line in self.live.told("show neighbors"))
@@ -172,7 +172,7 @@ class Checks(Pair):
         self.check_both_see()
 
     def check_ends_of_live(self) -> None:
-        """lldpd sees at once that lldpa-live has ended, and in time that it was killed."""
+        """Checks that lldpd sees at once that lldpa-live has ended, and in time that it was killed."""
         first, before = self.live, Moments(self.live)
         before.take()
         first.signal(signal.SIGTERM)
@@ -196,7 +196,7 @@ class Checks(Pair):
         self.check_age("an lldpa-live", 4, lambda: self.lldpd_forgot("peer0"))
 
     def check_replay(self, lives: list[Recorded], moments: Moments) -> None:
-        """The logs of one lldpa, one after the other, replay to the tables of the last moment."""
+        """Checks that the logs of one lldpa, one after another, replay to the tables of the last moment."""
         (line, tables), = moments.answers.items()
         trace = [line for live in lives for line in lines_of(live.log)]
         last = len(trace) - trace[::-1].index(line)
@@ -207,7 +207,7 @@ class Checks(Pair):
 
 
 def check_live(program: str, listens: bool) -> None:
-    """Checks a pair, and takes it away."""
+    """Checks a pair, and removes it."""
     pair = Checks(program, listens)
     try:
         for check in (pair.check_what_is_sent, pair.check_changes, pair.check_statuses,

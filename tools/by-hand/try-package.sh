@@ -5,7 +5,7 @@
 # ROOT is a folder with a Debian that has python3, systemd-sysv, dbus and iproute2, and is left as it is; unless given,
 # debootstrap makes one, which takes a minute and a network. It needs Linux, root, and Debian's packages
 # systemd-container and, without ROOT, debootstrap. LLDPA names the program, as for tools/release/package.sh. The last
-# line is `N passed, M failed`; where something is missing it says so, and its status is 77.
+# line is `N passed, M failed`; if something is missing it says so, and its status is 77.
 set -u
 skip() {
     echo "skipped: $1"
@@ -41,12 +41,12 @@ check() {
     shift
     if "$@" > /root/said 2>&1; then echo "held: $what"; else echo "FAILED: $what: $(tail -n 3 /root/said)"; fi
 }
-# All files but logs and what dpkg and systemd write by themselves.
+# Lists all files except logs and those that dpkg and systemd write by themselves.
 listed() {
     find /etc /usr /opt /srv /var/lib /run/lldpa -path /var/lib/dpkg -prune -o -printf '%p %M %u %g %l\n' 2> /dev/null |
         grep -v '^/var/lib/systemd/\(timers\|random-seed\|catalog\)\|^/\(etc\|var/lib\|var/lib/systemd\) ' | sort
 }
-# Runs a command, which may go on until it is ended.
+# Runs a command, which may run until it is ended.
 for_a_while() {
     local status
     timeout 15 bash -c "$1" < /dev/null
@@ -102,7 +102,7 @@ END
     journalctl -u lldpa-metrics -o cat -g 'not refused'
     [ "$status" -eq 0 ]
 }
-# The same in the place of lldpa-live.
+# Does the same in the place of lldpa-live.
 confined_live() {
     touch /boot/probe /var/log/probe
     cat > /usr/probe.py <<'END'
@@ -146,7 +146,7 @@ published() { eventually grep -x "lldpa_up $1" /var/lib/prometheus/node-exporter
 stop_agent() { kill -STOP "$(cat "/proc/$(process)/task/$(process)/children" | tr ' ' '\n' | while read -r one; do
     [ "$(cat "/proc/$one/comm" 2> /dev/null)" = lldpa ] && echo "$one"; done)"; }
 is_replaced() { lldpa-ctl live | grep -x live.agent-restarts=1; }
-# A neighbor that says once who it is, for an hour.
+# Sends the frame of a neighbor once, with a time to live of an hour.
 say_once() {
     python3 -c 'import socket
 sender = socket.socket(socket.AF_PACKET, socket.SOCK_RAW)
@@ -156,7 +156,7 @@ sender.send(bytes.fromhex("0180c200000e02000000000b88cc02070402000000000b0403057
 keeps() { eventually sh -c 'lldpa-ctl neighbors | grep keeper'; }
 is_another_active() { is_another && systemctl is-active lldpa; }
 starts_anew() { eventually is_another_active; }
-# A neighbor at the other end of the link, which says again each second who it is.
+# Sends the frame of a neighbor at the other end of the link each second.
 neighbor() {
     python3 -c 'import socket, time
 sender = socket.socket(socket.AF_PACKET, socket.SOCK_RAW)

@@ -5,11 +5,11 @@
 
 In a network namespace of its own, an lldpa-live runs on a link, `lldpa-ctl metrics --output` writes a
 file each second, node_exporter's textfile collector reads it, and Prometheus has the rules of
-share/prometheus, as they are. Seen must be: lldpa-live up and no alert; LldpaDown when it was
-killed; none when it is back; LldpaMetricsOld when the file is no longer written. It takes two
-minutes, and is ended after five. It needs Linux, root and Debian's packages prometheus,
+share/prometheus, as they are. It must see lldpa-live up and no alert; LldpaDown when it is killed;
+no alert when it is back; LldpaMetricsOld when the file is no longer written. It takes two minutes,
+and is ended after five. It needs Linux, root and Debian's packages prometheus,
 prometheus-node-exporter and iproute2; PROGRAM is crates/lldpa/out/lldpa unless given. The last line
-is `N passed, M failed`; where something is missing it says so, and its status is 77.
+is `N passed, M failed`; if something is missing it says so, and its status is 77.
 """
 import json
 import os
@@ -41,7 +41,7 @@ counts = {True: 0, False: 0}
 
 
 def check(what, seconds, holds):
-    """Waits until that holds, some seconds at most, and counts it."""
+    """Waits until that holds, at most so many seconds, and counts it."""
     began = time.monotonic()
     last = began + seconds
     while not (found := holds()) and time.monotonic() < last:
@@ -51,7 +51,7 @@ def check(what, seconds, holds):
 
 
 def asked(path, **words):
-    """What Prometheus answers, None where it does not."""
+    """Returns what Prometheus answers, or None if it does not."""
     address = f"http://{PROMETHEUS}/api/v1/{path}?{urllib.parse.urlencode(words)}"
     try:
         with urllib.request.urlopen(address, timeout=5) as file:
@@ -61,13 +61,13 @@ def asked(path, **words):
 
 
 def values(expression):
-    """The values of what is asked for, as numbers."""
+    """Returns the values of what is asked for, as numbers."""
     found = asked("query", query=expression)
     return [float(one["value"][1]) for one in found["result"]] if found else None
 
 
 def firing():
-    """The alerts that fire, None where Prometheus does not answer."""
+    """Returns the alerts that fire, or None if Prometheus does not answer."""
     found = asked("alerts")
     if found is None:
         return None
@@ -88,14 +88,14 @@ class Watched:
         self.writing = threading.Thread(target=self.write, daemon=True)
 
     def start(self, name, *words):
-        """Starts a program, with what it says in a file."""
+        """Starts a program, with its output in a file."""
         with open(self.folder / f"{name}.said", "ab") as said:
             self.running.append(subprocess.Popen(words, stdin=subprocess.DEVNULL, stdout=said,
                                                  stderr=said))
         return self.running[-1]
 
     def start_bridge(self):
-        """Starts lldpa-live, for the first time or anew."""
+        """Starts lldpa-live, for the first time or again."""
         self.live = self.start("live", str(TOP / "bin" / "lldpa-live"), "--program",
                                  self.program, "--stay", "--control", str(self.folder / "control"),
                                  "eth0")
@@ -114,7 +114,7 @@ class Watched:
                    f"--storage.tsdb.path={self.folder / 'series'}")
 
     def write(self):
-        """Writes the metrics each second, as the timer does each half minute."""
+        """Writes the metrics each second, as the timer does every half minute."""
         words = [str(TOP / "bin" / "lldpa-ctl"), "--control", str(self.folder / "control"),
                  "metrics", "--output", str(self.file)]
         while not self.is_over.wait(1):
@@ -136,7 +136,7 @@ class Watched:
 
 
 def watch(watched):
-    """What must be seen, one after the other."""
+    """Checks what must be seen, one after another."""
     check("Prometheus sees lldpa-live up", 60, lambda: values("lldpa_up") == [1])
     check("and its port", 10, lambda: values('lldpa_link_up{port="eth0"}') == [1])
     check("no alert of its own fires", 1, lambda: firing() == set())
@@ -157,7 +157,7 @@ def watch(watched):
 
 
 def run(program):
-    """All of it, in the namespace."""
+    """Runs all of it, in the namespace."""
     for words in (["link", "set", "lo", "up"],
                   ["link", "add", "eth0", "type", "veth", "peer", "name", "peer0"],
                   ["link", "set", "eth0", "up"], ["link", "set", "peer0", "up"]):
@@ -178,7 +178,7 @@ def run(program):
 
 
 def main():
-    """Goes into a namespace of its own, and runs all there."""
+    """Enters a namespace of its own, and runs all there."""
     if sys.argv[1:2] == [INSIDE]:
         return run(sys.argv[2])
     missing = [name for name in NEEDED if shutil.which(name) is None]

@@ -1,6 +1,6 @@
 #!/bin/sh
-# Builds the Debian package, and compares it with what tools/release/install.sh installs; runs what is in it; and sees
-# that what is installed is all taken away again, and that lintian, where it is installed, finds nothing.
+# Builds the Debian package, and compares it with what tools/release/install.sh installs; runs what is in it; and checks
+# that all that is installed is removed again, and that lintian, if it is installed, finds nothing.
 #     tools/gate/check-package.sh [PROGRAM]
 # No root is needed, and nothing is installed on this host. The last line is `N passed, M failed`; without dpkg-deb it
 # says so, and its status is 3.
@@ -13,7 +13,7 @@ for needed in dpkg-deb dpkg strip objdump; do
 done
 . tools/gate/parts.sh
 
-# The files, folders and links of a tree, each with its mode and where it leads.
+# Lists the files, folders and links of a tree, each with its mode and where it leads.
 listed() {
     (cd "$1" && find . -mindepth 1 -printf '%P %M %l\n' | LC_ALL=C sort)
 }
@@ -48,13 +48,13 @@ diff -rq "$room/usr" "$room/package" | grep -v 'Only in .*package/usr/share' > "
 [ ! -s "$room/out" ]
 judge $? "files differ: $(cat "$room/out")"
 
-# So it is with the prefix that is taken unless one is given, but for folders that Debian names otherwise.
+# The same holds for the default prefix, except folders that Debian names otherwise.
 install_into "$room/local" --python /usr/local/lib/python3/dist-packages
 (cd "$room/local" && find . ! -type d | sed 's,/usr/local/,/usr/,; s,/site-functions/,/vendor-completions/,' | LC_ALL=C sort) > "$room/out"
 (cd "$room/usr" && find . ! -type d | LC_ALL=C sort) | diff "$room/out" -
 judge $? "the prefix /usr/local has other files than /usr"
 
-# All that is installed goes again, but for a configuration that was changed.
+# All that is installed is removed again, except a configuration that was changed.
 for prefix in /usr /usr/local /opt/lldpa; do
     install_into "$room/gone" --python /opt/python "$prefix"
     DESTDIR=$room/gone tools/release/install.sh --uninstall --python /opt/python "$prefix" > "$room/said" 2>&1
@@ -100,7 +100,11 @@ judge $? "import lldpa: $(cat "$room/out")"
     /usr/bin/python3 -m lldpa_audit --version) > "$room/out" 2>&1
 grep -q "^lldpa-audit " "$room/out"
 judge $? "python3 -m lldpa_audit: $(cat "$room/out")"
-# No link of an installed page leads to what is not installed.
+# The pages are those for operators, and each of their links leads to something that is installed.
+(cd "$room/package/usr/share/doc/lldpa" && find . -name '*.md' | LC_ALL=C sort | xargs) > "$room/out"
+[ "$(cat "$room/out")" = "./README.md ./SECURITY.md ./audit/README.md ./docs/CAPTURES.md ./docs/LLDPD.md \
+./docs/OPERATORS.md ./docs/PROGRAMS.md" ]
+judge $? "the package has other pages: $(cat "$room/out")"
 python3 tools/gate/check-links.py --installed "$room/package/usr/share/doc/lldpa" > "$room/out" 2>&1
 judge $? "links of installed pages: $(cat "$room/out")"
 dpkg-deb --info "$package" conffiles | grep -qx /etc/default/lldpa
@@ -111,7 +115,7 @@ grep -q '^ExecStart=/usr/bin/lldpa-live --program /usr/bin/lldpa ' "$units/lldpa
 judge $? "the services of the package do not run its programs"
 [ -f "$units/lldpa-metrics.timer" ] && [ -f "$room/package/usr/share/lldpa/lldpa.rules.yml" ]
 judge $? "the package has no timer for metrics, or no rules for Prometheus"
-# The service reads the settings of its folder, which is there; below another prefix that is another.
+# The service reads the settings of its folder, which exists; another prefix has another folder.
 [ -d "$room/package/etc/lldpa.d" ] && [ -d "$room/local/etc/lldpa.d" ] &&
     grep -q '^ExecStart=.* --config /etc/lldpa.conf --config /etc/lldpa.d ' "$units/lldpa.service"
 judge $? "the service of the package does not read /etc/lldpa.d"

@@ -5,7 +5,7 @@ that goes the wrong way.
     tools/gate/imports.py [--list]
 
 The parts of a folder are its files and its folders. If a file below one part imports from below
-another, the first part imports the second, wherever the import stands in the file. The parts of
+another, the first part imports the second, wherever the import is in the file. The parts of
 each folder must have an order in which each imports only earlier ones. Besides, lldpa imports
 nothing of lldpa_audit, and lldpa.client nothing of lldpa.live. --list prints what each part
 imports. The last line is `N passed, M failed`, counted by folder and by rule.
@@ -81,7 +81,7 @@ def cycle_in(graph: Graph) -> str | None:
 
 
 def is_below(module: Name, name: str) -> bool:
-    """Returns whether a module is that of this name, or stands below it."""
+    """Returns whether a module is that of this name, or below it."""
     parts = tuple(name.split("."))
     return module[:len(parts)] == parts
 

@@ -5,7 +5,7 @@ but never more than there are processors.
 
     python3 tools/gate/test-python.py [PROGRAM]
 
-PROGRAM is the lldpa that they run. What is skipped is told with its reason, and not counted. The
+PROGRAM is the lldpa that they run. What is skipped is reported with its reason, and not counted. The
 last line is `N passed, M failed`.
 """
 import concurrent.futures
@@ -20,7 +20,7 @@ from typing import NamedTuple
 TOP = pathlib.Path(__file__).resolve().parents[2]
 TESTS = [TOP / "python" / "tests", TOP / "audit" / "tests"]
 AT_ONCE = min(3, os.cpu_count() or 1)
-# what wants an answer within a tenth of a second has the processors for itself
+# a test that wants an answer within a tenth of a second has the processors for itself
 ALONE = ("test_live_flood",)
 
 
@@ -53,7 +53,7 @@ def run_module(name):
 
 
 def run_all(names):
-    """Runs the modules, in a process each, and tells of each once it has ended."""
+    """Runs the modules, in a process each, and reports each when it has ended."""
     beside = [name for name in names if name not in ALONE]
     for workers, some in ((AT_ONCE, beside), (1, [name for name in names if name in ALONE])):
         with concurrent.futures.ProcessPoolExecutor(workers, initializer=prepare) as pool:

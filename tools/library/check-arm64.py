@@ -1,10 +1,10 @@
 #!/usr/bin/env python3
 """Builds the program and the library for arm64, and runs them by qemu: all transcripts of examples/, the vectors, rows and
-transcripts of the library, NULL for each pointer, and random traces beside the model.
+transcripts of the library, NULL for each pointer, and random traces, which the model runs too.
 
     python3 tools/library/check-arm64.py [FOLDER]
 
-FOLDER is what tools/release/build.sh --arch arm64 made, and made anew unless it is given. Without gcc for arm64 or
+FOLDER is what tools/release/build.sh --arch arm64 made; unless it is given, that is made first. Without gcc for arm64 or
 qemu-user the status is 3. The last line is `N passed, M failed`.
 """
 from __future__ import annotations
@@ -47,7 +47,7 @@ def wrapped(program: pathlib.Path) -> pathlib.Path:
 
 
 def check_program(program: pathlib.Path, counts: Counts) -> None:
-    """The transcripts of examples/, each in one piece, and random traces beside the model."""
+    """Runs the transcripts of examples/, each in one piece, and random traces, and compares them with the model."""
     script = wrapped(program)
     native().check_transcripts([str(script)], counts)
     command = [sys.executable, MODEL / "fuzz.py", "--program", script, "--traces", TRACES, "--seed", "1"]
@@ -57,7 +57,7 @@ def check_program(program: pathlib.Path, counts: Counts) -> None:
 
 
 def check_library(folder: pathlib.Path, room: pathlib.Path, counts: Counts) -> None:
-    """The programs in C over the library."""
+    """Runs the programs in C over the library."""
     for name, words in (("vectors", [str(native().ROWS)]), ("nulls", []), ("refused", []), ("transcript", [])):
         more = WRAPPED if name == "refused" else []
         fault = fault_of([COMPILER, "-std=c99", "-O2", *WARNINGS, *more, f"-I{folder}", TOOLS / f"{name}.c",

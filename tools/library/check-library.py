@@ -6,8 +6,8 @@ rust/lldpa with its tests; and the examples of docs/LIBRARY.md and of examples/.
 
     python3 tools/library/check-library.py [FOLDER]
 
-FOLDER is where liblldpa.a, liblldpa.so and lldpa.h stand; unless it is given tools/library/library.sh makes
-them. What cannot be tried here, as with cargo or valgrind that are not installed, is said and not
+FOLDER has liblldpa.a, liblldpa.so and lldpa.h; unless it is given tools/library/library.sh makes them.
+What cannot be tried here, for instance since cargo or valgrind is not installed, is reported and not
 counted; without a C compiler or a library the status is 3. The last line is `N passed, M failed`.
 """
 from __future__ import annotations
@@ -41,7 +41,7 @@ VALGRIND = ["valgrind", "-q", "--error-exitcode=9", "--leak-check=full", "--show
 
 
 def check_header(library: Library, counts: Counts) -> None:
-    """The header stands alone, in C and in C++."""
+    """Checks that the header can be included alone, in C and in C++."""
     header = library.folder / "lldpa.h"
     for compiler, language, standard in (("cc", "c", "c99"), ("cc", "c", "c11"),
                                          ("c++", "c++", "c++11")):
@@ -54,7 +54,7 @@ def check_header(library: Library, counts: Counts) -> None:
 
 
 def check_functions(library: Library, counts: Counts) -> None:
-    """The library has the functions that the header declares, and no other of such a name."""
+    """Checks that the library has the functions that the header declares, and no other of such a name."""
     header = (library.folder / "lldpa.h").read_text()
     declared = set(re.findall(r"^\w+ (lldpa_\w+)\(", header, re.M))
     defined = ran(["nm", "--defined-only", library.folder / "liblldpa.a"]).stdout
@@ -64,7 +64,7 @@ def check_functions(library: Library, counts: Counts) -> None:
 
 
 def check_transcripts(program: list[str], counts: Counts) -> None:
-    """Each transcript, in one piece."""
+    """Runs each transcript, in one piece."""
     def fault_of_one(one: Any) -> tuple[str, str | None]:
         name, words, texts, trace, steps = one
         if isinstance(steps, str):
@@ -79,14 +79,14 @@ def check_transcripts(program: list[str], counts: Counts) -> None:
 
 
 def has_sanitizers(room: pathlib.Path) -> bool:
-    """Whether the compiler has the sanitizers, and what it builds with them runs."""
+    """Returns whether the compiler has the sanitizers, and what it builds with them runs."""
     (room / "empty.c").write_text("int main(void) { return 0; }\n")
     built = ["cc", *SANITIZERS, room / "empty.c", "-o", room / "empty"]
     return fault_of(built) is None and fault_of([room / "empty"]) is None
 
 
 def check_programs(library: Library, counts: Counts) -> None:
-    """The programs in C, with the sanitizers where the compiler has them."""
+    """Runs the programs in C, with the sanitizers if the compiler has them."""
     flags = SANITIZERS if has_sanitizers(library.room) else []
     if not flags:
         skip("the sanitizers, which the compiler does not have")
@@ -101,7 +101,7 @@ def check_programs(library: Library, counts: Counts) -> None:
 
 
 def check_refused(library: Library, counts: Counts) -> None:
-    """Refused memory, under valgrind if it is there: AddressSanitizer has a malloc of its own."""
+    """Refuses memory, under valgrind if it is installed: AddressSanitizer has a malloc of its own."""
     wrapper = VALGRIND if shutil.which("valgrind") else []
     if not wrapper:
         skip("valgrind, which is not installed")
@@ -112,7 +112,7 @@ def check_refused(library: Library, counts: Counts) -> None:
 
 
 def check_stack(library: Library, counts: Counts) -> None:
-    """No call takes more stack than the header says. What each takes is printed."""
+    """Checks that no call takes more stack than the header says. What each takes is printed."""
     fault = library.compiled(TOOLS / "stack.c", "stack", "-std=gnu99")
     counts.judge(fault, "building stack")
     if fault is None:
@@ -120,7 +120,7 @@ def check_stack(library: Library, counts: Counts) -> None:
 
 
 def check_rust(library: Library, counts: Counts) -> None:
-    """The crate for Rust: its tests and examples, and that its build says what is missing."""
+    """Checks the crate for Rust: its tests and examples, and that its build says what is missing."""
     if shutil.which("cargo") is None:
         skip("the crate for Rust, since there is no cargo")
         return
@@ -144,7 +144,7 @@ CHECKS = (check_header, check_layout, check_functions, check_machine, check_prog
 
 
 def made(room: pathlib.Path) -> pathlib.Path | None:
-    """The folder that tools/library/library.sh makes, or None where it cannot."""
+    """Returns the folder that tools/library/library.sh makes, or None if it cannot."""
     ended = ran([TOP / "tools" / "library" / "library.sh", room / "lib"])
     if ended.returncode != 0:
         skip(f"the library: {ended.stderr.strip()}")

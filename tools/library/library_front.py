@@ -7,7 +7,7 @@ from library_parts import TOP, Counts, Library, fault_of, ran
 FRONT = TOP / "crates" / "lldpa_c" / "front" / "lldpa.c"
 NULLS = TOP / "tools" / "library" / "c" / "nulls.c"
 
-# What is wrong, the text that stands once in the front, and the text in its place.
+# What is wrong, the text that the front has once, and the text in its place.
 EDITS = (
     ("lldpa_frame_pdu does not look for the place", "is_missing(frame, length) || pdu == NULL",
      "is_missing(frame, length)"),
@@ -19,7 +19,8 @@ EDITS = (
      "if (!is_copied(&given.hostname, &options->hostname))", "if (false)"),
     ("lldpa_open looks at 64 names", "#define MOST_NAMES 65", "#define MOST_NAMES 64"),
     ("lldpa_ticks answers another number",
-     "told == NULL ? LLDPA_NULL", "told == NULL ? LLDPA_NOT_OPEN"),
+     "marks == NULL || told == NULL ? LLDPA_NULL", "marks == NULL || told == NULL ? LLDPA_NOT_OPEN"),
+    ("lldpa_due does not look for the seconds", "agent == NULL || seconds == NULL", "agent == NULL"),
     ("lldpa_frame tells news where none are asked for", "news == NULL ? proved_lldpa_frame",
      "news != NULL ? proved_lldpa_frame"),
     ("lldpa_open takes options of another size", "if (options->size != sizeof *options)",
@@ -31,7 +32,7 @@ EDITS = (
 
 
 def fault_of_edit(library: Library, old: str, new: str) -> str | None:
-    """Why a wrong front is not seen, or None."""
+    """Returns why a wrong front is not seen, or None."""
     text = FRONT.read_text()
     if text.count(old) != 1:
         return f"{old!r} does not stand once in {FRONT.name}"
@@ -45,6 +46,6 @@ def fault_of_edit(library: Library, old: str, new: str) -> str | None:
 
 
 def check_front(library: Library, counts: Counts) -> None:
-    """Each wrong front is seen."""
+    """Checks that each wrong front is seen."""
     for what, old, new in EDITS:
         counts.judge(fault_of_edit(library, old, new), f"a wrong front: {what}")

@@ -15,7 +15,8 @@ PARTS = TOP / "crates" / "lldp_transmit" / "src" / "parts.rt"
 
 # The types of C, and of Rust and Rattle, by one name; a struct's is its name in small letters without a prefix.
 TYPES = {"uint8_t": "u8", "uint16_t": "u16", "uint32_t": "u32", "size_t": "usize", "bool": "bool", "void": "()",
-         "ticks_taken": "ticks", "tickstaken": "ticks", "parts": "machine"}
+         "ticks_taken": "ticks", "tickstaken": "ticks", "parts": "machine", "statistics_told": "statistics",
+         "configuration_told": "configuration"}
 Lists = dict[str, list[str]]
 
 
@@ -76,7 +77,7 @@ def rust_lists(text: str) -> Lists:
 
 
 def check_layout(library: Library, counts: Counts) -> None:
-    """The three say the same."""
+    """Checks that the three say the same."""
     header = header_lists((library.folder / "lldpa.h").read_text())
     proved: Lists = {}
     for file in [*sorted(CRATE.rglob("*.rt")), PARTS]:

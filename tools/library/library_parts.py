@@ -13,7 +13,7 @@ from counts import Counts  # noqa: E402
 
 WARNINGS = ["-pedantic", "-Wall", "-Wextra", "-Werror"]
 
-# How long one command may take, in seconds.
+# The most seconds that one command may take.
 SECONDS = 600
 
 
@@ -24,14 +24,14 @@ def skip(what: str) -> None:
 
 def ran(command: Sequence[object], cwd: pathlib.Path | None = None,
         env: Mapping[str, str] | None = None) -> subprocess.CompletedProcess[str]:
-    """A command that has ended, with what it wrote."""
+    """Returns a command that has ended, with what it wrote."""
     settings: dict[str, Any] = {"capture_output": True, "text": True, "timeout": SECONDS}
     return subprocess.run([str(word) for word in command], stdin=subprocess.DEVNULL, cwd=cwd,
                           env=env, check=False, **settings)
 
 
 def fault_of(command: Sequence[object]) -> str | None:
-    """What a command says where its status is not 0, or None."""
+    """Returns what a command says if its status is not 0, or None."""
     ended = ran(command)
     if ended.returncode == 0:
         return None
@@ -59,11 +59,11 @@ class Library:
         self.folder, self.room = folder, room
 
     def compiled(self, source: pathlib.Path, name: str, *flags: str) -> str | None:
-        """What is wrong with building a program, or None."""
+        """Builds a program. Returns what is wrong, or None."""
         return fault_of(["cc", "-std=c99", "-O2", "-g", *WARNINGS, *flags, f"-I{self.folder}",
                          source, self.folder / "liblldpa.a", "-o", self.room / name])
 
     def shared(self) -> pathlib.Path | None:
-        """The shared object, or None where there is none."""
+        """Returns the shared object, or None if there is none."""
         found = self.folder / "liblldpa.so"
         return found if found.is_file() else None

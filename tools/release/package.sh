@@ -1,12 +1,12 @@
 #!/bin/sh
-# Makes a Debian package, lldpa_VERSION-REVISION_ARCH.deb, of what tools/release/install.sh installs under /usr; or with --library
-# lldpa-dev_VERSION-REVISION_ARCH.deb, of what tools/release/install.sh --library does.
+# Makes a Debian package, lldpa_VERSION-REVISION_ARCH.deb, of what tools/release/install.sh installs under /usr; or with
+# --library lldpa-dev_VERSION-REVISION_ARCH.deb, of what tools/release/install.sh --library installs.
 #     tools/release/package.sh [--library] [--arch ARCH] [--revision N] [FOLDER]
-# The package is written to FOLDER, the one where this is called unless given, and its name to standard output. VERSION is
-# the newest of CHANGELOG.md and must be what the program says of itself. N, 1 unless given, is for a second package of
-# one version. LLDPA names the program, crates/lldpa/out/lldpa unless it is set. With --arch, amd64 or
-# arm64, it takes what tools/release/build.sh --arch ARCH made; a program for another machine says its version by qemu. Who makes it is named by DEBFULLNAME
-# and DEBEMAIL, and else is who made the last commit. It needs dpkg-deb, dpkg and binutils, and no root.
+# The package is written to FOLDER, the present one unless given, and its name to standard output. VERSION is the newest
+# of CHANGELOG.md and must be what the program says of itself. N, 1 unless given, is for a second package of one
+# version. LLDPA names the program, crates/lldpa/out/lldpa unless it is set. With --arch, amd64 or arm64, it takes what
+# tools/release/build.sh --arch ARCH made, and asks a program for another machine for its version by qemu. DEBFULLNAME
+# and DEBEMAIL name the maker, by default who made the last commit. It needs dpkg-deb, dpkg and binutils, but not root.
 set -eu
 usage() {
     echo "usage: tools/release/package.sh [--library] [--arch ARCH] [--revision N] [FOLDER]" >&2
@@ -64,7 +64,7 @@ said=$($emulator "$program" --version)
 [ "$said" = "lldpa $version" ] || fail "CHANGELOG.md begins with $version, and the program says: $said"
 version=$version-$revision
 maker="${DEBFULLNAME:-$(git log -1 --format=%an)} <${DEBEMAIL:-$(git log -1 --format=%ae)}>"
-# The same sources give the same package: its moment is that of the last commit.
+# The same sources give the same package: its time is that of the last commit.
 SOURCE_DATE_EPOCH=${SOURCE_DATE_EPOCH:-$(git log -1 --format=%ct)}
 export SOURCE_DATE_EPOCH
 umask 022
@@ -72,7 +72,7 @@ room=$(mktemp -d)
 trap 'rm -rf "$room"' EXIT
 tree=$room/tree
 
-# The newest GNU C library that the program asks for.
+# Prints the oldest GNU C library that the program can run with.
 c_library() {
     "${tools}objdump" -T "$program" | grep -o 'GLIBC_[0-9.]*' | sort -uV | tail -n 1 | sed 's/GLIBC_//'
 }

@@ -51,12 +51,12 @@ def tlvs_of(fields: list[str]) -> str:
 
 
 def name_of(prefix: str, name: str) -> str:
-    """Returns a name of a row as one of a theorem."""
+    """Returns the name of a row as that of a theorem."""
     return f"{prefix}_" + re.sub(r"\W+", "_", name).strip("_")
 
 
 def table_of(name: str, function: str, rows: list[tuple[str, str, str]]) -> str:
-    """Writes rows, each a name, an argument and what the function gives."""
+    """Writes rows, each a name, an argument and what the function returns."""
     lines = [f"({given}, {gives})  -- {row}" for row, given, gives in rows]
     return f"\n{name} : Gives {function}\n    (" + "\n    ∷ ".join(lines) + "\n    ∷ [])\n"
 
@@ -69,7 +69,7 @@ def faults_theorem() -> str:
 
 
 def told_theorem(row: list[str]) -> str:
-    """Writes what a sound LLDPDU tells."""
+    """Writes what a sound LLDPDU says."""
     name, lldpdu, _, ttl, chassis, port, extent, discarded, unrecognized, *kept = row
     msap = f"(record {{ chassis = {listed(chassis)}; port = {listed(port)} }})"
     known = name_of("told", name)
@@ -97,7 +97,7 @@ def bodies_theorems() -> str:
 
 
 def built_theorem(row: list[str]) -> str:
-    """Writes what a builder answers and gives."""
+    """Writes what a builder answers and returns."""
     name, ttl, chassis, port, length, lldpdu, *puts = row
     draft = f"(begun (record {{ chassis = {listed(chassis)}; port = {listed(port)} }}) {ttl}) ({tlvs_of(puts)})"
     wanted = chained([put.split(":")[2] for put in puts])

@@ -5,7 +5,7 @@ from vector_rows import LONG_RUN, octets_of, rows_of
 
 CAUSES = ("Tick", "Change", "Neighbor", "Stop", "Allow", "Down", "Up", "Nothing")
 MARKS = ("Quiet", "Ordinary", "Shutdown")
-# rt fmt breaks what stands between brackets if it is wider.
+# rt fmt breaks what is between brackets if it is wider.
 WIDTH = 60
 
 HEAD = """//! The rows of examples/vectors.rows, written by tools/write/vectors.py.
@@ -49,7 +49,7 @@ def struct(kind: str, fields: dict[str, str], indent: int = 4) -> str:
 
 
 def told(row: list[str]) -> str:
-    """Writes what a sound LLDPDU tells."""
+    """Writes what a sound LLDPDU says."""
     name, lldpdu, _, ttl, chassis, port, extent, discarded, unrecognized, *kept = row
     tlvs = [joined([kind, literal(body)], "(", ")", 12) for kind, body in (field.split(":") for field in kept)]
     return struct("Told", {
@@ -59,7 +59,7 @@ def told(row: list[str]) -> str:
 
 
 def address(row: list[str]) -> str:
-    """Writes what a Management Address has."""
+    """Writes the fields of a Management Address."""
     name, body, *told_fields = row
     value = "None"
     if told_fields:
@@ -71,7 +71,7 @@ def address(row: list[str]) -> str:
 
 
 def built(row: list[str]) -> str:
-    """Writes what a builder is given and gives."""
+    """Writes what a builder is given and returns."""
     name, ttl, chassis, port, length, lldpdu, *puts = row
     items = [joined([kind, literal(body), answer], "(", ")", 12)
              for kind, body, answer in (put.split(":") for put in puts)]
@@ -107,10 +107,10 @@ def tables() -> str:
             for name, body, *bits in rows_of("caps")]
     return HEAD + "".join([
         table("FAULTS", "LLDPDUs with the numbers of their faults.", "(&str, &[u8], u8)", faults),
-        table("TOLD", "What sound LLDPDUs tell.", "Told", [told(r) for r in rows_of("examine") if r[2] == "told"]),
+        table("TOLD", "What sound LLDPDUs say.", "Told", [told(r) for r in rows_of("examine") if r[2] == "told"]),
         table("CAPABILITIES", "Bodies with their bits.", "(&str, &[u8], Option<(u16, u16)>)", caps),
         table("ADDRESSES", "Bodies with what they have.", "(&str, &[u8], Option<Address>)",
               [address(row) for row in rows_of("mgmt")]),
-        table("BUILT", "What builders are given and give.", "Built", [built(row) for row in rows_of("build")]),
+        table("BUILT", "What builders are given and return.", "Built", [built(row) for row in rows_of("build")]),
         table("PLAYS", "Worked examples of causes and marks.", "Play", [play(row) for row in rows_of("machine")]),
         table("OPENINGS", "Openings and their faults.", "Opening", [opening(row) for row in rows_of("open")])])

@@ -1,5 +1,5 @@
 //! What no clause says of `lldp_engine`: that opening works if there is memory, and what code
-//! that the program does not run answers.
+//! answers that the program does not run.
 mod embedded;
 mod full_heap;
 mod memory;
@@ -13,7 +13,7 @@ use std::alloc::Allocator;
 use std::process::Abort;
 use std::test::Fail;
 
-/// What the program takes if nothing else is said, but that its ports only receive.
+/// Returns what the program opens with by default, except that the ports only receive.
 fn options<'a>(ports: &'a [&'a str], max_neighbors: u8) -> Options<'a> {
     Options {
         ports,
@@ -29,7 +29,7 @@ fn options<'a>(ports: &'a [&'a str], max_neighbors: u8) -> Options<'a> {
     }
 }
 
-/// An agent with these options, whose numbers are in their ranges.
+/// Opens an agent with these options, whose numbers are in their ranges.
 fn open_with<A: Allocator + Clone>(
     rt: &impl Abort,
     alloc: A,
@@ -39,7 +39,7 @@ fn open_with<A: Allocator + Clone>(
     Agent::open(alloc, options)
 }
 
-/// An agent whose ports only receive.
+/// Opens an agent whose ports only receive.
 pub fn open<A: Allocator + Clone>(
     rt: &impl Abort,
     alloc: A,
@@ -49,13 +49,13 @@ pub fn open<A: Allocator + Clone>(
     open_with(rt, alloc, &options(ports, max_neighbors))
 }
 
-/// An event comes, which the agent allows.
+/// Gives the agent an event, which it allows.
 fn step<A: Allocator>(rt: &impl Abort, agent: &mut Agent<A>, event: Event<'_>) -> Marks {
     assert!(rt; agent.allows(&event));
     agent.step(event)
 }
 
-/// A frame with this LLDPDU comes on a port.
+/// Gives a port a frame with this LLDPDU.
 fn hear<A: Allocator>(
     rt: &impl Abort,
     agent: &mut Agent<A>,

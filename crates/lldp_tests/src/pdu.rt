@@ -36,7 +36,7 @@ const CAPABILITIES: &[u8] = &[
     0x14, 0x00, 0x04,
 ];
 
-/// The parts, one after the other.
+/// Returns the parts, one after another.
 fn joined(rt: &impl Abort, parts: &[&[u8]]) -> ArrayVec<u8, 1600> {
     let mut octets = ArrayVec::new();
     for part in parts {

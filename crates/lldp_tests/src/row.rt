@@ -1,7 +1,7 @@
-//! What rows of examples/vectors.rows have.
+//! The rows of examples/vectors.rows.
 use lldp_transmit::{Cause, Mark};
 
-/// What a sound LLDPDU tells: a TTL of 0 is a shutdown.
+/// What a sound LLDPDU says: a TTL of 0 is a shutdown.
 pub struct Told {
     pub name: &'static str,
     pub lldpdu: &'static [u8],
@@ -14,7 +14,7 @@ pub struct Told {
     pub kept: &'static [(u8, &'static [u8])],
 }
 
-/// What a Management Address has.
+/// The fields of a Management Address.
 pub struct Address {
     pub family: u8,
     pub address: &'static [u8],
@@ -35,7 +35,7 @@ pub struct Built {
     pub puts: &'static [(u8, &'static [u8], u8)],
 }
 
-/// Causes in order: each comes so many times with this interval, and is answered so each time.
+/// Causes in order: each comes so many times with this interval, and has this answer each time.
 pub struct Play {
     pub name: &'static str,
     pub credit_max: u8,

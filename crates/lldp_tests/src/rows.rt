@@ -82,7 +82,7 @@ pub const FAULTS: &[(&str, &[u8], u8)] = &[
     ),
 ];
 
-/// What sound LLDPDUs tell.
+/// What sound LLDPDUs say.
 pub const TOLD: &[Told] = &[
     Told {
         name: "nothing more",
@@ -445,7 +445,7 @@ pub const ADDRESSES: &[(&str, &[u8], Option<Address>)] = &[
     ),
 ];
 
-/// What builders are given and give.
+/// What builders are given and return.
 pub const BUILT: &[Built] = &[
     Built {
         name: "nothing put",

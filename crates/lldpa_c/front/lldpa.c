@@ -19,11 +19,15 @@ PROVED(lldpa_transmit_credit);
 PROVED(lldpa_open);
 PROVED(lldpa_tick);
 PROVED(lldpa_ticks);
+PROVED(lldpa_due);
 PROVED(lldpa_link);
 PROVED(lldpa_neighbor_count);
 PROVED(lldpa_neighbor);
+PROVED(lldpa_statistics);
+PROVED(lldpa_configuration);
 PROVED(lldpa_command);
 PROVED(lldpa_command_text);
+PROVED(lldpa_fault_text);
 PROVED(lldpa_show_lines);
 PROVED(lldpa_show_line);
 PROVED(lldpa_frame_of);
@@ -62,6 +66,14 @@ static uint8_t *room_at(uint8_t *at)
 uint32_t lldpa_version(void)
 {
     return LLDPA_VERSION;
+}
+
+uint8_t lldpa_fault_text(uint32_t fault, uint8_t *room, size_t room_length, size_t *length)
+{
+    if (is_missing(room, room_length) || length == NULL) {
+        return LLDPA_NULL;
+    }
+    return proved_lldpa_fault_text(fault, room_at(room), room_length, length);
 }
 
 /* ---- Reading ---------------------------------------------------------------------------------------------------- */
@@ -158,7 +170,7 @@ uint8_t lldpa_transmit_credit(const lldpa_machine *machine)
 
 /* ---- The agent -------------------------------------------------------------------------------------------------- */
 
-/* Copies a text, where it is not missing. */
+/* Copies a text, if it is not missing. */
 static bool is_copied(lldpa_text *to, const lldpa_text *from)
 {
     if (is_missing(from->octets, from->length)) {
@@ -211,6 +223,11 @@ uint8_t lldpa_ticks(lldpa_agent *agent, uint32_t count, lldpa_marks *marks, lldp
                                                           : proved_lldpa_ticks(agent, count, marks, told);
 }
 
+uint8_t lldpa_due(lldpa_agent *agent, uint32_t *seconds)
+{
+    return agent == NULL || seconds == NULL ? LLDPA_NULL : proved_lldpa_due(agent, seconds);
+}
+
 uint8_t lldpa_frame(lldpa_agent *agent, uint32_t port, const uint8_t *frame, size_t length, lldpa_marks *marks,
                     lldpa_news *news)
 {
@@ -238,6 +255,16 @@ uint8_t lldpa_neighbor(lldpa_agent *agent, uint32_t port, uint32_t index, uint8_
         return LLDPA_NULL;
     }
     return proved_lldpa_neighbor(agent, port, index, room_at(room), room_length, told);
+}
+
+uint8_t lldpa_statistics(lldpa_agent *agent, uint32_t port, lldpa_statistics_told *told)
+{
+    return agent == NULL || told == NULL ? LLDPA_NULL : proved_lldpa_statistics(agent, port, told);
+}
+
+uint8_t lldpa_configuration(lldpa_agent *agent, lldpa_configuration_told *told)
+{
+    return agent == NULL || told == NULL ? LLDPA_NULL : proved_lldpa_configuration(agent, told);
 }
 
 uint8_t lldpa_command(lldpa_agent *agent, const uint8_t *line, size_t length, uint32_t *show, lldpa_marks *marks)

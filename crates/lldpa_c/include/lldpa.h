@@ -16,7 +16,7 @@
  * is LLDPA_NULL, or false or 0 where a function answers a bool or a number of frames, whatever else is given; nothing is
  * written, and lldpa_close does nothing.
  *
- * Stack: lldpa_show_line takes at most 28 KB, every other call at most 12.
+ * Stack: a call takes at most 12 KB.
  *
  * Memory: no function takes any but lldpa_open, and only lldpa_close gives it back. Nothing that a call was given is
  * kept once it has returned. Places are offsets in the octets that the caller gave.
@@ -55,6 +55,14 @@ uint32_t lldpa_version(void);
 #define LLDPA_IS_OPEN 104      /* the agent is open already */
 #define LLDPA_NULL 105         /* a pointer is NULL that must not be */
 
+/*
+ * What a fault or a misuse is, in words, as "the first TLV is no Chassis ID".
+ *   fault   an answer other than 0: a number that stands in this header at a fault, or one of those above
+ *   length  how many octets it has, at most LLDPA_FAULT_ROOM
+ * Answers 0, LLDPA_OUT_OF_RANGE or LLDPA_NO_ROOM; only if it is 0 anything is written.
+ */
+uint8_t lldpa_fault_text(uint32_t fault, uint8_t *room, size_t room_length, size_t *length);
+
 /* ---- Rooms that are always large enough, in octets ----------------------------------------------------------------- */
 
 #define LLDPA_PDU_ROOM 1500      /* for lldpa_build */
@@ -62,6 +70,7 @@ uint32_t lldpa_version(void);
 #define LLDPA_NEIGHBOR_ROOM 1500 /* for lldpa_neighbor */
 #define LLDPA_LINE_ROOM 2049     /* for lldpa_show_line, and for one line of lldpa_show_lines */
 #define LLDPA_TEXT_ROOM 22       /* for lldpa_command_text */
+#define LLDPA_FAULT_ROOM 65      /* for lldpa_fault_text */
 
 /* ---- Reading ---------------------------------------------------------------------------------------------------- */
 
@@ -334,6 +343,18 @@ typedef struct lldpa_ticks_taken {
  */
 uint8_t lldpa_ticks(lldpa_agent *agent, uint32_t count, lldpa_marks *marks, lldpa_ticks_taken *told);
 
+#define LLDPA_NEVER UINT32_MAX /* at no tick */
+
+/*
+ * At which tick, from 1, a port sends or a neighbor ages out, if no other call comes before it. Answers 0 or
+ * LLDPA_NOT_OPEN.
+ *   seconds  1 to 65535, or LLDPA_NEVER, if the answer is 0
+ * A caller may sleep so many seconds, and then give all of them to lldpa_ticks, which takes just so many before it stops.
+ * At the ticks before that one only clocks go on: seconds that are left, the credit of a port, what shows tell of these.
+ * Any other call may bring it nearer or put it off, so ask again behind it.
+ */
+uint8_t lldpa_due(lldpa_agent *agent, uint32_t *seconds);
+
 /* What a frame does. */
 #define LLDPA_NEWS_NOT_LLDP 1 /* it is no LLDP frame */
 #define LLDPA_NEWS_DEAF 2     /* the port does not receive, or its link is down: nobody looked at the frame */
@@ -388,6 +409,44 @@ typedef struct lldpa_held {
  */
 uint8_t lldpa_neighbor(lldpa_agent *agent, uint32_t port, uint32_t index, uint8_t *room, size_t room_length,
                        lldpa_held *told);
+
+/* What a port counted, each modulo 2^32. Nothing resets them. */
+typedef struct lldpa_statistics_told {
+    uint32_t sent;           /* ordinary frames sent */
+    uint32_t shutdowns;      /* shutdown frames sent */
+    uint32_t received;       /* LLDP frames that came while the port received and its link was up */
+    uint32_t discarded;      /* LLDPDUs that were refused */
+    uint32_t errors;         /* LLDPDUs that were refused or had a TLV discarded */
+    uint32_t tlvs_discarded; /* TLVs that were discarded */
+    uint32_t unrecognized;   /* kept TLVs of the types 9 to 127 */
+    uint32_t ageouts;        /* neighbors that aged out */
+    uint32_t drops;          /* LLDPDUs that were dropped for want of room */
+} lldpa_statistics_told;
+
+/* What a port counted. Answers 0, LLDPA_NOT_OPEN or LLDPA_NO_PORT; told is written if it is 0. */
+uint8_t lldpa_statistics(lldpa_agent *agent, uint32_t port, lldpa_statistics_told *told);
+
+/* What a port may do. */
+#define LLDPA_RX_AND_TX 0
+#define LLDPA_RX_ONLY 1
+#define LLDPA_TX_ONLY 2
+#define LLDPA_DISABLED 3
+
+/* How an agent is configured: by the last command that set each, else as it was opened. */
+typedef struct lldpa_configuration_told {
+    uint32_t interval;      /* tx-interval, in seconds */
+    uint32_t hold;          /* tx-hold */
+    uint32_t ttl;           /* the time to live of an ordinary frame, in seconds */
+    uint32_t reinit;        /* reinitDelay, in seconds */
+    uint32_t fast_init;     /* txFastInit */
+    uint32_t credit_max;    /* txCreditMax */
+    uint32_t max_neighbors; /* the limit in force */
+    uint32_t ports;         /* how many ports there are */
+    uint8_t status[64];     /* LLDPA_RX_AND_TX to LLDPA_DISABLED of each port; behind the last port 0 */
+} lldpa_configuration_told;
+
+/* How an agent is configured. Answers 0 or LLDPA_NOT_OPEN; told is written if it is 0. */
+uint8_t lldpa_configuration(lldpa_agent *agent, lldpa_configuration_told *told);
 
 /* What a command shows. */
 #define LLDPA_SHOW_NOTHING 0 /* the command changed something */

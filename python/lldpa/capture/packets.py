@@ -23,10 +23,10 @@ NO_PACKET = b"\0" * 1024
 
 
 def reader_of(file: BinaryIO, most_unpacked: Optional[int] = None) -> Reader:
-    """What reads a capture from its begin, which gzip may have compressed; of what gzip unpacks up
-    to so many octets.
+    """Returns a reader of a capture from its beginning, which gzip may have compressed. Reads at
+    most so many octets of what gzip unpacks.
 
-    Raises BadCapture where that is none of a capture.
+    Raises BadCapture if it is not a capture.
     """
     window = Window(file)
     if window.move(0, 2) and window.octets.startswith(MAGIC):
@@ -46,7 +46,7 @@ def reader_of(file: BinaryIO, most_unpacked: Optional[int] = None) -> Reader:
 
 
 def packets_of(file: BinaryIO) -> Iterator[Packet]:
-    """The packets of a capture. Raises BadCapture where it cannot be read on."""
+    """Returns the packets of a capture. Raises BadCapture if it cannot be read further."""
     reader = reader_of(file)
     for interface, time, begin, end, length in reader.looks(b""):
         yield Packet(interface, time, reader.window.octets[begin:end], length)
@@ -54,7 +54,8 @@ def packets_of(file: BinaryIO) -> Iterator[Packet]:
 
 def interfaces_of(file: BinaryIO, most_unpacked: Optional[int] = None
                   ) -> List[CaptureInterface]:
-    """The interfaces that a pcapng file describes, as far as it can be read; pcap has none."""
+    """Returns the interfaces that a pcapng file describes, as far as it can be read; pcap has
+    none."""
     described: List[CaptureInterface] = []
     with suppress(BadCapture):
         reader = reader_of(file, most_unpacked)

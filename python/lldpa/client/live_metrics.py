@@ -1,4 +1,4 @@
-"""What lldpa-live tells of itself in its lines `live.KEY=VALUE`, in Prometheus' text format."""
+"""What lldpa-live says of itself in its lines `live.KEY=VALUE`, in Prometheus' text format."""
 
 from __future__ import annotations
 
@@ -12,7 +12,7 @@ UP = ("lldpa_up", "gauge", "Whether lldpa-live answers and its agent does, 1 or 
 
 
 class State(NamedTuple):
-    """A metric with a sample for each state that there can be: 1 for the one that is."""
+    """A metric with a sample for each possible state: 1 for the present one."""
 
     key: str
     name: str
@@ -21,7 +21,7 @@ class State(NamedTuple):
 
 
 class OfPorts(NamedTuple):
-    """A metric of each port; a value that is a word counts 1 where it is this one."""
+    """A metric of each port. With a word, the sample is 1 if the value is this word."""
 
     key: str
     name: str
@@ -52,7 +52,7 @@ OF_PORTS = (
 
 
 def live_lines(told: LiveLines) -> Iterator[str]:
-    """The metrics of an lldpa-live; of what it does not tell there is none."""
+    """Returns the metrics of an lldpa-live, without those of what it does not say."""
     yield from lines_of(*UP, [({}, int(told.is_up))])
     if "began" in told.own:
         start = clock.seconds_of(told.own["began"])
@@ -81,11 +81,11 @@ def live_lines(told: LiveLines) -> Iterator[str]:
 
 
 def number_of(one: OfPorts, values: Mapping[str, str]) -> int:
-    """The value of a port as a number."""
+    """Returns the value of a port as a number."""
     value = values[one.key]
     return int(value) if one.word is None else int(value == one.word)
 
 
 def down_lines() -> list[str]:
-    """All that there is to tell where nobody answers."""
+    """Returns the only metrics if no lldpa-live answers."""
     return list(lines_of(*UP, [({}, 0)]))

@@ -1,4 +1,5 @@
-"""Who listens at a port of 127.0.0.1: the agent of --connect is root's, or of the own user."""
+"""Which users listen at a port of 127.0.0.1: the agent of --connect must be root's, or our own
+user's."""
 
 from __future__ import annotations
 
@@ -20,7 +21,7 @@ def check_listener(port: int) -> None:
 
 
 def users_at(port: int) -> Iterator[int]:
-    """The users of the sockets that listen there, as the kernel lists them."""
+    """Returns the users of the sockets that listen there, as the kernel lists them."""
     with open(TABLE, encoding="ascii") as table:
         for words in map(str.split, table):
             address, _, number = words[1].partition(":")

@@ -1,4 +1,4 @@
-"""What lldpa-live does at signals: it ends, or reads its settings anew."""
+"""What lldpa-live does at signals: it ends, or reads its settings again."""
 
 from __future__ import annotations
 
@@ -16,7 +16,7 @@ SIGNALS = (signal.SIGINT, signal.SIGTERM, signal.SIGHUP)
 
 class Signals:
     """Stops lldpa-live at the first signal; a second one ends the process at once. With `--stay`
-    SIGHUP has it tell its settings anew. What was ignored at the start stays ignored."""
+    SIGHUP makes it send its settings again. What was ignored at the start stays ignored."""
 
     def __init__(self, stopping: asyncio.Event, ground: Ground) -> None:
         self.stopping = stopping
@@ -39,21 +39,21 @@ class Signals:
         signal.set_wakeup_fd(signal.set_wakeup_fd(-1), warn_on_full_buffer=False)
 
     def stop(self) -> None:
-        """Has lldpa-live come to its end, and leaves further signals to the system."""
+        """Ends lldpa-live, and leaves further signals to the system."""
         self.stopping.set()
         for one in self.taken:
             asyncio.get_running_loop().remove_signal_handler(one)
             signal.signal(one, signal.SIG_DFL)
 
     def reload(self) -> None:
-        """Has the settings told anew: one time runs, and one may wait for it."""
+        """Sends the settings again: one time runs, and one may wait for it."""
         self.wants_reload = True
         if self.reloading is None or self.reloading.done():
             self.reloading = asyncio.ensure_future(self.settle())
 
     async def settle(self) -> None:
-        """Tells the settings anew as often as it is wanted, and says what was not taken. If there
-        is no agent yet, it is told them when it is opened."""
+        """Sends the settings again as often as it is wanted, and reports what was not accepted. If
+        there is no agent yet, it gets them when it is opened."""
         while self.wants_reload and self.ground.relay is not None:
             self.wants_reload = False
             manager, given = self.ground.watched.manager, self.ground.given

@@ -143,6 +143,76 @@ pub struct Ticks {
     pub sent: Vec<Sent>,
 }
 
+/// What a port counted, each modulo 2^32.
+#[derive(Clone, Copy, Debug, PartialEq, Eq, Hash)]
+pub struct Statistics {
+    /// Ordinary frames sent.
+    pub sent: u32,
+    /// Shutdown frames sent.
+    pub shutdowns: u32,
+    /// LLDP frames that came while the port received and its link was up.
+    pub received: u32,
+    /// LLDPDUs that were refused.
+    pub discarded: u32,
+    /// LLDPDUs that were refused or had a TLV discarded.
+    pub errors: u32,
+    /// TLVs that were discarded.
+    pub tlvs_discarded: u32,
+    /// Kept TLVs of the types 9 to 127.
+    pub unrecognized: u32,
+    /// Neighbors that aged out.
+    pub ageouts: u32,
+    /// LLDPDUs that were dropped for want of room.
+    pub drops: u32,
+}
+
+/// What a port may do.
+#[derive(Clone, Copy, Debug, PartialEq, Eq, Hash)]
+pub enum Status {
+    /// It receives and transmits.
+    RxAndTx = 0,
+    /// It receives.
+    RxOnly = 1,
+    /// It transmits.
+    TxOnly = 2,
+    /// Neither.
+    Disabled = 3,
+}
+
+impl Status {
+    /// The status of that number. None only if the archive is of another version.
+    fn of(number: u8) -> Option<Status> {
+        match number {
+            0 => Some(Status::RxAndTx),
+            1 => Some(Status::RxOnly),
+            2 => Some(Status::TxOnly),
+            3 => Some(Status::Disabled),
+            _ => None,
+        }
+    }
+}
+
+/// How an agent is configured: each by the last command that set it, else as it was opened.
+#[derive(Clone, Debug, PartialEq, Eq, Hash)]
+pub struct Configuration {
+    /// The tx-interval in seconds.
+    pub interval: u32,
+    /// The tx-hold.
+    pub hold: u32,
+    /// The time to live of an ordinary frame, in seconds.
+    pub ttl: u32,
+    /// reinitDelay in seconds.
+    pub reinit: u32,
+    /// txFastInit.
+    pub fast_init: u32,
+    /// txCreditMax.
+    pub credit_max: u32,
+    /// How many neighbors each port may hold now.
+    pub max_neighbors: u32,
+    /// The status of each port, in the order of the options.
+    pub status: Vec<Status>,
+}
+
 /// The room for the lines of a show beside those of neighbors, and for those of one neighbor, which mostly has fewer.
 const SHOW_ROOM: usize = 1 << 16;
 const SHOW_ROOM_OF_NEIGHBOR: usize = 1 << 10;
@@ -209,6 +279,69 @@ impl Agent {
         // SAFETY: the handle is open, and the others are values of their own.
         unsafe { sys::lldpa_ticks(&mut *self.handle, count, &mut marks, &mut told) };
         Ticks { taken: told.taken, aged_out: told.aged_out, sent: sent(&marks) }
+    }
+
+    /// At which tick, from 1, a port sends or a neighbor ages out, if no other call comes before it; None if at none.
+    /// [`Agent::ticks`] stops behind just that one, so a caller may sleep so many seconds and then give them all.
+    #[must_use]
+    pub fn due(&mut self) -> Option<u32> {
+        let mut seconds = sys::NEVER;
+        // SAFETY: the handle is open, and the seconds are a value of their own.
+        unsafe { sys::lldpa_due(&mut *self.handle, &mut seconds) };
+        (seconds != sys::NEVER).then_some(seconds)
+    }
+
+    /// What a port counted.
+    ///
+    /// # Errors
+    ///
+    /// The agent has no such port.
+    pub fn statistics(&mut self, port: u8) -> Result<Statistics, NoPort> {
+        let mut told = sys::Statistics::default();
+        // SAFETY: the handle is open, and what is told is a value of its own.
+        match unsafe { sys::lldpa_statistics(&mut *self.handle, port.into(), &mut told) } {
+            sys::OK => Ok(Statistics {
+                sent: told.sent,
+                shutdowns: told.shutdowns,
+                received: told.received,
+                discarded: told.discarded,
+                errors: told.errors,
+                tlvs_discarded: told.tlvs_discarded,
+                unrecognized: told.unrecognized,
+                ageouts: told.ageouts,
+                drops: told.drops,
+            }),
+            _ => Err(NoPort),
+        }
+    }
+
+    /// How the agent is configured.
+    #[must_use]
+    pub fn configuration(&mut self) -> Configuration {
+        let mut told = sys::Configuration {
+            interval: 0,
+            hold: 0,
+            ttl: 0,
+            reinit: 0,
+            fast_init: 0,
+            credit_max: 0,
+            max_neighbors: 0,
+            ports: 0,
+            status: [0; 64],
+        };
+        // SAFETY: the handle is open, and what is told is a value of its own.
+        unsafe { sys::lldpa_configuration(&mut *self.handle, &mut told) };
+        let ports = &told.status[..usize::from(self.ports)];
+        Configuration {
+            interval: told.interval,
+            hold: told.hold,
+            ttl: told.ttl,
+            reinit: told.reinit,
+            fast_init: told.fast_init,
+            credit_max: told.credit_max,
+            max_neighbors: told.max_neighbors,
+            status: ports.iter().filter_map(|number| Status::of(*number)).collect(),
+        }
     }
 
     /// A frame came on a port: any octets; what is no LLDP frame changes nothing. Tells which ports send.

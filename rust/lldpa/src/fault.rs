@@ -136,6 +136,16 @@ impl CommandFault {
     }
 }
 
+/// What the fault or the misuse of that number in `lldpa.h` is, in words. None if none has that number.
+#[must_use]
+pub fn fault_text(number: u32) -> Option<String> {
+    let mut room = [0u8; sys::FAULT_ROOM];
+    let mut length = 0;
+    // SAFETY: the room has as many octets as are told, and nothing else is lent.
+    let answer = unsafe { sys::lldpa_fault_text(number, room.as_mut_ptr(), room.len(), &mut length) };
+    (answer == sys::OK).then(|| String::from_utf8_lossy(&room[..length]).into_owned())
+}
+
 /// A number, or the length of an identifier, is not in its range.
 #[derive(Clone, Copy, Debug, PartialEq, Eq, Hash)]
 pub struct OutOfRange;
@@ -161,3 +171,32 @@ impl fmt::Display for NoPort {
 
 #[cfg(feature = "std")]
 impl std::error::Error for NoPort {}
+
+#[cfg(test)]
+mod tests {
+    use super::*;
+    use alloc::string::ToString;
+
+    fn words(fault: u8) -> String {
+        fault_text(fault.into()).expect("a fault")
+    }
+
+    #[test]
+    fn texts_are_those_of_the_archive() {
+        for fault in 1..=8 {
+            assert_eq!(PduFault::check(fault).map_err(|fault| fault.to_string()), Err(words(fault)));
+        }
+        for fault in 11..=13 {
+            assert_eq!(BuildFault::check(fault).map_err(|fault| fault.to_string()), Err(words(fault)));
+        }
+        for fault in 21..=26 {
+            assert_eq!(OpenFault::check(fault).map_err(|fault| fault.to_string()), Err(words(fault)));
+        }
+        for fault in 31..=38 {
+            assert_eq!(CommandFault::check(fault).map_err(|fault| fault.to_string()), Err(words(fault)));
+        }
+        assert_eq!(OutOfRange.to_string(), words(100));
+        assert_eq!(NoPort.to_string(), words(103));
+        assert!([0, 9, 27, 106, 256 + 21].iter().all(|number| fault_text(*number).is_none()));
+    }
+}

@@ -25,9 +25,11 @@ mod neighbors;
 mod reading;
 mod sys;
 
-pub use agent::{Agent, Commanded, Options, Role, Sent, Show, Ticks};
+pub use agent::{
+    Agent, Commanded, Configuration, Options, Role, Sent, Show, Statistics, Status, Ticks,
+};
 pub use building::{Builder, Built};
-pub use fault::{BuildFault, CommandFault, NoPort, OpenFault, OutOfRange, PduFault};
+pub use fault::{fault_text, BuildFault, CommandFault, NoPort, OpenFault, OutOfRange, PduFault};
 pub use machine::{Cause, Machine, Mark};
 pub use neighbors::{Neighbor, Neighbors, News};
 pub use reading::{

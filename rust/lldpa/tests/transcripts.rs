@@ -1,6 +1,6 @@
 //! Three transcripts of examples/, with what the library does in the place of the program. A program in C runs all.
 
-use lldpa::{Agent, CommandFault, Neighbor, News, Options, Role, Sent};
+use lldpa::{Agent, CommandFault, Neighbor, News, Options, Role, Sent, Show};
 use std::fs;
 use std::path::Path;
 
@@ -24,9 +24,46 @@ fn sent_lines(agent: &mut Agent, ports: &[&str], sent: &[Sent]) -> String {
     sent.iter().map(line).collect()
 }
 
+/// What is told as structs is what the shows show.
+fn see_structs(agent: &mut Agent, ports: &[&str]) {
+    let (counters, settings) = (agent.show(Show::Statistics), agent.show(Show::Configuration));
+    for (port, name) in ports.iter().enumerate() {
+        let told = agent.statistics(port as u8).expect("a port");
+        for (key, number) in [
+            ("sent", told.sent),
+            ("shutdowns", told.shutdowns),
+            ("received", told.received),
+            ("discarded", told.discarded),
+            ("errors", told.errors),
+            ("tlvs-discarded", told.tlvs_discarded),
+            ("unrecognized", told.unrecognized),
+            ("ageouts", told.ageouts),
+            ("drops", told.drops),
+        ] {
+            assert!(counters.contains(&format!("lldp.{name}.{key}={number}\n")));
+        }
+    }
+    let told = agent.configuration();
+    assert_eq!(told.status.len(), ports.len());
+    for (key, number) in [
+        ("tx-interval", told.interval),
+        ("tx-hold", told.hold),
+        ("ttl", told.ttl),
+        ("reinit-delay", told.reinit),
+        ("tx-fast-init", told.fast_init),
+        ("tx-credit-max", told.credit_max),
+        ("max-neighbors", told.max_neighbors),
+        ("ports", told.status.len() as u32),
+    ] {
+        assert!(settings.contains(&format!("configuration.{key}={number}\n")));
+    }
+    assert!(agent.statistics(ports.len() as u8).is_err());
+}
+
 /// What a command answers, each line of its show also by itself.
 fn answer(agent: &mut Agent, ports: &[&str], line: &str) -> Result<String, CommandFault> {
     let done = agent.command(line.as_bytes())?;
+    see_structs(agent, ports);
     let mut written = sent_lines(agent, ports, &done.sent);
     if let Some(show) = done.show {
         let text = agent.show(show);
@@ -60,7 +97,13 @@ fn event(agent: &mut Agent, ports: &[&str], line: &str) -> String {
         ["tick", count] => {
             let (mut left, mut written) = (count.parse().expect("a number"), String::new());
             while left > 0 {
+                let due = agent.due();
                 let done = agent.ticks(left);
+                assert_eq!(done.taken, due.map_or(left, |due| due.min(left)));
+                assert_eq!(
+                    done.aged_out > 0 || !done.sent.is_empty(),
+                    Some(done.taken) == due
+                );
                 left -= done.taken;
                 written.push_str(&sent_lines(agent, ports, &done.sent));
             }

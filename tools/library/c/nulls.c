@@ -26,6 +26,8 @@ typedef struct written {
     uint8_t octet;
     uint32_t number;
     lldpa_ticks_taken ticks;
+    lldpa_statistics_told statistics;
+    lldpa_configuration_told configuration;
     lldpa_news news;
     lldpa_held held;
     size_t length;
@@ -183,6 +185,12 @@ static void step_nulls(void)
     ANSWERS(lldpa_ticks(NULL, 1, &now.marks, &now.ticks), LLDPA_NULL);
     ANSWERS(lldpa_ticks(&agent, 1, NULL, &now.ticks), LLDPA_NULL);
     ANSWERS(lldpa_ticks(&agent, 1, &now.marks, NULL), LLDPA_NULL);
+    ANSWERS(lldpa_due(NULL, &now.number), LLDPA_NULL);
+    ANSWERS(lldpa_due(&agent, NULL), LLDPA_NULL);
+    ANSWERS(lldpa_statistics(NULL, 0, &now.statistics), LLDPA_NULL);
+    ANSWERS(lldpa_statistics(&agent, 0, NULL), LLDPA_NULL);
+    ANSWERS(lldpa_configuration(NULL, &now.configuration), LLDPA_NULL);
+    ANSWERS(lldpa_configuration(&agent, NULL), LLDPA_NULL);
     ANSWERS(lldpa_frame(NULL, 0, octets, 33, &now.marks, &now.news), LLDPA_NULL);
     ANSWERS(lldpa_frame(&agent, 0, NULL, 33, &now.marks, &now.news), LLDPA_NULL);
     ANSWERS(lldpa_frame(&agent, 0, octets, 33, NULL, &now.news), LLDPA_NULL);
@@ -207,6 +215,9 @@ static void show_nulls(void)
     ANSWERS(lldpa_command_text(LLDPA_UNKNOWN, NULL, 22, &now.length), LLDPA_NULL);
     ANSWERS(lldpa_command_text(LLDPA_UNKNOWN, NULL, 0, &now.length), LLDPA_NO_ROOM);
     ANSWERS(lldpa_command_text(LLDPA_UNKNOWN, room, 22, NULL), LLDPA_NULL);
+    ANSWERS(lldpa_fault_text(LLDPA_MEMORY, NULL, 65, &now.length), LLDPA_NULL);
+    ANSWERS(lldpa_fault_text(LLDPA_MEMORY, NULL, 0, &now.length), LLDPA_NO_ROOM);
+    ANSWERS(lldpa_fault_text(LLDPA_MEMORY, room, 65, NULL), LLDPA_NULL);
     ANSWERS(lldpa_show_lines(NULL, 3, 0, room, 1514, &now.lines), LLDPA_NULL);
     ANSWERS(lldpa_show_lines(&agent, 3, 0, NULL, 1514, &now.lines), LLDPA_NULL);
     ANSWERS(lldpa_show_lines(&agent, 3, 0, NULL, 0, &now.lines), LLDPA_NO_ROOM);

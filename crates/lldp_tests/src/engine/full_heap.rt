@@ -1,4 +1,4 @@
-//! No call takes memory behind the opening: on a full heap an agent answers as one that has more.
+//! No call takes memory after the opening: on a full heap an agent answers like one that has more.
 use super::whole_shows::expect_same_lines;
 use super::{open_with, options, step};
 use linked_list_allocator::LocalHeap;
@@ -10,7 +10,7 @@ use std::test::Fail;
 /// A heap that holds more than the opening below.
 const AMPLE: usize = 400_000;
 
-/// Two ports that send, with two neighbors each at most.
+/// Returns options of two ports that send, with at most two neighbors each.
 fn sending() -> Options<'static> {
     Options {
         receive_only: false,
@@ -18,7 +18,7 @@ fn sending() -> Options<'static> {
     }
 }
 
-/// The room that its opening takes.
+/// Returns the room that its opening takes.
 fn size_of_opening(rt: &impl Abort, alloc: Global) -> Result<usize, Fail> {
     let heap = LocalHeap::new(alloc, AMPLE)?;
     let agent = open_with(rt, &heap, &sending())?;
@@ -26,7 +26,7 @@ fn size_of_opening(rt: &impl Abort, alloc: Global) -> Result<usize, Fail> {
     Ok(heap.used())
 }
 
-/// The frames of a port of two agents are the same.
+/// Checks that the frames of a port of two agents are the same.
 fn expect_same_frames<A: Allocator, B: Allocator>(
     rt: &impl Abort,
     one: &Agent<A>,
@@ -40,7 +40,7 @@ fn expect_same_frames<A: Allocator, B: Allocator>(
     }
 }
 
-/// What is read of a port of two agents is the same.
+/// Checks that what is read of a port of two agents is the same.
 fn expect_same_port<A: Allocator, B: Allocator>(
     rt: &impl Abort,
     one: &Agent<A>,
@@ -56,7 +56,7 @@ fn expect_same_port<A: Allocator, B: Allocator>(
     assert_eq!(rt; one.counters(port), other.counters(port));
 }
 
-/// What is read of two agents is the same.
+/// Checks that what is read of two agents is the same.
 fn expect_same<A: Allocator, B: Allocator>(rt: &impl Abort, one: &Agent<A>, other: &Agent<B>) {
     for port in [0, 1] {
         expect_same_port(rt, one, other, port);
@@ -80,8 +80,8 @@ fn expect_same<A: Allocator, B: Allocator>(rt: &impl Abort, one: &Agent<A>, othe
     }
 }
 
-/// Each event, and all that is read of the agent behind it, is as with memory if a heap is full
-/// since the opening; and if there is more, none of it is taken.
+/// Checks that each event, and all that is read of the agent after it, is the same on a heap that
+/// is full since the opening as on one with more; and that nothing is taken from that one either.
 fn expect_none_taken(rt: &impl Abort, alloc: Global, past: &[Event<'_>]) -> Result<(), Fail> {
     let size = size_of_opening(rt, alloc)?;
     let full = LocalHeap::new(alloc, size)?;
@@ -108,8 +108,8 @@ fn becomes<'a>(status: Status) -> Event<'a> {
     Event::Set(Setting::Status { port: 0, status })
 }
 
-/// Changes beyond the credit, a stop and a start, every setting, and a link that goes down and
-/// comes up.
+/// Makes changes beyond the credit, a stop and a start, every setting, and a link that goes down
+/// and comes up.
 #[test]
 fn settings_and_links(rt: HostRuntime) -> Result<(), Fail> {
     let past = [
@@ -143,7 +143,7 @@ fn settings_and_links(rt: HostRuntime) -> Result<(), Fail> {
     expect_none_taken(&rt, rt.alloc(), &past)
 }
 
-/// An LLDP frame of a neighbor whose name ends in this octet, with this TTL.
+/// Returns an LLDP frame of a neighbor whose name ends in this octet, with this TTL.
 fn frame_of(name: u8, ttl: u8) -> [u8; 39] {
     let mut octets =
         *b"\x01\x80\xc2\x00\x00\x0e\x00\x11\x22\x33\x44\x55\x88\xcc\x02\x07\x04\x00\x11\x22\x33\x44\x55\x04\x05\x05eth0\x06\x02\x00\x09\x0a\x03sw2";
@@ -156,7 +156,7 @@ fn heard(octets: &[u8]) -> Event<'_> {
     Event::Frame { port: 0, octets }
 }
 
-/// Frames that are stored, refreshed, dropped and withdrawn, and neighbors that age out.
+/// Stores, refreshes, drops and withdraws frames, and lets neighbors age out.
 #[test]
 fn frames(rt: HostRuntime) -> Result<(), Fail> {
     let frames = [

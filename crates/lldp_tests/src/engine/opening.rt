@@ -21,7 +21,7 @@ fn faults(rt: HostRuntime) -> Result<(), Fail> {
     Ok(())
 }
 
-/// The numbers of the faults.
+/// Checks the numbers of the faults.
 #[test]
 fn numbers_of_faults(rt: HostRuntime) {
     for (fault, number) in [
@@ -50,7 +50,7 @@ fn numbers_of_faults(rt: HostRuntime) {
     }
 }
 
-/// No opening is refused if there is memory: every number of ports, with every limit.
+/// Checks that no opening is refused if there is memory: every number of ports, with every limit.
 #[test]
 fn every_size(rt: HostRuntime) -> Result<(), Fail> {
     for ports in 1..65 {

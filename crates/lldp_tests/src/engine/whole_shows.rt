@@ -1,5 +1,5 @@
-//! Every show of 64 ports and of a full table, line by line against `show_line`, which the program
-//! does not call.
+//! Every show of 64 ports and of a full table, line by line, compared with `show_line`, which the
+//! program does not call.
 use super::{hear, open};
 use lldp_engine::{Agent, LineSink, Show, Writer};
 use std::alloc::Allocator;
@@ -14,7 +14,7 @@ pub const NAMES: [&str; 64] = [
     "p52", "p53", "p54", "p55", "p56", "p57", "p58", "p59", "p60", "p61", "p62", "p63",
 ];
 
-/// The LLDPDU of a neighbor, and behind it two TLVs of reserved types.
+/// Returns the LLDPDU of a neighbor, with two TLVs of reserved types behind it.
 fn lldpdu(port: u8, number: u8) -> [u8; 24] {
     let mut octets =
         *b"\x02\x07\x04\x00\x11\x22\x33\x00\x00\x04\x05\x05eth0\x06\x02\x00\x78\x12\x00\x14\x00";
@@ -23,7 +23,7 @@ fn lldpdu(port: u8, number: u8) -> [u8; 24] {
     octets
 }
 
-/// So many neighbors come on each port. They have none, one or two TLVs besides the mandatory ones,
+/// Gives each port so many neighbors. They have none, one or two TLVs besides the mandatory ones,
 /// by their numbers.
 fn hear_all(rt: &impl Abort, agent: &mut Agent, neighbors: u8) -> Result<(), Fail> {
     for port in 0..agent.ports() {
@@ -36,7 +36,7 @@ fn hear_all(rt: &impl Abort, agent: &mut Agent, neighbors: u8) -> Result<(), Fai
     Ok(())
 }
 
-/// What compares the lines of a show with `show_line`.
+/// A sink that compares the lines of a show with `show_line`.
 #[derive(Drop)]
 struct Compared<'a, A: Allocator> {
     agent: &'a Agent<A>,
@@ -47,7 +47,7 @@ struct Compared<'a, A: Allocator> {
 }
 
 impl<A: Allocator> Compared<'_, A> {
-    /// Compares the line that was written last, if there is one, and looks for its line feed.
+    /// Compares the line that was written last, if there is one, and checks its line feed.
     fn compare(&mut self) {
         let Some((end, line)) = self.line.as_slice().split_last() else {
             return;
@@ -78,7 +78,8 @@ impl<A: Allocator> LineSink for Compared<'_, A> {
     }
 }
 
-/// The lines of a show of one agent are those of `show_line` of another, which has none behind them.
+/// Checks that the lines of a show of one agent are those of `show_line` of another, which has none
+/// behind them.
 pub fn expect_same_lines<A: Allocator, B: Allocator>(
     rt: &impl Abort,
     one: &Agent<A>,
@@ -98,7 +99,7 @@ pub fn expect_same_lines<A: Allocator, B: Allocator>(
     assert!(rt; compared.lines > 0 && other.show_line(&show, compared.lines).is_none());
 }
 
-/// Two neighbors on each port, and a full table.
+/// Checks the lines with two neighbors on each port, and with a full table.
 #[test]
 fn every_line(rt: HostRuntime) -> Result<(), Fail> {
     for (ports, neighbors) in [(64, 2), (1, 128)] {

@@ -1,4 +1,4 @@
-//! Cut and altered frames: all parts of what `examine` answers are what the slow reader tells.
+//! Cut and altered frames: `examine` answers in all its parts what the slow reader says.
 use super::slow_reader::{Cut, Unit};
 use super::{CAPABILITIES, CHASSIS, END, HEADER, OVERRUNNING, PORT, SW2, TTL_0, TTL_120, joined};
 use crate::engine::open;
@@ -66,7 +66,7 @@ fn compare(rt: &impl Abort, alloc: Global, pdu: &[u8]) -> Result<(), Fail> {
     Ok(())
 }
 
-/// The octets with these bits turned at one place.
+/// Returns the octets with these bits flipped at one place.
 fn altered(alloc: Global, octets: &[u8], place: usize, bits: u8) -> Result<Vec<u8>, AllocError> {
     let mut altered = octets.to_vec(alloc)?;
     if let Some(octet) = altered.get_mut(place) {
@@ -75,7 +75,8 @@ fn altered(alloc: Global, octets: &[u8], place: usize, bits: u8) -> Result<Vec<u
     Ok(altered)
 }
 
-/// Each front of these LLDPDUs, and each of them with any one octet changed to any other value.
+/// Compares each front of these LLDPDUs, and each of them with any one octet changed to any other
+/// value.
 #[test]
 fn cut_and_altered(rt: HostRuntime) -> Result<(), Fail> {
     let rows: &[&[&[u8]]] = &[
@@ -99,7 +100,7 @@ fn cut_and_altered(rt: HostRuntime) -> Result<(), Fail> {
     Ok(())
 }
 
-/// How many frames an agent of its own receives of this one, and how many neighbors it then holds.
+/// Returns how many frames a new agent receives of this one, and how many neighbors it then holds.
 fn heard(rt: &(impl Abort + AllocGlobal), octets: &[u8]) -> Result<(u32, u8), Fail> {
     let mut agent = open(rt, rt.alloc(), &["eth0"], 1)?;
     let event = Event::Frame { port: 0, octets };
@@ -109,14 +110,14 @@ fn heard(rt: &(impl Abort + AllocGlobal), octets: &[u8]) -> Result<(u32, u8), Fa
     Ok((agent.counters(0).received, agent.table(0).len()))
 }
 
-/// Whether the LLDPDU tells of a neighbor.
+/// Returns whether the LLDPDU is about a neighbor that lives.
 fn is_info(pdu: &[u8]) -> bool {
     matches!(examine(pdu), Ok(Examined::Info(_)))
 }
 
-/// A frame of 36 octets with one changed, at each place and to each other value, each heard by an
-/// agent of its own: it is no LLDP frame exactly if the destination (6 octets) or the EtherType
-/// (2) is another.
+/// Changes one octet of a frame of 36 octets, at each place and to each other value, and gives each
+/// frame to a new agent: it is not an LLDP frame exactly if the destination (6 octets) or the
+/// EtherType (2) has changed.
 #[test]
 fn one_octet_changed(rt: HostRuntime) -> Result<(), Fail> {
     let frame = joined(&rt, &[HEADER, CHASSIS, PORT, TTL_120, END]);

@@ -1,4 +1,4 @@
-//! What the builder takes and refuses, and what it gives, by the rows of examples/vectors.rows.
+//! What the builder takes and refuses, and what it builds, by the rows of examples/vectors.rows.
 use crate::rows::BUILT;
 use lldp_pdu::{BuildFault, Builder};
 

@@ -11,8 +11,8 @@ pub struct Unit<'a> {
     pub body: &'a [u8],
 }
 
-/// The TLV that the octets begin with, and the octets after it. A header has 7 bits of type and 9
-/// of length.
+/// Returns the TLV that the octets begin with, and the octets after it. A header has 7 bits of type
+/// and 9 of length.
 fn front(octets: &[u8]) -> Option<(Unit<'_>, &[u8])> {
     let high = *octets.first()?;
     let low = *octets.get(1)?;
@@ -22,7 +22,7 @@ fn front(octets: &[u8]) -> Option<(Unit<'_>, &[u8])> {
     Some((Unit { kind, body }, octets.get(end..)?))
 }
 
-/// An LLDPDU, cut into TLVs and a rest that begins no complete TLV.
+/// An LLDPDU, cut into TLVs and a rest that does not begin with a complete TLV.
 #[derive(Drop)]
 pub struct Cut<'a> {
     units: Vec<Unit<'a>>,
@@ -47,12 +47,12 @@ impl<'a> Cut<'a> {
         self.units.get(place).map_or(0, |unit| unit.kind)
     }
 
-    /// The body of the TLV at a place; past the last one, no octets.
+    /// Returns the body of the TLV at a place, or no octets past the last one.
     pub fn body(&self, place: usize) -> &'a [u8] {
         self.units.get(place).map_or(&[], |unit| unit.body)
     }
 
-    /// The first two octets of the third TLV.
+    /// Returns the first two octets of the third TLV.
     pub fn ttl(&self) -> usize {
         let octet = |place: usize| self
             .body(2)
@@ -61,7 +61,7 @@ impl<'a> Cut<'a> {
         256 * octet(0) + octet(1)
     }
 
-    /// The TLVs of the extent: those before the first of type 0, or all if none has it.
+    /// Returns the TLVs of the extent: those before the first of type 0, or all if none has it.
     fn extent(&self) -> &[Unit<'a>] {
         match self.units.iter().position(|unit| unit.kind == 0) {
             Some(end) => &self.units[..end],
@@ -69,7 +69,7 @@ impl<'a> Cut<'a> {
         }
     }
 
-    /// The octets of the extent.
+    /// Returns the octets of the extent.
     pub fn extent_octets(&self, alloc: Global) -> Result<Vec<u8>, AllocError> {
         let mut octets = Vec::new(alloc);
         for unit in self.extent() {
@@ -81,13 +81,13 @@ impl<'a> Cut<'a> {
         Ok(octets)
     }
 
-    /// The TLVs of the extent after the third.
+    /// Returns the TLVs of the extent after the third.
     fn later(&self) -> &[Unit<'a>] {
         let extent = self.extent();
         &extent[extent.len().min(3)..]
     }
 
-    /// The fault of the first row of the table that applies.
+    /// Returns the fault of the first row of the table that applies.
     pub fn fault(&self) -> Option<PduFault> {
         let repeated = self.later().iter().any(|unit| (1..=3).contains(&unit.kind));
         let rows = [
@@ -105,7 +105,7 @@ impl<'a> Cut<'a> {
         rows.iter().find(|row| row.0).map(|row| row.1)
     }
 
-    /// The later TLVs that are kept.
+    /// Returns the later TLVs that are kept.
     pub fn kept(&self, alloc: Global) -> Result<Vec<Unit<'a>>, AllocError> {
         let mut kept = Vec::new(alloc);
         for (place, unit) in self.later().iter().enumerate() {
@@ -118,8 +118,8 @@ impl<'a> Cut<'a> {
         Ok(kept)
     }
 
-    /// How many TLVs are discarded if so many are kept: the other later ones, and one that is
-    /// not complete and ended the extent.
+    /// Returns how many TLVs are discarded if so many are kept: the other later ones, and one that
+    /// is not complete and ended the extent.
     pub fn discarded(&self, kept: usize) -> usize {
         let incomplete = self.units.iter().all(|unit| unit.kind != 0) && !self.rest.is_empty();
         self.later()
@@ -133,7 +133,7 @@ fn is_identifier(body: &[u8]) -> bool {
     (2..=256).contains(&body.len())
 }
 
-/// Whether the body is well formed for the type, by the table of TLVs.
+/// Returns whether the body is well formed for the type, by the table of TLVs.
 fn is_well_formed(unit: &Unit<'_>) -> bool {
     match unit.kind {
         1 | 2 => is_identifier(unit.body),
@@ -146,7 +146,7 @@ fn is_well_formed(unit: &Unit<'_>) -> bool {
     }
 }
 
-/// Two octets of available bits, and two with none but these enabled.
+/// Returns whether these are two octets of available bits, and two with no bits but these enabled.
 fn is_capabilities(body: &[u8]) -> bool {
     body.len() == 4
         && body
@@ -155,8 +155,8 @@ fn is_capabilities(body: &[u8]) -> bool {
             .all(|(available, enabled)| available | enabled == *available)
 }
 
-/// An octet m of 2 to 32, m octets, 5 octets, an octet o up to 128, and o octets: there are an m
-/// and an o.
+/// Returns whether these are an octet m of 2 to 32, m octets, 5 octets, an octet o up to 128, and o
+/// octets.
 fn is_management_address(body: &[u8]) -> bool {
     let has = |place: usize, octet: usize| body
         .get(place)

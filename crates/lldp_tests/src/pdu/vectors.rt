@@ -31,7 +31,7 @@ fn numbers_of_faults(rt: HostRuntime) {
     }
 }
 
-/// The TLVs that are kept are these.
+/// Checks that these TLVs are kept.
 fn expect_kept(rt: &impl Abort, info: &Info<'_>, wanted: &[(u8, &[u8])]) {
     let mut kept = info.kept();
     for &(kind, body) in wanted {
@@ -43,7 +43,7 @@ fn expect_kept(rt: &impl Abort, info: &Info<'_>, wanted: &[(u8, &[u8])]) {
     assert!(rt; kept.next().is_none());
 }
 
-/// What is told of an LLDPDU with a TTL above 0 is this.
+/// Checks that an LLDPDU with a TTL above 0 says this.
 fn expect_info(rt: &impl Abort, info: &Info<'_>, wanted: &Told) {
     let name = wanted.name;
     let msap = (info.msap().chassis, info.msap().port);

@@ -1,8 +1,8 @@
 """lldpa-live's end of the log: what is handed over here is written by a process of its own.
 
 lldpa-live never waits for it, nor is it woken by it: it looks for answers when it has its turn.
-What the disk does not take in time waits, within bounds; what finds no room there is lost, and
-counted, and then a new file has to begin, since a trace with a gap replays to something else.
+What the disk does not take in time waits, within bounds. What finds no room is lost, and counted;
+then a new file has to begin, since a trace with a gap replays to something else.
 """
 
 from __future__ import annotations
@@ -72,7 +72,7 @@ class Logbook:
             self.lost += lines
 
     def send(self, kind: int, octets: bytes, lines: int) -> None:
-        """Sends the process a message, whose answer is awaited from now on."""
+        """Sends the process a message, and awaits its answer from now on."""
         assert self.pipes is not None
         if not self.unanswered:
             self.waiting.begin()
@@ -81,7 +81,8 @@ class Logbook:
         self.pipes.send(kind, octets)
 
     def wants_beginning(self) -> bool:
-        """Whether a new file should begin now: the file has its size, or its disk is back."""
+        """Returns whether a new file should begin now: the file has its size, or its disk is
+        back."""
         if self.is_whole:
             return not self.trouble and (self.has_stalled or self.size >= self.least)
         return not self.unanswered and now() >= self.next_try
@@ -140,7 +141,7 @@ class Logbook:
         self.close_pipes()
 
     def close_pipes(self) -> None:
-        """Lets go of the process, which ends with it."""
+        """Closes the pipes to the process, which ends it."""
         if self.pipes is not None:
             self.pipes.close()
             self.pipes = None

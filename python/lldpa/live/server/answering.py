@@ -37,12 +37,12 @@ async def ports_of(ask: Ask) -> Sequence[Port]:
 
 
 def table_of(ports: Sequence[Port]) -> list[bytes]:
-    """The table of neighbors for standard output."""
+    """Returns the table of neighbors for standard output."""
     return encoded(table(ports, terminal_width()))
 
 
 async def answered(ask: Ask, line: bytes) -> list[bytes]:
-    """The answer to a line, for standard output; `ask` gives that of lldpa-live."""
+    """Returns the answer to a line, for standard output; `ask` returns that of lldpa-live."""
     words = words_of(line.decode("latin-1"))
     if words == ["help"]:
         return encoded(HELP)
@@ -60,7 +60,7 @@ async def answered(ask: Ask, line: bytes) -> list[bytes]:
 
 
 async def asked(ask: Ask, words: List[str]) -> list[bytes]:
-    """The answer to a command. Raises Refused where a word has no meaning."""
+    """Returns the answer to a command. Raises Refused if a word has no meaning."""
     one = question(words)
     answers = []
     for line in one.lines:
@@ -72,5 +72,5 @@ async def asked(ask: Ask, words: List[str]) -> list[bytes]:
 
 
 def encoded(lines: Iterable[str]) -> list[bytes]:
-    """Lines for standard output."""
+    """Encodes lines for standard output."""
     return [line.encode("utf-8", "backslashreplace") for line in lines]
