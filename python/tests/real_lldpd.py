@@ -20,8 +20,9 @@ class Lldpd:
     def __init__(self, namespace: str, folder: str, *words: str) -> None:
         os.makedirs("/run/lldpd", exist_ok=True)
         self.socket = os.path.join(folder, namespace)
-        command = ["ip", "netns", "exec", namespace, "lldpd", "-d", "-u", self.socket]
-        self.process = subprocess.Popen([*command, "-O", "/dev/null", *words], stdin=subprocess.DEVNULL,
+        command = ["ip", "netns", "exec", namespace, "lldpd", "-d", "-u", self.socket, "-O",
+                   "/dev/null"]
+        self.process = subprocess.Popen([*command, *words], stdin=subprocess.DEVNULL,
                                         stdout=subprocess.DEVNULL, stderr=subprocess.DEVNULL)
         if not eventually(lambda: self.ask("-f", "keyvalue", "show", "configuration")):
             raise SystemExit("no lldpd")
