@@ -4,24 +4,20 @@ from __future__ import annotations
 import struct
 from typing import Callable, Dict, List, Optional, Sequence, Tuple
 
+from served import GROUP_ADDRESS, tlv
+
 SECOND = 10**9
 START = 1_700_000_000 * SECOND + 999_000_000
 ETHERNET = 1
-NEAREST_BRIDGE = bytes.fromhex("0180c200000e")
 
 # A frame's time in nanoseconds, its captured octets, and its whole length.
 Frame = Tuple[int, bytes, int]
 
 
-def tlv(kind: int, body: bytes) -> bytes:
-    """Returns a TLV as in a frame."""
-    return (kind << 9 | len(body)).to_bytes(2, "big") + body
-
-
 def lldp_frame(chassis: bytes, port: bytes, ttl: int = 120) -> bytes:
     """Returns a frame of a neighbor with that MAC address and that interface name."""
     pdu = tlv(1, b"\4" + chassis) + tlv(2, b"\5" + port) + tlv(3, ttl.to_bytes(2, "big")) + b"\0\0"
-    return NEAREST_BRIDGE + chassis + b"\x88\xcc" + pdu
+    return GROUP_ADDRESS + chassis + b"\x88\xcc" + pdu
 
 
 LLDP = lldp_frame(bytes.fromhex("001122334455"), b"eth0")

@@ -10,8 +10,8 @@ import unittest
 from pathlib import Path
 from typing import List, Optional
 
-REPOSITORY = Path(__file__).resolve().parents[2]
-PROGRAM = os.environ.get("LLDPA") or str(REPOSITORY / "crates" / "lldpa" / "out" / "lldpa")
+from served import REPOSITORY
+
 CAPTURE = str(REPOSITORY / "bin" / "lldpa-capture")
 # What a port eth0 sends if no option is given.
 DEFAULT_FRAME = bytes.fromhex(

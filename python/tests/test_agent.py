@@ -21,7 +21,8 @@ from lldpa.agent.shown import Counters
 from lldpa.limits import LONGEST_LINE
 from made_captures import LLDP, OTHER
 from patience import eventually
-from support import DEFAULT_FRAME, PROGRAM, kill
+from served import PROGRAM
+from support import DEFAULT_FRAME, kill
 
 def started(*ports: str, **options: lldpa.agent.synchronous.Option) -> Agent:
     """Starts an agent with these ports, or with eth0 if there are none."""
@@ -149,7 +150,8 @@ class EndedAgents(unittest.TestCase):
 
     def test_an_agent_that_stops_is_waited_for_no_longer_than_its_timeout(self) -> None:
         give_up_in_a_minute(self)
-        with started(timeout=0.5) as agent:
+        with started() as agent:
+            agent.timeout = 0.5
             assert agent.pid is not None
             os.kill(agent.pid, signal.SIGSTOP)
             with self.assertRaises(Ended) as ended:

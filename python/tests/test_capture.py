@@ -7,8 +7,9 @@ import random
 import unittest
 
 from lldpa.capture.packets import BadCapture, Packet, interfaces_of, packets_of, reader_of
-from made_captures import (ETHERNET, FORMS, LLDP, NEAREST_BRIDGE, OTHER, SECOND, START, Frame,
-                           block, interface, packet, pcap, pcapng, section, units_of, whole)
+from made_captures import (ETHERNET, FORMS, LLDP, OTHER, SECOND, START, Frame, block, interface,
+                           packet, pcap, pcapng, section, units_of, whole)
+from served import GROUP_ADDRESS
 
 FRAMES: list[Frame] = [whole(OTHER), whole(LLDP, START + 1000), (START + SECOND, LLDP[:30], 99),
                        whole(b"", START + SECOND), whole(OTHER * 40, START + 9 * SECOND)]
@@ -144,11 +145,11 @@ class InPlace(unittest.TestCase):
             everything = [(one.octets, one.time or 0) for one in packets(file)]
             reader = reader_of(Dripping(file, dice.choice([50, 500, 100_000])))
             looked = []
-            for _, time, begin, end, _ in reader.looks(NEAREST_BRIDGE):
+            for _, time, begin, end, _ in reader.looks(GROUP_ADDRESS):
                 looked.append((reader.window.octets[begin:end], time or 0))
                 self.assertEqual(everything[reader.number - 1], looked[-1])
-            begun = [octets for octets, _ in looked if octets[:6] == NEAREST_BRIDGE]
-            want = [octets for octets, _ in everything if octets[:6] == NEAREST_BRIDGE]
+            begun = [octets for octets, _ in looked if octets[:6] == GROUP_ADDRESS]
+            want = [octets for octets, _ in everything if octets[:6] == GROUP_ADDRESS]
             self.assertEqual(begun, want)
             self.assertEqual(looked[-1:], everything[-1:])
             self.assertEqual(self.steps_back(looked), self.steps_back(everything))

@@ -14,7 +14,8 @@ from lldpa import read_show
 from made_captures import (FORMS, LLDP, OTHER, SECOND, START, TAGGED, Frame, interface, lldp_frame,
                            packet, pcap, pcapng, section, whole)
 from patience import by_the_clock
-from support import CAPTURE, PROGRAM, FilesCase, run_capture
+from served import PROGRAM
+from support import CAPTURE, FilesCase, run_capture
 
 RX = f"rx eth0 {LLDP.hex()}\n"
 PORTS = [f"swp{number}" for number in range(1, 49)]
@@ -27,17 +28,6 @@ class Files(FilesCase):
         """Runs it, and returns what it writes, says and answers."""
         done = run_capture(list(words), None, self.folder)
         return done.stdout, done.stderr, done.returncode
-
-    def test_each_form(self) -> None:
-        padded = RX.replace("\n", "00\n")
-        frames = [whole(OTHER), whole(LLDP, START + 3 * SECOND + 100_000),
-                  whole(LLDP + b"\0", START + 4 * SECOND + 200_000),
-                  whole(OTHER, START + 60_004 * SECOND + 200_000)]
-        for name, form in FORMS.items():
-            with self.subTest(name):
-                self.file(form(frames), "a")
-                trace = f"tick 3\n{RX}tick\n{padded}tick 60000\n"
-                self.assertEqual(self.ran("a"), (trace, "", 0))
 
     def test_compressed(self) -> None:
         self.file(gzip.compress(pcap([whole(LLDP), whole(LLDP, START + SECOND)])), "a.gz")

@@ -12,7 +12,7 @@ from contextlib import suppress
 from pathlib import Path
 
 from lldpa.client.connection import Client, Gone
-from patience import eventually
+from patience import by_the_clock, eventually
 from served import CTL, REPOSITORY
 from support import FilesCase
 
@@ -54,6 +54,7 @@ class Hostile(FilesCase):
             self.assertEqual(told.stdout.decode(), "local-chassis.name=\\x1b]0;x\\x07\\x9b2J"
                              "\\xe2\\x80\\xae\n")
 
+    @by_the_clock
     def test_an_octet_a_second_does_not_hold_it(self) -> None:
         path = self.answers(b"=1\n", *[b"a"] * 600, pause=0.1)
         with Client(path, seconds=1) as client, self.assertRaises(socket.timeout):

@@ -154,6 +154,7 @@ class TestOnce(OnLinks):
             peer.send(numbered(number))
         self.assertEqual(live.ends(), 0)
 
+    @by_the_clock
     def test_status_tells_that_one_was_missing(self) -> None:
         peer = self.peer("peer1")
         live = self.live("--once", "1", "eth0", "eth1", awaits=False, reads_output=False)

@@ -17,6 +17,7 @@ from wires import Peer
 class TestTime(OnLinks):
     """Frames and seconds are passed on as they came, whenever that is."""
 
+    @by_the_clock
     def test_stopped_lldpa_live_ages_out_nobody_who_was_heard(self) -> None:
         live, peer = self.live("eth0", "--", "--receive-only"), self.peer()
         peer.send(numbered(1, ttl=10))

@@ -73,6 +73,7 @@ class Systemd(Service):
         self.assertTrue(self.heard.hears("STOPPING=1"))
         self.assertEqual(live.ends(), 0)
 
+    @by_the_clock
     def test_signs_of_life_come_while_it_turns(self) -> None:
         live = self.service("eth0", seconds=8)
         for _ in range(3):

@@ -10,9 +10,8 @@ from typing import Iterator, List, Tuple
 from lldpa.agent.synchronous import MARK, MARK_ANSWER
 from lldpa.agent.show import (Configuration, Counters, Identifier, Neighbor, Show, ShowFault,
                               lines_of, read_show, unescaped)
-from support import PROGRAM, REPOSITORY
+from served import PROGRAM, REPOSITORY
 
-sys.dont_write_bytecode = True
 sys.path[1:1] = [str(REPOSITORY / "tools" / folder) for folder in ("model", "gate")]
 import fuzz  # type: ignore[import-not-found]  # noqa: E402
 from examples import transcripts  # type: ignore[import-not-found]  # noqa: E402

@@ -12,7 +12,8 @@ from lldpa import Source, Told, ports_of, trace_of
 from lldpa.capture.trace import TooManyPorts
 from made_captures import (FORMS, LLDP, OTHER, SECOND, START, TAGGED, Frame, block, interface,
                            lldp_frame, packet, pcap, pcapng, section, whole)
-from support import CAPTURE, PROGRAM, FilesCase, run_capture
+from served import PROGRAM
+from support import CAPTURE, FilesCase, run_capture
 
 RX = f"rx eth0 {LLDP.hex()}\n"
 

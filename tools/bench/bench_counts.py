@@ -24,6 +24,9 @@ from typing import Any
 from bench_rows import MANY, PORTS, Row, rows
 
 TOP = Path(__file__).resolve().parents[2]
+sys.path.append(str(TOP / "tools" / "gate"))
+from counts import Counts  # noqa: E402
+
 MOST, MOST_ELSEWHERE = 1.01, 1.05
 START = "start with 64 ports of 128"
 HELD = ("a frame of the mix, 32 held", "a frame of 36 octets", "a frame of the mix, 128 held",
@@ -87,15 +90,13 @@ def main() -> int:
         return 3
     told = json.loads((TOP / "docs/bench.json").read_text())
     saved, most = saved_counts(told), MOST if told["library"] == library() else MOST_ELSEWHERE
-    failed = 0
+    judged = Counts()
     with tempfile.TemporaryDirectory() as folder:
         now = counts(program, Path(folder))
     for title, count in now.items():
-        slower = count > most * saved[title]
-        failed += slower
-        print(f"{'FAILED: ' if slower else ''}{title}: {count:.0f} instructions, {saved[title]:.0f} before")
-    print(f"{len(now) - failed} passed, {failed} failed")
-    return 1 if failed else 0
+        print(f"{title}: {count:.0f} instructions, {saved[title]:.0f} before")
+        judged.that(f"{title} is as fast as before", count <= most * saved[title])
+    return judged.end()
 
 
 if __name__ == "__main__":

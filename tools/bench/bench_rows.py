@@ -12,8 +12,6 @@ PORTS = [f"eth{i}" for i in range(64)]
 LONG = "configure lldp tx-interval 3600\n"
 ONE_PORT = ["--receive-only", "eth0"]
 MANY = ["--receive-only", "--max-neighbors=128"]
-# The names of the programs of a row, in the order of its figures.
-NAMES = ["lldpa", "C", "C by vectors, nothing checked"]
 
 
 # Frames

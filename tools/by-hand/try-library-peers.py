@@ -24,7 +24,6 @@ import sys
 import tempfile
 from typing import Iterator
 
-sys.dont_write_bytecode = True
 TOP = pathlib.Path(__file__).resolve().parents[2]
 sys.path.append(str(TOP / "tools" / "model"))
 import fuzz  # noqa: E402
@@ -157,7 +156,7 @@ def main() -> int:
         told = {peer: verdicts([program, "verdict", str(files["all frames"])])
                 for peer, program in programs.items()}
         for peer, theirs in told.items():
-            assert len(theirs) == len(frames), f"{peer} tells of other frames"
+            assert len(theirs) == len(frames), f"{peer} reports other frames"
             held, not_held = judge(peer, frames, told[OURS], theirs)
             passed, failed = passed + held, failed + not_held
         timed = {f"{OURS}, without a walk": [programs[OURS], "examine"]}

@@ -144,7 +144,7 @@ class Checks(Pair):
         self.live.signal(signal.SIGSTOP)
         time.sleep(6)
         self.live.signal(signal.SIGCONT)
-        self.check("missed seconds are told", lambda: self.live.seconds_told() >= told + 6)
+        self.check("missed seconds are passed on", lambda: self.live.seconds_told() >= told + 6)
         time.sleep(1)
         heard = self.received() - before
         self.check(f"of their frames the last alone goes out ({heard} heard)",
@@ -181,7 +181,7 @@ class Checks(Pair):
             self.check(f"and sends a shutdown frame to {port}", lambda: self.lldpd_forgot(port), 3)
         second = self.live = self.new_live("second")
         self.check_both_see()
-        self.check("the next one was told of its links", lambda: self.was_told("eth1", "up"))
+        self.check("the next one got its links", lambda: self.was_told("eth1", "up"))
         behind = Moments(second)
         behind.take()
         self.check("the end of input ends it well", lambda: second.ends_by_itself() == 0)

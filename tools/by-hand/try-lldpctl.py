@@ -243,7 +243,7 @@ class Lab:
                     whole = json.loads(self.lldpd.ask("-f", "json0", *command.split()), strict=False)
                     short = {root: shortened(inner) for root, inner in whole.items()}
                     of_theirs = named(json_blocks(short if form == "json" else whole))
-                    comparison.listed["JSON of lldpcli that is none"] += 1
+                    comparison.listed["what lldpcli writes for JSON, and is not"] += 1
                 comparison.compare(f"{where}: {command} -f {form}", of_theirs, blocks_of(form, ours))
 
     def both(self, form, command):

@@ -178,7 +178,7 @@ while read -r command; do
     check "sudo $command" for_a_while "$command"
     sleep 1
 done < /root/commands
-check "systemd is told how it goes" notifies
+check "systemd receives its state" notifies
 check "the journal has who came" tells
 systemctl start lldpa-metrics
 check "its metrics are written" published 1
@@ -198,7 +198,7 @@ check "a restart is done" systemctl restart lldpa
 check "a restart keeps the table" keeps
 old=$(process)
 kill -STOP "$old"
-check "an lldpa-live that stands still is noticed, and the service starts anew" starts_anew
+check "an lldpa-live that hangs is noticed, and the service starts again" starts_anew
 mkdir -p /etc/lldpa.d && echo 'configure system description "of the folder"' > /etc/lldpa.d/a.conf
 check "it reloads" systemctl reload lldpa
 check "its settings are those of the folder" shows 'descr=of the folder'

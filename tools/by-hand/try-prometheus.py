@@ -143,11 +143,11 @@ def watch(watched):
     watched.live.send_signal(signal.SIGKILL)
     watched.live.wait()
     check("killed, it is seen down", 15, lambda: values("lldpa_up") == [0])
-    check("and nothing else of it is told", 1,
+    check("and no other metric of it is there", 1,
           lambda: values('count({__name__=~"lldpa_.*"})') == [1])
     check("LldpaDown fires", 90, lambda: firing() == {"LldpaDown"})
     watched.start_bridge()
-    check("started anew, it is seen up", 15, lambda: values("lldpa_up") == [1])
+    check("started again, it is seen up", 15, lambda: values("lldpa_up") == [1])
     check("LldpaDown goes", 15, lambda: firing() == set())
     watched.is_over.set()
     watched.writing.join()

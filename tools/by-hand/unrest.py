@@ -4,7 +4,6 @@ from __future__ import annotations
 import os
 import random
 import signal
-import statistics
 import threading
 import time
 from pathlib import Path
@@ -246,12 +245,11 @@ class Unrest:
         wrong = differing(self.log, self.moments)
         judge(not wrong, f"{len(self.moments.answers)} moments replay alone: {wrong}")
         minute = [one for one in self.figures if 60 < one[0] < 120] or self.figures
-        for place, what in ((1, "KiB"), (2, "descriptors")):
-            first, last = (int(statistics.median(one[place] for one in some))
+        for place, what, growth in ((1, "KiB", MOST_GROWTH), (2, "descriptors", 0)):
+            first, last = (min(one[place] for one in some)  # a question has one for a moment
                            for some in (minute, self.figures[-len(minute):]))
             most = max(one[place] for one in self.figures)
-            judge(last <= first + (MOST_GROWTH if place == 1 else 0),
-                  f"lldpa-live: {first} {what} in the second minute, {last} at the end, "
-                  f"at most {most}")
+            judge(last <= first + growth, f"lldpa-live: {first} {what} in the second minute, "
+                  f"{last} at the end, at most {most}")
         judge(max(self.agents) <= min(self.agents) + MOST_GROWTH, f"agents, KiB: {self.agents}")
         print(self.done, flush=True)

@@ -11,11 +11,9 @@ Each habit has an example, in which it must be seen once. Blocks of code are not
 from __future__ import annotations
 
 import ast
-import io
 import re
 import subprocess
 import sys
-import tokenize
 from collections.abc import Iterator
 from pathlib import Path
 from typing import NamedTuple
@@ -27,8 +25,9 @@ PROSE, DOCSTRING, LINE = "prose", "docstring", "line"
 # a file, what a piece of its text is, and the piece
 Piece = tuple[Path, str, str]
 MANUALS = (".1", ".3", ".8")
-# what a comment is in other languages than Python
-COMMENTS = {".rt": r"//[/!]? (.*)", ".rs": r"//[/!]? (.*)", ".antt": r"-- (.*)", ".sh": r"# (.*)",
+# what a comment is
+COMMENTS = {".py": r"(?:^ *|  )# (.*)", ".sh": r"# (.*)", ".antt": r"-- (.*)",
+            ".rt": r"//[/!]? (.*)", ".rs": r"//[/!]? (.*)",
             ".c": r"/\*((?s:.*?))\*/", ".h": r"/\*((?s:.*?))\*/"}
 # the comment of a function, above its attributes
 OF_FUNCTION = re.compile(r"((?:^ *///.*\n)+)(?:^ *(?://[^/]|#\[).*\n)*"
@@ -74,35 +73,38 @@ def one_line(texts: list[str]) -> str:
     return " ".join(" ".join(texts).split())
 
 
-def pieces_of_python(path: Path, text: str) -> Iterator[Piece]:
-    """Returns the comments and docstrings of a Python file, and those of functions apart."""
-    tokens = tokenize.generate_tokens(io.StringIO(text).readline)
-    found = [token.string.lstrip("# ") for token in tokens if token.type == tokenize.COMMENT]
+def docstrings(text: str) -> Iterator[tuple[bool, str]]:
+    """Returns the docstrings of a Python file, each with whether it is that of a function."""
+    functions = (ast.FunctionDef, ast.AsyncFunctionDef)
     for node in ast.walk(ast.parse(text)):
-        if not isinstance(node, (ast.Module, ast.ClassDef, ast.FunctionDef, ast.AsyncFunctionDef)):
-            continue
-        docstring = ast.get_docstring(node) or ""
-        found.append(docstring)
-        if docstring and not isinstance(node, (ast.Module, ast.ClassDef)):
-            yield path, DOCSTRING, docstring
-    yield path, PROSE, one_line(found)
+        if isinstance(node, (ast.Module, ast.ClassDef, *functions)):
+            yield isinstance(node, functions), ast.get_docstring(node) or ""
+
+
+def pieces_of_source(path: Path, text: str) -> Iterator[Piece]:
+    """Returns the comments and docstrings of a source, and the docstrings of its functions apart."""
+    found_texts = re.findall(COMMENTS[path.suffix], text, re.M)
+    of_functions = []
+    if path.suffix == ".py":
+        all_docstrings = list(docstrings(text))
+        found_texts += [docstring for _, docstring in all_docstrings]
+        of_functions = [docstring for is_of_one, docstring in all_docstrings if is_of_one and docstring]
+    elif path.suffix == ".rt" and "laws" not in path.as_posix():
+        of_functions = [one.lstrip(" /") for one in OF_FUNCTION.findall(text)]
+    yield path, PROSE, one_line(found_texts)
+    yield from ((path, DOCSTRING, docstring) for docstring in of_functions)
 
 
 def pieces_of(path: Path) -> Iterator[Piece]:
-    """Returns the pieces of a file: nothing of one that has no prose."""
-    if path.suffix == ".py":
-        yield from pieces_of_python(path, path.read_text())
-    elif path.suffix == ".md":
+    """Returns the pieces of a file: none if it has no prose."""
+    if path.suffix == ".md":
         text = re.sub(r"^ *```.*?^ *```$", "", path.read_text(), flags=re.M | re.S)
         yield path, PROSE, one_line([text])
         yield from ((path, LINE, line) for line in text.splitlines())
     elif path.suffix in MANUALS:
         yield path, PROSE, one_line([path.read_text()])
     elif path.suffix in COMMENTS:
-        text = path.read_text()
-        yield path, PROSE, one_line(re.findall(COMMENTS[path.suffix], text))
-        if path.suffix == ".rt" and "laws" not in path.as_posix():
-            yield from ((path, DOCSTRING, one[1].lstrip(" /")) for one in OF_FUNCTION.finditer(text))
+        yield from pieces_of_source(path, path.read_text())
 
 
 def found(habit: Habit, pieces: list[Piece]) -> list[str]:

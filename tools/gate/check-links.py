@@ -1,10 +1,9 @@
 #!/usr/bin/env python3
 """Looks up what the pages name, without a network: links and their anchors, files in backticks, calls in backticks, options,
 lines of sources in blocks that say `rust` or `antt`, which stand in one file one behind another, on pages about proofs
-each clause, definition, lemma and large number, in rows of out/REFERENCE.md that a clause is one of their call, and
-that a large number stands in the code and not in its comments alone, that each module of a crate and each file of lemmas
-says in its first line what it is, and that no file of definitions lacks its row in out/REFERENCE.md, and no transcript
-its row in examples/README.md. Each row of SECURITY.md that says what it is shown by
+each clause, definition, lemma and large number, in out/REFERENCE.md that a large number stands in the code and not in
+its comments alone, that each module of a crate and each file of lemmas says in its first line what it is, and that no
+transcript lacks its row in examples/README.md. Each row of SECURITY.md that says what it is shown by
 names a law or call of the crates, a test of python/tests or audit/tests or a script, and all of these are there. No page says
 "the bridge" of lldpa-live, and no line of text is over
 120 columns long.
@@ -153,38 +152,6 @@ def large_numbers(text):
             yield number.replace(",", "")
 
 
-def clauses_of_crate(crate):
-    """The names of the clauses of each function of a crate, and of each type: those of its functions."""
-    found = {}
-    for path in (TOP / "crates" / crate / "src").rglob("*.rt"):
-        text, of_file = path.read_text(), set()
-        for name, head in re.findall(r"\bfn (\w+)(.*?)(?=\bfn \w+|\Z)", text, re.S):
-            clauses = set(re.findall(r"(?:ensures\*?|requires|accesses|\n +)\s*([a-z]\w*) \{ ", head)) - {"ensures", "requires"}
-            found.setdefault(name, set()).update(clauses)
-            of_file |= clauses
-        for name in re.findall(r"\b(?:struct|trait) (\w+)", text):
-            found.setdefault(name, set()).update(of_file)
-    return found
-
-
-def parameters_of_crate(crate):
-    """The names of the parameters of each function of a crate."""
-    found = {}
-    for path in (TOP / "crates" / crate / "src").rglob("*.rt"):
-        for name, head in re.findall(r"\bfn (\w+)(?:<[^(]*>)?\(([^{;]*?)\n?\)", path.read_text()):
-            found.setdefault(name, set()).update(re.findall(r"\b(\w+): ", head))
-    return found
-
-
-def rows_about_clauses(section):
-    """The rows of a section of out/REFERENCE.md that are about a call or a law: its name, what is said of it, and the words
-    that have to be its clauses."""
-    for line in section.splitlines():
-        cells = [cell.strip() for cell in re.split(r"(?<!\\)\|", line)[1:-1]]
-        if line.startswith("| `") and len(cells) > 3:
-            yield re.findall(r"(\w+)`", cells[0])[0], cells[1], cells[2]
-
-
 class Checks(Counts):
     """What was looked up, by its fault or None."""
 
@@ -210,52 +177,23 @@ def check_page(checks, page):
     if page.name in ABOUT_PROOFS:
         for word in names(text):
             checks.see(name, word, None if word in NAMES else "no such name in the sources")
+        known = NUMBERS_WITHOUT_COMMENTS if page.name == "REFERENCE.md" else NUMBERS_OF_SOURCES
         for number in large_numbers(text):
-            checks.see(name, number, None if number in NUMBERS_OF_SOURCES else "no such number in the sources")
+            checks.see(name, number, None if number in known else "no such number in the sources")
     for option in re.findall(r"(?<![\w-])--[a-z][a-z-]*[a-z]", page.read_text()):
         checks.see(name, option, None if option in OPTIONS else "no such option")
     for lines in excerpts(page.read_text()):
         checks.see(name, lines[0], None if is_shown(lines) else "these lines do not stand in the sources one behind another")
 
 
-def check_claims(checks):
-    """A clause that a row of out/REFERENCE.md names is one of the call of that row, or a parameter in what is said of it,
-    and a large number in the section of a crate stands in the code or the definitions."""
-    page = "out/REFERENCE.md"
-    for crate, section in re.findall(r"^## `(\w+)`.*?\n(.*?)(?=^## |\Z)", (TOP / page).read_text(), re.M | re.S):
-        clauses, parameters = clauses_of_crate(crate), parameters_of_crate(crate)
-        named = set().union(*clauses.values())
-        for number in large_numbers(section):
-            is_known = number in NUMBERS_WITHOUT_COMMENTS
-            checks.see(page, f"{crate}: {number}", None if is_known else "no such number in the code")
-        for call, says, front in rows_about_clauses(section):
-            own = clauses.get(call, set())
-            fronts, others = (set(re.findall(r"`(\w+)`", text)) for text in (front, says))
-            for word in sorted(fronts | others & named - {call} - parameters.get(call, set())):
-                checks.see(page, f"{call}: {word}", None if word in own else "no clause of this call")
-
-
 def check_modules(checks):
-    """The first line of each module says what it is."""
+    """The first line of each module says what it is, and that of each file of lemmas what it proves."""
     for crate in CRATES:
         for path in sorted((TOP / "crates" / crate / "src").rglob("*.rt")):
             if "tests" not in path.relative_to(TOP).parts:
                 says = re.match(r"//! \w", path.read_text())
                 checks.see(path.relative_to(TOP), "its first line", None if says else "does not say what the module is")
-
-
-def check_definitions(checks):
-    """Each file of definitions is told in the section of its crate, and each of lemmas says in its first line what it is."""
-    page = "out/REFERENCE.md"
-    for crate in CRATES:
-        specs, proofs = TOP / "crates" / crate / "specs", TOP / "crates" / crate / "proofs"
-        told = re.search(rf"^## `{crate}`$.*?(?=^## `|\Z)", (TOP / page).read_text(), re.M | re.S)
-        for path in sorted(specs.rglob("*.antt")):
-            name = path.relative_to(specs).with_suffix("").as_posix()
-            if name != "Lib" and not path.with_suffix("").is_dir():
-                is_told = told is not None and f"| [{name}](" in told[0]
-                checks.see(page, f"{crate}, {name}", None if is_told else "is not told")
-        for path in sorted(proofs.glob("*.antt")):
+        for path in sorted((TOP / "crates" / crate / "proofs").glob("*.antt")):
             says = path.stem == "Lib" or re.match(r"-- \w", path.read_text())
             checks.see(path.relative_to(TOP), "its first line", None if says else "does not say what the file proves")
 
@@ -312,8 +250,6 @@ def main():
     for page in PAGES:
         check_page(checks, page)
     check_modules(checks)
-    check_definitions(checks)
-    check_claims(checks)
     check_security(checks)
     check_transcripts(checks)
     return checks.end()

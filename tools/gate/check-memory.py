@@ -22,6 +22,7 @@ from __future__ import annotations
 import pathlib
 import re
 import sys
+from concurrent.futures import ProcessPoolExecutor
 
 TOP = pathlib.Path(__file__).resolve().parents[2]
 sys.path.insert(0, str(TOP / "tools" / "mutants"))
@@ -175,7 +176,7 @@ def see_handed_on(sources: Sources) -> None:
     code = sources.code("")
     for call, module in HANDED_ON:
         found = counts_of(re.escape(call), code)
-        sources.see(found == {module: 1}, f"{call} stands in {found}")
+        sources.see(found == {module: 1}, f"{call} is found in {found}")
 
 
 def see_global(sources: Sources) -> None:
@@ -196,7 +197,7 @@ def see_library(sources: Sources) -> None:
     code = sources.code("lldpa_c/")
     for call in LIBRARY_TAKES:
         found = counts_of(re.escape(call), code)
-        sources.see(found == {LIBRARY_OPENS: 1}, f"{call} stands in {found}")
+        sources.see(found == {LIBRARY_OPENS: 1}, f"{call} is found in {found}")
     for name, text in code.items():
         rest = re.sub(r"\bspecs\.Box\b|\bBox<\w+(?:, A)?>|\bBox::(?:new\(alloc, agent\)|into_raw|from_raw)", "", text)
         takes = re.search(TAKES_MEMORY, rest) is not None
@@ -250,12 +251,13 @@ def see_walks(sources: Sources) -> None:
         sources.see(is_known, f"{name}: by hand")
 
 
-def with_mutant(mutant: Mutant) -> Sources:
-    """Returns the sources with a mutant in them."""
+def is_seen(mutant: Mutant) -> bool:
+    """Returns whether some rule is broken by the sources with a mutant in them."""
     sources = Sources()
     for file, text in mutant.texts().items():
         sources.texts[f"{mutant.crate}/{file}"] = text
-    return sources
+    see_all(sources)
+    return len(sources.broken) > 0
 
 
 def main() -> int:
@@ -263,11 +265,10 @@ def main() -> int:
     sources = Sources()
     see_all(sources)
     see_walks(sources)
-    for mutant in others():
-        if mutant.refused_by == ITSELF:
-            wrong = with_mutant(mutant)
-            see_all(wrong)
-            sources.see(len(wrong.broken) > 0, f"{mutant.crate}/{mutant.name}: not seen")
+    mutants = [mutant for mutant in others() if mutant.refused_by == ITSELF]
+    with ProcessPoolExecutor() as pool:
+        for mutant, seen in zip(mutants, pool.map(is_seen, mutants)):
+            sources.see(seen, f"{mutant.crate}/{mutant.name}: not seen")
     for fault in sources.broken:
         print(fault)
     print(f"{sources.rules - len(sources.broken)} passed, {len(sources.broken)} failed")

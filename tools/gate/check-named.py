@@ -74,8 +74,7 @@ def fault_of_script(name: str) -> str | None:
     """Returns what is wrong with a named script, or None."""
     if not (TOP / name).is_file():
         return f"{name} is missing"
-    is_called = re.search(rf"^(part .*|python3 ){re.escape(name)} ", CHECK, re.M) or f" {name} " in CHECK
-    return None if is_called else f"tools/gate/check.sh does not call {name}"
+    return None if name in CHECK.split() else f"tools/gate/check.sh does not call {name}"
 
 
 PLACES = {"transcript": fault_of_transcript, "counters": fault_of_counters, "vector": fault_of_vector,
@@ -86,7 +85,7 @@ PLACES = {"transcript": fault_of_transcript, "counters": fault_of_counters, "vec
 def fault_of_place(place: str) -> str | None:
     """Returns what is wrong with one place, or None."""
     kind, _, rest = place.partition(" ")
-    return PLACES[kind](rest) if kind in PLACES else f"{place} is no place where something is tried"
+    return PLACES[kind](rest) if kind in PLACES else f"{place} is not a place that tries something"
 
 
 def places(text: str) -> list[str]:

@@ -108,7 +108,7 @@ judge $? "the package has other pages: $(cat "$room/out")"
 python3 tools/gate/check-links.py --installed "$room/package/usr/share/doc/lldpa" > "$room/out" 2>&1
 judge $? "links of installed pages: $(cat "$room/out")"
 dpkg-deb --info "$package" conffiles | grep -qx /etc/default/lldpa
-judge $? "/etc/default/lldpa is no configuration file of the package"
+judge $? "/etc/default/lldpa is not a configuration file of the package"
 units=$room/package/usr/lib/systemd/system
 grep -q '^ExecStart=/usr/bin/lldpa-live --program /usr/bin/lldpa ' "$units/lldpa.service" &&
     grep -q '^ExecStart=/usr/bin/lldpa-ctl metrics ' "$units/lldpa-metrics.service"

@@ -41,6 +41,8 @@ import tempfile
 import termios
 import time
 
+from counts import Counts
+
 TOP = pathlib.Path(__file__).resolve().parents[2]
 
 # the beginning of a command that needs root
@@ -315,14 +317,11 @@ def main():
         list_as_root()
         return 0
     program, only = pathlib.Path(sys.argv[1]).resolve(), sys.argv[2:]
-    passed = failed = 0
+    counts = Counts()
     for runs in (run_transcripts(program, only), run_rows(program, only), [] if only else run_blocks(program)):
         for name, fault in runs:
-            passed, failed = passed + (not fault), failed + bool(fault)
-            if fault:
-                print(f"{name}: {fault}")
-    print(f"{passed} passed, {failed} failed")
-    return 0 if passed and not failed else 1
+            counts.judge(fault or None, name)
+    return counts.end()
 
 
 if __name__ == "__main__":

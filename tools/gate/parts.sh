@@ -4,6 +4,7 @@ room=$(mktemp -d) || exit 2
 trap 'rm -rf "$room"' EXIT
 passed=0
 failed=0
+kept=0
 export PYTHONDONTWRITEBYTECODE=1
 : > "$room/seconds"
 
@@ -48,6 +49,7 @@ part() {
     else
         passed=$((passed + counted))
         failed=$((failed + uncounted))
+        grep -q "^kept: " "$room/part" && kept=$((kept + counted))
     fi
 }
 
@@ -56,6 +58,7 @@ finish() {
     if [ -s "$room/seconds" ]; then
         echo "== seconds of each part"
         sort -rn "$room/seconds"
+        echo "kept from an earlier run: $kept of $passed"
     fi
     echo "$passed passed, $failed failed"
     [ "$failed" -eq 0 ]

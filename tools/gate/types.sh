@@ -4,6 +4,6 @@ set -u
 cd "$(dirname "$0")/../.." || exit 2
 . tools/gate/parts.sh
 needs mypy || exit 3
-mypy --strict --cache-dir "$room/types" python/lldpa audit/lldpa_audit
+mypy --strict --cache-dir out/types python/lldpa audit/lldpa_audit
 judge $? "mypy --strict"
 finish

@@ -9,33 +9,20 @@ qemu-user the status is 3. The last line is `N passed, M failed`.
 """
 from __future__ import annotations
 
-import functools
-import importlib.util
+import importlib
 import pathlib
 import shutil
 import sys
 import tempfile
-import types
 
-sys.dont_write_bytecode = True
-from library_parts import TOP, WARNINGS, Counts, count_of, fault_of, ran, skip  # noqa: E402
+from library_parts import TOP, WARNINGS, Counts, fault_of, ran, skip
 
 COMPILER = "aarch64-linux-gnu-gcc"
 QEMU = ["qemu-aarch64", "-L", "/usr/aarch64-linux-gnu"]
 TOOLS = TOP / "tools" / "library" / "c"
 MODEL = TOP / "tools" / "model"
 TRACES = "200"
-WRAPPED = ["-Wl,--wrap=malloc,--wrap=realloc,--wrap=free"]
-
-
-@functools.cache
-def native() -> types.ModuleType:
-    """Returns the script that checks the library of this machine."""
-    spec = importlib.util.spec_from_file_location("native", TOP / "tools" / "library" / "check-library.py")
-    assert spec is not None and spec.loader is not None
-    script = importlib.util.module_from_spec(spec)
-    spec.loader.exec_module(script)
-    return script
+NATIVE = importlib.import_module("check-library")
 
 
 def wrapped(program: pathlib.Path) -> pathlib.Path:
@@ -49,7 +36,7 @@ def wrapped(program: pathlib.Path) -> pathlib.Path:
 def check_program(program: pathlib.Path, counts: Counts) -> None:
     """Runs the transcripts of examples/, each in one piece, and random traces, and compares them with the model."""
     script = wrapped(program)
-    native().check_transcripts([str(script)], counts)
+    NATIVE.check_transcripts([str(script)], counts)
     command = [sys.executable, MODEL / "fuzz.py", "--program", script, "--traces", TRACES, "--seed", "1"]
     ended = ran(command)
     is_passed = ended.stdout.rstrip().endswith("1 passed, 0 failed")
@@ -58,15 +45,13 @@ def check_program(program: pathlib.Path, counts: Counts) -> None:
 
 def check_library(folder: pathlib.Path, room: pathlib.Path, counts: Counts) -> None:
     """Runs the programs in C over the library."""
-    for name, words in (("vectors", [str(native().ROWS)]), ("nulls", []), ("refused", []), ("transcript", [])):
-        more = WRAPPED if name == "refused" else []
+    for name in ("vectors", "nulls", "refused", "transcript"):
+        more = NATIVE.WRAPPED if name == "refused" else []
         fault = fault_of([COMPILER, "-std=c99", "-O2", *WARNINGS, *more, f"-I{folder}", TOOLS / f"{name}.c",
                           folder / "liblldpa.a", "-o", room / name])
         counts.judge(fault, f"building {name} for arm64")
-        if fault is None and name == "transcript":
-            native().check_transcripts([*QEMU, str(room / name)], counts)
-        elif fault is None:
-            count_of([*QEMU, str(room / name), *words], f"{name} on arm64", counts)
+        if fault is None:
+            NATIVE.run_program(name, [*QEMU, str(room / name)], room, counts)
 
 
 def main() -> int:
@@ -87,8 +72,7 @@ def main() -> int:
                 copied = shutil.copy(folder / program, room / program)
                 check_program(pathlib.Path(copied), counts)
             check_library(folder / "lib", room, counts)
-    print(f"{counts.passed} passed, {counts.failed} failed")
-    return 1 if counts.failed or not counts.passed else 0
+    return counts.end()
 
 
 if __name__ == "__main__":

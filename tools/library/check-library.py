@@ -1,6 +1,7 @@
 #!/usr/bin/env python3
-"""Checks the library for C: runs vectors and rows (tools/library/c/vectors.c), the transcripts of
-examples/ (tools/library/c/transcript.c), NULL for each pointer (tools/library/c/nulls.c) and refused memory
+"""Checks the library for C: runs vectors and rows, and cut and altered LLDPDUs beside the model
+(tools/library/c/vectors.c), the transcripts of examples/ and whole shows beside the model
+(tools/library/c/transcript.c), NULL for each pointer (tools/library/c/nulls.c) and refused memory
 (tools/library/c/refused.c, under valgrind) over it, with the compiler's sanitizers; the crate
 rust/lldpa with its tests; and the examples of docs/LIBRARY.md and of examples/.
 
@@ -13,6 +14,7 @@ counted; without a C compiler or a library the status is 3. The last line is `N 
 from __future__ import annotations
 
 import concurrent.futures
+import importlib
 import os
 import pathlib
 import re
@@ -21,9 +23,10 @@ import sys
 import tempfile
 from typing import Any
 
-sys.dont_write_bytecode = True
-sys.path.append(str(pathlib.Path(__file__).resolve().parents[1] / "gate"))
+sys.path += [str(pathlib.Path(__file__).resolve().parents[1] / name) for name in ("gate", "model")]
+import compare  # noqa: E402
 import examples  # noqa: E402
+import model  # noqa: E402
 from library_examples import check_page, check_receive, check_sd_lldp_rx, check_who  # noqa: E402
 from library_front import check_front  # noqa: E402
 from library_layout import check_layout  # noqa: E402
@@ -31,6 +34,7 @@ from library_machine import check_machine  # noqa: E402
 from library_parts import (TOP, WARNINGS, Counts, Library, count_of, fault_of, ran,  # noqa: E402
                            skip)
 
+FRAMES = importlib.import_module("check-frames")
 TOOLS = TOP / "tools" / "library" / "c"
 ROWS = TOP / "examples" / "vectors.rows"
 CRATE = TOP / "rust" / "lldpa"
@@ -90,14 +94,53 @@ def check_programs(library: Library, counts: Counts) -> None:
     flags = SANITIZERS if has_sanitizers(library.room) else []
     if not flags:
         skip("the sanitizers, which the compiler does not have")
-    for name, words in (("vectors", [str(ROWS)]), ("transcript", []), ("nulls", [])):
+    for name in ("vectors", "transcript", "nulls"):
         fault = library.compiled(TOOLS / f"{name}.c", name, *flags)
         counts.judge(fault, f"building {name}")
-        command = [str(library.room / name), *words]
-        if fault is None and name == "transcript":
-            check_transcripts(command, counts)
-        elif fault is None:
-            count_of(command, name, counts)
+        if fault is None:
+            run_program(name, [str(library.room / name)], library.room, counts)
+    check_whole_shows(str(library.room / "transcript"), counts)
+
+
+def check_whole_shows(program: str, counts: Counts) -> None:
+    """Every show of 64 ports, and of a full table, beside the model. The program asks for each line alone, too."""
+    for ports, neighbors in ((64, 2), (1, 128)):
+        names = [f"p{port}" for port in range(ports)]
+        lines = [f"rx {name} {FRAMES.frame_of(number, 120).hex()}" for name in names for number in range(neighbors)]
+        lines += [f"show {show}" for show in model.SHOWS]
+        words = ["--receive-only", "--max-neighbors", "128", *names]
+        fault = compare.difference(program, words, [line.encode() for line in lines])
+        counts.judge(fault, f"shows of {ports} ports with {neighbors} neighbors")
+
+
+def run_program(name: str, command: list[str], room: pathlib.Path, counts: Counts) -> None:
+    """Runs one of the programs in C, which was built."""
+    if name == "transcript":
+        check_transcripts(command, counts)
+    elif name == "vectors":
+        count_of([*command, ROWS], name, counts)
+        (room / "altered.rows").write_text("".join(map(row_of, altered())))
+        counts.judge(fault_of([*command, room / "altered.rows", "examine"]), "cut and altered LLDPDUs")
+    else:
+        count_of(command, name, counts)
+
+
+def altered() -> list[bytes]:
+    """Returns each front of the LLDPDUs of tools/model/check-frames.py, and each with one octet changed."""
+    return [b"", *(pdu for whole in FRAMES.LLDPDUS for pdu in FRAMES.altered(whole))]
+
+
+def row_of(pdu: bytes) -> str:
+    """Returns the row of examples/vectors.rows that has what the model reads of an LLDPDU."""
+    fields: list[Any] = ["examine", pdu.hex() or "-", pdu.hex() or "-"]
+    try:
+        told = model.Lldpdu(pdu)
+        fields += ["told", told.ttl, *(name.hex() for name in told.name)]
+        fields += ([len(told.extent), told.discarded, told.unrecognized] if told.ttl else [0, 0, 0])
+        fields += [f"{tlv.kind}:{tlv.body.hex()}" for tlv in (told.kept if told.ttl else [])]
+    except model.UnsoundLldpdu as fault:
+        fields += ["fault", *fault.args]
+    return "\t".join(map(str, fields)) + "\n"
 
 
 def check_refused(library: Library, counts: Counts) -> None:

@@ -20,8 +20,7 @@ import sys
 import time
 from typing import Mapping, Sequence
 
-sys.dont_write_bytecode = True
-from library_parts import SECONDS, TOP, Counts, Library, fault_of, ran, skip  # noqa: E402
+from library_parts import SECONDS, TOP, Counts, Library, fault_of, ran, skip
 
 CAPTURE = TOP / "docs" / "lab.pcap"
 EXAMPLES = TOP / "examples"

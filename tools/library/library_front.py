@@ -11,7 +11,7 @@ NULLS = TOP / "tools" / "library" / "c" / "nulls.c"
 EDITS = (
     ("lldpa_frame_pdu does not look for the place", "is_missing(frame, length) || pdu == NULL",
      "is_missing(frame, length)"),
-    ("lldpa_examine does not look for what it tells", "is_missing(pdu, length) || told == NULL",
+    ("lldpa_examine does not check where to write", "is_missing(pdu, length) || told == NULL",
      "is_missing(pdu, length)"),
     ("lldpa_build does not look for bodies", "if (lacks_body(tlvs, tlv_count))", "if (false)"),
     ("lldpa_transmit_credit answers another number", "machine == NULL ? 0", "machine == NULL ? 1"),
@@ -21,7 +21,7 @@ EDITS = (
     ("lldpa_ticks answers another number",
      "marks == NULL || told == NULL ? LLDPA_NULL", "marks == NULL || told == NULL ? LLDPA_NOT_OPEN"),
     ("lldpa_due does not look for the seconds", "agent == NULL || seconds == NULL", "agent == NULL"),
-    ("lldpa_frame tells news where none are asked for", "news == NULL ? proved_lldpa_frame",
+    ("lldpa_frame writes news if none are asked for", "news == NULL ? proved_lldpa_frame",
      "news != NULL ? proved_lldpa_frame"),
     ("lldpa_open takes options of another size", "if (options->size != sizeof *options)",
      "if (options->size == 0)"),
@@ -35,7 +35,7 @@ def fault_of_edit(library: Library, old: str, new: str) -> str | None:
     """Returns why a wrong front is not seen, or None."""
     text = FRONT.read_text()
     if text.count(old) != 1:
-        return f"{old!r} does not stand once in {FRONT.name}"
+        return f"{old!r} does not occur once in {FRONT.name}"
     source, program = library.room / "front.c", library.room / "front"
     source.write_text(text.replace(old, new))
     fault = fault_of(["cc", "-std=gnu99", f"-I{library.folder}", source, NULLS,

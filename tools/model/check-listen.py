@@ -16,10 +16,10 @@ import sys
 import time
 
 from compare import asked, connected, free_port
+from counts import Counts
 from model import COUNTERS
 
 TOP = pathlib.Path(__file__).resolve().parents[2]
-sys.dont_write_bytecode = True
 sys.path.insert(0, str(TOP / "python" / "tests"))
 from patience import NOTICEABLE, TRIES, Standstill  # noqa: E402
 
@@ -70,7 +70,7 @@ def late_by_the_program(client):
         print(f"of {QUESTIONS} questions over a connection {late} were answered late")
         if late is None or late <= MOST_LATE or not left or seconds < NOTICEABLE:
             return late
-        print(f"asked again, since the machine stood still for {seconds:.2f} s meanwhile")
+        print(f"asked again, since the machine stood still for {seconds:.2f} s")
 
 
 def serves_the_most():
@@ -102,14 +102,10 @@ def answers_soon():
 
 
 def main():
-    passed = 0
+    counts = Counts()
     for part in (answers_soon, serves_the_most):
-        holds = part()
-        passed += holds
-        if not holds:
-            print(f"FAILED: {part.__doc__}")
-    print(f"{passed} passed, {2 - passed} failed")
-    return 0 if passed == 2 else 1
+        counts.that(part.__doc__, part())
+    return counts.end()
 
 
 if __name__ == "__main__":

@@ -13,11 +13,10 @@ import subprocess
 import sys
 from concurrent.futures import ProcessPoolExecutor
 
-sys.dont_write_bytecode = True
-import compare  # noqa: E402
-import fuzz  # noqa: E402
-import near  # noqa: E402
-from counts import Counts  # noqa: E402
+import compare
+import fuzz
+import near
+from counts import Counts
 
 # besides the right lines one with octets whose upper case latin-1 does not have
 FORMS = [*near.LINES, ["configure", "system", "hostname", "\u00ff\u00b5"]]

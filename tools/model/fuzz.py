@@ -16,12 +16,12 @@ import shlex
 import sys
 import time
 
-sys.dont_write_bytecode = True
+import model
+import near
+from compare import FREE_PORT, difference, judged
+from examples import words_and_filter
+
 TOP = pathlib.Path(__file__).resolve().parents[2]
-import model  # noqa: E402
-import near  # noqa: E402
-from compare import FREE_PORT, difference, judged  # noqa: E402
-from examples import words_and_filter  # noqa: E402
 
 
 # ------------------------------------------------------------------------------------------------ frames

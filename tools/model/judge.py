@@ -220,7 +220,7 @@ class Port:
     def fault(self, k, shut_down):
         """Returns what is wrong with what was sent at k, or None."""
         if shut_down != self.stops(k):
-            return "a shutdown frame goes where the port does not stop, or lacks where it does"
+            return "a shutdown frame is sent though the port does not stop, or is missing though it does"
         if (k in self.sent) != (self.is_due(k) and self.is_open(k)):
             return f"due: {self.is_due(k)}, open: {self.is_open(k)}, sent: {k in self.sent}"
         return None
@@ -242,7 +242,7 @@ def fault_of(words, lines, said):
         found = events_of_line(line) if is_event else []
         for frame in (w.split(b" ") for w in written if w.startswith(b"tx ")):
             if not found:
-                return f"a frame goes at {line[:60]!r}, which is no event"
+                return f"a frame goes at {line[:60]!r}, which is not an event"
             kind = shutdowns if is_shutdown(bytes.fromhex(frame[2].decode())) else ordinary
             kind[frame[1].decode()].add(len(events))
         events += found
@@ -275,7 +275,7 @@ def main():
 
     sys.setrecursionlimit(100000)
     fault = judged(run, sys.argv[2:], sys.stdin.buffer.read().split(b"\n"))
-    print(fault or "each frame goes where it is due and the window is open, and nowhere else")
+    print(fault or "each frame is sent exactly if it is due and the window is open")
     return 1 if fault else 0
 
 

@@ -70,7 +70,7 @@ def is_well_formed(tlv):
 MANDATORY = ((CHASSIS_ID, 256), (PORT_ID, 256), (TIME_TO_LIVE, 511))
 
 class UnsoundLldpdu(Exception):
-    """An LLDPDU that is refused."""
+    """An LLDPDU that is refused, by the number of the first check that it fails."""
 
 class Lldpdu:
     """What a sound LLDPDU says: its MSAP identifier as `name`, its `ttl`, and if that is above 0 its `extent`, the TLVs
@@ -78,10 +78,13 @@ class Lldpdu:
 
     def __init__(self, octets):
         tlvs, rest = cut(octets)
-        are_there = len(tlvs) >= 3 and all(
-            tlv.kind == kind and 2 <= len(tlv.body) <= most for tlv, (kind, most) in zip(tlvs, MANDATORY))
-        if not are_there:
-            raise UnsoundLldpdu
+        for at, (kind, most) in enumerate(MANDATORY):
+            if at == len(tlvs):
+                raise UnsoundLldpdu(1)
+            if tlvs[at].kind != kind:
+                raise UnsoundLldpdu(2 * at + 2)
+            if not 2 <= len(tlvs[at].body) <= most:
+                raise UnsoundLldpdu(2 * at + 3)
         self.name = (tlvs[0].body, tlvs[1].body)
         self.ttl = number(tlvs[2].body[:2])
         if self.ttl == 0:
@@ -92,7 +95,7 @@ class Lldpdu:
         self.kept = []
         for tlv in inside[3:]:
             if tlv.kind in (CHASSIS_ID, PORT_ID, TIME_TO_LIVE):
-                raise UnsoundLldpdu
+                raise UnsoundLldpdu(8)
             is_second = tlv.kind <= CAPABILITIES and tlv.kind in [earlier.kind for earlier in self.kept]
             if is_well_formed(tlv) and not is_second:
                 self.kept.append(tlv)

@@ -19,7 +19,10 @@ import subprocess
 import sys
 
 TOP = pathlib.Path(__file__).resolve().parents[2]
-WRITTEN = ("*/Transcripts.antt", "*/Rows.antt", "*/rows.rt", "*/REFERENCE.md", "*/bench.json", "*.svg",
+sys.path.append(str(TOP / "tools" / "gate"))
+from counts import Counts  # noqa: E402
+
+WRITTEN = ("*/Transcripts.antt", "*/Rows.antt", "*/REFERENCE.md", "*/bench.json", "*.svg",
            "*.expect", "*.pcap", "*/Cargo.lock", "*/judged.json", "*/tests/lldpd/*", "*/leaf1.json",
            "*/host01.xml")
 PARTS = (("proved code", "crates/*/src/*"), ("definitions", "crates/*/specs/*"),
@@ -122,14 +125,11 @@ def main():
         for what, number in counted.items():
             print(f"| {number:,} | {what} |")
         return 0
-    told, failed = said(), 0
+    told, counts = said(), Counts()
     for what, number in counted.items():
         is_near = what in told and abs(told[what] - number) * 20 <= number
-        failed += not is_near
-        if not is_near:
-            print(f"docs/TESTING.md: {what}: {told.get(what, 'not told')}, counted {number}")
-    print(f"{len(counted) - failed} passed, {failed} failed")
-    return 1 if failed else 0
+        counts.judge(None if is_near else f"{told.get(what, 'missing')}, counted {number}", f"docs/TESTING.md: {what}")
+    return counts.end()
 
 
 if __name__ == "__main__":

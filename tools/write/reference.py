@@ -3,8 +3,8 @@
 
     tools/write/reference.py
 
-The last line is `N passed, M failed`, with one for each call, law and file of definitions, which must have a comment. A
-law is a public function without arguments and with an empty body, wherever it stands.
+The last line is `N passed, M failed`, with one for each call, law and file of definitions, which must have a comment; a
+comment names no clause that is another call's. A law is a public function without arguments and with an empty body, wherever it stands.
 """
 import dataclasses
 import pathlib
@@ -24,7 +24,8 @@ WITHOUT_CLAIMS = ("lldp_tests",)
 Place = tuple[str, str, str]
 # a definition that more laws cite is of their language, and not what they are about
 MOST_LAWS = 6
-CLAUSE = re.compile(r"^\s*(?:ensures|requires)\b", re.M)
+KEYWORD = "(?:ensures|requires)"
+CLAUSE = re.compile(rf"^\s*{KEYWORD}\b", re.M)
 
 HEAD = """# Reference
 
@@ -51,6 +52,7 @@ class Item:
     clauses: list[str]
     cites: list[Place]
     is_law: bool
+    named: set[str]
 
 
 @dataclasses.dataclass
@@ -137,8 +139,9 @@ def item(path: pathlib.Path, lines: list[str], at: int, owner: str, found: re.Ma
     text = contract(lines, at) if kind == "fn" else ""
     comment = comment_above(lines, at, "///")
     is_law = f"fn {name}()\n" in text and text.endswith("\n{}")
+    named = {name, *clauses(text or "\n".join(lines), KEYWORD), *re.findall(r"\b(\w+): ", text)}
     return Item(f"{owner}::{name}" if owner else name, path, kind, comment, clauses(text, "requires"),
-                clauses(text, "ensures"), cited(text, imports("\n".join(lines))), is_law)
+                clauses(text, "ensures"), cited(text, imports("\n".join(lines))), is_law, named)
 
 
 PUBLIC = re.compile(r"\s*pub (?:const |unsafe )*(?:extern \"C\" )?(?P<kind>fn|struct|enum|trait|const|type) (?P<name>\w+)")
@@ -175,7 +178,6 @@ def is_public(path: pathlib.Path, crate: str) -> bool:
     parts = path.relative_to(TOP / "crates" / crate / "src").with_suffix("").parts
     top = (TOP / "crates" / crate / "src" / "lib.rt").read_text()
     return len(parts) == 1 and re.search(rf"^pub mod {parts[0]};", top, re.M) is not None
-
 
 
 
@@ -306,14 +308,17 @@ def page() -> str:
     return HEAD + "\n" + "\n".join(lines).rstrip() + "\n"
 
 
-def without_comment() -> Iterator[tuple[str, bool]]:
-    """What has to have a comment, and whether it lacks one."""
+def faults() -> Iterator[tuple[str, str | None]]:
+    """What has to have a comment, and what is wrong with it, or None."""
     for crate in told_crates():
+        known = {name for path in sources(crate) for name in clauses(path.read_text(), KEYWORD)}
         for one in calls(crate) + laws(crate):
-            yield f"{crate}: {one.name}", not one.comment
+            strange = known & set(re.findall(r"`(\w+)`", one.comment)) - one.named
+            fault = f"names clauses that are not its own: {strange}" if strange else None
+            yield f"{crate}: {one.name}", fault if one.comment else "has no comment"
         for file in spec_files(crate):
             path = TOP / "crates" / crate / "specs" / f"{file}.antt"
-            yield f"{crate}: {file}", not comment_of_file(path, "--")
+            yield f"{crate}: {file}", None if comment_of_file(path, "--") else "has no comment"
 
 
 def main() -> int:
@@ -321,8 +326,8 @@ def main() -> int:
     PAGE.parent.mkdir(exist_ok=True)
     PAGE.write_text(page())
     counts = Counts()
-    for name, is_lacking in without_comment():
-        counts.judge("has no comment" if is_lacking else None, name)
+    for name, fault in faults():
+        counts.judge(fault, name)
     return counts.end()
 
 

@@ -16,7 +16,7 @@ use std::alloc::Global;
 /// Nothing will be due.
 pub const NEVER: u32 = u32::MAX;
 
-/// The lesser of two numbers of ticks, if there are any.
+/// Returns the lesser of two numbers of ticks, if there are any.
 fn sooner(a: Option<u16>, b: Option<u16>) -> Option<u16>
     ensures { result ≡ sooner a b }
 {
@@ -26,7 +26,7 @@ fn sooner(a: Option<u16>, b: Option<u16>) -> Option<u16>
     }
 }
 
-/// Ticks until a machine sends.
+/// Returns the ticks until a machine sends.
 fn until_sends(machine: &Parts) -> Option<u16>
     ensures { result ≡ until_sends (machine_of_parts machine.now) }
 {
@@ -45,7 +45,7 @@ fn until_sends(machine: &Parts) -> Option<u16>
     }
 }
 
-/// The fewest ticks that are left of a neighbor.
+/// Returns the fewest ticks that are left of a neighbor.
 fn least_left(table: &Table<Global>) -> Option<u16>
     ensures { result ≡ least_left table.now.shown.neighbors }
 {
@@ -56,7 +56,7 @@ fn least_left(table: &Table<Global>) -> Option<u16>
     least
 }
 
-/// Ticks until a port sends or a neighbor ages out.
+/// Returns the ticks until a port sends or a neighbor ages out.
 fn due_on(agent: &Agent) -> Option<u16>
     ensures { result ≡ due_on agent.now.ports }
 {
@@ -68,7 +68,7 @@ fn due_on(agent: &Agent) -> Option<u16>
     due
 }
 
-/// The seconds until something is due.
+/// Returns the seconds until something is due.
 fn seconds_of(agent: &Agent) -> u32
     ensures { IsDue agent.now result }
 {
@@ -78,7 +78,7 @@ fn seconds_of(agent: &Agent) -> u32
     }
 }
 
-/// In how many seconds a port sends or a neighbor ages out, if nothing but time passes.
+/// Tells in how many seconds a port sends or a neighbor ages out, if nothing but time passes.
 #[unsafe(no_mangle)]
 pub extern "C" fn lldpa_due(alloc: Global, agent: &mut LldpaAgent, seconds: &mut u32) -> u8
     ensures due { result ≡ 0 → IsDue agent.old.held.agent seconds.new }

@@ -44,6 +44,7 @@ pub struct LldpaConfiguration {
     pub status: [u8; 64],
 }
 
+/// Returns the counters for C.
 fn statistics_of(counters: &Counters) -> LldpaStatistics
     ensures { result ≡ statistics_of counters.now }
 {
@@ -60,7 +61,7 @@ fn statistics_of(counters: &Counters) -> LldpaStatistics
     }
 }
 
-/// What a port counted.
+/// Tells what a port counted.
 #[unsafe(no_mangle)]
 pub extern "C" fn lldpa_statistics(
     alloc: Global,
@@ -86,7 +87,7 @@ pub extern "C" fn lldpa_statistics(
     OK
 }
 
-/// The number of a status.
+/// Returns the number of a status.
 fn status_number(status: Status) -> u8
     ensures { result ≡ status_number status }
 {
@@ -98,7 +99,7 @@ fn status_number(status: Status) -> u8
     }
 }
 
-/// The numbers of the statuses of the ports.
+/// Returns the numbers of the statuses of the ports.
 fn statuses(agent: &Agent) -> [u8; 64]
     ensures { take (length agent.now.ports) result
         ≡ map (λ p. status_number p.status) agent.now.ports }
@@ -110,6 +111,7 @@ fn statuses(agent: &Agent) -> [u8; 64]
     statuses
 }
 
+/// Returns the configuration for C.
 fn configuration_of(agent: &Agent) -> LldpaConfiguration
     ensures { TellsConfiguration agent.now result }
 {
@@ -128,7 +130,7 @@ fn configuration_of(agent: &Agent) -> LldpaConfiguration
     }
 }
 
-/// How an agent is configured.
+/// Tells how an agent is configured.
 #[unsafe(no_mangle)]
 pub extern "C" fn lldpa_configuration(
     alloc: Global,

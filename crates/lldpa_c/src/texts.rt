@@ -40,7 +40,7 @@ pub extern "C" fn lldpa_command_text(fault: u32, room: &mut [u8], written: &mut 
     }
 }
 
-/// What a fault or a misuse is, by its number, in words.
+/// Returns what a fault or a misuse is, by its number, in words.
 fn words_of(number: u32) -> Option<&'static [u8]>
     ensures words { option_map (λ words. words.now) result ≡ words_of number }
     ensures short { IfSome result (λ words. length words.now ≤ 65) }
@@ -81,7 +81,7 @@ fn words_of(number: u32) -> Option<&'static [u8]>
     }
 }
 
-/// What a fault or a misuse is, by its number, in words.
+/// Writes what a fault or a misuse is, by its number, in words.
 #[unsafe(no_mangle)]
 pub extern "C" fn lldpa_fault_text(fault: u32, room: &mut [u8], written: &mut usize) -> u8
     ensures words { result ≡ 0 → words_of fault ≡ Some (take written.new room.new) }

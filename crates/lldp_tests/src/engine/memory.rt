@@ -1,7 +1,6 @@
 //! What opening refuses is reported. No call takes memory after it: the types say so, and
 //! tools/gate/refuse-memory.sh sees it of the program.
-use super::open;
-use super::whole_shows::NAMES;
+use super::{NAMES, open};
 use linked_list_allocator::LocalHeap;
 use lldp_engine::OpenFault;
 use lldp_table::Table;

@@ -1,25 +1,7 @@
-//! What opening refuses, that it works if there is memory, and the numbers of faults.
-use super::whole_shows::NAMES;
-use super::{open, open_with, options};
-use crate::rows::OPENINGS;
-use lldp_engine::{CommandFault, OpenFault, Options};
+//! That opening works if there is memory, and the numbers of faults.
+use super::{NAMES, open};
+use lldp_engine::{CommandFault, Mark, OpenFault};
 use std::test::Fail;
-
-#[test]
-fn faults(rt: HostRuntime) -> Result<(), Fail> {
-    for row in OPENINGS {
-        let options = Options {
-            hostname: row.hostname,
-            ..options(row.ports, 32)
-        };
-        let found = match open_with(&rt, rt.alloc(), &options) {
-            Ok(_) => 0,
-            Err(fault) => fault.number(),
-        };
-        assert_eq!(rt; found, row.fault, "{}", row.name);
-    }
-    Ok(())
-}
 
 /// Checks the numbers of the faults.
 #[test]
@@ -48,6 +30,11 @@ fn numbers_of_faults(rt: HostRuntime) {
         assert_eq!(rt; fault as u8, number);
         assert_eq!(rt; fault.number(), number);
     }
+}
+
+#[test]
+fn quiet_is_the_default(rt: HostRuntime) {
+    assert_eq!(rt; Mark::default(), Mark::Quiet);
 }
 
 /// Checks that no opening is refused if there is memory: every number of ports, with every limit.
