@@ -35,7 +35,7 @@ def makes(kind: str) -> bool:
 @beside_lldpd
 @unittest.skipUnless(shutil.which("tshark"), "it needs Debian's package tshark")
 class AtPeers(Replaced):
-    """Judges by real peers: lldpd on both links, tshark on the second one."""
+    """What real peers have: lldpd at both links, tshark at the second one."""
 
     def setUp(self) -> None:
         super().setUp()
@@ -57,7 +57,7 @@ class AtPeers(Replaced):
         return path
 
     def is_there(self, address: Optional[str]) -> bool:
-        """Returns whether both peers have that address of this host by its last frame."""
+        """Returns whether both peers have that address of this host, or none, by its last frame."""
         wanted = set() if address is None else {address}
         last = self.captured.read_text().splitlines()[-1]
         return (last == f"121\t{address or ''}"

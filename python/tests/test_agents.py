@@ -32,7 +32,7 @@ class Ends(Replaced):
         moments = Moments(live)
         moments.take()
         os.kill(agent, signal.SIGKILL)
-        self.assertTrue(live.says("the agent was killed by SIGKILL; another one takes its place"))
+        self.assertTrue(live.says("the agent was killed by SIGKILL; another one replaces it"))
         self.stays(before, began, live)
         moments.take()
         self.assertNotEqual(live.agent(), agent)
@@ -55,7 +55,7 @@ class Ends(Replaced):
         self.assertEqual(live.ask_refused("show neighbors"), "the agent does not answer")
         self.assertIn("the agent has not answered for 5 seconds", live.errors())
         self.assertEqual(live.ask_refused("show neighbors"), "the agent does not answer")
-        self.assertTrue(live.says("another one takes its place"))
+        self.assertTrue(live.says("another one replaces it"))
         self.assertTrue(eventually(lambda: not live.ask_refused("show neighbors")))
         self.peers[0].send(numbered(4, LONG))
         self.assertTrue(eventually(lambda: live.neighbors() == 4))
@@ -86,7 +86,7 @@ class Ends(Replaced):
         self.assertEqual(live.errors(), f"lldpa-live: {program}: it ended\n")
 
     def program(self, words: str) -> str:
-        """Returns the path of a shell script of these words."""
+        """Writes a program of these words, and returns its path."""
         path = Path(self.wires.folder, "program")
         path.write_text(f"#!/bin/sh\n{words}\n")
         path.chmod(0o755)

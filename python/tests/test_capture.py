@@ -110,7 +110,7 @@ class Compressed(unittest.TestCase):
         file = pcap([whole(OTHER * 9, START + number) for number in range(999)])
         packed = gzip.compress(file)
         for cut in (2, 10, 500, len(packed) - 1):
-            self.assertEqual(fault_of(packed[:cut]), "what gzip compressed in it is cut short")
+            self.assertEqual(fault_of(packed[:cut]), "its gzip data is cut short")
         read: list[Packet] = []
         with self.assertRaises(BadCapture):
             for one in packets_of(io.BytesIO(gzip.compress(file, 0)[:9000])):
@@ -119,9 +119,9 @@ class Compressed(unittest.TestCase):
         self.assertGreater(len(read), 14)
         broken = bytearray(packed)
         broken[60] ^= 255
-        self.assertRegex(fault_of(bytes(broken)), "what gzip compressed in it is damaged|it ")
+        self.assertRegex(fault_of(bytes(broken)), "its gzip data is damaged|it ")
         self.assertEqual(fault_of(gzip.compress(b"")), "it is empty")
-        self.assertIn("it is no capture", fault_of(gzip.compress(b"#!/bin/sh")))
+        self.assertIn("it is not a capture", fault_of(gzip.compress(b"#!/bin/sh")))
 
 
 class InPlace(unittest.TestCase):
@@ -165,7 +165,7 @@ class Damaged(unittest.TestCase):
 
     def test_no_captures(self) -> None:
         self.assertEqual(fault_of(b""), "it is empty")
-        self.assertIn("it is no capture: octet 0 begins with 23 21 2f 62", fault_of(b"#!/bin/sh"))
+        self.assertIn("not a capture: octet 0 begins with 23 21 2f 62", fault_of(b"#!/bin/sh"))
         self.assertIn("compressed by xz: unpack it", fault_of(bytes.fromhex("fd377a585a00")))
         self.assertEqual(fault_of(b"\n\r"), "it ends at octet 2, inside the record of octet 0")
 
@@ -188,9 +188,9 @@ class Damaged(unittest.TestCase):
         damages = {
             "a block's two lengths differ": bad[:-4] + b"\0\0\0\0",
             "a block of 8 octets": bad[:4] + b"\x08\0\0\0" + bad[8:],
-            "the length there is out of all measure": bad[:4] + b"\xff\xff\xff\x7f" + bad[8:],
-            "a block that its fields do not fit": packet(whole(LLDP), place=1),
-            "a section of no known byte order": section()[:8] + b"abcd" + section()[12:],
+            "the length there is far too large": bad[:4] + b"\xff\xff\xff\x7f" + bad[8:],
+            "a block with fields that do not fit in it": packet(whole(LLDP), place=1),
+            "a section of unknown byte order": section()[:8] + b"abcd" + section()[12:],
         }
         for why, record in damages.items():
             with self.subTest(why):
@@ -205,7 +205,7 @@ class Damaged(unittest.TestCase):
         at = 24 + 16 + len(OTHER)
         file[at + 8:at + 12] = b"\xff\xff\xff\xff"
         self.assertEqual(fault_of(bytes(file)),
-                         f"it is damaged at octet {at}: the length there is out of all measure")
+                         f"it is damaged at octet {at}: the length there is far too large")
 
     def test_random_damage_is_told_and_never_more(self) -> None:
         dice = random.Random(5)

@@ -37,7 +37,7 @@ class Files(FilesCase):
         done = run_capture(["-"], (self.folder / "b.gz").read_bytes())
         self.assertEqual(done.stdout, RX.replace("eth0", "swp1"))
         self.file(gzip.compress(pcap([whole(LLDP)] * 2), 0)[:-50], "cut.gz")
-        said = "lldpa-capture: cut.gz: what gzip compressed in it is cut short\n"
+        said = "lldpa-capture: cut.gz: its gzip data is cut short\n"
         self.assertEqual(self.ran("cut.gz"), (RX, said, 1))
 
     def test_fifo(self) -> None:
@@ -64,8 +64,8 @@ class Files(FilesCase):
         lines = said.splitlines()
         self.assertEqual(len(lines), 5 + 3 + 1)
         self.assertEqual(lines[4], "lldpa-capture: a: frame 5 is passed over: it is tagged")
-        self.assertEqual(lines[5], "lldpa-capture: a: frame 20001 is passed over: it is snapped to "
-                                   "30 of 99 octets")
+        self.assertEqual(lines[5], "lldpa-capture: a: frame 20001 is passed over: it is truncated "
+                                   "to 30 of 99 octets")
         self.assertEqual(lines[8], "lldpa-capture: a: 19995 more such notes")
 
 
@@ -83,9 +83,8 @@ class Clocks(FilesCase):
         self.assertLess(time.monotonic() - begin, 5)
         self.assertEqual(done.stdout.splitlines()[:5],
                          [RX.strip(), "tick 65535", RX.strip(), "tick 2", RX.strip()])
-        self.assertEqual(done.stderr, "lldpa-capture: a: nothing comes for 1699999995 s (was the "
-                                      "clock set?): 65535 of them are counted, after which nobody "
-                                      "is left\n")
+        self.assertEqual(done.stderr, "lldpa-capture: a: no packet came for 1699999995 s (was the "
+                                      "clock set?): 65535 are counted, and no neighbor is left\n")
         self.assertIn("lldp.eth0.ageouts=1\n", shown)
 
     def test_time_in_which_nothing_happens(self) -> None:

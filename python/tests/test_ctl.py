@@ -186,8 +186,8 @@ class Faults(Program):
             accepting.join()
 
     def test_bad_words(self) -> None:
-        self.run_ctl("configure", 'a"b', status=2, said='a word with a double quote in it: a"b')
-        self.run_ctl("a\nb", status=2, said="a line has a line feed in it")
+        self.run_ctl("configure", 'a"b', status=2, said='a word contains a double quote: a"b')
+        self.run_ctl("a\nb", status=2, said="a line contains a line feed")
         for words in (["metrics", "x"], ["--json", "metrics"], ["--jso"]):
             told = subprocess.run([CTL, *words], check=False, capture_output=True, text=True)
             self.assertEqual((told.returncode, told.stdout), (2, ""))

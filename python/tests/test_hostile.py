@@ -66,7 +66,7 @@ class Hostile(FilesCase):
     def test_neither_a_line_nor_an_answer_is_without_end(self) -> None:
         for octets, text in ((b"=1\n" + b"a" * 70_000, "a line of more than 64 kB"),
                              (b"=99999999\n" + b"\n" * 9_000_000, "more than 128 MB"),
-                             (b"=" + b"9" * 5000 + b"\n", "no answer of lldpa-live")):
+                             (b"=" + b"9" * 5000 + b"\n", "not an answer of lldpa-live")):
             with Client(self.answers(octets, pause=30)) as client:
                 with self.assertRaisesRegex(Gone, text):
                     client.ask("update")

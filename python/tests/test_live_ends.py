@@ -100,7 +100,7 @@ class TestEnds(OnLinks):
     def test_killed_agent_is_told(self) -> None:
         live = self.live("eth0")
         os.kill(live.agent(), signal.SIGKILL)
-        self.assertTrue(live.says("another one takes its place"))
+        self.assertTrue(live.says("another one replaces it"))
         self.assertTrue(eventually(live.ask_quietly))
         os.kill(live.agent(), signal.SIGKILL)
         self.assertEqual(live.ends(3), 1)

@@ -75,7 +75,7 @@ class TestFlood(OnLinks):
         told = numbers(live)
         self.assertEqual(sum(told.values()), 20_000, told)
         self.assertGreater(told["kernel-drops"], 0)
-        self.assertTrue(live.says("frames were dropped that came faster than 64 a second at a port:"
+        self.assertTrue(live.says("frames over the limit of 64 a second for a port were dropped:"
                                   " eth0 ") or not told["limit-drops"])
 
     def test_no_more_than_64_a_second_reach_the_agent(self) -> None:

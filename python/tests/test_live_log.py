@@ -112,7 +112,7 @@ class TestLog(OnLinks):
         for number in range(60):
             peer.send(numbered(number).ljust(1500, b"\0"))
             time.sleep(0.01)
-        self.assertTrue(live.says("stops, lldpa-live goes on: No space left on device"))
+        self.assertTrue(live.says("stops, lldpa-live continues: No space left on device"))
         self.assertIn("live.log=full", live.ask("live"))
         self.assertTrue(self.logs()[0].read_bytes().endswith(b"\n"))
         live.signal(signal.SIGTERM)
@@ -149,7 +149,7 @@ class TestOnce(OnLinks):
         live = self.live("--once", "600", "eth0", "eth1", awaits=False, reads_output=False)
         self.assertIsNotNone(peers[0].hears())
         os.kill(live.agent(), signal.SIGSTOP)
-        self.assertTrue(live.says("another one takes its place"))
+        self.assertTrue(live.says("another one replaces it"))
         for peer, number in zip(peers, (1, 2)):
             peer.send(numbered(number))
         self.assertEqual(live.ends(), 0)
@@ -216,14 +216,14 @@ class TestConnect(OnLinks):
         self.assertTrue(eventually(lambda: "4711" in self.listening()))
         live = self.live("--connect", "4711", "eth0", awaits=False)
         self.assertEqual(live.ends(), 1)
-        self.assertIn("another user listens at port 4711, with the number 12345", live.errors())
+        self.assertIn("another user, 12345, listens on port 4711", live.errors())
 
     @by_the_clock
     def test_agent_of_other_ports_is_told(self) -> None:
         self.listener(1)
         live = self.live("--connect", "4711", "eth1")
         self.assertEqual(live.ends(), 1)
-        self.assertIn("the agent refused what lldpa-live told it: error: no such port\n",
+        self.assertIn("the agent refused a line of lldpa-live: error: no such port\n",
                       live.errors())
 
     def test_nobody_listens(self) -> None:

@@ -33,7 +33,7 @@ class TestPatterns(unittest.TestCase):
         for parts, may_wait in ((["lan*"], False), (["!swp*"], True)):
             with self.assertRaises(NoPorts):
                 first_ports(parts, self.found, may_wait)
-        with self.assertRaisesRegex(NoPorts, "65 ports, and 64 are the most.* second service"):
+        with self.assertRaisesRegex(NoPorts, "65 ports.* has at most 64.* second service"):
             first_ports(["p*"], [one(number, f"p{number}") for number in range(65)], True)
 
 

@@ -136,7 +136,7 @@ class TestAnswers(OnLinks):
     @by_the_clock
     def test_silent_agent_is_ended(self) -> None:
         live = self.live("eth0", "eth1")
-        for ending in ("another one takes its place", "killed by SIGKILL\n"):
+        for ending in ("another one replaces it", "killed by SIGKILL\n"):
             began = time.monotonic()
             os.kill(live.agent(), signal.SIGSTOP)
             self.assertTrue(live.says(ending))

@@ -17,7 +17,7 @@ from patience import SECONDS
 from served import LIVE_LINES, CTL, Served, numbered
 
 DOWN = """\
-# HELP lldpa_up Whether lldpa-live answers and its agent does, 1 or 0.
+# HELP lldpa_up Whether lldpa-live and its agent answer, 1 or 0.
 # TYPE lldpa_up gauge
 lldpa_up 0
 """
@@ -80,8 +80,8 @@ class Publishing(unittest.TestCase):
     def test_lldpa_live_that_ends_or_answers_nonsense_is_down(self) -> None:
         answers = {b"": "lldpa-live has ended the connection",
                    b"=1\n": "lldpa-live has ended the connection",
-                   b"hello\n": "no answer of lldpa-live: 'hello'",
-                   b"=1\nlive.began=now\n=0\n=0\n": "no answer of lldpa-live: not a time as "
+                   b"hello\n": "not an answer of lldpa-live: 'hello'",
+                   b"=1\nlive.began=now\n=0\n=0\n": "not an answer of lldpa-live: not a time as "
                    "lldpa-live writes it: 'now'",
                    b"=0\n=1\nx\n=0\n": "line 1"}
         for answer, said in answers.items():

@@ -213,8 +213,8 @@ class Sending(OnLinks):
         program.chmod(0o755)
         Path(self.wires.folder).chmod(0o755)
         peer, live = self.peer(), self.live("eth0", program=str(program))
-        self.assertTrue(live.says("the agent wanted to send what is not an LLDP frame of eth0: "
-                                  f"{foreign[:28]}; another one takes its place"))
+        self.assertTrue(live.says("the agent tried to send what is not an LLDP frame of eth0: "
+                                  f"{foreign[:28]}; another one replaces it"))
         self.assertEqual(live.ends(), 1)
         while (heard := peer.hears(0.2)) is not None:
             self.assertNotEqual(heard.hex(), foreign)

@@ -174,10 +174,10 @@ class Events(Service):
         self.peer().send(numbered(1, 60, tlv(5, b"a")))
         self.assertTrue(live.says("<6>eth0 came: a p1\n"))
         os.kill(live.agent(), signal.SIGKILL)
-        self.assertTrue(live.says("<4>the agent was killed by SIGKILL; another one takes"))
+        self.assertTrue(live.says("<4>the agent was killed by SIGKILL; another one replaces"))
         self.assertTrue(eventually(live.ask_quietly))
         live.signal(signal.SIGHUP)
-        self.assertTrue(live.says("<5>the settings were read anew\n"))
+        self.assertTrue(live.says("<5>the settings were read again\n"))
         os.kill(live.agent(), signal.SIGKILL)
         self.assertEqual(live.ends(), 1)
         last = live.errors().splitlines()[-1]

@@ -154,14 +154,14 @@ class TestSettings(OnLinks):
         self.assertIn("configuration.tx-hold=3", live.ask("show configuration"))
         self.assertIn("configuration.tx-interval=9", live.ask("show configuration"))
         live.signal(signal.SIGHUP)
-        self.assertTrue(live.says("5 settings were not taken"))
+        self.assertTrue(live.says("5 settings were not applied"))
         self.assertEqual(live.errors().splitlines()[5:10], told)
         self.assertIn("live.settings-refused=5", live.ask("live"))
-        self.assertNotIn("read anew", live.errors())
+        self.assertNotIn("were read again", live.errors())
         for path in self.folder.glob("1*.conf"):
             path.rmdir() if path.is_dir() else path.unlink()
         live.signal(signal.SIGHUP)
-        self.assertTrue(live.says("the settings were read anew"))
+        self.assertTrue(live.says("the settings were read again"))
         self.assertIn("live.settings-refused=0", live.ask("live"))
         live.signal(signal.SIGTERM)
         self.assertEqual(live.ends(), 0)
@@ -184,9 +184,9 @@ class TestSettings(OnLinks):
             live.signal(signal.SIGHUP)
         with suppress(ProcessLookupError):  # it is replaced if this machine stood still for long
             os.kill(agent, signal.SIGCONT)
-        self.assertTrue(live.says("read anew"))
+        self.assertTrue(live.says("were read again"))
         live.ask("show chassis")
-        self.assertIn(live.errors().count("read anew"), (1, 2))
+        self.assertIn(live.errors().count("were read again"), (1, 2))
 
     def test_a_flood_of_signals_is_not_reported_by_the_interpreter(self) -> None:
         run = subprocess.run([PYTHON, "-c", FLOOD], capture_output=True, text=True, check=False,
@@ -202,8 +202,8 @@ class TestSettings(OnLinks):
         os.kill(live.agent(), signal.SIGSTOP)
         self.file.write_text("configure lldp tx-hold 0\nconfigure lldp tx-interval 7\n")
         live.signal(signal.SIGHUP)
-        self.assertTrue(live.says("another one takes its place"))
-        self.assertTrue(live.says("1 settings were not taken"))
+        self.assertTrue(live.says("another one replaces it"))
+        self.assertTrue(live.says("1 settings were not applied"))
         self.assertTrue(heard.hears("READY=1"))
         self.assertIn("configuration.tx-interval=7", live.ask("show configuration"))
         heard.forget()

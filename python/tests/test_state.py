@@ -62,11 +62,11 @@ class Restarts(Replaced):
         old = b"%s %.3f %.3f\n" % (head, wall_clock - LONG - 10, boot_clock - LONG - 10)
         booted = b"%s %.3f %.3f\n" % (head, wall_clock, boot_clock + 1000)
         was_set = b"%s %.3f %.3f\n" % (head, wall_clock - 60, boot_clock)
-        for octets, why in ((whole[:-3], "it is not whole"), (b"x" * 99, "it is not whole"),
+        for octets, why in ((whole[:-3], "it is not complete"), (b"x" * 99, "it is not complete"),
                             (old + rest, "it is too old"),
-                            (first.replace(b".", b"0", 1) + b"\n" + rest, "it is not whole"),
+                            (first.replace(b".", b"0", 1) + b"\n" + rest, "it is not complete"),
                             (booted + rest, "booted since"), (was_set + rest, "clock was set"),
-                            (whole.replace(b"\ntick", b"\nupdate", 1), "of another form"),
+                            (whole.replace(b"\ntick", b"\nupdate", 1), "a malformed line"),
                             (whole.replace(b"# since eth0", b"# since eth7", 1), "not those"),
                             (b"\xff" + whole, "'ascii' codec")):
             self.state.write_bytes(octets)

@@ -182,7 +182,7 @@ class Unrest:
 
     def end_agent(self) -> None:
         """Kills the agent, or stops it for good, and notes what it took."""
-        agent, word = self.live.agent(), "another one takes its place"
+        agent, word = self.live.agent(), "another one replaces it"
         before = self.live.errors().count(word)
         number = self.choice.choice([signal.SIGKILL, signal.SIGSTOP])
         self.note(number.name)

@@ -54,9 +54,9 @@ def checked(line: Line) -> bytes:
     long."""
     octets = line.encode("latin-1") if isinstance(line, str) else bytes(line)
     if b"\n" in octets:
-        raise ValueError("a line has a line feed in it")
+        raise ValueError("a line contains a line feed")
     if len(octets) > LONGEST_LINE:
-        raise ValueError(f"a line of {len(octets)} octets, and {LONGEST_LINE} are the most")
+        raise ValueError(f"a line of {len(octets)} octets, and the limit is {LONGEST_LINE}")
     return octets
 
 
@@ -69,7 +69,7 @@ def command(*words: str) -> str:
     """Returns the words as a line, each in quotes if it needs them. A quote cannot be written."""
     for word in words:
         if '"' in word:
-            raise ValueError(f"a word with a double quote in it: {word}")
+            raise ValueError(f"a word contains a double quote: {word}")
     return " ".join(f'"{word}"' if not word or set(" \t#") & set(word) else word for word in words)
 
 

@@ -126,13 +126,13 @@ class Counters:
     """A port's counters, and what each counts. Each starts again at 0 after 4,294,967,295."""
     sent: int = counter("Ordinary frames sent.")
     shutdowns: int = counter("Shutdown frames sent.")
-    received: int = counter("LLDP frames that came while the port was receiving and up.")
+    received: int = counter("LLDP frames received while the port was up and could receive.")
     discarded: int = counter("LLDPDUs refused.")
     errors: int = counter("LLDPDUs refused or with a discarded TLV.")
     tlvs_discarded: int = counter("TLVs discarded.")
-    unrecognized: int = counter("TLVs kept whose meaning is not known.")
+    unrecognized: int = counter("TLVs kept whose meaning the agent does not know.")
     ageouts: int = counter("Neighbors that aged out.")
-    drops: int = counter("LLDPDUs dropped for want of room in the table.")
+    drops: int = counter("LLDPDUs dropped because the table was full.")
 
 
 @dataclass(frozen=True)

@@ -146,7 +146,7 @@ class Agent:
         if self._over is not None:
             raise self._over()
         if not self._is_whole:
-            raise Ended(None, "an answer was not read to its end, so no further line can be asked")
+            raise Ended(None, "an answer was not read to its end, so nothing more can be asked")
         self._is_whole = False
         unsent = memoryview(octets)
         last = None if seconds is None else time.monotonic() + seconds

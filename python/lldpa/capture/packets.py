@@ -41,7 +41,7 @@ def reader_of(file: BinaryIO, most_unpacked: Optional[int] = None) -> Reader:
         return PcapngReader(window)
     if magic[:2] in COMPRESSED:
         raise BadCapture(f"it is compressed by {COMPRESSED[magic[:2]]}: unpack it first")
-    raise BadCapture(f"it is no capture: octet 0 begins with {magic.hex(' ')}, "
+    raise BadCapture(f"it is not a capture: octet 0 begins with {magic.hex(' ')}, "
                      "which is neither pcap nor pcapng")
 
 

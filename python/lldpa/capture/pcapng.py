@@ -39,7 +39,7 @@ class PcapngReader(Reader):
         if octets.startswith(SECTION_HEADER, at):
             order = BYTE_ORDERS.get(octets[at + 8:at + 12], "")
             if not order:
-                raise self.window.damage(at, "a section of no known byte order")
+                raise self.window.damage(at, "a section of unknown byte order")
         size: int = struct.unpack_from(order + "I", octets, at + 4)[0]
         if size < self.HEAD_SIZE:
             raise self.window.damage(at, f"a block of {size} octets")
@@ -64,7 +64,7 @@ class PcapngReader(Reader):
             elif kind == SIMPLE_PACKET:
                 return self._simple_packet(begin, end)
         except (struct.error, IndexError):
-            raise self.window.damage(at, "a block that its fields do not fit") from None
+            raise self.window.damage(at, "a block with fields that do not fit in it") from None
         return None
 
     def pass_over(self, stop: int) -> Optional[int]:

@@ -55,7 +55,7 @@ def ports_of(sources: Sequence[Source]) -> List[str]:
         heard = {line.split(" ")[1] for line in frames_of(sources, Told(ignored, ignored), False)}
         ports = {name: None for name in ports if name in heard}
     if len(ports) > MOST_PORTS:
-        raise TooManyPorts(f"{len(ports)} ports, and {MOST_PORTS} are the most")
+        raise TooManyPorts(f"{len(ports)} ports, and the limit is {MOST_PORTS}")
     return list(ports)
 
 
@@ -91,8 +91,8 @@ def frames_of(sources: Sequence[Source], told: Told, seconds: bool) -> Iterator[
         if seconds and time is not None:
             missing = clock.seconds_to(time)
             if missing > MOST_TICKS:
-                notes.tell("jump", f"nothing comes for {missing} s (was the clock set?): "
-                           f"{MOST_TICKS} of them are counted, after which nobody is left")
+                notes.tell("jump", f"no packet came for {missing} s (was the clock set?): "
+                           f"{MOST_TICKS} are counted, and no neighbor is left")
                 missing = MOST_TICKS
             if missing:
                 yield from ticks(missing)
@@ -185,7 +185,7 @@ class Recording:
         port = port_of(self._source, interface)
         if is_port_name(port):
             return port
-        self._fault(f"its interface {port!r} can be no port: {PORT_NAME_RULE}; "
+        self._fault(f"its interface {port!r} cannot be a port: {PORT_NAME_RULE}; "
                     f"write --port '{port}=NAME'")
         return ""
 
@@ -205,8 +205,8 @@ class Recording:
         not at all for less than a second, since packets of several queues may be out of order."""
         if nanoseconds < SECOND:
             return 0
-        self._notes.tell("set back", f"the time stamps go back by {nanoseconds // SECOND} s, for "
-                                     "which there is no tick")
+        self._notes.tell("set back", f"the time stamps go back by {nanoseconds // SECOND} s, "
+                                     "which adds no tick")
         return nanoseconds
 
 
@@ -228,7 +228,7 @@ def fault_of(octets: bytes, length: int) -> str:
     """Returns why an LLDP frame is not given to the agent, or nothing. Numbers are put into the
     text."""
     if len(octets) < length:
-        return "snapped to {} of {} octets"
+        return "truncated to {} of {} octets"
     if octets[12:14] in TAGS:
         return "tagged"
     if len(octets) > LONGEST_FRAME:

@@ -55,7 +55,7 @@ class Unzipped:
         if self._left is not None:
             self._left -= len(octets)
             if self._left < 0:
-                raise BadCapture("gzip unpacks it to more than is read")
+                raise BadCapture("its gzip data unpacks to more than the limit")
         return octets
 
     def _unpacked(self, size: int) -> bytes:
@@ -74,7 +74,7 @@ class Unzipped:
             try:
                 octets = self._inflate.decompress(handed, size)
             except zlib.error:
-                raise BadCapture("what gzip compressed in it is damaged") from None
+                raise BadCapture("its gzip data is damaged") from None
             left = self._inflate.unconsumed_tail or self._inflate.unused_data
             self._at += len(handed) - len(left)
             self._handed = min(2 * self._handed, AT_ONCE)
@@ -92,5 +92,5 @@ class Unzipped:
         """Returns what is left if the file is at its end."""
         octets = b"" if self._inflate.eof else self._inflate.flush()
         if not octets and not self._inflate.eof:
-            raise BadCapture("what gzip compressed in it is cut short")
+            raise BadCapture("its gzip data is cut short")
         return octets

@@ -34,7 +34,7 @@ class Window:
         Returns whether there are any. Raises BadCapture if there are some, but too few.
         """
         if not 0 <= count <= MOST_OCTETS:
-            raise self.damage(at, "the length there is out of all measure")
+            raise self.damage(at, "the length there is far too large")
         self.begin += at
         self.octets = self.octets[at:]
         while len(self.octets) < count:

@@ -73,7 +73,7 @@ class Client:
             self.connection.sendall(octets + b"\n")  # an lldpa-live that has gone may have said why
         head = self.read_line()
         if not (head.startswith("=") and head[1:].isdecimal() and len(head) <= MOST_DIGITS):
-            raise Gone(f"no answer of lldpa-live: {head!r}")
+            raise Gone(f"not an answer of lldpa-live: {head!r}")
         lines, room = [], MOST_OCTETS
         for _ in range(int(head[1:])):
             lines.append(self.read_line())

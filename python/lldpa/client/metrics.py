@@ -20,7 +20,7 @@ def metrics(show: Show, live: Iterable[str]) -> list[str]:
         *live_lines(LiveLines(live)),
         *lines_of("lldpa_neighbors", "gauge", "Neighbors that the port holds.",
                   [({"port": port.name}, port.neighbors_held) for port in show.ports]),
-        *lines_of("lldpa_too_many", "gauge", "Whether a neighbor found no room lately, 1 or 0.",
+        *lines_of("lldpa_too_many", "gauge", "Whether a dropped neighbor would still stay, 1 or 0.",
                   [({"port": port.name}, int(port.too_many)) for port in show.ports]),
         *lines_of("lldpa_neighbor_info", "gauge", "What a neighbor says of itself; always 1.",
                   [(described(neighbor), 1) for neighbor in show.neighbors]),

@@ -161,5 +161,5 @@ def reason(live: Mapping[str, str], status: str) -> str:
 def remedy(port: Port) -> str:
     """Returns what to raise for a port that has dropped neighbors."""
     if port.neighbors_held >= MOST_NEIGHBORS:
-        return f"{MOST_NEIGHBORS} is the most that a port can hold"
+        return f"a port holds at most {MOST_NEIGHBORS}"
     return "raise --max-neighbors"

@@ -39,7 +39,7 @@ def publish(path: str, file: Optional[str]) -> None:
         raise
     except ValueError as fault:  # what answers is not lldpa-live
         write(down_lines(), file)
-        raise Gone(f"no answer of lldpa-live: {fault}") from None
+        raise Gone(f"not an answer of lldpa-live: {fault}") from None
     write(lines, file)
     if not told.is_up:
         raise Refused(f"the agent is {told.own['agent']}")

@@ -114,7 +114,7 @@ class Agents:
             lines = head[place:place + LINES_AT_ONCE]
             self.session.write([(now(), line) for line in lines])
             for refusal in await self.exchange(lines):
-                raise Ended(None, f"the agent refused what the one before was told: {refusal}")
+                raise Ended(None, f"the agent refused a line of the one before: {refusal}")
 
     def head(self, show: Show) -> List[str]:
         """Returns the lines that bring another agent to the state of the one that shows this."""
@@ -129,7 +129,7 @@ class Agents:
         head = self.head(await self.shown())
         self.options["management"] = address
         await self.patient.succeed(await self.next(head), SECONDS_FOR_THE_LAST)
-        self.report(f"the management address is {address or 'not announced any more'}")
+        self.report(f"the management address is {address or 'no longer announced'}")
 
     async def grow(self, names: Sequence[str]) -> None:
         """Replaces this agent by one that has these ports too."""
@@ -152,7 +152,7 @@ class Agents:
             raise end
         self.last_end = now()
         self.restarts += 1
-        self.report(f"{end.text}; another one takes its place")
+        self.report(f"{end.text}; another one replaces it")
         head = self.head(self.known())
         await self.patient.succeed(await self.next(head), 0)
 
@@ -163,7 +163,7 @@ class Agents:
         try:
             for place in range(0, len(head), LINES_AT_ONCE):
                 for refusal in await patient.tell(head[place:place + LINES_AT_ONCE]):
-                    raise Ended(None, f"the agent refused what the one before was told: {refusal}")
+                    raise Ended(None, f"the agent refused a line of the one before: {refusal}")
         except BaseException:
             await patient.close(0)
             raise

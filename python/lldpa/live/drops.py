@@ -10,7 +10,7 @@ from ..clock import now
 
 SECONDS_BETWEEN_REPORTS = 60
 BY_KERNEL = "the kernel has dropped {} frames that came too fast: {}"
-BY_LIMIT = f"{{}} frames were dropped that came faster than {A_SECOND} a second at a port: {{}}"
+BY_LIMIT = f"{{}} frames over the limit of {A_SECOND} a second for a port were dropped: {{}}"
 
 
 class Drops:

@@ -43,7 +43,7 @@ class HostName:
         try:
             line = command("configure", "system", "hostname", self.last).encode("ascii")
         except ValueError:
-            return f"{self.last}: no name for an agent"
+            return f"{self.last}: the agent does not accept this name"
         for refusal in await tell(line):
             return f"{self.last}: {refusal}"
         self.told = self.last

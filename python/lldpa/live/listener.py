@@ -17,7 +17,7 @@ def check_listener(port: int) -> None:
     """Raises Ended if another user listens at this port."""
     for user in users_at(port):
         if user not in (0, os.geteuid()):
-            raise Ended(None, f"another user listens at port {port}, with the number {user}")
+            raise Ended(None, f"another user, {user}, listens on port {port}")
 
 
 def users_at(port: int) -> Iterator[int]:

@@ -176,7 +176,7 @@ class Ground:
             raise SettingsRefused(settled.refused)
 
     def note(self, settled: Settled) -> None:
-        """Notes how many settings were not taken, and reports the files that could not be read."""
+        """Notes how many settings were not applied, and reports files that could not be read."""
         for line in settled.unread:
             warn(line)
         self.not_taken = len(settled.refused) + len(settled.unread)

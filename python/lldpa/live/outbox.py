@@ -26,7 +26,7 @@ class Outbox:
         """Takes a frame from the agent. Raises Ended if no agent of this host would send it."""
         port = self.ports.by_name.get(name)
         if port is None or not is_lldp(octets, self.chassis, port.address):
-            raise Ended(None, f"the agent wanted to send what is not an LLDP frame of {name}: "
+            raise Ended(None, f"the agent tried to send what is not an LLDP frame of {name}: "
                               f"{octets[:HEADER].hex()}")
         self.frames.append((name, octets))
 

@@ -12,7 +12,7 @@ from ..limits import MOST_PORTS, PORT_NAME
 
 PATTERN = re.compile(r"[A-Za-z0-9_/:*?\[\]^-]{1,64}")  # of a name with wildcards
 WILDCARDS = set("*?[")
-TOO_MANY = ("{} ports, and {} are the most of an agent: run a second service for the others "
+TOO_MANY = ("{} ports, and an agent has at most {}: run a second service for the others "
             "(lldpa-live(8), Ports)")
 
 

@@ -122,7 +122,7 @@ class Relay:
         self.take_links(went)
         downs = self.batch.downs if self.forgets_on_down else []
         for refusal in await self.tell_agent():
-            raise Ended(None, f"the agent refused what lldpa-live told it: {refusal}")
+            raise Ended(None, f"the agent refused a line of lldpa-live: {refusal}")
         for name in downs:
             await self.forget(name)
         if self.name.has_changed():

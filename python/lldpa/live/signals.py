@@ -64,7 +64,7 @@ class Signals:
                 for refused in settled.refused:
                     warn(refused)
                 if self.ground.not_taken:
-                    warn(f"{self.ground.not_taken} settings were not taken")
+                    warn(f"{self.ground.not_taken} settings were not applied")
                 else:
-                    report("the settings were read anew")
+                    report("the settings were read again")
                 manager.ready()

@@ -79,7 +79,7 @@ class State:
         """Reads the neighbors and how many seconds have passed since, and empties the file. Raises
         BadState, OSError or ValueError for a state that cannot be used."""
         if self.is_foreign:
-            raise BadState("it is not a file of its user alone")
+            raise BadState("it does not belong to its user alone")
         with open(os.dup(self.file), "rb") as file:
             octets = file.read(MOST_OCTETS + 1)
         os.ftruncate(self.file, 0)
@@ -114,7 +114,7 @@ def neighbors_in(lines: List[str]) -> Tuple[Dict[Name, Kept], int]:
     since. Raises BadState for one that is damaged, too old, or of another boot."""
     head = HEAD.fullmatch(lines[0])
     if head is None or lines[-2:] != [END, ""]:
-        raise BadState("it is not whole")
+        raise BadState("it is not complete")
     seconds = now() - float(head[2])
     if seconds < 0 or abs(time.time() - float(head[1]) - seconds) > MOST_APART:
         raise BadState("this host was booted since, or its clock was set")
@@ -140,7 +140,7 @@ def parsed(lines: List[str]) -> Dict[Name, Kept]:
         elif frame and (said := said_by(bytes.fromhex(frame[2]))) is not None and said.ttl:
             heard[frame[1], said.id] = bytes.fromhex(frame[2]), second
         else:
-            raise BadState(f"it has a line of another form: {line[:100]!r}")
+            raise BadState(f"it has a malformed line: {line[:100]!r}")
     if heard.keys() != came.keys():
         raise BadState("its neighbors are not those that it names")
     return {name: Kept(octets, second - at, came[name]) for name, (octets, at) in heard.items()}

@@ -35,7 +35,7 @@ class Watched:
         self.looks = Looks() if manager.is_there or self.events is not None else None
 
     def note_not_taken(self, count: int) -> None:
-        """Notes how many settings were not accepted."""
+        """Notes how many settings were not applied."""
         self.remark = f"; {count} settings refused" if count else ""
         if self.status:
             self.manager.show(self.status + self.remark)

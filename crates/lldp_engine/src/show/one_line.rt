@@ -16,7 +16,7 @@ pub struct OneLine {
 }
 
 impl OneLine {
-    /// Nothing is kept.
+    /// Returns one that keeps nothing.
     pub fn new() -> OneLine {
         OneLine {
             before: 0,

@@ -100,8 +100,8 @@ class Logbook:
             self.take(answer)
         if self.unanswered and self.waiting.look() >= SECONDS_TO_STALL and not self.trouble:
             self.trouble = "stalled"
-            self.report(f"the log in {self.files.path} has stood still for "
-                        f"{SECONDS_TO_STALL:.0f} seconds; lldpa-live goes on")
+            self.report(f"the log in {self.files.path} has made no progress for "
+                        f"{SECONDS_TO_STALL:.0f} seconds; lldpa-live continues")
 
     def take(self, answer: writer.Answer) -> None:
         """Takes the answer to the first message that has none."""
@@ -117,7 +117,7 @@ class Logbook:
     def go_on(self, name: str) -> None:
         """Notes that something was written to the file of that name."""
         if self.trouble:
-            self.report(f"the log goes on in {os.path.join(self.files.path, name)}; "
+            self.report(f"the log continues in {os.path.join(self.files.path, name)}; "
                         f"{self.lost - self.lost_told} lines were not written")
             self.has_stalled = self.is_whole and self.size > 0 and self.trouble == "stalled"
             self.lost_told = self.lost
@@ -128,7 +128,7 @@ class Logbook:
         self.is_whole = False
         self.next_try = now() + SECONDS_BETWEEN_TRIES
         if not self.trouble:
-            self.report(f"the log in {self.files.path} stops, lldpa-live goes on: {text}")
+            self.report(f"the log in {self.files.path} stops, lldpa-live continues: {text}")
         if number != errno.EBADF:  # by which the process says that the file has ended before
             self.trouble = "full" if number in OF_FULL_DISKS else "stalled"
 

@@ -18,7 +18,7 @@ NEW_FILE = os.O_WRONLY | os.O_APPEND | os.O_CREAT | os.O_EXCL | os.O_NOFOLLOW | 
 FOLDER = os.O_RDONLY | os.O_DIRECTORY | os.O_CLOEXEC
 MOST_OF_A_SECOND = 1000  # files
 LOST_FOUND = "lost+found"  # of a file system that begins in the folder
-NO_ROOM = "there is no room within --log-keep"
+NO_ROOM = "no room is left within --log-keep"
 
 
 class LogFiles:
@@ -118,7 +118,7 @@ def is_ours(folder: int) -> bool:
 def check_folder(path: str, folder: int) -> None:
     """Raises PermissionError if this process may not make files in its folder."""
     if not os.access(".", os.W_OK | os.X_OK, dir_fd=folder):
-        raise PermissionError(errno.EACCES, "the log's user may make no files there", path)
+        raise PermissionError(errno.EACCES, "the log's user may not create files there", path)
 
 
 def sizes_of(folder: int) -> dict[str, int]:

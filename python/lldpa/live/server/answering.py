@@ -14,14 +14,14 @@ from ...organizational.kinds import load
 
 HELP = (
     "  neighbors [PORT..]        a table of the neighbors",
-    "  details [PORT..]          all that they say",
+    "  details [PORT..]          all that neighbors say",
     "  interfaces [PORT..]       the state of the ports",
-    "  statistics [PORT..]       the counters; statistics summary: their sums",
+    "  statistics [PORT..]       the counters, or with summary their sums",
     "  show neighbors | statistics | chassis | configuration",
     "  configure ...             changes the agent, see lldpa(1)",
-    "  update                    sends the present state",
-    "  live                      what lldpa-live says of itself",
-    "  help                      this",
+    "  update                    sends the current state",
+    "  live                      the state of lldpa-live itself",
+    "  help                      this help",
 )
 
 UNKNOWN = "unknown command"

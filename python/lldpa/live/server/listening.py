@@ -86,7 +86,7 @@ def remove_stale(path: str) -> None:
     except FileNotFoundError:
         return
     if not stat.S_ISSOCK(mode):
-        raise FileExistsError(errno.EEXIST, "this is no socket", path)
+        raise FileExistsError(errno.EEXIST, "this is not a socket", path)
     with socket.socket(socket.AF_UNIX, socket.SOCK_STREAM) as probe:
         probe.setblocking(False)
         try:
@@ -105,7 +105,7 @@ def hand_over(path: str, group: int) -> None:
     place = os.open(path, os.O_PATH | os.O_NOFOLLOW | os.O_CLOEXEC)
     try:
         if not stat.S_ISSOCK(os.fstat(place).st_mode):
-            raise FileExistsError(errno.EEXIST, "this is no socket", path)
+            raise FileExistsError(errno.EEXIST, "this is not a socket", path)
         os.chown(f"/proc/self/fd/{place}", -1, group)
         os.chmod(f"/proc/self/fd/{place}", 0o660)
     finally:

@@ -81,7 +81,7 @@ class Server:
         self.keeping = asyncio.ensure_future(self.keep_path())
 
     async def keep_path(self) -> None:
-        """Makes the socket anew if it was removed."""
+        """Makes the socket again if it was removed."""
         while True:
             await asyncio.sleep(SECONDS_BETWEEN_LOOKS)
             if self.listening is not None and not os.path.lexists(self.path):
