@@ -190,10 +190,10 @@ class Refusals(Program):
 
     def test_a_configuration_that_is_not_told(self) -> None:
         self.served.hidden = {b"show configuration", b"show chassis"}
-        of_host, numbers = "what this host says", "the configuration"
+        of_host, numbers = "what this host announces", "the configuration"
         for word, what in (("interfaces", of_host), ("chassis", of_host),
                            ("configuration", numbers)):
-            self.run_it(LLDPCTL, "show", word, status=1, said=f"lldpa-live does not tell {what}")
+            self.run_it(LLDPCTL, "show", word, status=1, said=f"lldpa-live did not report {what}")
 
     def test_help(self) -> None:
         for program in (LLDPCTL, LLDPCLI):

@@ -1,17 +1,18 @@
 #!/usr/bin/env python3
-"""Looks up what the pages name, without a network: links and their anchors, files in backticks, calls in backticks, options,
-lines of sources in blocks that say `rust` or `antt`, which stand in one file one behind another, on pages about proofs
-each clause, definition, lemma and large number, in out/REFERENCE.md that a large number stands in the code and not in
-its comments alone, that each module of a crate and each file of lemmas says in its first line what it is, and that no
-transcript lacks its row in examples/README.md. Each row of SECURITY.md that says what it is shown by
-names a law or call of the crates, a test of python/tests or audit/tests or a script, and all of these are there. No page says
-"the bridge" of lldpa-live, and no line of text is over
-120 columns long.
+"""Looks up what the pages name, without a network.
 
     tools/gate/check-links.py [--installed FOLDER]
 
-With --installed only the links of the pages in that folder, where tools/release/install.sh has put them. The last line counts
-what was looked up.
+It looks up links and their anchors; files, calls and options; and lines of sources in blocks that say `rust` or `antt`,
+which must be consecutive lines of one file. On pages about proofs it looks up each clause, definition, lemma and large
+number. A large number of out/REFERENCE.md must be in the code, and not only in its comments. The first line of each
+module of a crate and of each file of lemmas must say what it is, and each transcript must have its row in
+examples/README.md. Each row of SECURITY.md that says what shows it must name a law or call of the crates, a test of
+python/tests or audit/tests or a script, and these must exist. No page may call lldpa-live "the bridge", and no line of
+text may be over 120 columns long.
+
+With --installed it looks up only the links of the pages in that folder, which tools/release/install.sh has filled. The
+last line counts what was looked up.
 """
 import pathlib
 import re
@@ -49,12 +50,12 @@ FOLDERS_OF_A_CRATE = ("specs", "proofs", "src", "must-fail")
 
 
 def without_code(text):
-    """The text, with blocks of code left out."""
+    """Returns the text without blocks of code."""
     return re.sub(r"^```.*?^```$", "", text, flags=re.M | re.S)
 
 
 def anchors(page):
-    """The anchors that the headings of a page give, as its readers make them."""
+    """Returns the anchors of the headings of a page, as its readers make them."""
     found = set()
     for heading in re.findall(r"^#+ (.*)$", without_code(page.read_text()), re.M):
         plain = re.sub(r"\[([^]]*)\]\([^)]*\)", r"\1", heading).lower()
@@ -64,7 +65,7 @@ def anchors(page):
 
 
 def fault_of_link(page, target):
-    """What is wrong with a link, or None."""
+    """Returns what is wrong with a link, or None."""
     name, _, anchor = target.partition("#")
     file = (page.parent / name).resolve() if name else page
     if not file.exists():
@@ -75,13 +76,14 @@ def fault_of_link(page, target):
 
 
 def links(text):
-    """The targets of a page's links, those to other hosts left out."""
+    """Returns the targets of a page's links, without those to other hosts."""
     found = re.findall(r"\]\(([^)\s]+)\)", text) + re.findall(r"^\[[^]]+\]: (\S+)$", text, re.M)
     return [target for target in found if not re.match(r"[a-z]+://", target)]
 
 
 def is_there(name):
-    """Whether a file of the repository has this name: from the top, in a crate, or within some crate, with its ending or without."""
+    """Returns whether a file of the repository has this name: from the top, in a crate, or within some crate, with or
+    without its ending."""
     folders = [TOP, TOP / "crates"]
     if name.split("/")[0] in FOLDERS_OF_A_CRATE:
         folders += [TOP / "crates" / crate for crate in CRATES]
@@ -90,7 +92,8 @@ def is_there(name):
 
 
 def file_names(text):
-    """Names of files in backticks: of a folder of the repository, without a place that a reader is to fill in."""
+    """Returns the names of files in backticks: of a folder of the repository, without a place that the reader fills
+    in."""
     tops = {path.name for path in TOP.iterdir()} | set(FOLDERS_OF_A_CRATE) | set(CRATES)
     for name in re.findall(r"`([\w.*/-]+)`", text):
         is_path = "/" in name and name.split("/")[0] in tops and "out" not in name.split("/")
@@ -99,29 +102,30 @@ def file_names(text):
 
 
 def calls(text):
-    """Calls in backticks that are named with their type."""
+    """Returns the calls in backticks that are named with their type."""
     found = re.findall(r"`(?:\w+::)*([A-Z]\w*)::(\w+)(?:\([^`]*\))?`", text)
     return [(owner, call) for owner, call in found if call != "default"]
 
 
 def names(text):
-    """Names in backticks: of a clause, a definition, a lemma, a call or a file."""
+    """Returns the names in backticks: of a clause, a definition, a lemma, a call or a file."""
     return re.findall(r"`([A-Za-z]\w*(?:-\w+)*)`", text)
 
 
 def excerpts(text):
-    """The lines that a page shows of the sources, block by block, in blocks that say their language."""
+    """Returns the lines of the sources that a page shows, block by block, in blocks that say their language."""
     for block in re.findall(r"^```(?:rust|antt)\n(.*?)^```$", text, re.M | re.S):
         yield [line.strip() for line in block.splitlines() if line.strip()]
 
 
 def begins_something(before):
-    """Whether a line behind this one begins an item or a clause: it is empty, a comment, an attribute, or opens a block."""
+    """Returns whether a line after this one begins an item or a clause: it is empty, a comment, an attribute, or opens
+    a block."""
     return re.match(r"\s*(//|--|#\[|$)", before) is not None or before.endswith("{")
 
 
 def lines_of_sources():
-    """The lines of each source, without those that are empty, and which of them begin something."""
+    """Returns the lines of each source, without empty ones, and which of them begin something."""
     for folder in ("src", "specs"):
         for path in TOP.glob(f"crates/*/{folder}/**/*"):
             if path.suffix in (".rt", ".antt"):
@@ -135,8 +139,8 @@ LINES = list(lines_of_sources())
 
 
 def is_shown(lines):
-    """Whether these lines stand in a source, one behind another from where something begins, and no bracket of theirs is
-    left open."""
+    """Returns whether these lines are consecutive lines of a source, from the beginning of something on, with each
+    bracket closed."""
     shown = "\n".join(lines)
     are_closed = all(shown.count(one) == shown.count(other) for one, other in ("()", "{}", "[]"))
     return are_closed and any(
@@ -146,14 +150,14 @@ def is_shown(lines):
 
 
 def large_numbers(text):
-    """The numbers of four digits and more that stand by themselves, but for years."""
+    """Returns the numbers of four digits and more that are whole words, without years."""
     for number in re.findall(r"(?<![\w.,-])(\d{1,3}(?:,\d{3})+|\d{4,})(?![\w,.-]*\w)", text):
         if number not in ("2009", "2016"):
             yield number.replace(",", "")
 
 
 class Checks(Counts):
-    """What was looked up, by its fault or None."""
+    """Counts what was looked up, by its fault or None."""
 
     def see(self, page, what, fault):
         self.judge(fault, f"{page}: {what}")
@@ -183,11 +187,11 @@ def check_page(checks, page):
     for option in re.findall(r"(?<![\w-])--[a-z][a-z-]*[a-z]", page.read_text()):
         checks.see(name, option, None if option in OPTIONS else "no such option")
     for lines in excerpts(page.read_text()):
-        checks.see(name, lines[0], None if is_shown(lines) else "these lines do not stand in the sources one behind another")
+        checks.see(name, lines[0], None if is_shown(lines) else "these are not consecutive lines of a source")
 
 
 def check_modules(checks):
-    """The first line of each module says what it is, and that of each file of lemmas what it proves."""
+    """Checks that the first line of each module says what it is, and that of each file of lemmas what it proves."""
     for crate in CRATES:
         for path in sorted((TOP / "crates" / crate / "src").rglob("*.rt")):
             if "tests" not in path.relative_to(TOP).parts:
@@ -199,7 +203,8 @@ def check_modules(checks):
 
 
 def is_shown_by(name):
-    """Whether there is such a script, test of the Python package (test_file.test_name), or law or call of the crates."""
+    """Returns whether there is such a script, test of the Python package (test_file.test_name), or law or call of the
+    crates."""
     module, _, test = name.partition(".")
     if name.startswith("tools/"):
         return (TOP / name).is_file()
@@ -210,7 +215,7 @@ def is_shown_by(name):
 
 
 def check_security(checks):
-    """Each row of SECURITY.md below a head that ends with `Shown by` names what shows it."""
+    """Checks that each row of SECURITY.md below a head that ends with `Shown by` names what shows it."""
     page, is_claimed = "SECURITY.md", False
     for line in (TOP / page).read_text().splitlines():
         if not line.startswith("|"):
@@ -225,7 +230,7 @@ def check_security(checks):
 
 
 def check_transcripts(checks):
-    """Each transcript is a row of examples/README.md."""
+    """Checks that each transcript is a row of examples/README.md."""
     page = "examples/README.md"
     rows = re.findall(r"^\| \[([\w-]+)\]", (TOP / page).read_text(), re.M)
     for path in sorted((TOP / "examples").glob("*.args")):
@@ -233,7 +238,7 @@ def check_transcripts(checks):
 
 
 def check_installed(checks, folder):
-    """No link of an installed page leads to what is not there, or out of the folder."""
+    """Checks that each link of an installed page leads to an installed file in the folder."""
     for page in sorted(folder.rglob("*.md")):
         for target in links(without_code(page.read_text())):
             is_inside = (page.parent / target.partition("#")[0]).resolve().is_relative_to(folder)

@@ -4,8 +4,8 @@
     tools/gate/kept.py NAME COMMAND ..
 
 Runs the command, unless the files of READ and the versions of the compilers are those with which it last passed here.
-What skips something is not kept. The states are in out/kept, which git ignores, so a clean clone runs everything.
-tools/mutants/try.py notes there which crates it tried. The last line is `N passed, M failed`.
+If something was skipped, the count is not kept. The states are in out/kept, which git ignores, so a clean clone runs
+everything. tools/mutants/try.py notes there which crates it tried. The last line is `N passed, M failed`.
 """
 from __future__ import annotations
 
@@ -25,7 +25,7 @@ COMPILERS = (("rt", "version"), ("cc", "--version"), ("cargo", "--version"), ("q
 
 
 def written_by(command: Iterable[str]) -> str:
-    """Returns what a command writes, nothing if it is not installed."""
+    """Returns what a command writes, or nothing if it is not installed."""
     try:
         return subprocess.run([*command], cwd=TOP, stdout=subprocess.PIPE, text=True, check=False).stdout
     except FileNotFoundError:
@@ -67,7 +67,7 @@ def run(command: list[str]) -> tuple[int, list[str]]:
 
 
 def main() -> int:
-    """Runs the command, or gives its count again."""
+    """Runs the command, or prints its count again."""
     name, *command = sys.argv[1:]
     state = state_of(READ, "".join(map(written_by, COMPILERS)))
     kept, passed = notes().get(name, ["", "0"])

@@ -3,11 +3,11 @@
 
     tools/mutants/try.py                          lists the crates that changed since all their mutants were tried
     tools/mutants/try.py CRATE .. [--only NAME]   tries those of these crates, or one of them
-    tools/mutants/try.py --check                  tries none: looks whether each can be applied, and what refuses it exists
+    tools/mutants/try.py --check                  tries none: checks that each can be applied, and what refuses it exists
 
 The prover takes some 20 seconds for a mutant, a test of `lldp_tests` or a script that runs the program three minutes.
-They are tried on a copy of the crates that begins with what `rt check` proved here. A refusal by the prover counts only
-if it is one of a contract, and not of a proof that names what the mutant took away. If all of a crate are refused,
+They are tried on a copy of the crates, with what `rt check` proved here. A refusal by the prover counts only if it
+refuses a contract, and not a proof that names what the mutant took away. If all of a crate are refused,
 out/kept notes its sources. The last line is `N passed, M failed`.
 """
 from __future__ import annotations

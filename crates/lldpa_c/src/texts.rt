@@ -91,8 +91,8 @@ pub extern "C" fn lldpa_fault_text(fault: u32, room: &mut [u8], written: &mut us
     ensures answer { result ≡ answer_of (words_checks fault (length room.old)) }
     ensures refused { ¬ (result ≡ 0) → (room.new ≡ room.old) × (written.new ≡ written.old) }
 {
-    match words_of(fault) {
-        Some(words) => give(words, room, written),
-        None => OUT_OF_RANGE,
-    }
+    let Some(words) = words_of(fault) else {
+        return OUT_OF_RANGE;
+    };
+    give(words, room, written)
 }

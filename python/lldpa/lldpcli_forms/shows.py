@@ -112,14 +112,14 @@ def chassis(told: Told, depth: Depth) -> Node:
 def chassis_told(told: Told) -> LocalChassis:
     """Returns what this host says of itself. Raises Refused if lldpa-live does not say it."""
     if told.show.chassis is None:
-        raise Refused("lldpa-live does not tell what this host says")
+        raise Refused("lldpa-live did not report what this host announces")
     return told.show.chassis
 
 
 def configuration_told(told: Told) -> Configuration:
     """Returns the numbers in force. Raises Refused if lldpa-live does not say them."""
     if told.show.configuration is None:
-        raise Refused("lldpa-live does not tell the configuration")
+        raise Refused("lldpa-live did not report the configuration")
     return told.show.configuration
 
 

@@ -96,7 +96,7 @@ def read_rest(rest: List[str], able: List[str]) -> Watching:
         word = meant(rest.pop(0), able)
         able.remove(word)
         if word in (PORTS, LIMIT) and not rest:
-            raise Refused(f"nothing behind {word}")
+            raise Refused(f"nothing follows {word}")
         if word == PORTS:
             told = told._replace(ports=listed([rest.pop(0)]))
         elif word == LIMIT:

@@ -49,7 +49,7 @@ impl<A: Allocator> Agent<A> {
     pub fn keep_line(&self, show: &Show, i: u32, sink: &mut OneLine)
         ensures line { line_kept sink.new ≡ slice_get (lines_of show.now self.now) i }
         ensures short { length sink.new.line ≤ 2049 }
-        ensures few { length (lines_of show.now self.now) ≤ 6127808 }
+        ensures few { length (lines_of show.now self.now) ≤ MOST_LINES }
         ensures past { (past : Past) → Stands past self.now →
             line_kept sink.new ≡ slice_get (lines_of show.now (agent_of past)) i }
     {
