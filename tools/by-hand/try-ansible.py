@@ -9,7 +9,7 @@ socket. All facts except the age must be equal. It needs Linux, root, and Debian
 ansible. The last line is `N passed, M failed`.
 """
 import argparse
-import importlib.util
+import importlib
 import json
 import os
 import pathlib
@@ -17,9 +17,7 @@ import subprocess
 import sys
 
 TOP = pathlib.Path(__file__).resolve().parents[2]
-SPEC = importlib.util.spec_from_file_location("try_lldpctl", TOP / "tools" / "by-hand" / "try-lldpctl.py")
-try_lldpctl = importlib.util.module_from_spec(SPEC)
-SPEC.loader.exec_module(try_lldpctl)
+try_lldpctl = importlib.import_module("try-lldpctl")
 # the module fails at a second VLAN with a name, and at a second unknown TLV, with either program
 SECOND = ("configure lldp custom-tlv add oui 00,80,c2 subtype 3 oui-info 00,79,05,67,75,65,73,74",
           "configure lldp custom-tlv add oui 33,44,55 subtype 254")
