@@ -1,14 +1,13 @@
 #!/usr/bin/env python3
 """Gathers facts by Ansible's module community.general.lldp with lldpctl of this package and with lldpd's, and compares them.
 
-    tools/by-hand/try-ansible.py [--program PATH]
+    tools/by-hand/try-ansible.py
 
 At the far end of two links runs an lldpd, at the near end `lldpd -r` and lldpa-live, as in
 tools/by-hand/try-lldpctl.py. Ansible finds one lldpctl or the other on its path; a script of two lines gives each its
 socket. All facts except the age must be equal. It needs Linux, root, and Debian's packages lldpd, iproute2 and
 ansible. The last line is `N passed, M failed`.
 """
-import argparse
 import importlib
 import json
 import os
@@ -60,11 +59,8 @@ def compare(name, theirs, ours):
 
 def main():
     """Runs the comparison, and cleans up."""
-    parser = argparse.ArgumentParser(description=__doc__, formatter_class=argparse.RawDescriptionHelpFormatter)
-    parser.add_argument("--program", default=str(TOP / "crates" / "lldpa" / "out" / "lldpa"))
-    given = parser.parse_args()
     os.makedirs("/run/lldpd", exist_ok=True)
-    lab = try_lldpctl.Lab(given.program)
+    lab = try_lldpctl.Lab()
     passed, failed = 0, []
     try:
         for name, commands in SENDERS.items():
