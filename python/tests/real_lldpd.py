@@ -20,7 +20,8 @@ class Lldpd:
     def __init__(self, namespace: str, folder: str, *words: str) -> None:
         os.makedirs("/run/lldpd", exist_ok=True)
         self.socket = os.path.join(folder, namespace)
-        command = ["ip", "netns", "exec", namespace, "lldpd", "-d", "-u", self.socket, "-O", "/dev/null"]
+        command = ["ip", "netns", "exec", namespace, "lldpd", "-d", "-u", self.socket, "-O",
+                   "/dev/null"]
         self.process = subprocess.Popen([*command, *words], stdin=subprocess.DEVNULL,
                                         stdout=subprocess.DEVNULL, stderr=subprocess.DEVNULL)
         if not eventually(lambda: self.ask("-f", "keyvalue", "show", "configuration")):

@@ -1,4 +1,4 @@
-"""For tests: whether a log, replayed, gives what was shown at some moments, and what was sent."""
+"""For tests: whether a log, replayed, gives the tables of some moments, and the frames sent."""
 
 from __future__ import annotations
 
@@ -11,7 +11,7 @@ from typing import Optional
 from running_live import Live
 from served import PROGRAM
 
-CLOCK = re.compile("^# [0-9]{4}-", re.M)  # which follows the head of a file
+CLOCK = re.compile("^# [0-9]{4}-", re.M)  # the first one ends the head of a file
 
 
 class Moments:
@@ -35,10 +35,10 @@ class Moments:
             self.take()
 
 
-def answers(log: Path, told: str) -> list[str]:
+def answers(log: Path, text: str) -> list[str]:
     """Returns what the agent of a log's file answers to a text."""
     first = log.read_text().partition("\n")[0]
-    run = subprocess.run([PROGRAM, *shlex.split(first[len("# lldpa "):])], input=told,
+    run = subprocess.run([PROGRAM, *shlex.split(first[len("# lldpa "):])], input=text,
                          capture_output=True, text=True, check=True)
     return run.stdout.splitlines()
 
@@ -49,19 +49,19 @@ def replayed(log: Path, line: str) -> Optional[list[str]]:
     lines = log.read_text().split("\n")
     if line not in lines:
         return None
-    told = "\n".join([*lines[:lines.index(line)], "show neighbors", ""])
-    return [one for one in answers(log, told) if one.startswith("lldp.")]
+    before = "\n".join([*lines[:lines.index(line)], "show neighbors", ""])
+    return [one for one in answers(log, before) if one.startswith("lldp.")]
 
 
 def sent(folder: Path, port: str) -> list[bytes]:
-    """Returns the frames that a port sends in a replay of each file of a folder, one after another.
-    Those that it sends during the head of a file do not count."""
+    """Returns the frames that a port sends in a replay of each file of a folder, in their order,
+    without those that it sends during the head of a file."""
     frames: list[str] = []
     for log in sorted(folder.iterdir(), key=lambda path: path.stat().st_mtime_ns):
-        told = log.read_text()
-        found = CLOCK.search(told)
-        in_head = len(answers(log, told[:found.start()])) if found else 0
-        frames += answers(log, told)[in_head:]
+        text = log.read_text()
+        clock = CLOCK.search(text)
+        in_head = len(answers(log, text[:clock.start()])) if clock else 0
+        frames += answers(log, text)[in_head:]
     return [bytes.fromhex(line.split()[2]) for line in frames if line.startswith(f"tx {port} ")]
 
 

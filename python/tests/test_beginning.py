@@ -1,4 +1,4 @@
-"""The head of a log's later files, which brings an agent to where another one is."""
+"""The head of a log's later files, which brings a new agent to the state of another one."""
 
 from __future__ import annotations
 

@@ -124,7 +124,7 @@ class TestLate(OnLinks):
         def chassis() -> set[str]:
             for live in lives:
                 live.ask("update")
-            return {mac for peer in ("peer0", "peer1") for mac in lldpd.values(f"{peer}.chassis.mac")}
+            return lldpd.values("peer0.chassis.mac") | lldpd.values("peer1.chassis.mac")
 
         wanted = {self.address("eth0"), self.address("eth1")}
         self.assertEqual(len(wanted), 2)

@@ -10,6 +10,7 @@ import time
 from pathlib import Path
 
 from lldpa.client import Client
+from lldpa.live.bucket import A_SECOND, AT_ONCE
 
 from running_live import Live, OnLinks, is_full, on_links
 from patience import SECONDS, by_the_clock, eventually, mostly
@@ -80,6 +81,17 @@ class TestFlood(OnLinks):
         self.assertGreater(told["kernel-drops"], 0)
         self.assertTrue(live.says("frames over the limit of 64 a second for a port were dropped:"
                                   " eth0 ") or not told["limit-drops"])
+
+    def test_no_more_than_64_a_second_reach_the_agent(self) -> None:
+        live, peer = self.live("eth0", "--", "--receive-only"), self.peer()
+        began = time.monotonic()
+        for _ in range(50):
+            for octets in FRAMES[:100]:
+                peer.send(octets)
+            time.sleep(0.02)
+        self.assertTrue(eventually(lambda: sum(numbers(live).values()) == 5000))
+        most = AT_ONCE + A_SECOND * (time.monotonic() - began + 1)
+        self.assertLessEqual(numbers(live)["received"], most)
 
     def test_hundred_frames_find_room_while_lldpa_live_sleeps(self) -> None:
         live, peer = self.live("eth0", "--", "--receive-only"), self.peer()

@@ -42,7 +42,7 @@ class TestLaterPorts(OnLinks):
     """Interfaces that come later, and are given by a pattern."""
 
     def lan(self, number: int) -> Peer:
-        """Makes a link of another name, and gives its far end."""
+        """Makes a link of another name, and returns its far end."""
         ip("link", "add", f"lan{number}", "netns", self.wires.here, "type", "veth",
            "peer", "name", f"far{number}", "netns", self.wires.there)
         for name, end in ((self.wires.here, f"lan{number}"), (self.wires.there, f"far{number}")):

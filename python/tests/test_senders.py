@@ -1,4 +1,4 @@
-"""Who is heard since when."""
+"""Which senders are heard since when."""
 
 from __future__ import annotations
 

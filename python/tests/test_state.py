@@ -1,4 +1,4 @@
-"""lldpa-live is started anew: what one leaves, the next one takes."""
+"""lldpa-live is started again: it continues with the state that the one before left."""
 
 from __future__ import annotations
 
@@ -25,7 +25,8 @@ class Restarts(Replaced):
         self.state = Path(self.wires.folder, "state")
 
     def ended(self) -> tuple[list[Neighbor], float, dict[tuple[str, str], str]]:
-        """Lets one see neighbors and end; who was there, at which moment, and since when."""
+        """Lets one see neighbors and end; returns its neighbors, the moment, and since when each
+        was there."""
         live = self.begun("--state", str(self.state))
         since = since_of(live.ask("live"))
         neighbors, moment = self.neighbors(live), time.monotonic()

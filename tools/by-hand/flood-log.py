@@ -9,10 +9,10 @@ another one five neighbors come, change and age out. The log's files have `most`
 of the one file of that moment must give the same tables. The folder must never have more than it
 may, and no frame of the quiet port may be dropped.
 
-With --minutes one port has hostile frames for so long, another one quiet neighbors, and a third
-one's interface comes and goes, while settings are reloaded, questions asked, addresses changed,
-agents killed and stopped, and lldpa-live stands still: no frame of the quiet port may be lost, no
-neighbor be false, and nothing grow.
+With --minutes one port receives hostile frames for so long, and another one those of five quiet
+neighbors; the interface of a third one comes and goes. Meanwhile settings are reloaded, questions
+asked, addresses changed, agents killed and stopped, and lldpa-live itself is stopped for a while.
+No frame of the quiet port may be lost, no neighbor be false, and nothing grow.
 
 It needs Linux and root. LLDPA names the program. The last line is `N passed, M failed`.
 """
@@ -96,7 +96,7 @@ def disturb(given, wires):
 
 
 def main():
-    """Runs the flood, or the unrest."""
+    """Runs the flood, or everything at once."""
     parser = argparse.ArgumentParser(description=__doc__,
                                      formatter_class=argparse.RawDescriptionHelpFormatter)
     parser.add_argument("--frames", type=int, default=3_000_000)

@@ -4,7 +4,6 @@ from __future__ import annotations
 import os
 import random
 import signal
-import statistics
 import threading
 import time
 from pathlib import Path
@@ -234,6 +233,14 @@ class Unrest:
             lines += text[found.start():].splitlines() if found else []
         return [line for line in lines if line.startswith("rx eth1 ")]
 
+    def by_minutes(self, place: int) -> list[int]:
+        """Returns the least figure of each minute."""
+        minutes: dict[int, int] = {}
+        for figure in self.figures:
+            minute = int(figure[0] // 60)
+            minutes[minute] = min(figure[place], minutes.get(minute, figure[place]))
+        return [*minutes.values()]
+
     def judge(self, judge: Callable[[object, str], None]) -> None:
         """Ends lldpa-live, and judges all."""
         same = self.quiet_since() == self.since
@@ -245,13 +252,10 @@ class Unrest:
         judge(self.logged() == wanted, f"all {len(wanted)} frames of the quiet port are in the log")
         wrong = differing(self.log, self.moments)
         judge(not wrong, f"{len(self.moments.answers)} moments replay alone: {wrong}")
-        minute = [one for one in self.figures if 60 < one[0] < 120] or self.figures
-        for place, what in ((1, "KiB"), (2, "descriptors")):
-            first, last = (int(statistics.median(one[place] for one in some))
-                           for some in (minute, self.figures[-len(minute):]))
-            most = max(one[place] for one in self.figures)
-            judge(last <= first + (MOST_GROWTH if place == 1 else 0),
-                  f"lldpa-live: {first} {what} in the second minute, {last} at the end, "
-                  f"at most {most}")
+        for place, what, growth in ((1, "KiB", MOST_GROWTH), (2, "descriptors", 0)):
+            least = self.by_minutes(place)  # a question has a descriptor for a moment
+            judge(least[-1] <= least[min(1, len(least) - 1)] + growth,
+                  f"lldpa-live: {what}, at most {max(one[place] for one in self.figures)}, "
+                  f"the least of each minute: {least}")
         judge(max(self.agents) <= min(self.agents) + MOST_GROWTH, f"agents, KiB: {self.agents}")
         print(self.done, flush=True)

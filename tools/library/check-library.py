@@ -73,7 +73,7 @@ def check_functions(library: Library, counts: Counts) -> None:
 
 
 def check_size(library: Library, counts: Counts) -> None:
-    """A program gets less than 6 KB of the archive if it uses the reader alone."""
+    """Checks that a program gets less than 6 KB of the archive if it uses only the reader."""
     sizes = []
     for name, call in (("without", "0"), ("with", "lldpa_examine((const uint8_t *)words, (size_t)count, &told)")):
         source = library.room / f"{name}.c"

@@ -144,8 +144,8 @@ class Agents:
         await self.note_settings()
 
     async def renew(self, end: Ended) -> None:
-        """Replaces an agent that has ended. Raises what it ended with if it is not ours, if it never
-        answered, or if it is the second one within a minute."""
+        """Replaces an agent that has ended. Raises what it ended with if it is not ours, if it
+        never answered, or if it is the second one within a minute."""
         is_again = self.last_end is not None and now() - self.last_end < SECONDS_BETWEEN
         is_known = self.settings.chassis is not None
         if self.is_over or is_again or self.given.connect is not None or not is_known:

@@ -48,7 +48,7 @@ class Test(NamedTuple):
 
 # An LLDP frame to the nearest bridge that came untagged, and is no longer than a frame may be.
 IS_OURS = (
-    Test(LOAD_BYTE, VLAN_TAG_PRESENT, IF_EQUAL, 0, True),  # the kernel removes the tag from the octets
+    Test(LOAD_BYTE, VLAN_TAG_PRESENT, IF_EQUAL, 0, True),  # the kernel removes the tag itself
     Test(LOAD_BYTE, PACKET_TYPE, IF_EQUAL, socket.PACKET_OUTGOING, False),
     Test(LOAD_LENGTH, 0, IF_GREATER, LONGEST_FRAME, False),
     Test(LOAD_WORD, 0, IF_EQUAL, 0x0180C200, True),
