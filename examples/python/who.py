@@ -4,7 +4,7 @@ time to live and its system name.
 
     LLDPA_LIB_DIR=FOLDER who.py FILE.pcap
 
-FOLDER has liblldpa.so; without it the linker's folders are searched.
+FOLDER has liblldpa.so.1; without it the linker's folders are searched.
 """
 from __future__ import annotations
 
@@ -39,7 +39,7 @@ class Kept(Structure):
 def library() -> ctypes.CDLL:
     """Returns the library, with the types of the functions that are called."""
     folder = os.environ.get("LLDPA_LIB_DIR")
-    found = ctypes.CDLL(os.path.join(folder, "liblldpa.so") if folder else "liblldpa.so")
+    found = ctypes.CDLL(os.path.join(folder, "liblldpa.so.1") if folder else "liblldpa.so.1")
     for name, answer, told in (("lldpa_frame_pdu", c_bool, Place),
                                ("lldpa_examine", c_uint8, Examined),
                                ("lldpa_next_kept", c_bool, Kept)):

@@ -37,8 +37,9 @@ built() {
     part "arguments and streams" tools/gate/words.sh "$program"
     part "tests of the Python package" python3 tools/gate/test-python.py "$program"
     part "audit of eight ports" python3 audit/tools/check.py --program "$program"
-    part "the library" tools/gate/kept.py library python3 tools/library/check-library.py
+    # The first of these proves the library, the second finds that proof.
     part "arm64, by qemu" tools/gate/kept.py arm64 python3 tools/library/check-arm64.py
+    part "the library" tools/gate/kept.py library python3 tools/library/check-library.py
     part "the package" tools/gate/check-package.sh "$program"
     part "cut and altered frames, and full tables" python3 tools/model/check-frames.py "$program"
     part "lines that are nearly right" python3 tools/model/check-words.py "$program"

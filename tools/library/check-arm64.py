@@ -1,6 +1,6 @@
 #!/usr/bin/env python3
-"""Builds the program and the library for arm64, and runs them by qemu: all transcripts of examples/, the vectors, rows and
-transcripts of the library, NULL for each pointer, and random traces, which the model runs too.
+"""Builds the program and the library for arm64, and runs them by qemu: all transcripts of examples/, the vectors, rows
+and transcripts of the library, NULL for each pointer, and random traces, which the model runs too. Makes the packages.
 
     python3 tools/library/check-arm64.py [FOLDER]
 
@@ -9,19 +9,22 @@ qemu-user the status is 3. The last line is `N passed, M failed`.
 """
 from __future__ import annotations
 
+import functools
 import importlib
+import os
 import pathlib
 import shutil
 import sys
 import tempfile
 
-from library_parts import TOP, WARNINGS, Counts, fault_of, ran, skip
+from library_parts import TOP, WARNINGS, Counts, fault_of, ran, side_by_side, skip
 
 COMPILER = "aarch64-linux-gnu-gcc"
 QEMU = ["qemu-aarch64", "-L", "/usr/aarch64-linux-gnu"]
 TOOLS = TOP / "tools" / "library" / "c"
 MODEL = TOP / "tools" / "model"
 TRACES = "200"
+EM_AARCH64 = 183
 NATIVE = importlib.import_module("check-library")
 
 
@@ -44,14 +47,34 @@ def check_program(program: pathlib.Path, counts: Counts) -> None:
 
 
 def check_library(folder: pathlib.Path, room: pathlib.Path, counts: Counts) -> None:
-    """Runs the programs in C over the library."""
-    for name in ("vectors", "nulls", "refused", "transcript"):
+    """Runs the programs in C over the library, and one over the shared object."""
+    for name, linked in (("vectors", "liblldpa.a"), ("vectors", "liblldpa.so.1"), ("nulls", "liblldpa.a"),
+                         ("refused", "liblldpa.a"), ("transcript", "liblldpa.a")):
         more = NATIVE.WRAPPED if name == "refused" else []
         fault = fault_of([COMPILER, "-std=c99", "-O2", *WARNINGS, *more, f"-I{folder}", TOOLS / f"{name}.c",
-                          folder / "liblldpa.a", "-o", room / name])
-        counts.judge(fault, f"building {name} for arm64")
+                          folder / linked, "-o", room / name])
+        counts.judge(fault, f"building {name} for arm64 over {linked}")
         if fault is None:
-            NATIVE.run_program(name, [*QEMU, str(room / name)], room, counts)
+            command = [*QEMU, "-E", f"LD_LIBRARY_PATH={folder}", str(room / name)]
+            NATIVE.run_program(name, command, room, counts)
+
+
+def check_packages(folder: pathlib.Path, room: pathlib.Path, counts: Counts) -> None:
+    """Checks that each Debian package can be made, and that what is compiled in it is for arm64."""
+    for command in ("dpkg-deb", "dpkg-architecture"):
+        if shutil.which(command) is None:
+            skip(f"the packages for arm64, since there is no {command}")
+            return
+    settings = os.environ | {"LLDPA": str(folder / "lldpa"), "LLDPA_LIB_DIR": str(folder / "lib")}
+    for name, words in (("lldpa", []), ("lldpa-dev", ["--library"]), ("lldpa1", ["--shared"])):
+        made = ran([TOP / "tools" / "release" / "package.sh", *words, "--arch", "arm64", room], env=settings)
+        package, tree = made.stdout.strip(), room / f"{name}.tree"
+        is_named = made.returncode == 0 and package.startswith(f"{room}/{name}_") and package.endswith("_arm64.deb")
+        counts.judge(None if is_named else made.stderr, f"the package {name} for arm64")
+        ran(["dpkg-deb", "-x", package, tree])
+        begins = [path.read_bytes()[:20] for path in tree.rglob("*") if path.is_file()]
+        machines = {octets[18] for octets in begins if octets.startswith(b"\x7fELF")}
+        counts.judge(None if machines <= {EM_AARCH64} else machines, f"what is compiled in {name} for arm64")
 
 
 def main() -> int:
@@ -68,10 +91,10 @@ def main() -> int:
             fault = fault_of([TOP / "tools" / "release" / "build.sh", "--arch", "arm64", folder])
             counts.judge(fault, "tools/release/build.sh --arch arm64")
         if not counts.failed:
-            for program in ("lldpa", "lldpa-static"):
-                copied = shutil.copy(folder / program, room / program)
-                check_program(pathlib.Path(copied), counts)
-            check_library(folder / "lib", room, counts)
+            programs = [pathlib.Path(shutil.copy(folder / name, room)) for name in ("lldpa", "lldpa-static")]
+            side_by_side([*(functools.partial(check_program, program) for program in programs),
+                          functools.partial(check_library, folder / "lib", room),
+                          functools.partial(check_packages, folder, room)], counts)
     return counts.end()
 
 

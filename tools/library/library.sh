@@ -25,7 +25,7 @@ groups() {
     echo "building lldpa_build"
     echo "machine lldpa_transmit_new lldpa_transmit_event lldpa_transmit_credit"
     echo "texts lldpa_command_text lldpa_fault_text"
-    echo "agent $(sed -n 's/^[a-z0-9_]* \(lldpa_[a-z_]*\)(lldpa_agent .*/\1/p' $header/lldpa.h | tr '\n' ' ') lldpa_open"
+    echo "agent $(sed -n 's/^[a-z0-9_]* \(lldpa_[a-z_]*\)(\(const \)*lldpa_agent .*/\1/p' $header/lldpa.h | tr '\n' ' ') lldpa_open"
 }
 
 . tools/library/arch.sh
@@ -85,6 +85,5 @@ cp "$room/proved.a" "$folder/proved.a"
 "${tools}ar" rsD "$folder/proved.a" "$room/memory.o" 2> /dev/null
 echo 'LLDPA_1 { global: lldpa_*; local: *; };' > "$room/exports"
 "${tools}gcc" -shared -o "$folder/liblldpa.so.1" "$room/front.o" -Wl,--start-group "$room/proved.a" "$room/memory.o" \
-    -Wl,--end-group -Wl,--gc-sections -Wl,-z,defs,-soname,liblldpa.so.1 -Wl,--version-script="$room/exports"
-install -m 644 "$folder/liblldpa.so.1" "$folder/liblldpa.so" # rt takes no link in its out folder
+    -Wl,--end-group -Wl,--gc-sections -Wl,-z,defs,-z,now,-soname,liblldpa.so.1 -Wl,--version-script="$room/exports"
 echo "$folder"

@@ -136,7 +136,7 @@ def check_who(library: Library, counts: Counts) -> None:
         command = [sys.executable, EXAMPLES / "python" / "who.py", CAPTURE]
         check_example("examples/python/who.py", command, wanted, counts, env=loading(library))
     else:
-        skip("the examples in Python, since there is no liblldpa.so")
+        skip("the examples in Python, since there is no liblldpa.so.1")
 
 
 if __name__ == "__main__":

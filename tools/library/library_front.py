@@ -25,6 +25,8 @@ EDITS = (
      "news != NULL ? proved_lldpa_frame"),
     ("lldpa_open takes options of another size", "if (options->size != sizeof *options)",
      "if (options->size == 0)"),
+    ("lldpa_frame_of writes to the handle that it reads", "proved_lldpa_frame_of(&copy",
+     "proved_lldpa_frame_of((lldpa_agent *)agent"),
     ("lldpa_close does not look for the agent", "if (agent != NULL)", "if (true)"),
     ("NULL with a length of 0 is refused", "return at == NULL && count > 0;",
      "return at == NULL;"),

@@ -1,11 +1,12 @@
 """What the checks of the library share: commands, counts, and programs built over it."""
 from __future__ import annotations
 
+import concurrent.futures
 import pathlib
 import re
 import subprocess
 import sys
-from typing import Any, Mapping, Sequence
+from typing import Any, Callable, Iterable, Mapping, Sequence
 
 TOP = pathlib.Path(__file__).resolve().parents[2]
 sys.path.append(str(TOP / "tools" / "gate"))
@@ -13,8 +14,8 @@ from counts import Counts  # noqa: E402
 
 WARNINGS = ["-pedantic", "-Wall", "-Wextra", "-Werror"]
 
-# The most seconds that one command may take.
-SECONDS = 600
+# The most seconds that one command may take. The longest proves the library on a slow machine.
+SECONDS = 1800
 
 
 def skip(what: str) -> None:
@@ -52,6 +53,19 @@ def count_of(command: Sequence[object], what: str, counts: Counts) -> None:
     counts.failed += int(found[2])
 
 
+def side_by_side(checks: Iterable[Callable[[Counts], None]], counts: Counts) -> None:
+    """Runs checks, three at a time, and adds up what they count."""
+    def counted(check: Callable[[Counts], None]) -> Counts:
+        own = Counts()
+        check(own)
+        return own
+
+    with concurrent.futures.ThreadPoolExecutor(3) as pool:
+        for own in pool.map(counted, checks):
+            counts.passed += own.passed
+            counts.failed += own.failed
+
+
 class Library:
     """The library in its folder, and programs that are built over it in a folder of their own."""
 
@@ -65,5 +79,5 @@ class Library:
 
     def shared(self) -> pathlib.Path | None:
         """Returns the shared object, or None if there is none."""
-        found = self.folder / "liblldpa.so"
+        found = self.folder / "liblldpa.so.1"
         return found if found.is_file() else None

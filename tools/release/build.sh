@@ -62,14 +62,20 @@ compile_program() {
     (cd crates/lldpa && "$kit/bin/rattle" build "$@")
 }
 
-compile_program > "$room/said" 2>&1 || fail "the program is not built: $(tail -n 5 "$room/said")"
+# The library is built beside the program. It says by itself why it is not.
+set -- --arch "$arch"
+[ -z "$cpu" ] || set -- "$@" --cpu "$cpu"
+tools/library/library.sh "$@" "$folder/lib" > /dev/null &
+library=$!
+compile_program > "$room/said" 2>&1 || {
+    wait "$library" || true
+    fail "the program is not built: $(tail -n 5 "$room/said")"
+}
 for source in tools/release/platform.c crates/lldpa_c/front/memory.c; do
     "${tools}gcc" -std=gnu99 -O2 -fPIE -Wall -Wextra -Werror -c "$source" -o "$room/$(basename "$source").o"
 done
 "${tools}gcc" -pie -Wl,-z,relro,-z,now "$folder/lldpa.o" "$room"/*.o -o "$folder/lldpa"
 "${tools}gcc" -static-pie "$folder/lldpa.o" "$room"/*.o -o "$folder/lldpa-static"
 "${tools}strip" "$folder/lldpa" "$folder/lldpa-static"
-set -- --arch "$arch"
-[ -z "$cpu" ] || set -- "$@" --cpu "$cpu"
-tools/library/library.sh "$@" "$folder/lib" > /dev/null
+wait "$library"
 echo "$folder"

@@ -8,7 +8,8 @@
 # changed. `import lldpa` works for the python3 that looks into FOLDER, by default the first folder below the prefix
 # into which python3 looks. If DESTDIR is set, it is put in front. LLDPA names the program, crates/lldpa/out/lldpa
 # unless it is set.
-# With --library it installs the library for C instead: the header, the archive and its description for pkg-config.
+# With --library it installs the library for C instead: the header, the archive, the shared object and
+# their description for pkg-config.
 # LLDPA_LIB_DIR names the folder that tools/library/library.sh made, crates/lldpa_c/out/lib unless it is set.
 # tools/release/package.sh makes its packages of what this installs under /usr.
 set -eu
@@ -66,6 +67,7 @@ done | paste -sd '|')
 library_files() {
     echo "plain $built/lldpa.h $prefix/include/lldpa.h"
     echo "plain $built/liblldpa.a $archives/liblldpa.a"
+    echo "plain $built/liblldpa.so.1 $archives/liblldpa.so.1"
     echo "told share/pkgconfig/lldpa.pc $archives/pkgconfig/lldpa.pc"
     echo "packed crates/lldpa_c/include/lldpa.3 $prefix/share/man/man3/lldpa.3.gz"
     echo "plain docs/LIBRARY.md $documents-dev/LIBRARY.md"
@@ -116,9 +118,12 @@ files() {
 }
 
 # Lists each link: where it leads, and its place. lldpctl and lldpcli are only beside their package, since lldpd has
-# programs of those names.
+# programs of those names. The linker looks for the shared object by its name without a number.
 links() {
-    [ -z "$library" ] || return 0
+    if [ -n "$library" ]; then
+        echo "liblldpa.so.1 $archives/liblldpa.so"
+        return
+    fi
     for file in bin/lldpa-*; do
         echo "../lib/lldpa/$file $prefix/$file"
     done

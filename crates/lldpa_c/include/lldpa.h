@@ -1,14 +1,15 @@
 /*
  * lldpa: the proved LLDP reader, transmit machine and agent (IEEE 802.1AB-2009), for C and for what calls C.
  *
- * Link with liblldpa.a (`pkg-config --cflags --libs lldpa`), which takes memory by malloc and gives it back by free.
- * C99.
+ * Link with liblldpa.so.1 (`pkg-config --cflags --libs lldpa`), or with liblldpa.a (`-l:liblldpa.a` for `-llldpa`). It
+ * takes memory by malloc and gives it back by free. C99.
  *
  * What the caller must keep, everywhere:
  *  - A pointer that is not NULL points to memory of its type that is there and aligned. What a call reads is
  *    initialized; what it only writes need not be. A pointer and the length behind it are one thing: so many elements
  *    stand there. No length is over SIZE_MAX / 2.
- *  - What a call writes to overlaps nothing else that it is given, and nobody else reads or writes it meanwhile.
+ *  - What a call writes to overlaps nothing else that it is given, and nobody else reads or writes it meanwhile. It writes
+ *    nothing behind a pointer to const.
  *  - A bool is 0 or 1.
  * A number or a place out of its range is the caller's to give: the answer says so, and nothing is done.
  *
@@ -353,7 +354,7 @@ uint8_t lldpa_ticks(lldpa_agent *agent, uint32_t count, lldpa_marks *marks, lldp
  * At the ticks before that one only clocks go on: seconds that are left, the credit of a port, what shows tell of these.
  * Any other call may bring it nearer or put it off, so ask again behind it.
  */
-uint8_t lldpa_due(lldpa_agent *agent, uint32_t *seconds);
+uint8_t lldpa_due(const lldpa_agent *agent, uint32_t *seconds);
 
 /* What a frame does. */
 #define LLDPA_NEWS_NOT_LLDP 1 /* it is no LLDP frame */
@@ -391,7 +392,7 @@ uint8_t lldpa_frame(lldpa_agent *agent, uint32_t port, const uint8_t *octets, si
 uint8_t lldpa_link(lldpa_agent *agent, uint32_t port, bool up, lldpa_marks *marks);
 
 /* How many neighbors a port holds. Answers 0, LLDPA_NOT_OPEN or LLDPA_NO_PORT; count is written if it is 0. */
-uint8_t lldpa_neighbor_count(lldpa_agent *agent, uint32_t port, uint32_t *count);
+uint8_t lldpa_neighbor_count(const lldpa_agent *agent, uint32_t port, uint32_t *count);
 
 /* A neighbor that a port holds. */
 typedef struct lldpa_held {
@@ -407,7 +408,7 @@ typedef struct lldpa_held {
  *   told   written if the answer is 0
  * Answers the first of these: LLDPA_NOT_OPEN, LLDPA_NO_PORT, LLDPA_OUT_OF_RANGE for the index, LLDPA_NO_ROOM; else 0.
  */
-uint8_t lldpa_neighbor(lldpa_agent *agent, uint32_t port, uint32_t index, uint8_t *room, size_t room_length,
+uint8_t lldpa_neighbor(const lldpa_agent *agent, uint32_t port, uint32_t index, uint8_t *room, size_t room_length,
                        lldpa_held *told);
 
 /* What a port counted, each modulo 2^32. Nothing resets them. */
@@ -424,7 +425,7 @@ typedef struct lldpa_statistics_told {
 } lldpa_statistics_told;
 
 /* What a port counted. Answers 0, LLDPA_NOT_OPEN or LLDPA_NO_PORT; told is written if it is 0. */
-uint8_t lldpa_statistics(lldpa_agent *agent, uint32_t port, lldpa_statistics_told *told);
+uint8_t lldpa_statistics(const lldpa_agent *agent, uint32_t port, lldpa_statistics_told *told);
 
 /* What a port may do. */
 #define LLDPA_RX_AND_TX 0
@@ -446,7 +447,7 @@ typedef struct lldpa_configuration_told {
 } lldpa_configuration_told;
 
 /* How an agent is configured. Answers 0 or LLDPA_NOT_OPEN; told is written if it is 0. */
-uint8_t lldpa_configuration(lldpa_agent *agent, lldpa_configuration_told *told);
+uint8_t lldpa_configuration(const lldpa_agent *agent, lldpa_configuration_told *told);
 
 /* What a command shows. */
 #define LLDPA_SHOW_NOTHING 0 /* the command changed something */
@@ -499,7 +500,7 @@ typedef struct lldpa_lines {
  * fits; else 0. If it is not 0, nothing is written. Who goes on with `next` gets all lines, as long as the agent is told
  * nothing meanwhile. A call goes through the lines before `from` too, so a room for the whole show costs least.
  */
-uint8_t lldpa_show_lines(lldpa_agent *agent, uint32_t show, uint32_t from, uint8_t *room, size_t room_length,
+uint8_t lldpa_show_lines(const lldpa_agent *agent, uint32_t show, uint32_t from, uint8_t *room, size_t room_length,
                          lldpa_lines *told);
 
 /*
@@ -510,7 +511,7 @@ uint8_t lldpa_show_lines(lldpa_agent *agent, uint32_t show, uint32_t from, uint8
  * Answers the first of these: LLDPA_OUT_OF_RANGE for the show, LLDPA_NOT_OPEN, LLDPA_OUT_OF_RANGE if the show has no such
  * line, LLDPA_NO_ROOM; else 0.
  */
-uint8_t lldpa_show_line(lldpa_agent *agent, uint32_t show, uint32_t line, uint8_t *room, size_t room_length,
+uint8_t lldpa_show_line(const lldpa_agent *agent, uint32_t show, uint32_t line, uint8_t *room, size_t room_length,
                         size_t *length);
 
 /*
@@ -520,7 +521,7 @@ uint8_t lldpa_show_line(lldpa_agent *agent, uint32_t show, uint32_t line, uint8_
  *   length  how many octets it has, where the answer is 0
  * Answers the first of these: LLDPA_OUT_OF_RANGE for the mark, LLDPA_NOT_OPEN, LLDPA_NO_PORT, LLDPA_NO_ROOM; else 0.
  */
-uint8_t lldpa_frame_of(lldpa_agent *agent, uint32_t port, uint32_t mark, uint8_t *room, size_t room_length,
+uint8_t lldpa_frame_of(const lldpa_agent *agent, uint32_t port, uint32_t mark, uint8_t *room, size_t room_length,
                        size_t *length);
 
 /* Closes an agent, and gives its memory back. Of one that is not open nothing happens. */

@@ -1,8 +1,9 @@
 -- When something is due.
-use Rattle.std.proofs.Common.{◌≡◌, ℕ, zero, suc, ◌+◌, ◌-◌, ◌<◌, ◌≤◌, Bool, true, false, inl, inr, List, [], ◌∷◌, length, drop, Some, refl, sym, ap, subst, ◌∙◌, arith}
+use Rattle.std.proofs.Common.{◌≡◌, ℕ, zero, suc, ◌+◌, ◌-◌, ◌%◌, ◌^◌, ◌<◌, ◌≤◌, Bool, true, false, inl, inr, List, [], ◌∷◌, length, map, drop, Some, refl, sym, ap, subst, ◌∙◌, arith}
 use Rattle.std.specs.Prelude.{◌⊎◌, Option, None, min, max, nat_lt, slice_get, if◌then◌else◌}
 use Rattle.std.specs.List.{filter_map, cons_option}
 use Rattle.std.specs.Option.{option_map}
+use Rattle.std.proofs.Math.Nat.{mod-mod}
 use Rattle.std.proofs.Math.ListN.{drop_of_length-le}
 use Rattle.std.proofs.lemmas.Bool.{cases_lt, lt-ltb, le-ltb}
 use Rattle.std.proofs.lemmas.Bool.Decides.{nat_tests}
@@ -21,10 +22,13 @@ use Rattle.lldp_engine.specs.Port.Past.{Happened, port_after}
 use Rattle.lldp_engine.proofs.Readers.{ports_are}
 use Rattle.lldp_engine.specs.Standing.{Stands}
 use Rattle.lldp_engine.specs.Port.Event.{each_port, tick as port_tick}
+use Rattle.lldp_engine.specs.declared.port.counters.Counters.{Counters}
+use Rattle.lldp_engine.specs.Counters.{wrapped}
+use Rattle.lldp_engine.specs.Code.Counting.{with_aged_out, with_mark}
 use Rattle.lldp_engine.specs.Code.PortStep.{port_step, port_mark}
 use Rattle.lldp_engine.specs.Code.Step.{ports_step, marks_step, agent_after, agent_marks}
 use Rattle.lldpa_c.specs.Ticks.{held_by, neighbors_held, ticked, IsQuiet}
-use Rattle.lldpa_c.specs.Due.{sooner, until_sends, least_left, due_on, IsDue}
+use Rattle.lldpa_c.specs.Due.{sooner, until_sends, least_left, due_on, timeless_machine, timeless_counters, timeless_neighbors, timeless_port, timeless, IsDue}
 use Rattle.lldpa_c.specs.declared.due.TheConstants.{NEVER}
 
 -- ---- the lesser of two numbers
@@ -99,6 +103,17 @@ module _ (cm fi re cr wa ti le n : ℕ) where
   keeps wt true al up = grind (arith, nat_tests)
   keeps wt false al up = grind (arith, nat_tests)
 
+  stays : (wt ac al up : Bool) → IsLater (until_sends (machine cm fi re cr wa ti le wt ac al up))
+      → timeless_machine (machine_ticked (machine cm fi re cr wa ti le wt ac al up) n).0 ≡ timeless_machine (machine cm fi re cr wa ti le wt ac al up)
+  stays true true al up h = absurd (omega arith)
+  stays false true al up h = grind (arith, nat_tests)
+  stays wt false false up h = grind (arith, nat_tests)
+  stays wt false true false h = grind (arith, nat_tests)
+  stays wt false true true h = grind (arith, nat_tests)
+
+machine_stays : (m : Machine) (n : ℕ) → IsLater (until_sends m) → timeless_machine (machine_ticked m n).0 ≡ timeless_machine m
+machine_stays m n h = stays m.credit_max m.fast_init m.reinit m.credit m.wait m.timer m.left n m.waiting m.active m.allowed m.up h
+
 machine_waits : (m : Machine) (n : ℕ) → IsLater (until_sends m) → Waits m n
 machine_waits m n h = waits m.credit_max m.fast_init m.reinit m.credit m.wait m.timer m.left n m.waiting m.active m.allowed m.up h
 
@@ -120,6 +135,14 @@ neighbors_stay (x ∷ xs) h =
     let more : nat_lt 1 x.left ≡ true = lt-ltb 1 x.left b.0 in
     let others = neighbors_stay xs b.1 in
     rw more (ap suc others.0, both_less (Some x.left) (Some (x.left - 1)) (least_left xs) (least_left (filter_map aged xs)) refl others.1)
+
+neighbors_same : (ns : List Neighbor) → IsLater (least_left ns) → timeless_neighbors (filter_map aged ns) ≡ timeless_neighbors ns
+neighbors_same [] h = refl
+neighbors_same (x ∷ xs) h =
+    let b = both_later (Some x.left) (least_left xs) h in
+    let more : nat_lt 1 x.left ≡ true = lt-ltb 1 x.left b.0 in
+    let y : Neighbor = record x { left = 0 } in
+    rw more (ap (λ (ys : List Neighbor). y ∷ ys) (neighbors_same xs b.1))
 
 no_longer : {X : Type 0} (o : Option X) (xs : List X) → length (cons_option o xs) ≤ suc (length xs)
 no_longer None xs = omega arith
@@ -168,6 +191,44 @@ are_quiet n i (p ∷ ports) h =
       ages = omega (arith, stay.0, others.ages);
       due = both_less (due_of p) (due_of (next n p)) (due_on ports) _ (both_less (least_left p.table.neighbors) _ (until_sends p.machine) _ stay.1 wait.1) others.due;
     }
+
+wrapped_twice : (n : ℕ) → wrapped (wrapped (n + 0)) ≡ wrapped n
+wrapped_twice n =
+    let same : n + 0 ≡ n = omega arith in
+    mod-mod (n + 0) (2 ^ 32) ∙ ap wrapped same
+
+counted_same : (c : Counters) (mark : Mark) (n : ℕ) → mark ≡ Quiet → n ≡ 0 → timeless_counters (with_mark (with_aged_out c n) mark) ≡ timeless_counters c
+counted_same c mark n e f = rw (e, f) (ap (λ (a : ℕ). record c { ageouts = a }) (wrapped_twice c.ageouts))
+
+-- the timeless port of these parts
+abbrev built : PortState → List Neighbor → Machine → Counters → PortState
+built p neighbors m c = record {
+  name = p.name;
+  status = p.status;
+  table = record { capacity = p.table.capacity; limit = p.table.limit; neighbors = neighbors; too_many_left = 0 };
+  machine = m;
+  counters = c;
+}
+
+port_same : (n : ℕ) (p : PortState) → IsLater (due_of p) → timeless_port (next n p) ≡ timeless_port p
+port_same n p h =
+    let own = both_later (least_left p.table.neighbors) (until_sends p.machine) h in
+    let stay = neighbors_stay p.table.neighbors own.0 in
+    let wait = machine_waits p.machine n own.1 in
+    let gone = length p.table.neighbors - length (filter_map aged p.table.neighbors) in
+    let none : gone ≡ 0 = omega (arith, stay.0) in
+    let m = timeless_machine (machine_ticked p.machine n).0 in
+    let c = timeless_counters (with_mark (with_aged_out p.counters gone) (machine_ticked p.machine n).1) in
+    ap (λ (ns : List Neighbor). built p ns m c) (neighbors_same p.table.neighbors own.0)
+    ∙ ap (λ (m : Machine). built p (timeless_neighbors p.table.neighbors) m c) (machine_stays p.machine n own.1)
+    ∙ ap (λ (c : Counters). built p (timeless_neighbors p.table.neighbors) (timeless_machine p.machine) c) (counted_same p.counters (machine_ticked p.machine n).1 gone wait.0 none)
+
+ports_same : (n i : ℕ) (ports : List PortState) → IsLater (due_on ports) → map timeless_port (ports_step (each_port port_tick) n i ports) ≡ map timeless_port ports
+ports_same n i [] h = refl
+ports_same n i (p ∷ ports) h =
+    let b = both_later (due_of p) (due_on ports) h in
+    ap (λ (q : PortState). q ∷ map timeless_port (ports_step (each_port port_tick) n (i + 1) ports)) (port_same n p b.0)
+    ∙ ap (λ (qs : List PortState). timeless_port p ∷ qs) (ports_same n (i + 1) ports b.1)
 
 -- each has some credit at most
 abbrev HaveCredit : List PortState → Type 0
@@ -252,6 +313,15 @@ quiet_before k agent h =
     let before = due_after k agent (after_less k (due_in agent) h) in
     (is_quiet (ticked k agent) (subst IsLater (sym before) (later_after k (due_in agent) h))).0
 
+same_after : (k : ℕ) (agent : AgentState) → IsAfter k (due_in agent) → timeless (ticked k agent) ≡ timeless agent
+same_after zero agent h = refl
+same_after (suc k) agent h =
+    let before = due_after k agent (after_less k (due_in agent) h) in
+    let later = subst IsLater (sym before) (later_after k (due_in agent) h) in
+    let here = ticked k agent in
+    ap (λ (ports : List PortState). record { configuration = here.configuration; ports = ports }) (ports_same here.configuration.interval 0 here.ports later)
+    ∙ same_after k agent (after_less k (due_in agent) h)
+
 credit_after : (k : ℕ) (agent : AgentState) → HaveCredit agent.ports → HaveCredit (ticked k agent).ports
 credit_after zero agent h = h
 credit_after (suc k) agent h = credit_stays (ticked k agent).configuration.interval 0 (ticked k agent).ports (credit_after k agent h)
@@ -273,6 +343,10 @@ credit_stands : (past : Past) (agent : AgentState) → Stands past agent → Hav
 credit_stands past agent h =
     subst HaveCredit (sym (ports_are past agent h)) (credit_named past.options past.events 0 past.options.names h.in_range.credit.0)
 
+same_before : (k d : ℕ) (agent : AgentState) → due_in agent ≡ Some d → k < max d 1 → timeless (ticked k agent) ≡ timeless agent
+same_before zero d agent e h = refl
+same_before (suc k) d agent e h = same_after (suc k) agent (rw e (omega arith))
+
 next_now : (o : Option ℕ) (d : ℕ) → o ≡ Some d → d ≤ 1 → IsNext o
 next_now o d e h = rw e h
 
@@ -286,6 +360,7 @@ pub is_due : (agent : AgentState) (d : ℕ) → due_on agent.ports ≡ Some d �
 is_due agent d e few = record {
   first = omega arith;
   quiet = λ k h. quiet_before k agent (rw e (omega arith));
+  same = λ k h. same_before k d agent e h;
   never = λ same. absurd (omega arith);
   there = λ _ past h. loud_at (max d 1 - 1) agent (credit_stands past agent h) (next_at (max d 1 - 1) d agent e refl);
 }
@@ -294,6 +369,7 @@ pub none_is_due : (agent : AgentState) → due_on agent.ports ≡ None → IsDue
 none_is_due agent e = record {
   first = omega arith;
   quiet = λ k h. quiet_before k agent (rw e tt);
+  same = λ k h. same_after k agent (rw e tt);
   never = λ _ k. quiet_before k agent (rw e tt);
   there = λ less. absurd (omega arith);
 }

@@ -1,6 +1,6 @@
 //! The agent.
 
-use crate::fault::{CommandFault, NoPort, OpenFault};
+use crate::fault::{expect_ok, unexpected, CommandFault, OpenFault, PortFault};
 use crate::machine::Mark;
 use crate::neighbors::{Neighbors, News};
 use crate::sys;
@@ -91,11 +91,12 @@ impl Show {
     /// The show of that number, or None for a command that changed something.
     fn of(number: u32) -> Option<Show> {
         match number {
+            0 => None,
             1 => Some(Show::Neighbors),
             2 => Some(Show::Statistics),
             3 => Some(Show::Chassis),
             4 => Some(Show::Configuration),
-            _ => None,
+            _ => unexpected(number),
         }
     }
 }
@@ -111,8 +112,14 @@ pub struct Commanded {
 
 /// An open agent. Its memory is taken by [`Agent::open`] alone, and given back where it is dropped.
 ///
-/// It stays on the thread that opened it, and is not `Send`: the toolchain that proves the library does not say of the
-/// memory behind the handle that another thread may use it.
+/// It stays on the thread that opened it, and is neither `Send` nor `Sync`. By the rule of the toolchain that proves the
+/// library, a handle may go to another thread only if `Send` is proved of its type. It is not proved of this handle: the
+/// agent's memory is behind a raw pointer, and no proof says that another thread may use it and free it.
+///
+/// ```compile_fail,E0277
+/// fn crosses<T: Send>() {}
+/// crosses::<lldpa::Agent>();
+/// ```
 ///
 /// ```
 /// use lldpa::{Agent, Options, Show};
@@ -180,14 +187,14 @@ pub enum Status {
 }
 
 impl Status {
-    /// The status of that number. None only if the archive is of another version.
-    fn of(number: u8) -> Option<Status> {
+    /// The status of that number.
+    fn of(number: u8) -> Status {
         match number {
-            0 => Some(Status::RxAndTx),
-            1 => Some(Status::RxOnly),
-            2 => Some(Status::TxOnly),
-            3 => Some(Status::Disabled),
-            _ => None,
+            0 => Status::RxAndTx,
+            1 => Status::RxOnly,
+            2 => Status::TxOnly,
+            3 => Status::Disabled,
+            _ => unexpected(number),
         }
     }
 }
@@ -265,29 +272,31 @@ impl Agent {
     }
 
     /// One second has passed. Tells which ports send, by rising port.
+    #[must_use = "the frames that go"]
     pub fn tick(&mut self) -> Vec<Sent> {
         let mut marks = no_marks();
         // SAFETY: the handle is open, and the marks are a value of their own.
-        unsafe { sys::lldpa_tick(&mut *self.handle, &mut marks, ptr::null_mut()) };
+        expect_ok(unsafe { sys::lldpa_tick(&mut *self.handle, &mut marks, ptr::null_mut()) });
         sent(&marks)
     }
 
     /// Up to `count` seconds have passed: takes as many ticks, but stops behind the first at which a port sends or a
     /// neighbor ages out. Call it again for the others.
+    #[must_use = "the frames that go"]
     pub fn ticks(&mut self, count: u32) -> Ticks {
         let (mut marks, mut told) = (no_marks(), sys::TicksTaken::default());
         // SAFETY: the handle is open, and the others are values of their own.
-        unsafe { sys::lldpa_ticks(&mut *self.handle, count, &mut marks, &mut told) };
+        expect_ok(unsafe { sys::lldpa_ticks(&mut *self.handle, count, &mut marks, &mut told) });
         Ticks { taken: told.taken, aged_out: told.aged_out, sent: sent(&marks) }
     }
 
     /// At which tick, from 1, a port sends or a neighbor ages out, if no other call comes before it; None if at none.
     /// [`Agent::ticks`] stops behind just that one, so a caller may sleep so many seconds and then give them all.
     #[must_use]
-    pub fn due(&mut self) -> Option<u32> {
+    pub fn due(&self) -> Option<u32> {
         let mut seconds = sys::NEVER;
         // SAFETY: the handle is open, and the seconds are a value of their own.
-        unsafe { sys::lldpa_due(&mut *self.handle, &mut seconds) };
+        expect_ok(unsafe { sys::lldpa_due(&*self.handle, &mut seconds) });
         (seconds != sys::NEVER).then_some(seconds)
     }
 
@@ -296,28 +305,26 @@ impl Agent {
     /// # Errors
     ///
     /// The agent has no such port.
-    pub fn statistics(&mut self, port: u8) -> Result<Statistics, NoPort> {
+    pub fn statistics(&self, port: u8) -> Result<Statistics, PortFault> {
         let mut told = sys::Statistics::default();
         // SAFETY: the handle is open, and what is told is a value of its own.
-        match unsafe { sys::lldpa_statistics(&mut *self.handle, port.into(), &mut told) } {
-            sys::OK => Ok(Statistics {
-                sent: told.sent,
-                shutdowns: told.shutdowns,
-                received: told.received,
-                discarded: told.discarded,
-                errors: told.errors,
-                tlvs_discarded: told.tlvs_discarded,
-                unrecognized: told.unrecognized,
-                ageouts: told.ageouts,
-                drops: told.drops,
-            }),
-            _ => Err(NoPort),
-        }
+        PortFault::check(unsafe { sys::lldpa_statistics(&*self.handle, port.into(), &mut told) })?;
+        Ok(Statistics {
+            sent: told.sent,
+            shutdowns: told.shutdowns,
+            received: told.received,
+            discarded: told.discarded,
+            errors: told.errors,
+            tlvs_discarded: told.tlvs_discarded,
+            unrecognized: told.unrecognized,
+            ageouts: told.ageouts,
+            drops: told.drops,
+        })
     }
 
     /// How the agent is configured.
     #[must_use]
-    pub fn configuration(&mut self) -> Configuration {
+    pub fn configuration(&self) -> Configuration {
         let mut told = sys::Configuration {
             interval: 0,
             hold: 0,
@@ -330,7 +337,7 @@ impl Agent {
             status: [0; 64],
         };
         // SAFETY: the handle is open, and what is told is a value of its own.
-        unsafe { sys::lldpa_configuration(&mut *self.handle, &mut told) };
+        expect_ok(unsafe { sys::lldpa_configuration(&*self.handle, &mut told) });
         let ports = &told.status[..usize::from(self.ports)];
         Configuration {
             interval: told.interval,
@@ -340,7 +347,7 @@ impl Agent {
             fast_init: told.fast_init,
             credit_max: told.credit_max,
             max_neighbors: told.max_neighbors,
-            status: ports.iter().filter_map(|number| Status::of(*number)).collect(),
+            status: ports.iter().map(|number| Status::of(*number)).collect(),
         }
     }
 
@@ -349,7 +356,7 @@ impl Agent {
     /// # Errors
     ///
     /// The agent has no such port.
-    pub fn frame(&mut self, port: u8, octets: &[u8]) -> Result<Vec<Sent>, NoPort> {
+    pub fn frame(&mut self, port: u8, octets: &[u8]) -> Result<Vec<Sent>, PortFault> {
         let mut marks = no_marks();
         // SAFETY: the handle is open, the octets are as many as are told, and the marks are a value of their own.
         let answer = unsafe {
@@ -362,10 +369,8 @@ impl Agent {
                 ptr::null_mut(),
             )
         };
-        match answer {
-            sys::OK => Ok(sent(&marks)),
-            _ => Err(NoPort),
-        }
+        PortFault::check(answer)?;
+        Ok(sent(&marks))
     }
 
     /// A frame came on a port, as for [`Agent::frame`]. Tells what it did, too.
@@ -373,7 +378,7 @@ impl Agent {
     /// # Errors
     ///
     /// The agent has no such port.
-    pub fn frame_news<'f>(&mut self, port: u8, octets: &'f [u8]) -> Result<(Vec<Sent>, News<'f>), NoPort> {
+    pub fn frame_news<'f>(&mut self, port: u8, octets: &'f [u8]) -> Result<(Vec<Sent>, News<'f>), PortFault> {
         let (mut marks, mut news) = (no_marks(), sys::News::default());
         // SAFETY: the handle is open, the octets are as many as are told, and the others are values of their own.
         let answer = unsafe {
@@ -386,10 +391,8 @@ impl Agent {
                 &mut news,
             )
         };
-        match answer {
-            sys::OK => Ok((sent(&marks), News::of(&news, octets))),
-            _ => Err(NoPort),
-        }
+        PortFault::check(answer)?;
+        Ok((sent(&marks), News::of(&news, octets)))
     }
 
     /// The neighbors of a port, in the order in which they were last new.
@@ -397,13 +400,11 @@ impl Agent {
     /// # Errors
     ///
     /// The agent has no such port.
-    pub fn neighbors(&mut self, port: u8) -> Result<Neighbors<'_>, NoPort> {
+    pub fn neighbors(&self, port: u8) -> Result<Neighbors<'_>, PortFault> {
         let mut count = 0;
         // SAFETY: the handle is open, and the count is a value of its own.
-        match unsafe { sys::lldpa_neighbor_count(&mut *self.handle, port.into(), &mut count) } {
-            sys::OK => Ok(Neighbors::new(self, port, count)),
-            _ => Err(NoPort),
-        }
+        PortFault::check(unsafe { sys::lldpa_neighbor_count(&*self.handle, port.into(), &mut count) })?;
+        Ok(Neighbors::new(self, port, count))
     }
 
     /// The link of a port came up, or went down. Tells which ports send.
@@ -411,13 +412,11 @@ impl Agent {
     /// # Errors
     ///
     /// The agent has no such port.
-    pub fn link(&mut self, port: u8, up: bool) -> Result<Vec<Sent>, NoPort> {
+    pub fn link(&mut self, port: u8, up: bool) -> Result<Vec<Sent>, PortFault> {
         let mut marks = no_marks();
         // SAFETY: the handle is open, and the marks are a value of their own.
-        match unsafe { sys::lldpa_link(&mut *self.handle, port.into(), up, &mut marks) } {
-            sys::OK => Ok(sent(&marks)),
-            _ => Err(NoPort),
-        }
+        PortFault::check(unsafe { sys::lldpa_link(&mut *self.handle, port.into(), up, &mut marks) })?;
+        Ok(sent(&marks))
     }
 
     /// Takes a command, `configure ..`, `update` or `show ..`, without its line feed. A show is only read:
@@ -438,16 +437,14 @@ impl Agent {
     }
 
     /// A room for which a show mostly has not too many lines.
-    fn room_of_show(&mut self) -> usize {
-        let held: usize = (0..self.ports)
-            .map(|port| self.neighbors(port).map_or(0, |all| all.len()))
-            .sum();
+    pub(crate) fn room_of_show(&self) -> usize {
+        let held: usize = (0..self.ports).map(|port| self.neighbors(port).map_or(0, |all| all.len())).sum();
         SHOW_ROOM + SHOW_ROOM_OF_NEIGHBOR * held
     }
 
     /// All lines of a show, each with its line feed.
     #[must_use]
-    pub fn show(&mut self, show: Show) -> String {
+    pub fn show(&self, show: Show) -> String {
         let mut text = String::new();
         let mut room = vec![0u8; self.room_of_show()];
         let mut lines = sys::Lines::default();
@@ -456,7 +453,7 @@ impl Agent {
             // SAFETY: the handle is open, the room has as many octets as are told, and the lines are a value of their own.
             let answer = unsafe {
                 sys::lldpa_show_lines(
-                    &mut *self.handle,
+                    &*self.handle,
                     show as u32,
                     from,
                     room.as_mut_ptr(),
@@ -464,9 +461,7 @@ impl Agent {
                     &mut lines,
                 )
             };
-            if answer != sys::OK {
-                break;
-            }
+            expect_ok(answer);
             text.push_str(&String::from_utf8_lossy(&room[..lines.length]));
             // Each further call goes through the lines before again, so it gets twice the room.
             room.resize(2 * room.len(), 0);
@@ -476,21 +471,18 @@ impl Agent {
 
     /// One line of a show, from 0, without its line feed. None behind the last.
     #[must_use]
-    pub fn show_line(&mut self, show: Show, line: u32) -> Option<String> {
+    pub fn show_line(&self, show: Show, line: u32) -> Option<String> {
         let mut room = [0u8; sys::LINE_ROOM];
         let mut length = 0;
         // SAFETY: the handle is open, the room has as many octets as are told, and the length is a value of its own.
         let answer = unsafe {
-            sys::lldpa_show_line(
-                &mut *self.handle,
-                show as u32,
-                line,
-                room.as_mut_ptr(),
-                room.len(),
-                &mut length,
-            )
+            sys::lldpa_show_line(&*self.handle, show as u32, line, room.as_mut_ptr(), room.len(), &mut length)
         };
-        (answer == sys::OK).then(|| String::from_utf8_lossy(&room[..length]).into_owned())
+        match answer {
+            sys::OK => Some(String::from_utf8_lossy(&room[..length]).into_owned()),
+            sys::OUT_OF_RANGE => None,
+            _ => unexpected(answer),
+        }
     }
 
     /// The frame that a port sends, with the present configuration: at most 1514 octets.
@@ -498,13 +490,13 @@ impl Agent {
     /// # Errors
     ///
     /// The agent has no such port.
-    pub fn frame_of(&mut self, port: u8, mark: Mark) -> Result<Vec<u8>, NoPort> {
+    pub fn frame_of(&self, port: u8, mark: Mark) -> Result<Vec<u8>, PortFault> {
         let mut frame = vec![0u8; sys::FRAME_ROOM];
         let mut length = 0;
         // SAFETY: the handle is open, the room has as many octets as are told, and the length is a value of its own.
         let answer = unsafe {
             sys::lldpa_frame_of(
-                &mut *self.handle,
+                &*self.handle,
                 port.into(),
                 mark as u32,
                 frame.as_mut_ptr(),
@@ -512,9 +504,7 @@ impl Agent {
                 &mut length,
             )
         };
-        if answer != sys::OK {
-            return Err(NoPort);
-        }
+        PortFault::check(answer)?;
         frame.truncate(length);
         Ok(frame)
     }

@@ -4,6 +4,7 @@
 use core::ffi::c_void;
 
 pub const OK: u8 = 0;
+pub const OUT_OF_RANGE: u8 = 100;
 
 /// The version of the header that these declarations are of.
 pub const VERSION: u32 = 10000;
@@ -235,9 +236,9 @@ extern "C" {
     pub fn lldpa_open(options: *const Options, agent: *mut Agent) -> u8;
     pub fn lldpa_tick(agent: *mut Agent, marks: *mut Marks, aged_out: *mut u32) -> u8;
     pub fn lldpa_ticks(agent: *mut Agent, count: u32, marks: *mut Marks, told: *mut TicksTaken) -> u8;
-    pub fn lldpa_due(agent: *mut Agent, seconds: *mut u32) -> u8;
-    pub fn lldpa_statistics(agent: *mut Agent, port: u32, told: *mut Statistics) -> u8;
-    pub fn lldpa_configuration(agent: *mut Agent, told: *mut Configuration) -> u8;
+    pub fn lldpa_due(agent: *const Agent, seconds: *mut u32) -> u8;
+    pub fn lldpa_statistics(agent: *const Agent, port: u32, told: *mut Statistics) -> u8;
+    pub fn lldpa_configuration(agent: *const Agent, told: *mut Configuration) -> u8;
     pub fn lldpa_fault_text(fault: u32, room: *mut u8, room_length: usize, length: *mut usize) -> u8;
     pub fn lldpa_frame(
         agent: *mut Agent,
@@ -247,9 +248,9 @@ extern "C" {
         marks: *mut Marks,
         news: *mut News,
     ) -> u8;
-    pub fn lldpa_neighbor_count(agent: *mut Agent, port: u32, count: *mut u32) -> u8;
+    pub fn lldpa_neighbor_count(agent: *const Agent, port: u32, count: *mut u32) -> u8;
     pub fn lldpa_neighbor(
-        agent: *mut Agent,
+        agent: *const Agent,
         port: u32,
         index: u32,
         room: *mut u8,
@@ -266,7 +267,7 @@ extern "C" {
     ) -> u8;
     pub fn lldpa_command_text(fault: u32, room: *mut u8, room_length: usize, length: *mut usize) -> u8;
     pub fn lldpa_show_lines(
-        agent: *mut Agent,
+        agent: *const Agent,
         show: u32,
         from: u32,
         room: *mut u8,
@@ -274,7 +275,7 @@ extern "C" {
         told: *mut Lines,
     ) -> u8;
     pub fn lldpa_show_line(
-        agent: *mut Agent,
+        agent: *const Agent,
         show: u32,
         line: u32,
         room: *mut u8,
@@ -282,7 +283,7 @@ extern "C" {
         length: *mut usize,
     ) -> u8;
     pub fn lldpa_frame_of(
-        agent: *mut Agent,
+        agent: *const Agent,
         port: u32,
         mark: u32,
         room: *mut u8,

@@ -13,11 +13,9 @@ fn octets(digits: &str) -> Vec<u8> {
 }
 
 /// The lines of frames that were sent.
-fn sent_lines(agent: &mut Agent, ports: &[&str], sent: &[Sent]) -> String {
+fn sent_lines(agent: &Agent, ports: &[&str], sent: &[Sent]) -> String {
     let line = |one: &Sent| {
-        let frame = agent
-            .frame_of(one.port, one.mark)
-            .expect("a port that sends");
+        let frame = agent.frame_of(one.port, one.mark).expect("a port that sends");
         let digits: String = frame.iter().map(|octet| format!("{octet:02x}")).collect();
         format!("tx {} {digits}\n", ports[usize::from(one.port)])
     };
@@ -100,10 +98,7 @@ fn event(agent: &mut Agent, ports: &[&str], line: &str) -> String {
                 let due = agent.due();
                 let done = agent.ticks(left);
                 assert_eq!(done.taken, due.map_or(left, |due| due.min(left)));
-                assert_eq!(
-                    done.aged_out > 0 || !done.sent.is_empty(),
-                    Some(done.taken) == due
-                );
+                assert_eq!(done.aged_out > 0 || !done.sent.is_empty(), Some(done.taken) == due);
                 left -= done.taken;
                 written.push_str(&sent_lines(agent, ports, &done.sent));
             }
@@ -119,16 +114,11 @@ fn event(agent: &mut Agent, ports: &[&str], line: &str) -> String {
 
 /// Runs a transcript, and compares what it writes.
 fn run(name: &str, options: Options) {
-    let path = Path::new(env!("CARGO_MANIFEST_DIR"))
-        .join("../../examples")
-        .join(name);
+    let path = Path::new(env!("CARGO_MANIFEST_DIR")).join("../../examples").join(name);
     let trace = fs::read_to_string(path.with_extension("trace")).expect("a file");
     let shown = fs::read_to_string(path.with_extension("expect")).expect("a file");
     let mut agent = Agent::open(&options).expect("an agent");
-    let written: String = trace
-        .lines()
-        .map(|line| event(&mut agent, options.ports, line))
-        .collect();
+    let written: String = trace.lines().map(|line| event(&mut agent, options.ports, line)).collect();
     let wanted = shown.lines().filter(|line| !line.starts_with("> "));
     assert!(written.lines().eq(wanted), "{name} writes {written}");
 }
@@ -148,18 +138,12 @@ fn two_ports() {
 
 #[test]
 fn links_frames_and_seconds() {
-    let options = Options {
-        ports: &["eth0"],
-        ..Options::default()
-    };
+    let options = Options { ports: &["eth0"], ..Options::default() };
     run("link-down-keeps-the-table", options);
 }
 
 #[test]
 fn refused_commands() {
-    let options = Options {
-        ports: &["eth0"],
-        ..Options::default()
-    };
+    let options = Options { ports: &["eth0"], ..Options::default() };
     run("numbers-and-configuration", options);
 }

@@ -232,6 +232,21 @@ static void show_nulls(void)
     ANSWERS(lldpa_frame_of(&agent, 0, LLDPA_ORDINARY, room, 1514, NULL), LLDPA_NULL);
 }
 
+/* What only reads an agent writes nothing to its handle, not even where nothing can be written. */
+static void handles_are_read(void)
+{
+    static const lldpa_agent none = {NULL, false};
+    uint8_t *room = now.room;
+    ANSWERS(lldpa_neighbor_count(&none, 0, &now.number), LLDPA_NOT_OPEN);
+    ANSWERS(lldpa_neighbor(&none, 0, 0, room, 1500, &now.held), LLDPA_NOT_OPEN);
+    ANSWERS(lldpa_due(&none, &now.number), LLDPA_NOT_OPEN);
+    ANSWERS(lldpa_statistics(&none, 0, &now.statistics), LLDPA_NOT_OPEN);
+    ANSWERS(lldpa_configuration(&none, &now.configuration), LLDPA_NOT_OPEN);
+    ANSWERS(lldpa_show_lines(&none, 3, 0, room, 1514, &now.lines), LLDPA_NOT_OPEN);
+    ANSWERS(lldpa_show_line(&none, 3, 0, room, 1514, &now.length), LLDPA_NOT_OPEN);
+    ANSWERS(lldpa_frame_of(&none, 0, LLDPA_ORDINARY, room, 1514, &now.length), LLDPA_NOT_OPEN);
+}
+
 /* All that an agent shows. */
 static size_t shown(uint8_t *room, size_t length)
 {
@@ -255,6 +270,7 @@ int main(void)
     size_t length = shown(first, sizeof first);
     step_nulls();
     show_nulls();
+    handles_are_read();
     holds(shown(last, sizeof last) == length && memcmp(first, last, length) == 0, "the agent is what it was");
     begin();
     holds(lldpa_frame(&agent, 0, NULL, 0, &now.marks, NULL) == LLDPA_OK && now.marks.count == 0, "no octets as a frame");
