@@ -14,6 +14,7 @@ from lldpa.agent.show import Port
 from lldpa.lldpcli_forms.shows import Depth, Told, neighbors
 from lldpa.lldpcli_forms.writing import whole
 from lldpa.organizational import read_tlv
+from served import PROGRAM
 
 Pair = Tuple[str, Any]
 # the keys of lldpcli that are about TLVs of organizations
@@ -64,10 +65,10 @@ def sender_of_frame(octets: bytes) -> bytes:
     return kept + b"\x06\x02\0\0" + b"\0\0"
 
 
-def compare(judged: Iterable[Judged], program: str) -> Tuple[int, List[str]]:
+def compare(judged: Iterable[Judged]) -> Tuple[int, List[str]]:
     """Returns how many values are equal, and which are not."""
     equal, differences = 0, []
-    with Agent.start(["eth0"], program, receive_only=True) as agent:
+    with Agent.start(["eth0"], PROGRAM, receive_only=True) as agent:
         for one in judged:
             agent.tick(65535)
             agent.frame("eth0", bytes.fromhex(one.frame))

@@ -1,4 +1,4 @@
-"""For tests: the program, and files that tests make."""
+"""For tests: lldpa-capture, and files that tests make."""
 from __future__ import annotations
 
 import os
@@ -8,7 +8,7 @@ import sys
 import tempfile
 import unittest
 from pathlib import Path
-from typing import List, Optional
+from typing import List, Optional, Tuple
 
 from served import REPOSITORY
 
@@ -38,6 +38,11 @@ class FilesCase(unittest.TestCase):
         path = self.folder / name
         path.write_bytes(octets)
         return str(path)
+
+    def ran(self, *words: str, octets: Optional[bytes] = None) -> Tuple[str, str, int]:
+        """Runs lldpa-capture in the folder, and returns what it writes, says and answers."""
+        done = run_capture(list(words), octets, self.folder)
+        return done.stdout, done.stderr, done.returncode
 
 
 def run_capture(words: List[str], octets: Optional[bytes] = None,

@@ -24,11 +24,6 @@ PORTS = [f"swp{number}" for number in range(1, 49)]
 class Files(FilesCase):
     """lldpa-capture on files."""
 
-    def ran(self, *words: str) -> tuple[str, str, int]:
-        """Runs it, and returns what it writes, says and answers."""
-        done = run_capture(list(words), None, self.folder)
-        return done.stdout, done.stderr, done.returncode
-
     def test_compressed(self) -> None:
         self.file(gzip.compress(pcap([whole(LLDP), whole(LLDP, START + SECOND)])), "a.gz")
         self.assertEqual(self.ran("a.gz"), (f"{RX}tick\n{RX}", "", 0))

@@ -13,13 +13,13 @@ from lldpa.client import Client
 from lldpa.live.bucket import A_SECOND, AT_ONCE
 
 from running_live import Live, OnLinks, is_full, on_links
-from patience import SECONDS, by_the_clock, eventually
+from patience import SECONDS, by_the_clock, eventually, mostly
 from served import numbered
 from wires import flood
 
 WITHOUT_END = 1_000_000_000
 QUESTIONS = 100
-# an answer that takes longer is late; a machine that stands still makes some late, and not more
+# an answer for which lldpa-live works longer is late
 LATE = 0.1
 MOST_LATE = QUESTIONS // 10
 MOST_KIB = 40_000
@@ -27,11 +27,9 @@ MOST_KIB = 40_000
 FRAMES = [numbered(number) for number in range(200)]
 
 
-def seconds_to_answer(client: Client, line: str) -> float:
-    """Returns how long the answer to a question takes."""
-    began = time.monotonic()
-    client.ask(line)
-    return time.monotonic() - began
+def spent(live: Live) -> float:
+    """Returns the processor time of lldpa-live, in seconds, whatever else the machine does."""
+    return int(Path(f"/proc/{live.process.pid}/schedstat").read_text().split()[0]) / 1e9
 
 
 def resident(live: Live) -> int:
@@ -58,11 +56,17 @@ class TestFlood(OnLinks):
         self.addCleanup(sender.wait)
         self.addCleanup(sender.kill)
         self.assertTrue(eventually(lambda: numbers(live)["received"]))
+        marks = [(time.monotonic(), spent(live))]
         with contextlib.closing(Client(live.control)) as client:
-            times = [seconds_to_answer(client, "show statistics") for _ in range(QUESTIONS)]
+            for _ in range(QUESTIONS):
+                client.ask("show statistics")
+                marks.append((time.monotonic(), spent(live)))
         self.assertIsNone(sender.poll())
-        late = sorted(seconds for seconds in times if seconds > LATE)
+        times, worked = ([after[at] - before[at] for before, after in zip(marks, marks[1:])]
+                         for at in range(2))
+        late = sorted(seconds for seconds in worked if seconds > LATE)
         self.assertLessEqual(len(late), MOST_LATE, late)
+        self.assertLess(mostly(times), 1)
         self.assertLess(resident(live), MOST_KIB)
 
     def test_what_the_kernel_dropped_is_told(self) -> None:

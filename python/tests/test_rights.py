@@ -209,7 +209,8 @@ class Sending(OnLinks):
     def test_a_frame_from_a_foreign_address_is_not_sent(self) -> None:
         program = Path(self.wires.folder, "lldpa")
         foreign = numbered(7).hex()
-        program.write_text(f"#!/bin/sh\n(sleep 1; echo tx eth0 {foreign}) &\nexec {PROGRAM} \"$@\"")
+        program.write_text(f"#!/bin/sh\nwhile sleep 1 && echo tx eth0 {foreign}; do :; done &\n"
+                           f"exec {PROGRAM} \"$@\"")
         program.chmod(0o755)
         Path(self.wires.folder).chmod(0o755)
         peer, live = self.peer(), self.live("eth0", program=str(program))

@@ -98,7 +98,7 @@ class Systemd(Service):
         self.assertIn("live.agent=silent", live.ask("live"))
         self.assertIn("\nlldpa_up 0\n", self.metrics(live))
         self.heard.forget()
-        self.assertFalse(self.heard.hears("WATCHDOG=1", 4))
+        self.assertFalse(self.heard.hears("WATCHDOG=1", 2.5))
         os.kill(live.agent(), signal.SIGCONT)
         self.assertTrue(self.heard.hears("WATCHDOG=1"))
         self.assertTrue(eventually(lambda: "\nlldpa_up 1\n" in self.metrics(live)))

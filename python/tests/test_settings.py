@@ -16,7 +16,7 @@ from lldpa.client.refused import explained
 from patience import SECONDS, eventually
 from served import PROGRAM, REPOSITORY, numbered
 
-# a flood of signals, none of which the event loop reads meanwhile
+# a flood of signals, none of which the event loop reads before its end
 FLOOD = """
 import asyncio, signal
 from types import SimpleNamespace

@@ -6,14 +6,14 @@ import random
 import select
 import subprocess
 import sys
-from typing import Dict, List, Optional, Sequence, Tuple
+from typing import Dict, List, Sequence
 
 from lldpa import Source, Told, ports_of, trace_of
 from lldpa.capture.trace import TooManyPorts
 from made_captures import (FORMS, LLDP, OTHER, SECOND, START, TAGGED, Frame, block, interface,
                            lldp_frame, packet, pcap, pcapng, section, whole)
 from served import PROGRAM
-from support import CAPTURE, FilesCase, run_capture
+from support import CAPTURE, FilesCase
 
 RX = f"rx eth0 {LLDP.hex()}\n"
 
@@ -146,11 +146,6 @@ class Traces(FilesCase):
 
 class Program(FilesCase):
     """lldpa-capture."""
-
-    def ran(self, *words: str, octets: Optional[bytes] = None) -> Tuple[str, str, int]:
-        """Runs it, and returns what it writes, says and answers."""
-        done = run_capture(list(words), octets, self.folder)
-        return done.stdout, done.stderr, done.returncode
 
     def test_words(self) -> None:
         self.file(pcap([whole(LLDP), whole(LLDP, START + SECOND)]), "a")

@@ -22,7 +22,8 @@ import sys
 import time
 
 TOP = pathlib.Path(__file__).resolve().parents[2]
-sys.path[:0] = [str(TOP / "python"), str(TOP / "python" / "tests")]
+sys.path[:0] = [str(TOP / "python"), str(TOP / "python" / "tests"), str(TOP / "tools" / "gate")]
+from counts import Counts  # noqa: E402
 from running_live import Live  # noqa: E402
 from replays import Moments, differing  # noqa: E402
 from served import numbered, tlv  # noqa: E402
@@ -33,13 +34,7 @@ LATE = 1.0
 MOMENTS = 10
 FRAMES = [numbered(number, 600, tlv(5, b"n%d" % number)).ljust(1514, b"\0")
           for number in range(200)]
-counts = {True: 0, False: 0}
-
-
-def judge(holds, text):
-    """Counts a check, and reports it if it failed."""
-    counts[bool(holds)] += 1
-    print(text if holds else f"FAILED: {text}", flush=True)
+counts = Counts()
 
 
 def numbers(live):
@@ -58,9 +53,8 @@ def take(live, peer, moments, folder, keep, number, sent):
     moments.take()
     took = time.monotonic() - began
     size = sum(path.stat().st_size for path in folder.iterdir())
-    judge(took < LATE, f"moment {number + 1}: answered in {took:.3f} s")
-    files = len(list(folder.iterdir()))
-    judge(size <= keep * 1_000_000, f"moment {number + 1}: {size} octets in {files} files")
+    counts.that(f"moment {number + 1}: answered in {took:.3f} s", took < LATE)
+    counts.that(f"moment {number + 1}: {size} octets", size <= keep * 1_000_000)
     return sent
 
 
@@ -82,11 +76,11 @@ def compare(given, wires):
     for name in ("live.eth0.kernel-drops", "live.eth0.limit-drops", "lldp.eth0.received",
                  "lldp.eth1.received"):
         print(f"{name}={told[name]}")
-    judge(told["lldp.eth1.received"] == sent, f"all {sent} frames of the quiet port came in")
-    judge(told["live.log-lines-lost"] == 0, "no line of the log was lost")
+    counts.that(f"all {sent} frames of the quiet port came in", told["lldp.eth1.received"] == sent)
+    counts.that("no line of the log was lost", told["live.log-lines-lost"] == 0)
     live.close()
     wrong = differing(folder, moments)
-    judge(not wrong, f"{len(moments.answers)} moments replay alone: {wrong}")
+    counts.that(f"{len(moments.answers)} moments replay alone: {wrong}", not wrong)
     print(live.errors(), end="")
 
 
@@ -95,7 +89,7 @@ def disturb(given, wires):
     unrest = Unrest(wires)
     try:
         unrest.run(60 * given.minutes)
-        unrest.judge(judge)
+        unrest.judge(lambda holds, text: counts.that(text, holds))
     finally:
         print(unrest.live.errors()[-2000:], end="")
         unrest.live.close()
@@ -115,8 +109,7 @@ def main():
         (compare if given.minutes is None else disturb)(given, wires)
     finally:
         wires.close()
-    print(f"{counts[True]} passed, {counts[False]} failed")
-    return 1 if counts[False] else 0
+    return counts.end()
 
 
 if __name__ == "__main__":

@@ -1,7 +1,7 @@
 #!/usr/bin/env python3
 """Compares what is read of organizationally specific TLVs with what lldpcli and tshark show of the same frames.
 
-    tools/by-hand/try-details.py [--program PATH] [--save FILE] [--octets]
+    tools/by-hand/try-details.py [--save FILE] [--octets]
 
 The frames come from real senders (lldpd, ladvd, lldpad; python/tests/judged.json) and from an lldpd that is configured
 for it; others are made, with a TLV of each kind and with each value that has a name. Each is sent over a link to a
@@ -196,14 +196,13 @@ def run(given, wires):
 def main():
     """Runs the comparison, and cleans up."""
     parser = argparse.ArgumentParser(description=__doc__, formatter_class=argparse.RawDescriptionHelpFormatter)
-    parser.add_argument("--program", default=str(TOP / "crates" / "lldpa" / "out" / "lldpa"))
     parser.add_argument("--save", metavar="FILE")
     parser.add_argument("--octets", action="store_true")
     given = parser.parse_args()
     wires = Wires()
     os.chmod(wires.folder, 0o755)
     try:
-        equal, differences = compare(run(given, wires), given.program)
+        equal, differences = compare(run(given, wires))
         print(f"{equal} values are those of lldpcli and tshark, {len(differences)} are not")
         more, others = compare_octets(wires.folder) if given.octets else (0, [])
     finally:

@@ -1,17 +1,13 @@
 #!/usr/bin/env python3
 """Puts bin/lldpa-live beside a real lldpd, over two links, and checks what each sees of the other.
 
-    tools/by-hand/try-live.py [--program PATH] [--traces FOLDER]
+    tools/by-hand/try-live.py
 
-First lldpa is a child of lldpa-live, then it listens. With a folder of NAME.trace and NAME.expect
-the frames of these traces are sent over a link too, in their time, and what lldpa shows of them is
-compared, live and from a capture of tcpdump. It needs Linux, root, and Debian's packages lldpd,
-iproute2 and, for the folder, tcpdump. The last line is `N passed, M failed`.
+First lldpa is a child of lldpa-live, then it listens. It needs Linux, root, and Debian's packages
+lldpd and iproute2. LLDPA names the program. The last line is `N passed, M failed`.
 """
 from __future__ import annotations
 
-import argparse
-import os
 import re
 import shlex
 import signal
@@ -23,11 +19,10 @@ from typing import Callable
 TOP = Path(__file__).resolve().parents[2]
 sys.path[:0] = [str(TOP / "python"), str(TOP / "python" / "tests"), str(TOP / "tools" / "gate")]
 from counts import Counts  # noqa: E402
-from live_pair import (Pair, Recorded, answers, lines_of, of_interface,  # noqa: E402
-                       of_trace)
+from live_pair import Pair, Recorded, answers, lines_of, of_interface  # noqa: E402
 from patience import SECONDS, eventually  # noqa: E402
 from replays import Moments  # noqa: E402
-from wires import Peer, Wires  # noqa: E402
+from wires import Peer  # noqa: E402
 
 HEAD = bytes.fromhex("0180c200000e021122334455")
 counts = Counts()
@@ -201,14 +196,14 @@ class Checks(Pair):
         trace = [line for live in lives for line in lines_of(live.log)]
         last = len(trace) - trace[::-1].index(line)
         words = shlex.split(trace[0].removeprefix("# lldpa "))
-        shown = answers(self.program, words, [*trace[:last], "show neighbors"])
+        shown = answers(words, [*trace[:last], "show neighbors"])
         self.check("the log replays to the same tables",
                    lambda: [line for line in shown if line.startswith("lldp.")] == tables, 0)
 
 
-def check_live(program: str, listens: bool) -> None:
+def check_live(listens: bool) -> None:
     """Checks a pair, and removes it."""
-    pair = Checks(program, listens)
+    pair = Checks(listens)
     try:
         for check in (pair.check_what_is_sent, pair.check_changes, pair.check_statuses,
                       pair.check_links, pair.check_what_is_taken, pair.check_missed_seconds,
@@ -220,20 +215,8 @@ def check_live(program: str, listens: bool) -> None:
 
 def main() -> int:
     """Runs all."""
-    parser = argparse.ArgumentParser(description=__doc__,
-                                     formatter_class=argparse.RawDescriptionHelpFormatter)
-    parser.add_argument("--program", default=str(TOP / "crates" / "lldpa" / "out" / "lldpa"))
-    parser.add_argument("--traces", type=Path, default=Path(os.devnull))
-    given = parser.parse_args()
     for listens in (False, True):
-        check_live(given.program, listens)
-    wires = Wires()
-    try:
-        for path in sorted(given.traces.glob("*.trace")):
-            for where, holds in of_trace(given.program, path, wires):
-                counts.that(f"{path.stem} {where}", holds)
-    finally:
-        wires.close()
+        check_live(listens)
     return counts.end()
 
 

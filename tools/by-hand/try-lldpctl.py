@@ -1,15 +1,15 @@
 #!/usr/bin/env python3
 """Compares what lldpctl prints of lldpa-live with what lldpcli prints of an lldpd beside it, on the same two links.
 
-    tools/by-hand/try-lldpctl.py [--program PATH] [--verbose]
+    tools/by-hand/try-lldpctl.py [--verbose]
 
 At the far end an lldpd sends what it is configured to: TLVs of IEEE 802.1 and 802.3, LLDP-MED and custom ones. Then
 frames of real senders and made ones (python/tests/judged.json) are sent, and texts with every octet. At the near end
 run `lldpd -r` and lldpa-live, which receive the same. Each command is asked in each of the forms plain, keyvalue, json
 and json0, and each key and each value except the age is compared. A difference is a failure unless docs/LLDPD.md lists
-it. It needs Linux, root, and Debian's packages lldpd and iproute2. The last line is `N passed, M failed`.
+it; --verbose prints those that it lists. It needs Linux, root, and Debian's packages lldpd and iproute2. The last line
+is `N passed, M failed`.
 """
-import argparse
 import collections
 import contextlib
 import json
@@ -207,7 +207,7 @@ def unnamed(key, names):
 class Lab:
     """Both ends."""
 
-    def __init__(self, program):
+    def __init__(self):
         self.last = None
         self.wires = Wires(2)
         for side, interface, address in (("here", "eth0", 1), ("there", "peer0", 2)):
@@ -215,7 +215,7 @@ class Lab:
         os.chmod(self.wires.folder, 0o755)
         self.lldpd = Lldpd(self.wires.here, self.wires.folder, "-r", "-I", "eth0,eth1")
         self.live = Live(self.wires, "eth0", "eth1", "--no-description", "--", "--receive-only",
-                         "--management=192.0.2.1", program=program)
+                         "--management=192.0.2.1")
         self.live.ask("configure system description alike")
         for command in ALIKE:
             self.lldpd.tell(command)
@@ -351,12 +351,8 @@ def odd_frames():
 
 def main():
     """Runs the comparison, and cleans up."""
-    parser = argparse.ArgumentParser(description=__doc__, formatter_class=argparse.RawDescriptionHelpFormatter)
-    parser.add_argument("--program", default=str(TOP / "crates" / "lldpa" / "out" / "lldpa"))
-    parser.add_argument("--verbose", action="store_true", help="print the differences that the page lists")
-    given = parser.parse_args()
     os.makedirs("/run/lldpd", exist_ok=True)
-    comparison, lab = Comparison(given.verbose), Lab(given.program)
+    comparison, lab = Comparison(sys.argv[1:] == ["--verbose"]), Lab()
     try:
         configured(lab, comparison)
         sent(lab, comparison, "judged", list(judged_frames()))

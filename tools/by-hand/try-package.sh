@@ -65,47 +65,12 @@ reads() { lldpa-capture --show /usr/share/doc/lldpa/docs/lab.pcap | lldpa --rece
 
 notifies() { systemctl show -p Type -p StatusText lldpa | grep -c -x -e Type=notify -e 'StatusText=[0-9no]* neighbors\? on 1 port' | grep -x 2; }
 tells() { journalctl -u lldpa -g 'eth0 came: sender p1'; }
-# Runs a program in the place of the one that writes the metrics, with that unit's rights: 0 if each act is refused.
-confined() {
-    touch /boot/probe /home/probe
-    cat > /usr/probe.py <<'END'
-import os, socket, sys
-
-def refused(act):
-    try:
-        act()
-    except OSError:
-        return True
-    return False
-
-def look(folder):
-    if not os.listdir(folder):
-        raise OSError
-
-acts = [lambda: open("/etc/passwd"), lambda: open("/root/try.sh"), lambda: look("/boot"), lambda: look("/home"),
-        lambda: look("/var/lib/dpkg"), lambda: open("/run/systemd/private"), lambda: open("/usr/probe", "w"),
-        lambda: os.kill(1, 0), lambda: os.kill(os.getpid(), 0), lambda: socket.socket(socket.AF_INET),
-        lambda: socket.socket(socket.AF_PACKET, socket.SOCK_RAW), lambda: open("/dev/shm/probe", "w"),
-        lambda: open("/dev/mqueue/probe", "w")]
-allowed = [at for at, act in enumerate(acts) if not refused(act)]
-sys.exit(f"not refused: {allowed}" if allowed else 0)
-END
-    mkdir -p /run/systemd/system/lldpa-metrics.service.d
-    printf '%s\n' '[Service]' ExecStart= 'ExecStart=/usr/bin/python3 /usr/probe.py' \
-        > /run/systemd/system/lldpa-metrics.service.d/probe.conf
-    systemctl daemon-reload
-    systemctl start lldpa-metrics
-    local status
-    status=$(systemctl show -p ExecMainStatus --value lldpa-metrics)
-    rm -r /run/systemd/system/lldpa-metrics.service.d /usr/probe.py /boot/probe /home/probe
-    systemctl daemon-reload
-    journalctl -u lldpa-metrics -o cat -g 'not refused'
-    [ "$status" -eq 0 ]
-}
-# Does the same in the place of lldpa-live.
-confined_live() {
-    touch /boot/probe /var/log/probe
-    cat > /usr/probe.py <<'END'
+# Runs acts in the place of a service, with its rights: 0 if each is refused. Further lines are of its [Service].
+refuses() {
+    local unit=$1 acts=$2 status
+    shift 2
+    touch /boot/probe /home/probe /var/log/probe
+    cat > /usr/probe.py <<END
 import os, socket, sys
 
 def refused(act):
@@ -123,24 +88,31 @@ def connect(path, kind):
     with socket.socket(socket.AF_UNIX, kind) as one:
         one.connect(path)
 
-acts = [lambda: look("/boot"), lambda: look("/var/log"), lambda: open("/dev/shm/probe", "w"), lambda: look("/root"),
-        lambda: open("/dev/mqueue/probe", "w"), lambda: connect("/run/dbus/system_bus_socket", socket.SOCK_STREAM),
-        lambda: connect("/run/systemd/journal/socket", socket.SOCK_DGRAM), lambda: open("/usr/probe", "w"),
-        lambda: socket.socket(socket.AF_INET), lambda: os.kill(1, 0), lambda: open("/etc/probe", "w")]
+acts = [lambda: open("/usr/probe", "w"), lambda: open("/dev/shm/probe", "w"), lambda: open("/dev/mqueue/probe", "w"),
+        lambda: look("/boot"), lambda: os.kill(1, 0), lambda: socket.socket(socket.AF_INET), $acts]
 allowed = [at for at, act in enumerate(acts) if not refused(act)]
 sys.exit(f"not refused: {allowed}" if allowed else 0)
 END
-    mkdir -p /run/systemd/system/lldpa.service.d
-    printf '%s\n' '[Service]' Type=oneshot Restart=no WatchdogSec=0 ExecStart= 'ExecStart=/usr/bin/python3 /usr/probe.py' \
-        > /run/systemd/system/lldpa.service.d/probe.conf
+    mkdir -p "/run/systemd/system/$unit.service.d"
+    printf '%s\n' '[Service]' "$@" ExecStart= 'ExecStart=/usr/bin/python3 /usr/probe.py' \
+        > "/run/systemd/system/$unit.service.d/probe.conf"
     systemctl daemon-reload
-    systemctl restart lldpa
-    local status
-    status=$(systemctl show -p ExecMainStatus --value lldpa)
-    rm -r /run/systemd/system/lldpa.service.d /usr/probe.py /boot/probe /var/log/probe
+    systemctl restart "$unit"
+    status=$(systemctl show -p ExecMainStatus --value "$unit")
+    rm -r "/run/systemd/system/$unit.service.d" /usr/probe.py /boot/probe /home/probe /var/log/probe
     systemctl daemon-reload
-    journalctl -u lldpa -o cat -g 'not refused'
+    journalctl -u "$unit" -o cat -g 'not refused'
     [ "$status" -eq 0 ]
+}
+confined() {
+    refuses lldpa-metrics 'lambda: open("/etc/passwd"), lambda: open("/root/try.sh"), lambda: look("/home"),
+        lambda: look("/var/lib/dpkg"), lambda: open("/run/systemd/private"), lambda: os.kill(os.getpid(), 0),
+        lambda: socket.socket(socket.AF_PACKET, socket.SOCK_RAW)'
+}
+confined_live() {
+    refuses lldpa 'lambda: look("/var/log"), lambda: look("/root"), lambda: open("/etc/probe", "w"),
+        lambda: connect("/run/dbus/system_bus_socket", socket.SOCK_STREAM),
+        lambda: connect("/run/systemd/journal/socket", socket.SOCK_DGRAM)' Type=oneshot Restart=no WatchdogSec=0
 }
 published() { eventually grep -x "lldpa_up $1" /var/lib/prometheus/node-exporter/lldpa.prom; }
 stop_agent() { kill -STOP "$(cat "/proc/$(process)/task/$(process)/children" | tr ' ' '\n' | while read -r one; do

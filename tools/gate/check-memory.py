@@ -252,7 +252,7 @@ def see_walks(sources: Sources) -> None:
 
 
 def is_seen(mutant: Mutant) -> bool:
-    """Returns whether some rule is broken by the sources with a mutant in them."""
+    """Returns whether the sources with a mutant in them break some rule."""
     sources = Sources()
     for file, text in mutant.texts().items():
         sources.texts[f"{mutant.crate}/{file}"] = text

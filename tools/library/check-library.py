@@ -73,7 +73,7 @@ def check_functions(library: Library, counts: Counts) -> None:
 
 
 def check_size(library: Library, counts: Counts) -> None:
-    """A program gets less than 6 KB of the archive if it uses the reader alone."""
+    """Checks that a program gets less than 6 KB of the archive if it uses only the reader."""
     sizes = []
     for name, call in (("without", "0"), ("with", "lldpa_examine((const uint8_t *)words, (size_t)count, &told)")):
         source = library.room / f"{name}.c"
@@ -120,7 +120,7 @@ def check_programs(library: Library, counts: Counts) -> None:
 
 
 def check_whole_shows(program: str, counts: Counts) -> None:
-    """Compares every show of 64 ports, and of a full table, with the model's. The program also asks for each line alone."""
+    """Compares every show of 64 ports, and of a full table, with the model. The program also asks for each line alone."""
     for ports, neighbors in ((64, 2), (1, 128)):
         names = [f"p{port}" for port in range(ports)]
         lines = [f"rx {name} {FRAMES.frame_of(number, 120).hex()}" for name in names for number in range(neighbors)]

@@ -106,7 +106,7 @@ def assertions(text: str) -> list[str]:
 
 
 def check_assertions(library: Library, text: str, counts: Counts) -> None:
-    """The front asserts each size and place, and a struct of the header that has a field more is seen."""
+    """Checks that the front asserts each size and place, and that a further field in a struct of the header is seen."""
     wanted, found = assertions(text), re.findall(r"\b(?:SIZE|AT)\(\w+, [\w, ]*\d\)", FRONT.read_text())
     counts.judge(None if found == wanted else f"{set(found) ^ set(wanted)}", "what the front asserts of the structs")
     header = (library.folder / "lldpa.h").read_text()

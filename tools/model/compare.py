@@ -1,5 +1,8 @@
 """Runs lldpa on words and a trace, over standard input or over connections, and compares its answers with the model of
 tools/model/model.py, the table of wrong arguments in docs/TRACE.md and the judge of tools/model/judge.py."""
+import contextlib
+import itertools
+import os
 import pathlib
 import re
 import socket
@@ -27,10 +30,13 @@ WRONG_WORDS = (
 
 
 def free_port():
-    """Returns a number of a port of this host at which nobody listens now."""
-    with socket.socket() as one:
-        one.bind(("127.0.0.1", 0))
-        return str(one.getsockname()[1])
+    """Returns a port of this host at which nobody listens: one of this process's hundred, none of which the kernel gives
+    to a connection."""
+    first = 10000 + os.getpid() % 200 * 100
+    for number in itertools.cycle(range(first, first + 100)):
+        with socket.socket() as one, contextlib.suppress(OSError):
+            one.bind(("127.0.0.1", number))
+            return str(number)
 
 
 def connected(number, program):

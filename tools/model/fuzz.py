@@ -9,12 +9,14 @@ alone. The first seed is printed first. After the first difference the trace is 
 Without --seconds and --traces it runs for half a minute. The last line is `1 passed, 0 failed` or `0 passed, 1 failed`.
 """
 import argparse
+import functools
 import pathlib
 import random
 import re
 import shlex
 import sys
 import time
+from concurrent.futures import ProcessPoolExecutor
 
 import model
 import near
@@ -23,6 +25,9 @@ from examples import words_and_filter
 
 TOP = pathlib.Path(__file__).resolve().parents[2]
 
+
+# so many traces are handed to the processors at once
+AT_ONCE = 200
 
 # ------------------------------------------------------------------------------------------------ frames
 HEADER = bytes.fromhex("0180c200000e00112233445588cc")
@@ -312,14 +317,17 @@ def altered_words(dice, options, ports):
     return options + [(dice.choice(["--help", "-V", "--version", "-h", "--", "-x", "--mac"]),)], ports
 
 
+@functools.cache
 def examples():
     """Returns the words and traces that the pages show, and the transcripts."""
+    found = []
     pages = "".join(path.read_text() for path in sorted((TOP / "docs").glob("*.md")))
     command = r"\$ (?:lldpa ([^\n|]*?) *(?:2>&1)?|\(lldpa ([^\n|]*?) *\|[^\n]*\)) *<<'EOF'"
     for shown in re.finditer(rf"^{command}\n(.*?)^EOF$", pages, re.M | re.S):
-        yield shlex.split(shown[1] or shown[2]), shown[3].encode().split(b"\n")
+        found.append((shlex.split(shown[1] or shown[2]), shown[3].encode().split(b"\n")))
     for args in sorted((TOP / "examples").glob("*.args")):
-        yield words_and_filter(args.read_text())[0], args.with_suffix(".trace").read_bytes().split(b"\n")
+        found.append((words_and_filter(args.read_text())[0], args.with_suffix(".trace").read_bytes().split(b"\n")))
+    return found
 
 
 def altered_example(dice, words, lines):
@@ -356,13 +364,13 @@ def near_trace(dice):
     return [*dice.choice([[], ["--receive-only"]]), "eth0"], [near_line(dice) for _ in range(dice.choice([20, 200]))]
 
 
-def case(seed, known):
+def case(seed):
     """Returns the words and the lines of a trace; joined by LF the lines are the input."""
     dice = Dice(seed)
     if dice.happens(10):
         words, lines = near_trace(dice)
-    elif known and dice.happens(8):
-        words, lines = altered_example(dice, *dice.choice(known))
+    elif dice.happens(8):
+        words, lines = altered_example(dice, *dice.choice(examples()))
     else:
         words, lines = new_trace(dice)
     return words, lines + [b""] * dice.happens(4)
@@ -433,35 +441,37 @@ def options():
 
 
 def main():
-    """Runs the traces."""
+    """Runs the traces, on all processors."""
     given = options()
     seconds = given.seconds or (30 if given.traces is None else float("inf"))
     print(f"seeds from {given.seed}", flush=True)
-    known, begin, ran = list(examples()), time.monotonic(), 0
-    while time.monotonic() - begin < seconds and (given.traces is None or ran < given.traces):
-        seed = given.seed + ran
-        finders = [difference] + [judged] * (seed % given.judge_one_in == 0)
-        if any(is_found(find, given.program, seed, known) for find in finders):
-            print("FAILED: the program and the model differ\n0 passed, 1 failed")
-            return 1
-        ran += 1
-        if ran % 10000 == 0:
-            print(f"{ran} traces agree so far", flush=True)
+    begin, ran, most = time.monotonic(), 0, given.traces or sys.maxsize
+    with ProcessPoolExecutor(initializer=sys.setrecursionlimit, initargs=(100000,)) as pool:
+        while time.monotonic() - begin < seconds and ran < most:
+            seeds = range(given.seed + ran, given.seed + min(ran + AT_ONCE, most))
+            for seed, finder in zip(seeds, pool.map(functools.partial(finder_of, given), seeds, chunksize=5)):
+                if finder is not None:
+                    show(finder, given.program, seed)
+                    return 1
+            ran += len(seeds)
     print(f"{ran} traces agree, {time.monotonic() - begin:.0f} seconds\n1 passed, 0 failed")
     return 0
 
 
-def is_found(find, program, seed, known):
-    """Returns whether something is wrong with the trace of a seed; it is then made small and printed."""
-    words, lines = case(seed, known)
-    what = find(program, words, lines)
-    if what is None:
-        return False
-    print(f"seed {seed} differs: {what[:1000]}", flush=True)
+def finder_of(given, seed):
+    """Returns what finds something wrong with the trace of a seed, or None."""
+    words, lines = case(seed)
+    finders = [difference] + [judged] * (seed % given.judge_one_in == 0)
+    return next((find for find in finders if find(given.program, words, lines) is not None), None)
+
+
+def show(find, program, seed):
+    """Makes the trace of a seed small, and prints what is wrong with it."""
+    words, lines = case(seed)
+    print(f"seed {seed} differs: {find(program, words, lines)[:1000]}", flush=True)
     words, lines = made_small(find, program, words, lines)
-    print(f"made small: {find(program, words, lines)}")
-    print(as_command(program, words, lines))
-    return True
+    print(f"made small: {find(program, words, lines)}\n{as_command(program, words, lines)}")
+    print("FAILED: the program and the model differ\n0 passed, 1 failed")
 
 
 if __name__ == "__main__":

@@ -1,4 +1,3 @@
-#!/usr/bin/env python3
 """A second judge of when ports send, beside tools/model/model.py, with which it shares no state.
 
 It takes words, a trace and the frames that the program sent at each event. For each event it computes, only from whole
@@ -6,12 +5,9 @@ lists, what the definitions of lldp_transmit and lldp_engine say: whether a port
 there, and whether no run of events that ends there would hold more frames than the greatest credit plus one for each
 second after its first event. A frame has to be sent exactly if both hold, so none is late. There is no timer, no credit
 and no table here: each question goes back over the events.
-
-    python3 tools/model/judge.py PROGRAM WORDS.. < TRACE
 """
 import functools
 import re
-import sys
 from typing import NamedTuple, Optional
 
 import model
@@ -265,19 +261,3 @@ def judged(run, words, lines):
     if len(said) != len(single):
         return f"{len(said)} answers to {len(single)} lines"
     return fault_of(words, single, said)
-
-
-def main():
-    import subprocess
-
-    def run(words, trace):
-        return subprocess.run([sys.argv[1], *words], input=trace, capture_output=True, check=True).stdout
-
-    sys.setrecursionlimit(100000)
-    fault = judged(run, sys.argv[2:], sys.stdin.buffer.read().split(b"\n"))
-    print(fault or "each frame is sent exactly if it is due and the window is open")
-    return 1 if fault else 0
-
-
-if __name__ == "__main__":
-    sys.exit(main())

@@ -8,13 +8,13 @@
  *  - A pointer that is not NULL points to memory of its type that is there and aligned. What a call reads is
  *    initialized; what it only writes need not be. A pointer and the length behind it are one thing: so many elements
  *    stand there. No length is over SIZE_MAX / 2.
- *  - What a call writes to overlaps nothing else that it is given, and nobody else reads or writes it meanwhile. It writes
- *    nothing behind a pointer to const.
+ *  - What a call writes to overlaps nothing else that it is given, and nobody else reads or writes it during the call. It
+ *    writes nothing behind a pointer to const.
  *  - A bool is 0 or 1.
- * A number or a place out of its range is the caller's to give: the answer says so, and nothing is done.
+ * A number or a place may be out of its range: the answer says so, and nothing is done.
  *
- * NULL is the caller's to give, too. With a length of 0 it stands for no elements, also in a struct. Elsewhere the answer
- * is LLDPA_NULL, or false or 0 where a function answers a bool or a number of frames, whatever else is given; nothing is
+ * NULL is allowed, too. With a length of 0 it stands for no elements, even in a struct. Elsewhere the answer
+ * is LLDPA_NULL, or false or 0 if a function answers a bool or a number of frames, whatever else is given; nothing is
  * written, and lldpa_close does nothing.
  *
  * Stack: a call takes at most 12 KB.
@@ -44,7 +44,7 @@ extern "C" {
 uint32_t lldpa_version(void);
 
 /*
- * ---- Answers. 0 is well. Each kind of fault has numbers of its own, which stand at the function that answers them: 1 to
+ * ---- Answers. 0 is well. Each kind of fault has numbers of its own, listed at the function that answers them: 1 to
  * 8 of LLDPDUs, 11 to 13 of TLVs that are put, 21 to 26 of openings, 31 to 38 of commands.
  */
 
@@ -84,7 +84,7 @@ typedef struct lldpa_place {
 /*
  * Where the LLDPDU of an Ethernet frame lies.
  *   frame, length  the frame from its destination address on, without a VLAN tag and without the check sequence
- *   pdu            written where the answer is true: all that follows the EtherType, at most 1500 octets
+ *   pdu            written if the answer is true: all that follows the EtherType, at most 1500 octets
  * True exactly for an LLDP frame: 14 to 1514 octets, to 01-80-C2-00-00-0E, of EtherType 88-CC.
  */
 bool lldpa_frame_pdu(const uint8_t *frame, size_t length, lldpa_place *pdu);
@@ -99,10 +99,10 @@ bool lldpa_frame_pdu(const uint8_t *frame, size_t length, lldpa_place *pdu);
 #define LLDPA_TTL_LENGTH 7     /* the Time To Live has fewer than 2 octets */
 #define LLDPA_REPEATED 8       /* a mandatory TLV stands again behind the third */
 
-/* What a sound LLDPDU tells. */
+/* What a sound LLDPDU says. */
 typedef struct lldpa_examined {
     lldpa_place chassis; /* the body of the Chassis ID, 2 to 256 octets, its subtype first */
-    lldpa_place port;    /* the body of the Port ID, likewise */
+    lldpa_place port;    /* the body of the Port ID, in the same form */
     size_t extent;       /* how many octets count, from the front: those before the End Of LLDPDU */
     size_t discarded;    /* how many TLVs are discarded, one that is not complete among them */
     size_t unrecognized; /* how many kept TLVs are of the types 9 to 127 */
@@ -111,14 +111,14 @@ typedef struct lldpa_examined {
 
 /*
  * Examines an LLDPDU of any length.
- *   told  written where the answer is 0
+ *   told  written if the answer is 0
  * Answers 0, or the number of the first fault, 1 to 8.
  */
 uint8_t lldpa_examine(const uint8_t *pdu, size_t length, lldpa_examined *told);
 
 /* A walk over the kept TLVs. Begin with LLDPA_KEPT_INIT, which is all 0. */
 typedef struct lldpa_kept {
-    size_t next;      /* where the walk goes on; 0: at the first TLV behind the three mandatory ones */
+    size_t next;      /* where the walk continues; 0: at the first TLV behind the three mandatory ones */
     lldpa_place body; /* the body of the TLV that was given last */
     bool met[4];      /* of which of the types 4 to 7 a well-formed TLV was met */
     uint8_t kind;     /* the type of the TLV that was given last, 4 to 127 */
@@ -127,11 +127,11 @@ typedef struct lldpa_kept {
 #define LLDPA_KEPT_INIT { 0, { 0, 0 }, { false, false, false, false }, 0 }
 
 /*
- * The next kept TLV of an extent: well formed for its type, and the first of its type where that is 4 to 7.
+ * The next kept TLV of an extent: well formed for its type, and the first of its type if that is 4 to 7.
  *   extent, length  the first `extent` octets of an LLDPDU for which lldpa_examine answered 0, with a TTL above 0;
  *                   the same ones for a whole walk
- *   walk            told the TLV, and carried on; it stays as it was where no TLV is left
- * True with the next TLV, false where none is left. Of any other octets the answer is some TLV in them, or none.
+ *   walk            gets the TLV, and is advanced; it is unchanged if no TLV is left
+ * True with the next TLV, false if none is left. For any other octets the answer is some TLV in them, or none.
  */
 bool lldpa_next_kept(const uint8_t *extent, size_t length, lldpa_kept *walk);
 
@@ -143,8 +143,8 @@ typedef struct lldpa_capabilities {
 
 /*
  * The fields of the body of a System Capabilities TLV.
- *   told  written where the answer is true
- * True exactly where the body is well formed: four octets, and no bit enabled that is not available.
+ *   told  written if the answer is true
+ * True exactly if the body is well formed: four octets, and no bit enabled that is not available.
  */
 bool lldpa_caps(const uint8_t *body, size_t length, lldpa_capabilities *told);
 
@@ -159,8 +159,8 @@ typedef struct lldpa_management {
 
 /*
  * The fields of the body of a Management Address TLV.
- *   told  written where the answer is true
- * True exactly where the body is well formed.
+ *   told  written if the answer is true
+ * True exactly if the body is well formed.
  */
 bool lldpa_mgmt(const uint8_t *body, size_t length, lldpa_management *told);
 
@@ -183,11 +183,11 @@ typedef struct lldpa_tlv {
  *   chassis, port  the bodies of the Chassis ID and the Port ID, their subtypes first, 2 to 256 octets each
  *   ttl            in seconds; 0 makes a shutdown LLDPDU, which has no other TLVs
  *   tlvs           the TLVs to put, in their order, any number
- *   faults         one for each TLV (as many as tlvs has): 0 where it was put, else 11 to 13, and it is left out
+ *   faults         one for each TLV (as many as tlvs has): 0 if it was put, else 11 to 13, and it is left out
  *   room           LLDPA_PDU_ROOM octets are always enough
  *   length         how many octets the LLDPDU has, its End Of LLDPDU included
  * Answers the first of these: LLDPA_OUT_OF_RANGE for the length of an identifier; LLDPA_NO_ROOM if faults has fewer
- * elements than tlvs; LLDPA_NO_ROOM if the LLDPDU is longer than the room, and the faults are told; else 0. If it is not
+ * elements than tlvs; LLDPA_NO_ROOM if the LLDPDU is longer than the room, and faults are written; else 0. If it is not
  * 0, no more than that is written.
  */
 uint8_t lldpa_build(const uint8_t *chassis, size_t chassis_length, const uint8_t *port, size_t port_length,
@@ -238,7 +238,7 @@ uint8_t lldpa_transmit_new(lldpa_machine *machine, uint32_t credit_max, uint32_t
                            bool allowed);
 
 /*
- * Takes one event, and tells which frame goes.
+ * Takes one event, and writes which frame to send.
  *   cause     LLDPA_CAUSE_TICK to LLDPA_CAUSE_NOTHING
  *   interval  the tx-interval in force after the event, 1 to 3600 seconds
  *   mark      LLDPA_QUIET, LLDPA_ORDINARY or LLDPA_SHUTDOWN
@@ -271,7 +271,7 @@ typedef struct lldpa_options {
     lldpa_text hostname;     /* at most 255 octets, printable ASCII */
     uint8_t mac[6];          /* the source address of every frame */
     uint8_t management[4];   /* the IPv4 address under which the agent can be managed */
-    bool managed;            /* whether there is one; where not, management may hold anything */
+    bool managed;            /* whether there is one; if not, management may hold anything */
     bool receive_only;       /* whether each port begins with the status rx-only */
     uint32_t role;           /* LLDPA_STATION, LLDPA_BRIDGE or LLDPA_ROUTER */
     uint32_t max_neighbors;  /* how many neighbors each port may hold, 1 to 128 */
@@ -357,7 +357,7 @@ uint8_t lldpa_ticks(lldpa_agent *agent, uint32_t count, lldpa_marks *marks, lldp
 uint8_t lldpa_due(const lldpa_agent *agent, uint32_t *seconds);
 
 /* What a frame does. */
-#define LLDPA_NEWS_NOT_LLDP 1 /* it is no LLDP frame */
+#define LLDPA_NEWS_NOT_LLDP 1 /* it is not an LLDP frame */
 #define LLDPA_NEWS_DEAF 2     /* the port does not receive, or its link is down: nobody looked at the frame */
 #define LLDPA_NEWS_REFUSED 3  /* its LLDPDU has a fault */
 #define LLDPA_NEWS_NEW 4      /* a neighbor that was not held is stored */
@@ -373,13 +373,13 @@ uint8_t lldpa_due(const lldpa_agent *agent, uint32_t *seconds);
  */
 typedef struct lldpa_news {
     lldpa_place chassis; /* in the frame: the body of the Chassis ID, from LLDPA_NEWS_NEW on; else 0 and 0 */
-    lldpa_place port;    /* in the frame: the body of the Port ID, likewise */
+    lldpa_place port;    /* in the frame: the body of the Port ID, in the same form */
     uint32_t what;       /* LLDPA_NEWS_NOT_LLDP to LLDPA_NEWS_UNKNOWN */
     uint32_t fault;      /* of LLDPA_NEWS_REFUSED the fault of the LLDPDU, 1 to 8; else 0 */
 } lldpa_news;
 
 /*
- * A frame came on a port: any octets; what is no LLDP frame changes nothing. Answers 0, LLDPA_NOT_OPEN or
+ * A frame came on a port: any octets; if they are not an LLDP frame, nothing changes. Answers 0, LLDPA_NOT_OPEN or
  * LLDPA_NO_PORT.
  *   port   its number, from 0, in the order of the options
  *   marks  which ports send, if the answer is 0
@@ -396,7 +396,7 @@ uint8_t lldpa_neighbor_count(const lldpa_agent *agent, uint32_t port, uint32_t *
 
 /* A neighbor that a port holds. */
 typedef struct lldpa_held {
-    lldpa_examined pdu; /* what its last stored LLDPDU tells; its places are in the octets that were written */
+    lldpa_examined pdu; /* what its last stored LLDPDU says; its places are in the octets that were written */
     uint32_t left;      /* seconds until it ages out */
 } lldpa_held;
 
@@ -469,17 +469,17 @@ uint8_t lldpa_configuration(const lldpa_agent *agent, lldpa_configuration_told *
 /*
  * Takes a line of a command, "configure ..", "update" or "show ..", without its line feed. A setting is carried out, a
  * show is only read: lldpa_show_lines gives its lines.
- *   show   LLDPA_SHOW_NOTHING, or which show it is, where the answer is 0
- *   marks  which ports send, where the answer is 0
+ *   show   LLDPA_SHOW_NOTHING, or which show it is, if the answer is 0
+ *   marks  which ports send, if the answer is 0
  * Answers 0; or 31 to 38, LLDPA_NOT_OPEN, and nothing is changed.
  */
 uint8_t lldpa_command(lldpa_agent *agent, const uint8_t *line, size_t length, uint32_t *show, lldpa_marks *marks);
 
 /*
- * The line that tells a refusal of a command, without its line feed, as "error: unknown command".
+ * The line that reports a refused command, without its line feed, as "error: unknown command".
  *   fault   31 to 38
  *   length  how many octets it has, at most LLDPA_TEXT_ROOM
- * Answers 0, LLDPA_OUT_OF_RANGE or LLDPA_NO_ROOM; only where it is 0 anything is written.
+ * Answers 0, LLDPA_OUT_OF_RANGE or LLDPA_NO_ROOM; if it is not 0, nothing is written.
  */
 uint8_t lldpa_command_text(uint32_t fault, uint8_t *room, size_t room_length, size_t *length);
 
@@ -495,10 +495,10 @@ typedef struct lldpa_lines {
  *   show  LLDPA_SHOW_NEIGHBORS to LLDPA_SHOW_CONFIGURATION
  *   from  the first line that is wanted, from 0
  *   room  of LLDPA_LINE_ROOM octets each line fits
- *   told  written where the answer is 0
+ *   told  written if the answer is 0
  * Answers the first of these: LLDPA_OUT_OF_RANGE for the show, LLDPA_NOT_OPEN, LLDPA_NO_ROOM if not even the first line
- * fits; else 0. If it is not 0, nothing is written. Who goes on with `next` gets all lines, as long as the agent is told
- * nothing meanwhile. A call goes through the lines before `from` too, so a room for the whole show costs least.
+ * fits; else 0. If it is not 0, nothing is written. To get all lines, go on with `next`, as long as the agent is given
+ * nothing in between. A call goes through the lines before `from` too, so a room for the whole show costs least.
  */
 uint8_t lldpa_show_lines(const lldpa_agent *agent, uint32_t show, uint32_t from, uint8_t *room, size_t room_length,
                          lldpa_lines *told);
@@ -507,7 +507,7 @@ uint8_t lldpa_show_lines(const lldpa_agent *agent, uint32_t show, uint32_t from,
  * One line of a show, without its line feed.
  *   line    its number, from 0
  *   room    of LLDPA_LINE_ROOM octets each line fits
- *   length  how many octets it has, where the answer is 0
+ *   length  how many octets it has, if the answer is 0
  * Answers the first of these: LLDPA_OUT_OF_RANGE for the show, LLDPA_NOT_OPEN, LLDPA_OUT_OF_RANGE if the show has no such
  * line, LLDPA_NO_ROOM; else 0.
  */
@@ -518,7 +518,7 @@ uint8_t lldpa_show_line(const lldpa_agent *agent, uint32_t show, uint32_t line, 
  * The frame that a port sends, with the present configuration.
  *   mark    LLDPA_ORDINARY or LLDPA_SHUTDOWN
  *   room    LLDPA_FRAME_ROOM octets are always enough
- *   length  how many octets it has, where the answer is 0
+ *   length  how many octets it has, if the answer is 0
  * Answers the first of these: LLDPA_OUT_OF_RANGE for the mark, LLDPA_NOT_OPEN, LLDPA_NO_PORT, LLDPA_NO_ROOM; else 0.
  */
 uint8_t lldpa_frame_of(const lldpa_agent *agent, uint32_t port, uint32_t mark, uint8_t *room, size_t room_length,

@@ -30,8 +30,8 @@ class Signals:
 
     def add_handlers(self) -> None:
         """Has the event loop call what each signal asks for. The loop reads signals from a pipe. A
-        flood fills it, which is no loss, and which the interpreter must not report: CPython takes a
-        lock for that in its signal handler, and may wait for itself for ever."""
+        flood fills it. Nothing is lost by that, and the interpreter must not report it: CPython takes
+        a lock for that in its signal handler, and may wait for itself for ever."""
         loop = asyncio.get_running_loop()
         for one in self.taken:
             reloads = one == signal.SIGHUP and self.ground.given.stay

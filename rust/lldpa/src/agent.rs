@@ -104,13 +104,13 @@ impl Show {
 /// What a command gave: a show that [`Agent::show`] writes, or which ports send.
 #[derive(Clone, Debug, PartialEq, Eq)]
 pub struct Commanded {
-    /// Which show was asked for, or None where something was changed.
+    /// Which show was asked for, or None if something was changed.
     pub show: Option<Show>,
     /// Which ports send.
     pub sent: Vec<Sent>,
 }
 
-/// An open agent. Its memory is taken by [`Agent::open`] alone, and given back where it is dropped.
+/// An open agent. Only [`Agent::open`] takes its memory, and dropping it gives that back.
 ///
 /// It stays on the thread that opened it, and is neither `Send` nor `Sync`. By the rule of the toolchain that proves the
 /// library, a handle may go to another thread only if `Send` is proved of its type. It is not proved of this handle: the
@@ -351,7 +351,8 @@ impl Agent {
         }
     }
 
-    /// A frame came on a port: any octets; what is no LLDP frame changes nothing. Tells which ports send.
+    /// Takes a frame that a port received: any octets; if they are not an LLDP frame, nothing changes. Returns which
+    /// ports send.
     ///
     /// # Errors
     ///

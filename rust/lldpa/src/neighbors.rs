@@ -10,7 +10,7 @@ use alloc::vec::Vec;
 /// What a frame did.
 #[derive(Clone, Copy, Debug, PartialEq, Eq)]
 pub enum News<'f> {
-    /// It is no LLDP frame.
+    /// It is not an LLDP frame.
     NotLldp,
     /// The port does not receive, or its link is down: nobody looked at the frame.
     Deaf,

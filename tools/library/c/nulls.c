@@ -1,6 +1,6 @@
 /*
  * Calls each function of the library with NULL for each of its pointers: it says so, and writes nothing. NULL with a
- * length of 0 is no octet, no TLV, no port or no room.
+ * length of 0 stands for no octet, no TLV, no port or no room.
  *     nulls
  * What does not hold is told; the last line is `N passed, M failed`.
  */
