@@ -18,7 +18,6 @@ import argparse
 import collections
 import pathlib
 import re
-import statistics
 import subprocess
 import sys
 import tempfile
@@ -69,12 +68,12 @@ def corpus(captured: list[bytes], count: int, seed: int) -> list[bytes]:
 
 
 def nanoseconds(command: list[str], rounds: int) -> float:
-    """Returns the time for a frame, the median of some rounds."""
+    """Returns the time for a frame, the least of some rounds."""
     times = []
     for _ in range(rounds):
         ran = subprocess.run(command, capture_output=True, text=True, check=True)
         times.append(float(re.findall(r"ns_per_frame=([0-9.]+)", ran.stdout)[0]))
-    return statistics.median(times)
+    return min(times)
 
 
 def print_times(programs: dict[str, list[str]], files: dict[str, pathlib.Path],
@@ -141,16 +140,18 @@ def built(library: pathlib.Path | None, room: pathlib.Path) -> str:
 def main() -> int:
     """Makes the frames, asks each program, and compares."""
     words = read_arguments()
-    ours = [*sorted((TOP / "docs").rglob("*.pcap")), *sorted((TOP / "examples").glob("*.trace"))]
-    captured = captured_frames([*ours, *words.frames])
+    corpora = {"frames of captures": captured_frames([*sorted((TOP / "docs").rglob("*.pcap")), *words.frames]),
+               "frames of traces": captured_frames(sorted((TOP / "examples").glob("*.trace")))}
+    captured = list(dict.fromkeys(frame for found in corpora.values() for frame in found))
     octets = corpus(captured, words.count, words.seed)
     print(f"{len(octets)} frames, {len(captured)} of captures and traces")
     frames, passed, failed = [Frame(frame) for frame in octets], 0, 0
     with tempfile.TemporaryDirectory() as name:
         room = pathlib.Path(name)
-        files = {"captured frames": room / "captured", "all frames": room / "all"}
-        for path, which in zip(files.values(), (captured, octets)):
-            path.write_text("".join(f"{frame.hex()}\n" for frame in which))
+        corpora |= {"both": captured, "all frames": octets}
+        files = {of_what: room / of_what.replace(" ", "-") for of_what in corpora}
+        for of_what, path in files.items():
+            path.write_text("".join(f"{frame.hex()}\n" for frame in corpora[of_what]))
         programs = {OURS: built(words.library, room), "lldpd": str(words.peers / "lldpd_decode"),
                     "sd-lldp": str(words.peers / "sd_decode")}
         told = {peer: verdicts([program, "verdict", str(files["all frames"])])

@@ -1,10 +1,11 @@
 #!/usr/bin/env python3
 """Counts the habits that make pages, manual pages, comments and docstrings hard to read, and fails
-if there is more of one than HABITS allows. If there is less, lower the number there.
+if there is more of one than tools/gate/english.txt allows.
 
     tools/gate/check-english.py            the last line is `N passed, M failed`
-    tools/gate/check-english.py --print    prints how much there is of each habit
     tools/gate/check-english.py --list     prints each place
+    tools/gate/check-english.py --print    prints how much there is of each habit: the text of
+                                           tools/gate/english.txt, to be written when it is less
 
 Each habit has an example, in which it must be seen once. Blocks of code are not looked at.
 """
@@ -21,6 +22,7 @@ from typing import NamedTuple
 from counts import Counts
 
 TOP = Path(__file__).resolve().parents[2]
+ALLOWED = TOP / "tools" / "gate" / "english.txt"
 PROSE, DOCSTRING, LINE = "prose", "docstring", "line"
 # a file, what a piece of its text is, and the piece
 Piece = tuple[Path, str, str]
@@ -35,29 +37,28 @@ OF_FUNCTION = re.compile(r"((?:^ *///.*\n)+)(?:^ *(?://[^/]|#\[).*\n)*"
 
 
 class Habit(NamedTuple):
-    """A habit: how much of it is allowed, in which pieces, its pattern, and an example."""
+    """A habit: in which pieces it is looked for, its pattern, and an example."""
 
-    allowed: int
     kind: str
     pattern: str
     example: str
 
 
 HABITS = {
-    "`where` for `if`": Habit(53, PROSE, r"(?i)(?:,|\bnone|\braises \w+) where\b",
+    "`where` for `if`": Habit(PROSE, r"(?i)(?:,|\bnone|\braises \w+) where\b",
                               "It gives the port, None where there is none."),
-    "`but for` for `except`": Habit(9, PROSE, r"(?i)\bbut for\b", "All but for one are equal."),
-    "`that is none`": Habit(7, PROSE, r"(?i)\b(?:that|which|it|they) (?:is|are) none\b",
+    "`but for` for `except`": Habit(PROSE, r"(?i)\bbut for\b", "All but for one are equal."),
+    "`that is none`": Habit(PROSE, r"(?i)\b(?:that|which|it|they) (?:is|are) none\b",
                             "A word that is none is refused."),
     "`is no` for `is not`": Habit(
-        42, PROSE, r"(?i)(?<!there )\b(?:is|are) no (?!longer|more\b|less\b|other\b)",
+        PROSE, r"(?i)(?<!there )\b(?:is|are) no (?!longer|more\b|less\b|other\b)",
         "There is no port, and a bridge is no port."),
     "`likewise`, `thereby`, `meanwhile`": Habit(
-        17, PROSE, r"(?i)\b(?:likewise|thereby|meanwhile)\b", "It is lost meanwhile."),
+        PROSE, r"(?i)\b(?:likewise|thereby|meanwhile)\b", "It is lost meanwhile."),
     "docstrings without a verb": Habit(
-        522, DOCSTRING, r"\A(?!(?!As\b|Its\b|Is\b|This\b|Always\b)[A-Z][\w-]*s\b)",
+        DOCSTRING, r"\A(?!(?!As\b|Its\b|Is\b|This\b|Always\b)[A-Z][\w-]*s\b)",
         "The lines of a show."),
-    "lines of pages over 100 columns": Habit(944, LINE, r"\A(?!\||\[).{101}", "long " * 21),
+    "lines of pages over 100 columns": Habit(LINE, r"\A(?!\||\[).{101}", "long " * 21),
 }
 
 
@@ -115,21 +116,29 @@ def found(habit: Habit, pieces: list[Piece]) -> list[str]:
             for path, text, one in matches]
 
 
+def allowed() -> dict[str, int]:
+    """Returns how much of each habit is allowed."""
+    rows = (line.split(maxsplit=1) for line in ALLOWED.read_text().splitlines())
+    return {name: int(number) for number, name in rows}
+
+
 def main() -> int:
     """Counts all habits."""
-    word, counts = "".join(sys.argv[1:]), Counts()
+    word, counts, most = "".join(sys.argv[1:]), Counts(), allowed()
     pieces = [piece for path in files() for piece in pieces_of(path)]
+    places = {name: found(habit, pieces) for name, habit in HABITS.items()}
+    if word == "--print":
+        print("\n".join(f"{len(found_ones)} {name}" for name, found_ones in places.items()))
+        return 0
+    if word == "--list":
+        print("\n".join(f"{name}: {place}" for name in places for place in places[name]))
+        return 0
     for name, habit in HABITS.items():
-        places = found(habit, pieces)
         seen = found(habit, [(TOP / "example", habit.kind, habit.example)])
-        if word == "--print":
-            print(f"{len(places):5}  {name}")
-        elif word == "--list":
-            print(name, *places, sep="\n    ")
-        counts.judge(None if len(seen) == 1 else "its example is not seen once", name)
-        is_over = word == "" and len(places) > habit.allowed
-        what = f"{len(places)} places, and {habit.allowed} are allowed: --list prints them"
-        counts.judge(what if is_over else None, name)
+        counts.that(f"the example of {name}", len(seen) == 1)
+        is_more = len(places[name]) > most[name]
+        fault = f"{len(places[name])} places, and {most[name]} are allowed: --list prints them"
+        counts.judge(fault if is_more else None, name)
     return counts.end()
 
 

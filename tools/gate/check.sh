@@ -19,7 +19,7 @@ cheap() {
     part "numbers of docs/TESTING.md" python3 tools/write/numbers.py --check
     part "reference of the crates" python3 tools/write/reference.py
     part "links of the pages" python3 tools/gate/check-links.py
-    part "habits of English" python3 tools/gate/check-english.py --print
+    part "habits of English" python3 tools/gate/check-english.py
     part "what is tried by name" python3 tools/gate/check-named.py
     part "whether each mutant can be applied" python3 tools/mutants/try.py --check
     part "manual pages and units" tools/gate/manuals-and-units.sh

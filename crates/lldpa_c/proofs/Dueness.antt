@@ -1,6 +1,6 @@
 -- When something is due.
-use Rattle.std.proofs.Common.{◌≡◌, ℕ, zero, suc, ◌+◌, ◌-◌, ◌%◌, ◌^◌, ◌<◌, ◌≤◌, Bool, true, false, inl, inr, List, [], ◌∷◌, length, map, drop, Some, refl, sym, ap, subst, ◌∙◌, arith}
-use Rattle.std.specs.Prelude.{◌⊎◌, Option, None, min, max, nat_lt, slice_get, if◌then◌else◌}
+use Rattle.std.proofs.Common.{◌≡◌, ℕ, zero, suc, ◌+◌, ◌-◌, ◌^◌, ◌<◌, ◌≤◌, Bool, true, false, inl, inr, List, [], ◌∷◌, length, map, drop, Some, refl, sym, ap, subst, ◌∙◌, arith}
+use Rattle.std.specs.Prelude.{◌⊎◌, Option, None, min, max, nat_lt, slice_get}
 use Rattle.std.specs.List.{filter_map, cons_option}
 use Rattle.std.specs.Option.{option_map}
 use Rattle.std.proofs.Math.Nat.{mod-mod}
@@ -26,8 +26,8 @@ use Rattle.lldp_engine.specs.declared.port.counters.Counters.{Counters}
 use Rattle.lldp_engine.specs.Counters.{wrapped}
 use Rattle.lldp_engine.specs.Code.Counting.{with_aged_out, with_mark}
 use Rattle.lldp_engine.specs.Code.PortStep.{port_step, port_mark}
-use Rattle.lldp_engine.specs.Code.Step.{ports_step, marks_step, agent_after, agent_marks}
-use Rattle.lldpa_c.specs.Ticks.{held_by, neighbors_held, ticked, IsQuiet}
+use Rattle.lldp_engine.specs.Code.Step.{ports_step, marks_step, agent_after}
+use Rattle.lldpa_c.specs.Ticks.{held_by, ticked, IsQuiet}
 use Rattle.lldpa_c.specs.Due.{sooner, until_sends, least_left, due_on, timeless_machine, timeless_counters, timeless_neighbors, timeless_port, timeless, IsDue}
 use Rattle.lldpa_c.specs.declared.due.TheConstants.{NEVER}
 
@@ -255,9 +255,9 @@ are_loud n i (p ∷ ports) c h none same =
     let sent = sent_first i (port_mark port_tick n p) (marks_step (each_port port_tick) n (i + 1) ports) none in
     elim (one_next (due_of p) (due_on ports) h) [
       | inl here ↦ elim (one_next (least_left p.table.neighbors) (until_sends p.machine) here) [
-          | inl ages ↦ omega (arith, neighbors_go p.table.neighbors ages, not_held n (i + 1) ports, same)
-          | inr goes ↦ machine_sends p.machine n c.0 goes sent.0
-        ]
+        | inl ages ↦ omega (arith, neighbors_go p.table.neighbors ages, not_held n (i + 1) ports, same)
+        | inr goes ↦ machine_sends p.machine n c.0 goes sent.0
+      ]
       | inr there ↦ are_loud n (i + 1) ports c.1 there sent.1 (omega (arith, fewer aged p.table.neighbors, not_held n (i + 1) ports, same))
     ]
 
