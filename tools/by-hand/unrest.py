@@ -240,9 +240,10 @@ class Unrest:
         return [line for line in lines if line.startswith("rx eth1 ")]
 
     def by_minutes(self, place: int) -> list[int]:
-        """Returns the least figure of each minute."""
+        """Returns the least figure of each whole minute, or of all if there is none."""
         minutes: dict[int, int] = {}
-        for figure in self.figures:
+        whole = self.figures[-1][0] // 60 * 60 or 60
+        for figure in (one for one in self.figures if one[0] < whole):
             minute = int(figure[0] // 60)
             minutes[minute] = min(figure[place], minutes.get(minute, figure[place]))
         return [*minutes.values()]
