@@ -44,12 +44,13 @@ def is_json(text: str) -> bool:
 
 def cables_of(text: str, faults: Faults) -> Iterator[ApiCable]:
     """Yields the cables of an answer, or of a list of answers. What is wrong is a fault."""
-    for page in pages_of(text, faults):
+    pages = pages_of(text, faults)
+    for page in pages:
         found = page.get("results") if isinstance(page, dict) else None
         if not isinstance(found, list):
             faults.add(None, "it is JSON, but not of NetBox's /api/dcim/cables/")
             return
-        if page.get("next"):
+        if page.get("next") and page is pages[-1]:
             faults.add(None, "it is one page of several: ask with ?limit=0, or put the pages into "
                              "one list")
         for node in found:

@@ -202,8 +202,10 @@ class NetBox(Audited):
         lines = self.lines(plan, seen)
         self.assertEqual(lines[0], "swp3  wrong: wants host01 eth2, has host01 eth3")
         self.assertIn("2 cables are left out", lines[-1])
+        pages = [{"next": "x", "results": cables[:2]}, {"next": None, "results": cables[2:]}]
+        self.assertEqual(self.lines(self.file("cables.json", json.dumps(pages)), seen), lines)
         for text, why in (('{"next": "x", "results": []}', "one page of several"),
-                          ("[1]", "not of"),
+                          (json.dumps(pages[:1]), "one page of several"), ("[1]", "not of"),
                           ('{"results": [{"id": 7}]}', "the cable 7"), ("{", "no JSON")):
             Path(plan).write_text(text)
             self.assertIn(why, self.lines(plan, seen)[0])

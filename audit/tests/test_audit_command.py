@@ -78,7 +78,7 @@ class Words(InAFolder):
         no_list = "it is text, but no list of neighbors that is known"
         for port, file, why in (("swp1=", "empty", "it is empty"),
                                 ("", "empty", "it is empty"),
-                                ("swp1=", "text", "it is no capture"),
+                                ("swp1=", "text", "it is not a capture"),
                                 ("", "text", no_list)):
             path = f"{self.folder}/{file}"
             status, out, err = self.audit(f"{port}{path}")

@@ -77,7 +77,7 @@ class Pipes(Given):
         (self.folder / "cut.gz").write_bytes(gzip.compress(self.octets)[:-9])
         status, out, err = self.audit(f"swp1={self.folder}/cut.gz")
         self.assertEqual(status, 1)
-        self.assertIn("cut.gz: what gzip compressed in it is cut short)", out)
+        self.assertIn("cut.gz: its gzip data is cut short)", out)
 
 
 class Words(Given):

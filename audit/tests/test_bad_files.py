@@ -134,7 +134,7 @@ class Captures(Hostile):
         begin = bytes.fromhex("d4c3b2a1020004000000000000000000ffff000001000000")
         path.write_bytes(gzip.compress(begin) + gzip.compress(bytes(1 << 20), 9) * 130)
         ran = run(self.plan, "--host", "leaf1", f"swp1={path}")
-        self.assertIn("gzip unpacks it to more than is read", ran.stderr)
+        self.assertIn("its gzip data unpacks to more than the limit", ran.stderr)
         self.assertEqual(ran.returncode, 1)
 
 

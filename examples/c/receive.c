@@ -61,19 +61,23 @@ static void print_neighbor(const char *what, const uint8_t *octets, lldpa_place 
     fflush(stdout);
 }
 
-/* Prints the neighbors that the next second ends, or if none is asked for answers in how many seconds one does. */
-static uint32_t next_to_age_out(lldpa_agent *agent, bool is_printed)
+/* Prints the neighbors that the next second ends. */
+static void print_ended(lldpa_agent *agent)
 {
     static uint8_t room[LLDPA_NEIGHBOR_ROOM];
     lldpa_held held;
-    uint32_t least = 3600;
     for (uint32_t at = 0; lldpa_neighbor(agent, 0, at, room, sizeof room, &held) == LLDPA_OK; at++) {
-        if (is_printed && held.left == 1) {
+        if (held.left == 1) {
             print_neighbor("aged out", room, held.pdu.chassis, held.pdu.port);
         }
-        least = held.left < least ? held.left : least;
     }
-    return least;
+}
+
+/* In how many milliseconds a neighbor ages out, or an hour. */
+static int wait_of(lldpa_agent *agent)
+{
+    uint32_t due;
+    return lldpa_due(agent, &due) == LLDPA_OK && due < 3600 ? 1000 * (int)due : 3600000;
 }
 
 static void hear(lldpa_agent *agent, int heard)
@@ -111,11 +115,11 @@ int main(int count, char **words)
     sigaction(SIGTERM, &(struct sigaction){.sa_handler = end}, NULL);
     for (long now = seconds(); !is_over;) {
         struct pollfd waited = {heard, POLLIN, 0};
-        if (poll(&waited, 1, 1000 * (int)next_to_age_out(&agent, false)) > 0) {
+        if (poll(&waited, 1, wait_of(&agent)) > 0) {
             hear(&agent, heard);
         }
         for (; seconds() > now; now++) {
-            next_to_age_out(&agent, true);
+            print_ended(&agent);
             lldpa_tick(&agent, &marks, NULL);
         }
     }

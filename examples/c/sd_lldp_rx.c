@@ -33,35 +33,28 @@ static int sd_lldp_rx_start(sd_lldp_rx *rx, const char *interface)
     return lldpa_open(&options, &rx->agent) == LLDPA_OK ? 0 : -1;
 }
 
-/* The neighbors with at most so many seconds left are told as removed; answers the least that another has left. */
-static uint32_t look_at_ages(sd_lldp_rx *rx, uint32_t over)
-{
-    static uint8_t room[LLDPA_NEIGHBOR_ROOM];
-    lldpa_held held;
-    uint32_t least = UINT32_MAX;
-    for (uint32_t at = 0; lldpa_neighbor(&rx->agent, 0, at, room, sizeof room, &held) == LLDPA_OK; at++) {
-        if (held.left <= over) {
-            sd_lldp_neighbor gone = {room, held.pdu.chassis, held.pdu.port};
-            rx->callback(REMOVED, &gone, rx->userdata);
-        } else if (held.left < least) {
-            least = held.left;
-        }
-    }
-    return least;
-}
-
-/* In how many seconds a neighbor is removed, UINT32_MAX if there is none: until then nobody need wake. */
+/* In how many seconds a neighbor is removed, or LLDPA_NEVER: until then nobody need wake. */
 static uint32_t sd_lldp_rx_due(sd_lldp_rx *rx)
 {
-    return look_at_ages(rx, 0);
+    uint32_t seconds = LLDPA_NEVER;
+    lldpa_due(&rx->agent, &seconds);
+    return seconds;
 }
 
-/* So many seconds have passed. */
+/* So many seconds have passed: the neighbors that have no more left are removed. */
 static void sd_lldp_rx_passed(sd_lldp_rx *rx, uint32_t seconds)
 {
+    static uint8_t room[LLDPA_NEIGHBOR_ROOM];
     lldpa_marks marks; /* a port that only receives sends nothing */
     lldpa_ticks_taken done;
-    for (look_at_ages(rx, seconds); seconds > 0; seconds -= done.taken) {
+    lldpa_held held;
+    for (uint32_t at = 0; lldpa_neighbor(&rx->agent, 0, at, room, sizeof room, &held) == LLDPA_OK; at++) {
+        if (held.left <= seconds) {
+            sd_lldp_neighbor gone = {room, held.pdu.chassis, held.pdu.port};
+            rx->callback(REMOVED, &gone, rx->userdata);
+        }
+    }
+    for (; seconds > 0; seconds -= done.taken) {
         lldpa_ticks(&rx->agent, seconds, &marks, &done);
     }
 }
@@ -111,7 +104,7 @@ int main(void)
             sd_lldp_rx_receive(&rx, frame, length);
         }
         uint32_t due = sd_lldp_rx_due(&rx);
-        printf(due == UINT32_MAX ? "nothing is due\n" : "due in %lu\n", (unsigned long)due);
+        printf(due == LLDPA_NEVER ? "nothing is due\n" : "due in %lu\n", (unsigned long)due);
     }
     lldpa_close(&rx.agent);
     return 0;

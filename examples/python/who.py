@@ -1,10 +1,10 @@
 #!/usr/bin/env python3
-"""Prints who is seen in a capture: a line for each neighbor, with its chassis ID, its port ID, its
+"""Prints the neighbors that a capture shows: a line for each, with its chassis ID, its port ID, its
 time to live and its system name.
 
     LLDPA_LIB_DIR=FOLDER who.py FILE.pcap
 
-FOLDER is where liblldpa.so stands; without it the linker's folders are searched.
+FOLDER has liblldpa.so.1; without it the linker's folders are searched.
 """
 from __future__ import annotations
 
@@ -21,12 +21,12 @@ class Place(Structure):
     _fields_ = [("start", c_size_t), ("length", c_size_t)]
 
     def of(self, octets: bytes) -> bytes:
-        """The octets at the place."""
+        """Returns the octets at the place."""
         return octets[self.start:self.start + self.length]
 
 
 class Examined(Structure):
-    """What a sound LLDPDU tells."""
+    """What a sound LLDPDU says."""
     _fields_ = [("chassis", Place), ("port", Place), ("extent", c_size_t), ("discarded", c_size_t),
                 ("unrecognized", c_size_t), ("ttl", c_uint16)]
 
@@ -37,9 +37,9 @@ class Kept(Structure):
 
 
 def library() -> ctypes.CDLL:
-    """The library, with the types of what is called of it."""
+    """Returns the library, with the types of the functions that are called."""
     folder = os.environ.get("LLDPA_LIB_DIR")
-    found = ctypes.CDLL(os.path.join(folder, "liblldpa.so") if folder else "liblldpa.so")
+    found = ctypes.CDLL(os.path.join(folder, "liblldpa.so.1") if folder else "liblldpa.so.1")
     for name, answer, told in (("lldpa_frame_pdu", c_bool, Place),
                                ("lldpa_examine", c_uint8, Examined),
                                ("lldpa_next_kept", c_bool, Kept)):
@@ -49,14 +49,14 @@ def library() -> ctypes.CDLL:
 
 
 def shown(octets: bytes, is_address: bool) -> str:
-    """An address as octets, another identifier or a text as letters."""
+    """Returns an address as octets, or another identifier or a text as letters."""
     if is_address:
         return octets.hex(":")
     return "".join(chr(octet) if 0x20 < octet < 0x7f else f"\\x{octet:02x}" for octet in octets)
 
 
 def frames(capture: bytes) -> Iterator[bytes]:
-    """The frames of a capture."""
+    """Returns the frames of a capture."""
     length_of = struct.Struct("<I" if capture[3] == 0xa1 else ">I")
     at = 24
     while at + 16 <= len(capture):
@@ -68,7 +68,7 @@ def frames(capture: bytes) -> Iterator[bytes]:
 
 
 def line_of(lldpa: ctypes.CDLL, pdu: bytes, told: Examined) -> str:
-    """The line of a neighbor."""
+    """Returns the line of a neighbor."""
     chassis, port, walk = told.chassis.of(pdu), told.port.of(pdu), Kept()
     words = [shown(chassis[1:], chassis[0] in (4, 5)), shown(port[1:], port[0] in (3, 4))]
     words.append(str(told.ttl))

@@ -16,9 +16,9 @@ NAME = "lldpa"
 SUMMARY = "An LLDP agent as a library, and the programs that stand on it; this wheel has "
 WITHOUT = "not the program lldpa, which they run"
 PYTHON = ">=3.9"
-# each package, and the folder that has it in the repository; in an archive all are beside this one
+# each package, and the folder that has it in the repository; in an archive all are beside this file
 PACKAGES = {"lldpa": "python", "lldpa_audit": "audit"}
-# lldpctl is none of them: it would stand before lldpd's program of that name
+# lldpctl is not among them: it would hide lldpd's program of that name
 PROGRAMS = {"lldpa-live": "lldpa.commands.live", "lldpa-ctl": "lldpa.commands.ctl",
             "lldpa-capture": "lldpa.commands.capture", "lldpa-audit": "lldpa_audit.command"}
 # the platform of a program by the machine that its head (ELF) names
@@ -27,20 +27,20 @@ MOMENT = (2026, 1, 1, 0, 0, 0)  # of each file in the wheel: the same sources gi
 
 
 def version() -> str:
-    """The version that the package says of itself."""
+    """Returns the version that the package says of itself."""
     found = re.search(r'^__version__ = "(.*)"$', (TOP / NAME / "__init__.py").read_text(), re.M)
     assert found is not None
     return found[1]
 
 
 def folders() -> Iterator[Path]:
-    """The folders that have the packages."""
+    """Returns the folders that have the packages."""
     for name, folder in PACKAGES.items():
         yield TOP if (TOP / name).is_dir() else TOP.parent / folder
 
 
 def package_files() -> Dict[str, Path]:
-    """The files of the packages by their names in a wheel."""
+    """Returns the files of the packages by their names in a wheel."""
     return {str(path.relative_to(folder)): path
             for name, folder in zip(PACKAGES, folders())
             for path in sorted((folder / name).rglob("*"))
@@ -56,7 +56,8 @@ def platform_of(program: bytes) -> str:
 
 
 def metadata(platform: str = "any") -> Dict[str, str]:
-    """The files that tell of the package; a wheel that holds the program is for a platform."""
+    """Returns the files that describe the package; a wheel that holds the program is for a
+    platform."""
     has = WITHOUT if platform == "any" else "the program lldpa too"
     programs = "".join(f"{name} = {module}:main\n"
                        for name, module in PROGRAMS.items())
@@ -70,7 +71,7 @@ def metadata(platform: str = "any") -> Dict[str, str]:
 
 
 def write_wheel(folder: str, files: Dict[str, bytes], program: Optional[bytes] = None) -> str:
-    """Writes a wheel of these files, with the program or without, and gives its name."""
+    """Writes a wheel of these files, with the program or without, and returns its name."""
     about, platform = f"{NAME}-{version()}.dist-info", "any"
     if program is not None:
         platform = platform_of(program)
@@ -90,14 +91,14 @@ def write_wheel(folder: str, files: Dict[str, bytes], program: Optional[bytes] =
 
 
 def sum_of(octets: bytes) -> str:
-    """The sum of a file as a wheel's record has it."""
+    """Returns the sum of a file as a wheel's record has it."""
     digest = base64.urlsafe_b64encode(hashlib.sha256(octets).digest())
     return f"sha256={digest.rstrip(b'=').decode()}"
 
 
 def build_wheel(wheel_directory: str, config_settings: Optional[Any] = None,
                 metadata_directory: Optional[str] = None) -> str:
-    """A wheel of the packages, with the program if the setting `program` has its path."""
+    """Builds a wheel of the packages, with the program if the setting `program` has its path."""
     program = (config_settings or {}).get("program")
     return write_wheel(wheel_directory, {name: path.read_bytes()
                                          for name, path in package_files().items()},
@@ -106,13 +107,13 @@ def build_wheel(wheel_directory: str, config_settings: Optional[Any] = None,
 
 def build_editable(wheel_directory: str, config_settings: Optional[Any] = None,
                    metadata_directory: Optional[str] = None) -> str:
-    """A wheel that leads to the packages where they stand (PEP 660)."""
+    """Builds a wheel that refers to the packages in their folders (PEP 660)."""
     lines = "".join(f"{folder}\n" for folder in dict.fromkeys(folders()))
     return write_wheel(wheel_directory, {f"{NAME}.pth": lines.encode()})
 
 
 def build_sdist(sdist_directory: str, config_settings: Optional[Any] = None) -> str:
-    """An archive of what a wheel is built of."""
+    """Builds an archive of what a wheel is built of."""
     front = f"{NAME}-{version()}"
     here = {str(path.relative_to(TOP)): path
             for path in (TOP / "pyproject.toml", Path(__file__).resolve())}

@@ -1,4 +1,4 @@
-"""What the package has, as `python3 -m lldpa` tells it."""
+"""Prints what the package has: `python3 -m lldpa`."""
 from __future__ import annotations
 
 from . import __version__
@@ -6,11 +6,11 @@ from . import __version__
 TEXT = f"""\
 lldpa {__version__}, the Python package of an agent for LLDP
 
-  python3 -m lldpa.commands.live     lldpa-live, puts lldpa on network interfaces
+  python3 -m lldpa.commands.live     lldpa-live, runs lldpa on network interfaces
   python3 -m lldpa.commands.ctl      lldpa-ctl, asks a running lldpa-live
   python3 -m lldpa.commands.capture  lldpa-capture, makes a trace of captures
   python3 -m lldpa_audit             lldpa-audit, compares a plan of the cabling
-  python3 -m lldpa.commands.lldpctl  lldpctl, answers as lldpd's lldpctl does
+  python3 -m lldpa.commands.lldpctl  lldpctl, prints what lldpd's lldpctl prints
 
 Each prints help with --help. In Python, `from lldpa import Agent` runs an agent, and
 `from lldpa.client import Client` asks a running lldpa-live.

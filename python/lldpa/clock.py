@@ -1,12 +1,9 @@
-"""The wall clock as it is written, and the clock by which is waited."""
+"""The wall clock as it is written, and the clock for waiting."""
 
 from __future__ import annotations
 
-import re
 import time
-from datetime import datetime
 
-WRITTEN = re.compile("[0-9]{4}-[0-9]{2}-[0-9]{2}T[0-9]{2}:[0-9]{2}:[0-9]{2}Z")
 UTC = "%Y-%m-%dT%H:%M:%SZ"  # in logs and shows
 
 
@@ -15,21 +12,14 @@ def written(seconds: float) -> str:
     return time.strftime(UTC, time.gmtime(seconds))
 
 
-def seconds_of(text: str) -> int:
-    """Returns the seconds since 1970 of such a text. Raises ValueError for any other."""
-    if not WRITTEN.fullmatch(text):
-        raise ValueError(f"not a time as lldpa-live writes it: {text!r}")
-    return int(datetime.fromisoformat(f"{text[:-1]}+00:00").timestamp())
-
-
 def now() -> float:
-    """Returns the present moment in seconds, by the clock that goes on while the machine sleeps."""
+    """Returns the present moment in seconds, by the clock that runs on while the machine sleeps."""
     return time.clock_gettime(time.CLOCK_BOOTTIME)
 
 
 class Waiting:
-    """How long something is awaited, by looks. Where this process itself stood still between two
-    looks, that counts as a second."""
+    """Measures how long something is awaited, by looks. If this process itself stood still between
+    two looks, that counts as a second."""
 
     def __init__(self) -> None:
         self.begin()
@@ -40,7 +30,7 @@ class Waiting:
         self.last = now()
 
     def look(self) -> float:
-        """How many seconds it is awaited."""
+        """Returns for how many seconds it has been awaited."""
         moment = now()
         self.seconds += min(moment - self.last, 1.0)
         self.last = moment

@@ -1,4 +1,4 @@
-"""A node of the tree in which lldpcli shows what is said."""
+"""A node of the tree in which lldpcli shows its answers."""
 from __future__ import annotations
 
 from typing import Iterable, List, Optional, Tuple
@@ -33,7 +33,7 @@ def yes(is_so: bool) -> str:
 
 
 def text_of(octets: bytes) -> str:
-    """Returns a text of a neighbor, which lldpd ends at the first NUL."""
+    """Returns a text of a neighbor, cut at the first NUL as lldpd does."""
     return octets.partition(b"\0")[0].decode("utf-8", "surrogateescape")
 
 

@@ -1,6 +1,7 @@
-"""Standard streams of a program that tells if its output fails: closed, full, or read no more."""
+"""Standard streams of a program that reports failures of its output: closed, full, or not read."""
 from __future__ import annotations
 
+import argparse
 import io
 import locale
 import os
@@ -15,7 +16,7 @@ INPUT, OUTPUT, ERRORS = 0, 1, 2
 
 
 class OutputFault(LldpaFault):
-    """Why standard output takes no more; empty where who reads it has gone."""
+    """Why standard output takes no more; empty if its reader has gone."""
 
 
 class StandardOutput(io.FileIO):
@@ -42,7 +43,7 @@ class StandardOutput(io.FileIO):
 
 
 class StandardErrors(io.FileIO):
-    """Standard error. What it does not take is lost, also where argparse writes it."""
+    """Standard error. What it does not take is lost, also if argparse writes it."""
 
     def __init__(self) -> None:
         super().__init__(ERRORS, "w", closefd=False)
@@ -55,7 +56,8 @@ class StandardErrors(io.FileIO):
 
 
 def run(name: str, body: Callable[[], int], failed: int, errors: str = "strict") -> int:
-    """Runs a program's body and gives its status, or `failed` if its output does, which is told.
+    """Runs a program's body and returns its status, or `failed` if its output fails, which is
+    reported.
 
     `errors` says how characters are written that the terminal does not have.
     """
@@ -76,7 +78,7 @@ def run(name: str, body: Callable[[], int], failed: int, errors: str = "strict")
 
 
 def status_of(body: Callable[[], int]) -> int:
-    """The status of a body, also where argparse ends it, which may have printed its help."""
+    """Returns the status of a body, even if argparse ends it, which may have printed its help."""
     try:
         return body()
     except SystemExit as end:
@@ -84,7 +86,7 @@ def status_of(body: Callable[[], int]) -> int:
 
 
 def missing_streams() -> set[int]:
-    """Which standard streams are closed. They are opened, so that no file comes to stand there."""
+    """Returns which standard streams are closed. Opens them, so that no file takes their place."""
     missing = set()
     for number in (INPUT, OUTPUT, ERRORS):
         try:
@@ -96,11 +98,17 @@ def missing_streams() -> set[int]:
 
 
 def complain(name: str, text: str) -> None:
-    """Writes a line on standard error, without what could act on a terminal, and cut to what goes
-    there at once. It is lost where nobody reads it."""
+    """Writes a line on standard error, without what could act on a terminal, and cut to what can be
+    written at once. It is lost if nobody reads it."""
     printable = "".join(letter if letter.isprintable() else "?" for letter in text)
     line = f"{name}: {printable}" if name else printable
     octets = line.encode(errors="backslashreplace")[:select.PIPE_BUF - 1]
     with suppress(OSError):
         if select.select([], [ERRORS], [], 0)[1]:
             os.write(ERRORS, octets + b"\n")
+
+
+def plain_help(prog: str) -> argparse.HelpFormatter:
+    """Returns the writer of a program's help, in 80 columns. (To know the terminal's, argparse
+    loads 1 MB at each start.)"""
+    return argparse.RawDescriptionHelpFormatter(prog, width=78)

@@ -1,6 +1,6 @@
 """Texts of neighbors: as Unicode for programs, and as a terminal may show them to people.
 
-A neighbor's text is octets, mostly UTF-8. A show has them escaped; `shown_octets` gives them again.
+A neighbor's text is octets, mostly UTF-8. Shows have them escaped; `shown_octets` returns them.
 """
 from __future__ import annotations
 
@@ -19,14 +19,14 @@ HIDDEN = ((0x034F, 0x034F), (0x115F, 0x1160), (0x17B4, 0x17B5), (0x180B, 0x180F)
 
 
 class Text(NamedTuple):
-    """A text as Unicode. `octets` is None where the octets are the text's UTF-8; where they are
-    none, it has them in hexadecimal, and the text is escaped as the agent shows it."""
+    """A text as Unicode. If its octets are not UTF-8, `octets` has them in hexadecimal, and the
+    text is escaped as the agent shows it; otherwise `octets` is None."""
     text: str
     octets: Optional[str]
 
 
 def text_of(octets: bytes) -> Text:
-    """The text that octets are."""
+    """Returns the text of octets."""
     try:
         return Text(octets.decode("utf-8"), None)
     except UnicodeDecodeError:
@@ -43,28 +43,28 @@ def with_text(key: str, octets: bytes, told: Dict[str, Any]) -> Dict[str, Any]:
 
 
 def shown_octets(shown: str) -> bytes:
-    """The octets behind a text of a show; of a text that no agent shows, its UTF-8."""
+    """Returns the octets of a text of a show, or the UTF-8 of a text that no agent shows."""
     return unescaped(shown) if shown.isascii() else shown.encode("utf-8", "surrogateescape")
 
 
 def readable(shown: str) -> str:
-    """A text of a show for people: what it was before it was escaped, as far as a terminal may
-    show it."""
+    """Returns a text of a show for people: what it was before it was escaped, as far as a terminal
+    may show it."""
     return printable(shown_octets(shown).decode("utf-8", "surrogateescape"))
 
 
 def readable_octets(octets: bytes) -> str:
-    """A text for people, of its octets."""
+    """Returns a text for people, from its octets."""
     return printable(octets.decode("utf-8", "surrogateescape"))
 
 
 def printable(text: str) -> str:
-    """The text with all escaped that controls a terminal, hides or turns the direction of writing:
-    nothing of it gets there but letters, signs and the space."""
+    """Returns the text with all escaped that controls a terminal, hides or turns the direction of
+    writing: what is left is letters, signs and the space."""
     if text.isascii() and text.isprintable():
         return text
     parts = []
-    marks = MOST_MARKS  # none can stand at the beginning
+    marks = MOST_MARKS  # none is allowed at the beginning
     for letter in text:
         marks = marks + 1 if is_mark(letter) else 0
         parts.append(letter if is_shown(letter) and marks <= MOST_MARKS else escaped(letter))
@@ -72,37 +72,37 @@ def printable(text: str) -> str:
 
 
 def is_mark(letter: str) -> bool:
-    """Whether it stands above, below or around the letter before it."""
+    """Returns whether it is written above, below or around the letter before it."""
     return unicodedata.category(letter) in ("Mn", "Me")
 
 
 def is_shown(letter: str) -> bool:
-    """Whether a terminal shows something for it, and does nothing else."""
+    """Returns whether a terminal shows something for it, and does nothing else."""
     number = ord(letter)
     return letter.isprintable() and not any(first <= number <= last for first, last in HIDDEN)
 
 
 def escaped(letter: str) -> str:
-    """The octets of a letter in hexadecimal, as the agent shows them."""
+    """Returns the octets of a letter in hexadecimal, as the agent shows them."""
     return "".join(f"\\x{octet:02x}" for octet in letter.encode("utf-8", "surrogateescape"))
 
 
 def width_of(text: str) -> int:
-    """The columns that a printable text takes on a terminal."""
+    """Returns the columns that a printable text takes on a terminal."""
     if text.isascii():
         return len(text)
     return sum(columns_of(letter) for letter in text)
 
 
 def columns_of(letter: str) -> int:
-    """The columns of a letter: none for a mark, two for the wide ones of East Asia."""
+    """Returns the columns of a letter: none for a mark, two for the wide ones of East Asia."""
     if is_mark(letter):
         return 0
     return 2 if unicodedata.east_asian_width(letter) in "WF" else 1
 
 
 def cut(text: str, width: int) -> str:
-    """The text, or what fits of it into so many columns with a mark at its end."""
+    """Returns the text, or what fits of it into so many columns with a mark at its end."""
     if width_of(text) <= width:
         return text
     room = max(width - 1, 0)
@@ -113,12 +113,12 @@ def cut(text: str, width: int) -> str:
 
 
 def padded(text: str, width: int) -> str:
-    """The text with spaces behind it, up to so many columns."""
+    """Returns the text with spaces behind it, up to so many columns."""
     return text + " " * (width - width_of(text))
 
 
 def wrapped(text: str, width: int) -> list[str]:
-    """The text in lines of at most so many columns, between words where that goes."""
+    """Returns the text in lines of at most so many columns, broken between words if possible."""
     lines = [""]
     for word in text.split(" "):
         joined = f"{lines[-1]} {word}" if lines[-1] else word
@@ -131,7 +131,7 @@ def wrapped(text: str, width: int) -> list[str]:
 
 
 def pieces(word: str, width: int) -> list[str]:
-    """A word in pieces of at most so many columns, or of one letter."""
+    """Returns a word in pieces of at most so many columns, or of one letter."""
     found = [""]
     for letter in word:
         if found[-1] and width_of(found[-1]) + columns_of(letter) > width:

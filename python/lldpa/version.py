@@ -11,6 +11,6 @@ if TYPE_CHECKING:
 
 
 def add_version(parser: argparse.ArgumentParser) -> None:
-    """Lets a program tell its version."""
+    """Adds `--version` to a program's options."""
     parser.add_argument("-V", "--version", action="version", version=f"{parser.prog} {__version__}",
                         help="print the version")

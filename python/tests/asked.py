@@ -18,7 +18,7 @@ class Program(unittest.TestCase):
         self.addCleanup(self.served.close)
 
     def run_ctl(self, *words: str, status: int = 0, said: str = "") -> str:
-        """What lldpa-ctl prints; its status and what it says are looked at."""
+        """Returns what lldpa-ctl prints; checks its status and its message."""
         told = subprocess.run([CTL, "--control", self.served.path, *words], check=False,
                               capture_output=True, text=True)
         self.assertEqual((told.stderr, told.returncode), (said and f"lldpa-ctl: {said}\n", status))

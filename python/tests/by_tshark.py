@@ -36,34 +36,34 @@ Pairs = List[Tuple[str, str]]
 
 
 def compared(pairs: List[Any]) -> Pairs:
-    """What tshark shows of a TLV and is to be compared."""
+    """Returns what tshark shows of a TLV and must be compared."""
     return [(key, value) for key, value in pairs if not is_left_out(key)]
 
 
 def is_left_out(key: str) -> bool:
-    """Whether a key is not compared."""
+    """Returns whether a key is not compared."""
     return key in EXACT or any(part in key for part in LEFT_OUT if part not in EXACT)
 
 
 def expected(front: str, values: Dict[str, Any]) -> Pairs:
-    """Keys behind a front, and values as tshark writes them."""
+    """Returns keys behind a front, and values as tshark writes them."""
     return [(front + key, str(int(value)) if isinstance(value, (bool, int)) else value)
             for key, value in values.items()]
 
 
 @singledispatch
 def by_tshark(tlv: Any) -> Pairs:
-    """What tshark shows of a TLV."""
+    """Returns what tshark shows of a TLV."""
     raise TypeError(tlv)
 
 
 def enumerated(values: Tuple[int, ...]) -> Dict[str, int]:
-    """Values by their places."""
+    """Returns values by their places."""
     return {str(place): value for place, value in enumerate(values)}
 
 
 def wanted(kind: Tuple[str, int], tlv: Tlv) -> Pairs:
-    """What tshark must show of a TLV of a kind."""
+    """Returns what tshark must show of a TLV of a kind."""
     pairs = by_tshark(tlv)
     if isinstance(tlv, LinkAggregation):
         front = "lldp.ieee.802_1." if kind[0] == "0080c2" else "lldp.ieee.802_3."
@@ -72,5 +72,5 @@ def wanted(kind: Tuple[str, int], tlv: Tlv) -> Pairs:
 
 
 def unknown_octets(pairs: List[Any]) -> Any:
-    """The octets that tshark shows of a TLV that it does not know either."""
+    """Returns the octets that tshark shows of a TLV that it does not know either."""
     return dict(map(tuple, pairs)).get("lldp.unknown_subtype.content")

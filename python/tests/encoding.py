@@ -13,8 +13,8 @@ SAMPLES: List[Sample] = []
 
 @dataclass
 class Sample:
-    """A TLV and what it says. Of its octets with one of them changed, so many have its form too;
-    so have its fronts of these lengths. `ignored` are bits that mean nothing."""
+    """A TLV and what it says. If one of its octets is changed, it still has its form in so many
+    cases; so have its fronts of these lengths. `ignored` are bits that mean nothing."""
 
     kind: Tuple[str, int]
     octets: str

@@ -1,4 +1,4 @@
-"""For tests: who hears what a service tells systemd, at a socket of the test's own."""
+"""For tests: receives what a service reports to systemd, at a socket of the test's own."""
 
 from __future__ import annotations
 
@@ -11,7 +11,7 @@ from patience import SECONDS
 
 
 class Heard:
-    """A datagram socket as NOTIFY_SOCKET names one, and what has come in there."""
+    """A datagram socket as NOTIFY_SOCKET names one, and what it has received."""
 
     def __init__(self, folder: str) -> None:
         self.path = os.path.join(folder, "notify")
@@ -21,19 +21,19 @@ class Heard:
         self.datagrams: list[list[str]] = []
 
     def environment(self, seconds: float = 0) -> dict[str, str]:
-        """What a service is started with, which gives a sign of life within so many seconds."""
+        """Returns the environment of a service that gives a sign of life within so many seconds."""
         watched = {"WATCHDOG_USEC": str(int(1e6 * seconds))} if seconds else {}
         return {**os.environ, "NOTIFY_SOCKET": self.path, **watched}
 
     def next(self, seconds: float = SECONDS) -> list[str]:
-        """The lines of the next datagram; none where there comes none within that time."""
+        """Returns the lines of the next datagram, or none if none comes within that time."""
         if not select.select([self.socket], [], [], seconds)[0]:
             return []
         self.datagrams.append(self.socket.recv(65536).decode().split("\n"))
         return self.datagrams[-1]
 
     def hears(self, line: str, seconds: float = SECONDS) -> bool:
-        """Whether a datagram with that line comes within some seconds."""
+        """Returns whether a datagram with that line comes within some seconds."""
         last = time.monotonic() + seconds
         while (left := last - time.monotonic()) > 0:
             if line in self.next(left):
@@ -41,10 +41,10 @@ class Heard:
         return False
 
     def forget(self) -> None:
-        """Passes over what has come in."""
+        """Skips what has come in."""
         while self.next(0):
             pass
 
     def close(self) -> None:
-        """Lets go of the socket."""
+        """Closes the socket."""
         self.socket.close()

@@ -14,12 +14,13 @@ from lldpa.agent.show import Port
 from lldpa.lldpcli_forms.shows import Depth, Told, neighbors
 from lldpa.lldpcli_forms.writing import whole
 from lldpa.organizational import read_tlv
+from served import PROGRAM
 
 Pair = Tuple[str, Any]
 # the keys of lldpcli that are about TLVs of organizations
 PARTS = ("port.mfs", "port.aggregation", "port.auto-negotiation", "port.power", "vlan", "ppvid",
          "pi", "lldp-med", "unknown-tlvs")
-# what lldpcli names otherwise than the standard, with the reason
+# lldpcli's names that differ from the standard's, with the reason
 SLIPS = {
     "port.power.source.value": "of a PSE it names the sources of a PD, and of a PD those of a PSE",
     "port.power.power-type-ext.value": "it names other numbers than the standard, and tshark does",
@@ -35,7 +36,7 @@ class Judged(NamedTuple):
 
 
 def flat(told: Any, path: str = "") -> Iterator[Pair]:
-    """The keys and values of an object as JSON has it, each key behind those around it."""
+    """Returns the keys and values of an object as JSON has it, each key behind those around it."""
     if isinstance(told, dict):
         for key, value in told.items():
             yield from flat(value, f"{path}.{key}".lstrip("."))
@@ -47,7 +48,7 @@ def flat(told: Any, path: str = "") -> Iterator[Pair]:
 
 
 def leaves(pairs: List[Pair]) -> Iterator[Pair]:
-    """The keys and values of pairs, and of those in them."""
+    """Returns the keys and values of pairs, and of those in them."""
     for key, value in pairs:
         if isinstance(value, list):
             yield from leaves(value)
@@ -56,7 +57,7 @@ def leaves(pairs: List[Pair]) -> Iterator[Pair]:
 
 
 def sender_of_frame(octets: bytes) -> bytes:
-    """The shutdown frame of a frame's sender."""
+    """Returns the shutdown frame of a frame's sender."""
     rest, kept = octets[14:], octets[:14]
     for _ in range(2):
         length = 2 + int.from_bytes(rest[:2], "big") % 512
@@ -64,10 +65,10 @@ def sender_of_frame(octets: bytes) -> bytes:
     return kept + b"\x06\x02\0\0" + b"\0\0"
 
 
-def compare(judged: Iterable[Judged], program: str) -> Tuple[int, List[str]]:
-    """How many values are equal, and which are not."""
+def compare(judged: Iterable[Judged]) -> Tuple[int, List[str]]:
+    """Returns how many values are equal, and which are not."""
     equal, differences = 0, []
-    with Agent.start(["eth0"], program, receive_only=True) as agent:
+    with Agent.start(["eth0"], PROGRAM, receive_only=True) as agent:
         for one in judged:
             agent.tick(65535)
             agent.frame("eth0", bytes.fromhex(one.frame))
@@ -83,7 +84,7 @@ def compare(judged: Iterable[Judged], program: str) -> Tuple[int, List[str]]:
 
 
 def of_frame(one: Judged, neighbor: Neighbor) -> Iterator[Tuple[Any, Any, str]]:
-    """What both show of a frame, and what they should by what is read of it."""
+    """Returns what both show of a frame, and what they should by what is read of it."""
     tree = neighbors(Told(Show((Port("eth0", 1, 0, False, (neighbor,)),)), {}, {}, 0), None,
                      Depth.DETAILS)
     yield of_tlvs(one.lldpcli), of_tlvs(flat(whole(tree.nodes[0]))), "lldpcli"
@@ -100,5 +101,5 @@ def of_frame(one: Judged, neighbor: Neighbor) -> Iterator[Tuple[Any, Any, str]]:
 
 
 def of_tlvs(pairs: Iterable[Pair]) -> List[Pair]:
-    """Returns what lldpcli shows of TLVs of organizations, in its order, and is compared."""
+    """Returns what lldpcli shows of TLVs of organizations and is compared, in its order."""
     return [(key, value) for key, value in pairs if key.startswith(PARTS) and key not in SLIPS]

@@ -1,8 +1,8 @@
-"""For tests: frames that a real lldpd heard, whose output of each form stands in the folder lldpd.
+"""For tests: frames that a real lldpd heard, and its output of each form in the folder lldpd.
 
 `clean.*` are of CLEAN, heard at swp1, the first of them at swp2 as well; `odd.*` are of ODD, heard
-at swp1; `none.*` are of no frame. lldpcli 1.0.16 wrote them with `show neighbors details`; it gives
-no XML where a name is no UTF-8.
+at swp1; `none.*` are of no frame. lldpcli 1.0.16 wrote them with `show neighbors details`; it
+writes no XML if a name is not UTF-8.
 """
 from __future__ import annotations
 
@@ -17,22 +17,22 @@ DOCUMENTED = bytes.fromhex("20010db8") + bytes(11) + b"\1"
 
 
 def mac(number: int) -> bytes:
-    """A chassis ID that is a MAC address."""
+    """Returns a chassis ID that is a MAC address."""
     return b"\x04\x02\0\0\0\0" + bytes([number])
 
 
 def name(text: bytes) -> bytes:
-    """The System Name."""
+    """Returns the System Name."""
     return tlv(5, text)
 
 
 def org(oui: str, subtype: int, content: bytes) -> bytes:
-    """An organizationally specific TLV."""
+    """Returns an organizationally specific TLV."""
     return tlv(127, bytes.fromhex(oui) + bytes([subtype]) + content)
 
 
 def management(address: bytes) -> bytes:
-    """A management address, which begins with its subtype."""
+    """Returns a management address, which begins with its subtype."""
     return tlv(8, bytes([len(address)]) + address + b"\x02\0\0\0\1\0")
 
 
@@ -68,5 +68,5 @@ ODD: list[bytes] = [
 
 
 def sample(named: str, form: str) -> bytes:
-    """What lldpcli wrote in a form."""
+    """Returns what lldpcli wrote in a form."""
     return (FOLDER / f"{named}.{form}").read_bytes()

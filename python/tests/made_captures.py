@@ -4,24 +4,20 @@ from __future__ import annotations
 import struct
 from typing import Callable, Dict, List, Optional, Sequence, Tuple
 
+from served import GROUP_ADDRESS, tlv
+
 SECOND = 10**9
 START = 1_700_000_000 * SECOND + 999_000_000
 ETHERNET = 1
-NEAREST_BRIDGE = bytes.fromhex("0180c200000e")
 
-# A frame's time in nanoseconds, what was taken of its octets, and its whole length.
+# A frame's time in nanoseconds, its captured octets, and its whole length.
 Frame = Tuple[int, bytes, int]
 
 
-def tlv(kind: int, body: bytes) -> bytes:
-    """A TLV as it stands in a frame."""
-    return (kind << 9 | len(body)).to_bytes(2, "big") + body
-
-
 def lldp_frame(chassis: bytes, port: bytes, ttl: int = 120) -> bytes:
-    """A frame of a neighbor with that MAC address and that interface name."""
+    """Returns a frame of a neighbor with that MAC address and that interface name."""
     pdu = tlv(1, b"\4" + chassis) + tlv(2, b"\5" + port) + tlv(3, ttl.to_bytes(2, "big")) + b"\0\0"
-    return NEAREST_BRIDGE + chassis + b"\x88\xcc" + pdu
+    return GROUP_ADDRESS + chassis + b"\x88\xcc" + pdu
 
 
 LLDP = lldp_frame(bytes.fromhex("001122334455"), b"eth0")
@@ -30,13 +26,13 @@ TAGGED = LLDP[:12] + bytes.fromhex("81000005") + LLDP[12:]
 
 
 def whole(octets: bytes, time: int = START) -> Frame:
-    """A frame that was taken whole."""
+    """Returns a frame that was captured whole."""
     return time, octets, len(octets)
 
 
 def pcap(frames: Sequence[Frame], order: str = "<", units: int = 10**6,
          link_type: int = ETHERNET) -> bytes:
-    """A pcap file."""
+    """Returns a pcap file."""
     magic = {10**6: 0xA1B2C3D4, 10**9: 0xA1B23C4D}[units]
     parts = [struct.pack(order + "IHHiIII", magic, 2, 4, 0, 0, 65535, link_type)]
     for time, octets, length in frames:
@@ -47,25 +43,25 @@ def pcap(frames: Sequence[Frame], order: str = "<", units: int = 10**6,
 
 
 def block(order: str, kind: int, body: bytes) -> bytes:
-    """A block of pcapng."""
+    """Returns a block of pcapng."""
     body += bytes(-len(body) % 4)
     size = struct.pack(order + "I", 12 + len(body))
     return struct.pack(order + "I", kind) + size + body + size
 
 
 def option(order: str, code: int, value: bytes) -> bytes:
-    """An option of a block."""
+    """Returns an option of a block."""
     return struct.pack(order + "HH", code, len(value)) + value + bytes(-len(value) % 4)
 
 
 def section(order: str = "<") -> bytes:
-    """The block that begins a section."""
+    """Returns the block that begins a section."""
     return block(order, 0x0A0D0D0A, struct.pack(order + "IHHq", 0x1A2B3C4D, 1, 0, -1))
 
 
 def interface(order: str = "<", name: str = "", resolution: Optional[int] = None,
               link_type: int = ETHERNET, offset: int = 0) -> bytes:
-    """The block that describes an interface."""
+    """Returns the block that describes an interface."""
     options = option(order, 2, name.encode()) if name else b""
     if resolution is not None:
         options += option(order, 9, bytes([resolution]))
@@ -76,14 +72,14 @@ def interface(order: str = "<", name: str = "", resolution: Optional[int] = None
 
 
 def units_of(resolution: Optional[int]) -> int:
-    """The units of a second that an interface's option says."""
+    """Returns the units of a second that an interface's option says."""
     if resolution is None:
         return 10**6
     return 2**(resolution & 127) if resolution & 128 else 10**resolution
 
 
 def packet(frame: Frame, order: str = "<", place: int = 0, units: int = 10**6) -> bytes:
-    """The block of a packet of the interface at that place."""
+    """Returns the block of a packet of the interface at that place."""
     time, octets, length = frame
     stamp = -(-time * units // SECOND)
     fields = (place, stamp >> 32, stamp & 0xFFFFFFFF, len(octets), length)
@@ -92,7 +88,8 @@ def packet(frame: Frame, order: str = "<", place: int = 0, units: int = 10**6) -
 
 def pcapng(frames: Sequence[Frame], order: str = "<", resolution: Optional[int] = None,
            link_type: int = ETHERNET, name: str = "") -> bytes:
-    """A section of a pcapng file of one interface, with a block of no meaning to a reader."""
+    """Returns a section of a pcapng file of one interface, with a block of no meaning to a
+    reader."""
     head = section(order) + interface(order, name, resolution, link_type)
     units = units_of(resolution)
     packets = (packet(frame, order, 0, units) for frame in frames)

@@ -9,14 +9,14 @@ import time
 from pathlib import Path
 from typing import Any, Callable, Sequence
 
-SECONDS = 30.0  # to wait for what comes true by itself: they pass only where it does not
+SECONDS = 30.0  # to wait for what comes true by itself: they pass only if it does not
 TRIES = 3
 NOTICEABLE = 0.05  # seconds of a standstill from which a test by the clock may be run again
 NAP = 0.01
 
 
 def eventually(holds: Callable[[], Any], seconds: float = SECONDS) -> Any:
-    """What the condition gives once it holds, or after so many seconds."""
+    """Returns what the condition gives as soon as it holds, or after so many seconds."""
     last = time.monotonic() + seconds
     while not (found := holds()) and time.monotonic() < last:
         time.sleep(0.02)
@@ -24,20 +24,21 @@ def eventually(holds: Callable[[], Any], seconds: float = SECONDS) -> Any:
 
 
 def mostly(seconds: Sequence[float]) -> float:
-    """The time that no more than half of some times are over: a standstill or two change it little,
-    and what is late each time is seen."""
+    """Returns the time that at most half of some times exceed: a standstill or two change it
+    little, and what is late each time is seen."""
     return sorted(seconds)[(len(seconds) - 1) // 2]
 
 
 def stolen() -> float:
-    """How long processors of this machine had work and were kept from it, since it began."""
+    """Returns how long processors of this machine had work and were kept from it, since it
+    began."""
     ticks = Path("/proc/stat").read_text().split("\n", 1)[0].split()[8]
     return int(ticks) / os.sysconf("SC_CLK_TCK")
 
 
 class Standstill:
-    """Measures how long the machine stands still meanwhile: what is stolen of its processors, and
-    by how much a thread oversleeps that naps all the time. A nap of twice its length is usual."""
+    """Measures how long the machine stands still: what is stolen of its processors, and by how much
+    a thread that naps all the time oversleeps. A nap of twice its length is usual."""
 
     def __enter__(self) -> Standstill:
         self.is_over = threading.Event()
@@ -56,7 +57,7 @@ class Standstill:
             self.overslept += longer if longer > NAP else 0.0
 
     def seconds(self) -> float:
-        """How long it stood still so far."""
+        """Returns how long it has stood still so far."""
         return self.overslept + stolen() - self.stolen_before
 
     def __exit__(self, *_: object) -> None:
@@ -65,8 +66,8 @@ class Standstill:
 
 
 def by_the_clock(test: Callable[[Any], None]) -> Callable[[Any], None]:
-    """Lets a test whose bounds are times be run again where it fails while the machine stands
-    still. A fault of the program comes again each time, and then the test fails all the same."""
+    """Lets a test whose bounds are times be run again if it fails while the machine stands still. A
+    fault of the program comes again each time, and then the test fails all the same."""
     @functools.wraps(test)
     def tried(case: Any) -> None:
         for left in reversed(range(TRIES)):

@@ -1,7 +1,8 @@
-"""For tests: whether a log, replayed, gives the tables that were there at some moments."""
+"""For tests: whether a log, replayed, gives the tables of some moments, and the frames sent."""
 
 from __future__ import annotations
 
+import re
 import shlex
 import subprocess
 from pathlib import Path
@@ -10,10 +11,12 @@ from typing import Optional
 from running_live import Live
 from served import PROGRAM
 
+CLOCK = re.compile("^# [0-9]{4}-", re.M)  # the first one ends the head of a file
+
 
 class Moments:
-    """Asks an lldpa-live for its tables beside a command in words of their own, so that the log
-    has a line to find the moment by. (What is shown is not in the log.)"""
+    """Asks an lldpa-live for its tables, with a command in words of their own, so that the log has
+    a line by which the moment is found. (What is shown is not in the log.)"""
 
     def __init__(self, live: Live) -> None:
         self.live = live
@@ -21,7 +24,7 @@ class Moments:
         self.count = 0
 
     def take(self) -> None:
-        """Takes the tables of now: those that are the same before the command and behind it."""
+        """Takes the present tables: those that are the same before the command and after it."""
         self.count += 1
         line = f"update{' ' * self.count}"
         before = self.live.ask("show neighbors")
@@ -32,21 +35,39 @@ class Moments:
             self.take()
 
 
+def answers(log: Path, text: str) -> list[str]:
+    """Returns what the agent of a log's file answers to a text."""
+    first = log.read_text().partition("\n")[0]
+    run = subprocess.run([PROGRAM, *shlex.split(first[len("# lldpa "):])], input=text,
+                         capture_output=True, text=True, check=True)
+    return run.stdout.splitlines()
+
+
 def replayed(log: Path, line: str) -> Optional[list[str]]:
-    """The tables where that line stands in a log, as a replay of this file alone has them; None
-    where the line is not in it."""
+    """Returns the tables at that line of a log, as a replay of this file alone gives them, or None
+    if the line is not in it."""
     lines = log.read_text().split("\n")
     if line not in lines:
         return None
-    before = lines[:lines.index(line)]
-    words = shlex.split(lines[0][len("# lldpa "):])
-    told = "\n".join([*before, "show neighbors", ""])
-    run = subprocess.run([PROGRAM, *words], input=told, capture_output=True, text=True, check=True)
-    return [one for one in run.stdout.splitlines() if one.startswith("lldp.")]
+    before = "\n".join([*lines[:lines.index(line)], "show neighbors", ""])
+    return [one for one in answers(log, before) if one.startswith("lldp.")]
+
+
+def sent(folder: Path, port: str) -> list[bytes]:
+    """Returns the frames that a port sends in a replay of each file of a folder, in their order,
+    without those that it sends during the head of a file."""
+    frames: list[str] = []
+    for log in sorted(folder.iterdir(), key=lambda path: path.stat().st_mtime_ns):
+        text = log.read_text()
+        clock = CLOCK.search(text)
+        in_head = len(answers(log, text[:clock.start()])) if clock else 0
+        frames += answers(log, text)[in_head:]
+    return [bytes.fromhex(line.split()[2]) for line in frames if line.startswith(f"tx {port} ")]
 
 
 def differing(folder: Path, moments: Moments) -> list[str]:
-    """What is wrong with the logs of a folder: moments that none has, or whose tables differ."""
+    """Returns what is wrong with the logs of a folder: moments that none has, or whose tables
+    differ."""
     wrong = []
     for line, answer in moments.answers.items():
         found = {log.name: tables for log in sorted(folder.iterdir())

@@ -1,4 +1,4 @@
-"""For tests on real links: running lldpa-lives, and what is ended behind a test."""
+"""For tests on real links: running lldpa-lives, and what is ended after a test."""
 
 from __future__ import annotations
 
@@ -39,14 +39,14 @@ signal.signal(signal.SIGHUP, lambda *_: None)
 
 
 def unread(stream: Stream) -> int:
-    """How many octets of a pipe or a socket were not read yet."""
+    """Returns how many octets of a pipe or a socket were not read yet."""
     octets = array.array("i", [0])
     fcntl.ioctl(stream, termios.FIONREAD, octets)
     return octets[0]
 
 
 def is_full(stream: Stream) -> bool:
-    """Whether no more comes into a pipe or a socket that nobody reads."""
+    """Returns whether a pipe or a socket that nobody reads takes no more."""
     before = unread(stream)
     time.sleep(0.2)
     return before == unread(stream) > 0
@@ -78,22 +78,22 @@ class Live:
             self.lines.put(line.decode().rstrip("\n"))
 
     def answers(self) -> bool:
-        """Whether its agent runs, or it has ended."""
+        """Returns whether its agent runs, or it has ended."""
         return self.process.poll() is not None or self.ask_quietly()
 
     def ask_quietly(self) -> bool:
-        """Whether its control socket answers, and there is an agent."""
+        """Returns whether its control socket answers, and there is an agent."""
         with contextlib.suppress(OSError):
             return "live.agent=running" in self.ask("live")
         return False
 
     def ask(self, line: str) -> list[str]:
-        """What it answers at its control socket."""
+        """Returns what it answers at its control socket."""
         with contextlib.closing(Client(self.control)) as client:
             return client.ask(line)
 
     def ask_refused(self, line: str) -> str:
-        """Why it refuses a line at its control socket, empty if it does not."""
+        """Returns why it refuses a line at its control socket, or an empty text if it does not."""
         try:
             self.ask(line)
         except Refused as refused:
@@ -107,31 +107,31 @@ class Live:
         self.process.stdin.flush()
 
     def told(self, line: str) -> list[str]:
-        """What it answers on standard output."""
+        """Returns what it answers on standard output."""
         self.say(line)
         self.say("no such command")
         lines = iter(lambda: self.lines.get(timeout=SECONDS), None)
         return list(itertools.takewhile(lambda one: "unknown command: no (" not in one, lines))
 
     def neighbors(self, port: str = "eth0") -> int:
-        """How many neighbors a port has."""
+        """Returns how many neighbors a port has."""
         shown = dict(line.split("=", 1) for line in self.ask("show neighbors"))
         return int(shown[f"lldp.{port}.neighbors"])
 
     def errors(self) -> str:
-        """What it has said on standard error."""
+        """Returns what it has said on standard error."""
         return self.errors_path.read_text()
 
     def seconds_told(self) -> int:
-        """How many seconds its agent was told."""
+        """Returns how many seconds its agent was given."""
         return int(dict(line.split("=", 1) for line in self.ask("live"))["live.seconds"])
 
     def says(self, text: str) -> bool:
-        """Whether it comes to say that on standard error."""
+        """Returns whether it comes to say that on standard error."""
         return bool(eventually(lambda: text in self.errors()))
 
     def agent(self) -> int:
-        """The process of its agent."""
+        """Returns the process of its agent."""
         pid = self.process.pid
         children = Path(f"/proc/{pid}/task/{pid}/children").read_text().split()
         own = Path(f"/proc/{pid}/cmdline").read_bytes()
@@ -143,7 +143,7 @@ class Live:
         self.process.send_signal(number)
 
     def ends(self, seconds: float = SECONDS) -> Optional[int]:
-        """Its status, None if it does not end in time."""
+        """Returns its status, or None if it does not end in time."""
         with contextlib.suppress(subprocess.TimeoutExpired):
             return self.process.wait(seconds)
         return None
@@ -167,7 +167,7 @@ class Live:
 
 
 class OnLinks(unittest.TestCase):
-    """A test with links that are taken away behind it, and what runs on them ended."""
+    """A test with links that are removed after it, and what runs on them ended."""
 
     links = 1
 
@@ -176,13 +176,13 @@ class OnLinks(unittest.TestCase):
         self.addCleanup(self.wires.close)
 
     def live(self, *words: str, **options: Any) -> Live:
-        """An lldpa-live that is ended behind the test."""
+        """Starts an lldpa-live that is ended after the test."""
         live = Live(self.wires, *words, **options)
         self.addCleanup(live.close)
         return live
 
     def peer(self, end: str = "peer0") -> Peer:
-        """A sender that is closed behind the test."""
+        """Opens a sender that is closed after the test."""
         peer = Peer(self.wires, end)
         self.addCleanup(peer.close)
         return peer

@@ -42,19 +42,19 @@ live.eth1.left-out=0
 
 
 def tlv(kind: int, body: bytes) -> bytes:
-    """A TLV as it stands in a frame."""
+    """Returns a TLV as in a frame."""
     return (kind << 9 | len(body)).to_bytes(2, "big") + body
 
 
 def frame(chassis: bytes, port: bytes, ttl: int, *further: bytes) -> bytes:
-    """A frame of a neighbor; the identifiers begin with their subtypes."""
+    """Returns a frame of a neighbor; the identifiers begin with their subtypes."""
     head = GROUP_ADDRESS + bytes.fromhex("02000000000a") + bytes.fromhex("88cc")
     pdu = tlv(1, chassis) + tlv(2, port) + tlv(3, ttl.to_bytes(2, "big")) + b"".join(further)
     return head + pdu + tlv(0, b"")
 
 
 def numbered(number: int, ttl: int = 120, *further: bytes) -> bytes:
-    """A frame of one of many neighbors."""
+    """Returns a frame of one of many neighbors."""
     return frame(b"\x04\x02\0\0\0\0" + bytes([number]), b"\x05p%d" % number, ttl, *further)
 
 
@@ -80,7 +80,7 @@ class Served:
         await self.server.start()
 
     async def ask(self, line: bytes) -> list[bytes]:
-        """What an lldpa-live does with a question."""
+        """Does what an lldpa-live does with a question."""
         self.asked.append(line)
         if line in self.hidden:
             return []
@@ -93,11 +93,11 @@ class Served:
         return asyncio.run_coroutine_threadsafe(coroutine, self.loop).result(30)
 
     def frame(self, port: str, octets: bytes) -> None:
-        """Hands the agent a frame."""
+        """Gives the agent a frame."""
         self.call(self.agent.frame(port, octets))
 
     def client(self) -> Client:
-        """A new conversation."""
+        """Opens a new conversation."""
         return Client(self.path)
 
     def close(self) -> None:

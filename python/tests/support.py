@@ -1,4 +1,4 @@
-"""For tests: the program, and files that tests make."""
+"""For tests: lldpa-capture, and files that tests make."""
 from __future__ import annotations
 
 import os
@@ -8,12 +8,12 @@ import sys
 import tempfile
 import unittest
 from pathlib import Path
-from typing import List, Optional
+from typing import List, Optional, Tuple
 
-REPOSITORY = Path(__file__).resolve().parents[2]
-PROGRAM = os.environ.get("LLDPA") or str(REPOSITORY / "crates" / "lldpa" / "out" / "lldpa")
+from served import REPOSITORY
+
 CAPTURE = str(REPOSITORY / "bin" / "lldpa-capture")
-# What a port eth0 sends where no option is given.
+# What a port eth0 sends if no option is given.
 DEFAULT_FRAME = bytes.fromhex(
     "0180c200000e02000000000188cc02070402000000000104050565746830060200790804657468300a096c6f63"
     "616c686f73740c056c6c6470610e04008000800000")
@@ -34,10 +34,15 @@ class FilesCase(unittest.TestCase):
         self.folder = Path(folder.name)
 
     def file(self, octets: bytes, name: str = "made") -> str:
-        """The path of a file with these octets."""
+        """Writes a file with these octets, and returns its path."""
         path = self.folder / name
         path.write_bytes(octets)
         return str(path)
+
+    def ran(self, *words: str, octets: Optional[bytes] = None) -> Tuple[str, str, int]:
+        """Runs lldpa-capture in the folder, and returns what it writes, says and answers."""
+        done = run_capture(list(words), octets, self.folder)
+        return done.stdout, done.stderr, done.returncode
 
 
 def run_capture(words: List[str], octets: Optional[bytes] = None,

@@ -21,10 +21,11 @@ from lldpa.agent.shown import Counters
 from lldpa.limits import LONGEST_LINE
 from made_captures import LLDP, OTHER
 from patience import eventually
-from support import DEFAULT_FRAME, PROGRAM, kill
+from served import PROGRAM
+from support import DEFAULT_FRAME, kill
 
 def started(*ports: str, **options: lldpa.agent.synchronous.Option) -> Agent:
-    """An agent with these ports, eth0 where there are none."""
+    """Starts an agent with these ports, or with eth0 if there are none."""
     return Agent.start(ports or ["eth0"], PROGRAM, **options)
 
 
@@ -113,7 +114,7 @@ class Asked(unittest.TestCase):
 
 
 class EndedAgents(unittest.TestCase):
-    """Agents that are no more, or not there."""
+    """Agents that have ended, or do not exist."""
 
     def test_bad_words(self) -> None:
         for words, text in ((["a.b"], "lldpa: bad port name"), ([], "lldpa: no ports")):
@@ -149,7 +150,8 @@ class EndedAgents(unittest.TestCase):
 
     def test_an_agent_that_stops_is_waited_for_no_longer_than_its_timeout(self) -> None:
         give_up_in_a_minute(self)
-        with started(timeout=0.5) as agent:
+        with started() as agent:
+            agent.timeout = 0.5
             assert agent.pid is not None
             os.kill(agent.pid, signal.SIGSTOP)
             with self.assertRaises(Ended) as ended:
@@ -169,7 +171,7 @@ class EndedAgents(unittest.TestCase):
         self.assertLess(most, 200_000_000)
 
     def program(self, text: str) -> str:
-        """The path of a program in the shell's language."""
+        """Writes a program in the shell's language, and returns its path."""
         folder = tempfile.TemporaryDirectory()
         self.addCleanup(folder.cleanup)
         path = Path(folder.name) / "program"
@@ -215,7 +217,7 @@ class Listening(unittest.TestCase):
         self.addCleanup(self.first.close)
 
     def connected(self) -> Optional[Agent]:
-        """An agent, if it listens."""
+        """Returns an agent, if it listens."""
         try:
             return Agent.connect(self.number)
         except ConnectionRefusedError:

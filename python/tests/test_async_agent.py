@@ -8,7 +8,8 @@ import unittest
 
 from lldpa.agent.synchronous import AsyncAgent, Closed, Ended, Refused
 from made_captures import LLDP
-from support import DEFAULT_FRAME, PROGRAM, kill
+from served import PROGRAM
+from support import DEFAULT_FRAME, kill
 
 
 class AskedByTasks(unittest.IsolatedAsyncioTestCase):
@@ -47,7 +48,8 @@ class AskedByTasks(unittest.IsolatedAsyncioTestCase):
             self.assertEqual(len(await agent.ask("show chassis")), 4)
 
     async def test_one_that_stops_and_one_that_was_closed(self) -> None:
-        async with await AsyncAgent.start(["eth0"], PROGRAM, timeout=0.5) as agent:
+        async with await AsyncAgent.start(["eth0"], PROGRAM) as agent:
+            agent.timeout = 0.5
             assert agent.pid is not None
             os.kill(agent.pid, signal.SIGSTOP)
             with self.assertRaisesRegex(Ended, "the agent does not answer"):

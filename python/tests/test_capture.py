@@ -1,4 +1,4 @@
-"""Captures that are made, and the packets that are read of them."""
+"""Captures that are made, and the packets that are read from them."""
 from __future__ import annotations
 
 import gzip
@@ -7,15 +7,16 @@ import random
 import unittest
 
 from lldpa.capture.packets import BadCapture, Packet, interfaces_of, packets_of, reader_of
-from made_captures import (ETHERNET, FORMS, LLDP, NEAREST_BRIDGE, OTHER, SECOND, START, Frame,
-                           block, interface, packet, pcap, pcapng, section, units_of, whole)
+from made_captures import (ETHERNET, FORMS, LLDP, OTHER, SECOND, START, Frame, block, interface,
+                           packet, pcap, pcapng, section, units_of, whole)
+from served import GROUP_ADDRESS
 
 FRAMES: list[Frame] = [whole(OTHER), whole(LLDP, START + 1000), (START + SECOND, LLDP[:30], 99),
                        whole(b"", START + SECOND), whole(OTHER * 40, START + 9 * SECOND)]
 
 
 class Dripping(io.RawIOBase):
-    """A file of which each read gives few octets, as a pipe does."""
+    """A file whose reads each return few octets, as a pipe's do."""
 
     def __init__(self, octets: bytes, most: int) -> None:
         super().__init__()
@@ -29,12 +30,12 @@ class Dripping(io.RawIOBase):
 
 
 def packets(octets: bytes) -> list[Packet]:
-    """All packets of a capture."""
+    """Returns all packets of a capture."""
     return list(packets_of(io.BytesIO(octets)))
 
 
 def fault_of(octets: bytes) -> str:
-    """Why a capture cannot be read on, nothing where it can."""
+    """Returns why a capture cannot be read further, or nothing if it can."""
     try:
         packets(octets)
     except BadCapture as fault:
@@ -88,7 +89,7 @@ class Read(unittest.TestCase):
 
 
 class Compressed(unittest.TestCase):
-    """Captures that gzip compressed are read as they are."""
+    """Captures that gzip compressed are read unchanged."""
 
     def test_each_form(self) -> None:
         for name, form in FORMS.items():
@@ -109,7 +110,7 @@ class Compressed(unittest.TestCase):
         file = pcap([whole(OTHER * 9, START + number) for number in range(999)])
         packed = gzip.compress(file)
         for cut in (2, 10, 500, len(packed) - 1):
-            self.assertEqual(fault_of(packed[:cut]), "what gzip compressed in it is cut short")
+            self.assertEqual(fault_of(packed[:cut]), "its gzip data is cut short")
         read: list[Packet] = []
         with self.assertRaises(BadCapture):
             for one in packets_of(io.BytesIO(gzip.compress(file, 0)[:9000])):
@@ -118,16 +119,16 @@ class Compressed(unittest.TestCase):
         self.assertGreater(len(read), 14)
         broken = bytearray(packed)
         broken[60] ^= 255
-        self.assertRegex(fault_of(bytes(broken)), "what gzip compressed in it is damaged|it ")
+        self.assertRegex(fault_of(bytes(broken)), "its gzip data is damaged|it ")
         self.assertEqual(fault_of(gzip.compress(b"")), "it is empty")
-        self.assertIn("it is no capture", fault_of(gzip.compress(b"#!/bin/sh")))
+        self.assertIn("it is not a capture", fault_of(gzip.compress(b"#!/bin/sh")))
 
 
 class InPlace(unittest.TestCase):
-    """What is passed over in place is what cannot matter."""
+    """What is skipped in place is what cannot matter."""
 
     def random_frames(self, dice: random.Random) -> list[Frame]:
-        """Frames, some of them LLDP's, at times that mostly go on."""
+        """Returns frames, some of them LLDP's, at times that mostly increase."""
         time, frames = START, []
         for _ in range(dice.randrange(60)):
             time += dice.choice([0, 1000, 10**6, SECOND, -1000, -SECOND, 7 * SECOND, -5 * SECOND])
@@ -144,27 +145,27 @@ class InPlace(unittest.TestCase):
             everything = [(one.octets, one.time or 0) for one in packets(file)]
             reader = reader_of(Dripping(file, dice.choice([50, 500, 100_000])))
             looked = []
-            for _, time, begin, end, _ in reader.looks(NEAREST_BRIDGE):
+            for _, time, begin, end, _ in reader.looks(GROUP_ADDRESS):
                 looked.append((reader.window.octets[begin:end], time or 0))
                 self.assertEqual(everything[reader.number - 1], looked[-1])
-            begun = [octets for octets, _ in looked if octets[:6] == NEAREST_BRIDGE]
-            want = [octets for octets, _ in everything if octets[:6] == NEAREST_BRIDGE]
+            begun = [octets for octets, _ in looked if octets[:6] == GROUP_ADDRESS]
+            want = [octets for octets, _ in everything if octets[:6] == GROUP_ADDRESS]
             self.assertEqual(begun, want)
             self.assertEqual(looked[-1:], everything[-1:])
             self.assertEqual(self.steps_back(looked), self.steps_back(everything))
 
     def steps_back(self, timed: "list[tuple[bytes, int]]") -> list["tuple[int, int]"]:
-        """Each step back of the time: from where, and to where."""
+        """Returns each step back of the time: from where, and to where."""
         times = [time for _, time in timed]
         return [(one, other) for one, other in zip(times, times[1:]) if other < one]
 
 
 class Damaged(unittest.TestCase):
-    """What cannot be read on says where."""
+    """What cannot be read further says where."""
 
     def test_no_captures(self) -> None:
         self.assertEqual(fault_of(b""), "it is empty")
-        self.assertIn("it is no capture: octet 0 begins with 23 21 2f 62", fault_of(b"#!/bin/sh"))
+        self.assertIn("not a capture: octet 0 begins with 23 21 2f 62", fault_of(b"#!/bin/sh"))
         self.assertIn("compressed by xz: unpack it", fault_of(bytes.fromhex("fd377a585a00")))
         self.assertEqual(fault_of(b"\n\r"), "it ends at octet 2, inside the record of octet 0")
 
@@ -187,9 +188,9 @@ class Damaged(unittest.TestCase):
         damages = {
             "a block's two lengths differ": bad[:-4] + b"\0\0\0\0",
             "a block of 8 octets": bad[:4] + b"\x08\0\0\0" + bad[8:],
-            "the length there is out of all measure": bad[:4] + b"\xff\xff\xff\x7f" + bad[8:],
-            "a block that its fields do not fit": packet(whole(LLDP), place=1),
-            "a section of no known byte order": section()[:8] + b"abcd" + section()[12:],
+            "the length there is far too large": bad[:4] + b"\xff\xff\xff\x7f" + bad[8:],
+            "a block with fields that do not fit in it": packet(whole(LLDP), place=1),
+            "a section of unknown byte order": section()[:8] + b"abcd" + section()[12:],
         }
         for why, record in damages.items():
             with self.subTest(why):
@@ -204,7 +205,7 @@ class Damaged(unittest.TestCase):
         at = 24 + 16 + len(OTHER)
         file[at + 8:at + 12] = b"\xff\xff\xff\xff"
         self.assertEqual(fault_of(bytes(file)),
-                         f"it is damaged at octet {at}: the length there is out of all measure")
+                         f"it is damaged at octet {at}: the length there is far too large")
 
     def test_random_damage_is_told_and_never_more(self) -> None:
         dice = random.Random(5)

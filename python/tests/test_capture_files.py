@@ -14,7 +14,8 @@ from lldpa import read_show
 from made_captures import (FORMS, LLDP, OTHER, SECOND, START, TAGGED, Frame, interface, lldp_frame,
                            packet, pcap, pcapng, section, whole)
 from patience import by_the_clock
-from support import CAPTURE, PROGRAM, FilesCase, run_capture
+from served import PROGRAM
+from support import CAPTURE, FilesCase, run_capture
 
 RX = f"rx eth0 {LLDP.hex()}\n"
 PORTS = [f"swp{number}" for number in range(1, 49)]
@@ -22,22 +23,6 @@ PORTS = [f"swp{number}" for number in range(1, 49)]
 
 class Files(FilesCase):
     """lldpa-capture on files."""
-
-    def ran(self, *words: str) -> tuple[str, str, int]:
-        """What it writes, says and answers."""
-        done = run_capture(list(words), None, self.folder)
-        return done.stdout, done.stderr, done.returncode
-
-    def test_each_form(self) -> None:
-        padded = RX.replace("\n", "00\n")
-        frames = [whole(OTHER), whole(LLDP, START + 3 * SECOND + 100_000),
-                  whole(LLDP + b"\0", START + 4 * SECOND + 200_000),
-                  whole(OTHER, START + 60_004 * SECOND + 200_000)]
-        for name, form in FORMS.items():
-            with self.subTest(name):
-                self.file(form(frames), "a")
-                trace = f"tick 3\n{RX}tick\n{padded}tick 60000\n"
-                self.assertEqual(self.ran("a"), (trace, "", 0))
 
     def test_compressed(self) -> None:
         self.file(gzip.compress(pcap([whole(LLDP), whole(LLDP, START + SECOND)])), "a.gz")
@@ -47,7 +32,7 @@ class Files(FilesCase):
         done = run_capture(["-"], (self.folder / "b.gz").read_bytes())
         self.assertEqual(done.stdout, RX.replace("eth0", "swp1"))
         self.file(gzip.compress(pcap([whole(LLDP)] * 2), 0)[:-50], "cut.gz")
-        said = "lldpa-capture: cut.gz: what gzip compressed in it is cut short\n"
+        said = "lldpa-capture: cut.gz: its gzip data is cut short\n"
         self.assertEqual(self.ran("cut.gz"), (RX, said, 1))
 
     def test_fifo(self) -> None:
@@ -74,8 +59,8 @@ class Files(FilesCase):
         lines = said.splitlines()
         self.assertEqual(len(lines), 5 + 3 + 1)
         self.assertEqual(lines[4], "lldpa-capture: a: frame 5 is passed over: it is tagged")
-        self.assertEqual(lines[5], "lldpa-capture: a: frame 20001 is passed over: it is snapped to "
-                                   "30 of 99 octets")
+        self.assertEqual(lines[5], "lldpa-capture: a: frame 20001 is passed over: it is truncated "
+                                   "to 30 of 99 octets")
         self.assertEqual(lines[8], "lldpa-capture: a: 19995 more such notes")
 
 
@@ -93,9 +78,8 @@ class Clocks(FilesCase):
         self.assertLess(time.monotonic() - begin, 5)
         self.assertEqual(done.stdout.splitlines()[:5],
                          [RX.strip(), "tick 65535", RX.strip(), "tick 2", RX.strip()])
-        self.assertEqual(done.stderr, "lldpa-capture: a: nothing comes for 1699999995 s (was the "
-                                      "clock set?): 65535 of them are counted, after which nobody "
-                                      "is left\n")
+        self.assertEqual(done.stderr, "lldpa-capture: a: no packet came for 1699999995 s (was the "
+                                      "clock set?): 65535 are counted, and no neighbor is left\n")
         self.assertIn("lldp.eth0.ageouts=1\n", shown)
 
     def test_time_in_which_nothing_happens(self) -> None:
@@ -115,13 +99,13 @@ class Ports(FilesCase):
                           for number, port in enumerate(PORTS)]
 
     def frames(self, mac: bytes, peer: str, begin: int) -> list[Frame]:
-        """Nine frames at a port, of which each fourth is of its neighbor."""
+        """Returns nine frames at a port, of which each fourth is of its neighbor."""
         octets = lldp_frame(mac, peer.encode())
         return [whole(OTHER if place % 4 else octets, START + (begin + place * 7) * SECOND)
                 for place in range(9)]
 
     def compare(self, *words: str) -> None:
-        """Sees that an agent finds the neighbors in what lldpa-capture writes."""
+        """Checks that an agent finds the neighbors in what lldpa-capture writes."""
         done = run_capture(list(words))
         self.assertEqual((done.stderr, done.returncode), ("", 0))
         shown = subprocess.run([PROGRAM, "--receive-only", *PORTS], text=True, check=True,

@@ -23,7 +23,7 @@ ORGANIZATIONAL = [tlv(127, bytes([0, 1, 2, kind]) + bytes(500)) for kind in rang
 
 
 def rest_of(connection: socket.socket) -> bytes:
-    """All that is read up to the end."""
+    """Returns all that is read up to the end."""
     octets = b""
     while True:
         try:
@@ -43,7 +43,7 @@ class Answered(unittest.TestCase):
         self.addCleanup(self.served.close)
 
     def raw(self) -> socket.socket:
-        """A connection that does as it likes."""
+        """Opens a connection that does as it likes."""
         connection = socket.socket(socket.AF_UNIX, socket.SOCK_STREAM)
         self.addCleanup(connection.close)
         connection.settimeout(20)

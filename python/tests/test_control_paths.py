@@ -1,4 +1,4 @@
-"""Who has the path of the control socket, and what users may do there."""
+"""Which process has the path of the control socket, and what users may do there."""
 
 from __future__ import annotations
 
@@ -44,7 +44,7 @@ asyncio.run(serve())
 
 
 class Paths(unittest.TestCase):
-    """Who has a path."""
+    """The processes that have a path."""
 
     def setUp(self) -> None:
         self.folder = tempfile.TemporaryDirectory()
@@ -52,7 +52,7 @@ class Paths(unittest.TestCase):
         self.path = os.path.join(self.folder.name, "control")
 
     def other(self) -> subprocess.Popen[str]:
-        """Another process that serves at the path."""
+        """Starts another process that serves at the path."""
         environment = {**os.environ, "PYTHONPATH": str(REPOSITORY / "python")}
         other = subprocess.Popen([sys.executable, "-c", SERVING, self.path], env=environment,
                                  stdout=subprocess.PIPE, text=True)
@@ -137,7 +137,7 @@ class Paths(unittest.TestCase):
 
 
 class Removed(unittest.TestCase):
-    """A control socket that was removed is made anew."""
+    """A control socket that was removed is made again."""
 
     def test_it_is_there_again_also_with_its_folder(self) -> None:
         with Served() as served:
@@ -153,10 +153,10 @@ class Removed(unittest.TestCase):
 
 @unittest.skipUnless(os.geteuid() == 0, "only root can ask as another user")
 class Permission(unittest.TestCase):
-    """What users may do who are neither root nor the owner."""
+    """What users may do that are neither root nor the owner."""
 
     def asker(self, path: str, *groups: int) -> subprocess.Popen[str]:
-        """A process of `nobody` that asks what it reads."""
+        """Starts a process of `nobody` that asks what it reads."""
         words = [sys.executable, "-c", ASKER, path, *map(str, groups)]
         asker = subprocess.Popen(words, stdin=subprocess.PIPE, stdout=subprocess.PIPE,
                                  stderr=subprocess.DEVNULL, text=True)
@@ -164,7 +164,7 @@ class Permission(unittest.TestCase):
         return asker
 
     def ask(self, asker: subprocess.Popen[str], line: str) -> str:
-        """The answer to that process, as it prints it; nothing where it has failed."""
+        """Returns the answer to that process, as it prints it, or nothing if it has failed."""
         assert asker.stdin is not None and asker.stdout is not None
         try:
             asker.stdin.write(line + "\n")

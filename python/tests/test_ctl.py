@@ -130,7 +130,7 @@ class Answers(Program):
         self.assertTrue(55 < len(lines[1]) <= 60 and "…" in lines[1], lines[1])
 
     def on_a_terminal(self, width: int, *words: str, before: Sequence[str] = ()) -> bytes:
-        """What lldpa-ctl writes to a terminal of that width."""
+        """Returns what lldpa-ctl writes to a terminal of that width."""
         ours, theirs = pty.openpty()
         fcntl.ioctl(theirs, termios.TIOCSWINSZ, struct.pack("HHHH", 24, width, 0, 0))
         command = [*before, CTL, "--control", self.served.path, *words]
@@ -186,8 +186,8 @@ class Faults(Program):
             accepting.join()
 
     def test_bad_words(self) -> None:
-        self.run_ctl("configure", 'a"b', status=2, said='a word with a double quote in it: a"b')
-        self.run_ctl("a\nb", status=2, said="a line has a line feed in it")
+        self.run_ctl("configure", 'a"b', status=2, said='a word contains a double quote: a"b')
+        self.run_ctl("a\nb", status=2, said="a line contains a line feed")
         for words in (["metrics", "x"], ["--json", "metrics"], ["--jso"]):
             told = subprocess.run([CTL, *words], check=False, capture_output=True, text=True)
             self.assertEqual((told.returncode, told.stdout), (2, ""))

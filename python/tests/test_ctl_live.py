@@ -1,4 +1,4 @@
-"""lldpa-ctl beside a real lldpa-live, whose ports are links to namespaces."""
+"""lldpa-ctl with a real lldpa-live, whose ports are links to namespaces."""
 
 from __future__ import annotations
 
@@ -24,16 +24,16 @@ class OnARealLink(OnLinks):
     links = 2
 
     def start_live(self, *words: str) -> Live:
-        """An lldpa-live on both links."""
+        """Starts an lldpa-live on both links."""
         return self.live("--stay", *words, "eth0", "eth1", "--", "--hostname", "lab-1")
 
     def ctl(self, live: Live, *words: str) -> str:
-        """What lldpa-ctl prints."""
+        """Returns what lldpa-ctl prints."""
         return subprocess.run([CTL, "--control", live.control, *words], check=True,
                               capture_output=True, text=True).stdout
 
     def lines_of(self, watch: subprocess.Popen[str]) -> "queue.Queue[str]":
-        """The lines of a watch, as they come."""
+        """Returns the lines of a watch, as they come."""
         assert watch.stdout is not None
         lines: "queue.Queue[str]" = queue.Queue()
         reading = threading.Thread(target=lambda stream: [lines.put(line) for line in stream],
@@ -44,7 +44,8 @@ class OnARealLink(OnLinks):
         return lines
 
     def begin(self, lines: "queue.Queue[str]", peer: Peer) -> None:
-        """Waits until a watch tells what changes: here a neighbor does until it tells the last."""
+        """Waits until a watch reports changes: here a neighbor changes until it reports the last
+        one."""
         count = 0
 
         def tells() -> bool:
@@ -137,4 +138,4 @@ class OnARealLink(OnLinks):
         self.assertIsNotNone(peer.hears())
         self.ctl(live, "configure", "system", "hostname", "of the room below")
         is_told = lambda: b"of the room below" in (peer.hears(2) or b"")
-        self.assertTrue(eventually(is_told, 15))  # the next would go after 30 all the same
+        self.assertTrue(eventually(is_told, 15))  # the next would be sent after 30 all the same

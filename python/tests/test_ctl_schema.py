@@ -1,4 +1,4 @@
-"""What `lldpa-ctl --json` prints is as its schema says."""
+"""What `lldpa-ctl --json` prints conforms to its schema."""
 from __future__ import annotations
 
 import json
@@ -28,7 +28,7 @@ class Schema(unittest.TestCase):
     """Each answer, and neighbors of real senders and made ones."""
 
     def told(self, path: str, *words: str) -> Any:
-        """What a command prints."""
+        """Returns what a command prints."""
         ran = subprocess.run([sys.executable, CTL, "--control", path, "--json", *words],
                              capture_output=True, text=True, check=True)
         return json.loads(ran.stdout)

@@ -25,7 +25,7 @@ class Watching(Program):
         self.times: list[float] = []
 
     def watch(self, *words: str, ports: Sequence[str] = ()) -> subprocess.Popen[str]:
-        """A watch that has begun."""
+        """Starts a watch, and waits until it has begun."""
         words = (CTL, "--control", self.served.path, *words, "watch", *ports)
         environment = {key: value for key, value in os.environ.items() if key != "PYTHONUNBUFFERED"}
         child = subprocess.Popen(words, stdout=subprocess.PIPE, stderr=subprocess.PIPE, text=True,
@@ -37,7 +37,7 @@ class Watching(Program):
         return child
 
     def line(self, child: subprocess.Popen[str]) -> str:
-        """Its next line; how long it took to come is noted."""
+        """Returns its next line; how long it took to come is noted."""
         assert child.stdout is not None
         began = time.monotonic()
         self.assertTrue(select.select([child.stdout], [], [], SECONDS)[0], "no line")

@@ -14,7 +14,7 @@ from judges import SAMPLES
 
 ORG = tuple((f"org.{oui}.{sample.kind[1]}", bytes.fromhex(sample.octets).hex())
             for sample in SAMPLES for oui in (sample.kind[0],))
-# one of each kind: of power via MDI that with all parts
+# one of each kind: of power via MDI the one with all parts
 EACH = tuple((key, octets) for key, octets in ORG if key != "org.00120f.3"
              and (key != "org.00120f.2" or len(octets) == 2 * 25))
 SWITCH = Neighbor(
@@ -28,7 +28,7 @@ SINCE = {("eth0", SWITCH.id): "2026-11-23T19:45:02Z"}
 
 
 def port(*neighbors: Neighbor) -> Port:
-    """A port with neighbors."""
+    """Returns a port with neighbors."""
     return Port("eth0", len(neighbors), 20, False, neighbors)
 
 

@@ -1,4 +1,4 @@
-"""Lines of who comes, changes and goes."""
+"""Lines about neighbors that come, change and leave."""
 
 from __future__ import annotations
 
@@ -9,18 +9,18 @@ from lldpa.agent.show import Identifier, Neighbor, Port
 
 
 def neighbor(number: int, port: str = "eth0", name: str = "switch") -> Neighbor:
-    """One of many."""
+    """Returns one of many."""
     return Neighbor(port, 1, Identifier("local", f"chassis-{number}"),
                     Identifier("ifname", f"swp{number}"), 120, 100, (("chassis.name", name),))
 
 
 def port(name: str, *neighbors: Neighbor) -> Port:
-    """A port that has them."""
+    """Returns a port that has them."""
     return Port(name, len(neighbors), 0, False, neighbors)
 
 
 class Lines(unittest.TestCase):
-    """What is told of the tables, one look after the other."""
+    """What is reported of the tables, one look after another."""
 
     def setUp(self) -> None:
         self.lines: list[str] = []
@@ -36,7 +36,7 @@ class Lines(unittest.TestCase):
             "eth1 changed: b swp1; chassis.name: switch -> b", "eth0 gone: switch swp2"])
 
     def test_no_more_than_a_hundred_a_minute_of_each_port(self) -> None:
-        for number in range(100):  # each but the first comes as the one before it goes
+        for number in range(100):  # each but the first comes as the one before it leaves
             self.events.take([port("eth0", neighbor(number))], number / 10)
         self.assertEqual(len(self.lines), 100)
         self.assertEqual(self.lines[-2:], ["eth0 came: switch swp49", "eth0 gone: switch swp49"])

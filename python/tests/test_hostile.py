@@ -1,4 +1,4 @@
-"""What asks, and an lldpa-live that was taken over, or is a stranger at its place."""
+"""Clients of an lldpa-live that was taken over, or that is a stranger in its place."""
 
 from __future__ import annotations
 
@@ -12,7 +12,7 @@ from contextlib import suppress
 from pathlib import Path
 
 from lldpa.client.connection import Client, Gone
-from patience import eventually
+from patience import by_the_clock, eventually
 from served import CTL, REPOSITORY
 from support import FilesCase
 
@@ -20,7 +20,7 @@ LLDPCTL = str(REPOSITORY / "bin" / "lldpctl")
 
 
 def rights_of(number: int) -> list[str]:
-    """Returns the users and groups of a process, as the kernel has them."""
+    """Returns the users and groups of a process, from the kernel."""
     lines = Path(f"/proc/{number}/status").read_text().splitlines()
     return [line for line in lines if line.startswith(("Uid:", "Gid:", "Groups:"))]
 
@@ -29,7 +29,7 @@ class Hostile(FilesCase):
     """An lldpa-live that was taken over."""
 
     def answers(self, *octets: bytes, pause: float = 0) -> str:
-        """The path of a socket at which the one who asks is sent these octets."""
+        """Returns the path of a socket at which each client is sent these octets."""
         path = str(self.folder / f"control-{len(os.listdir(self.folder))}")
         listening = socket.socket(socket.AF_UNIX, socket.SOCK_STREAM)
         self.addCleanup(listening.close)
@@ -54,6 +54,7 @@ class Hostile(FilesCase):
             self.assertEqual(told.stdout.decode(), "local-chassis.name=\\x1b]0;x\\x07\\x9b2J"
                              "\\xe2\\x80\\xae\n")
 
+    @by_the_clock
     def test_an_octet_a_second_does_not_hold_it(self) -> None:
         path = self.answers(b"=1\n", *[b"a"] * 600, pause=0.1)
         with Client(path, seconds=1) as client, self.assertRaises(socket.timeout):
@@ -65,7 +66,7 @@ class Hostile(FilesCase):
     def test_neither_a_line_nor_an_answer_is_without_end(self) -> None:
         for octets, text in ((b"=1\n" + b"a" * 70_000, "a line of more than 64 kB"),
                              (b"=99999999\n" + b"\n" * 9_000_000, "more than 128 MB"),
-                             (b"=" + b"9" * 5000 + b"\n", "no answer of lldpa-live")):
+                             (b"=" + b"9" * 5000 + b"\n", "not an answer of lldpa-live")):
             with Client(self.answers(octets, pause=30)) as client:
                 with self.assertRaisesRegex(Gone, text):
                     client.ask("update")

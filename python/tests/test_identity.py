@@ -3,8 +3,6 @@
 from __future__ import annotations
 
 import os
-import re
-import shutil
 import signal
 import subprocess
 import tempfile
@@ -12,28 +10,24 @@ import time
 import unittest
 from pathlib import Path
 
-from lldpa.client import since_of
 from lldpa.live.identity import chassis_address, description, management_address
 from lldpa.live.links import LinkNews
-from lldpa.live.patterns import NoPorts, first_ports, ports_of
 
 from running_live import Live, OnLinks, on_links
 from patience import eventually
-from served import numbered
-from wires import Peer, inside, ip
-
-LLDPD = shutil.which("lldpd")
+from real_lldpd import Lldpd, beside_lldpd
+from wires import inside, ip
 
 
 def one(number: int, name: str, kind: str = "", permanent: bytes = b"",
         is_ethernet: bool = True) -> LinkNews:
-    """An interface of that kind, whose address ends with its number."""
+    """Returns an interface of that kind, whose address ends with its number."""
     return LinkNews(number, name, True, True, is_ethernet, bytes([2, 0, 0, 0, 0, number]), kind,
                 permanent)
 
 
 class TestChassis(unittest.TestCase):
-    """Whose address names a host."""
+    """Which address names a host."""
 
     def test_permanent_address_of_the_first_port_that_is_hardware(self) -> None:
         known = [one(2, "docker0", "bridge"), one(3, "eth9", "", b"\2perm9"),
@@ -71,71 +65,6 @@ class TestChassis(unittest.TestCase):
             self.assertIsNone(description(["/nowhere"]))
 
 
-class TestPatterns(unittest.TestCase):
-    """Ports that are given by patterns."""
-
-    def setUp(self) -> None:
-        self.found = [one(number, f"swp{number}") for number in range(1, 6)] + [
-            one(9, "veth9", "veth"), one(10, "eth0"), one(11, "swp1.5", "vlan")]
-
-    def test_patterns(self) -> None:
-        for parts, wanted in ((["swp*", "!swp3"], "swp1 swp2 swp4 swp5"), (["eth0"], "eth0"),
-                              (["*", "!swp*", "!!swp2"], "swp2 eth0"), (["swp[12]"], "swp1 swp2"),
-                              (["veth9", "*"], "veth9 swp1 swp2 swp3 swp4 swp5 eth0"),
-                              (["eth7", "swp?"], "eth7 swp1 swp2 swp3 swp4 swp5"),
-                              (["veth*"], "veth9"), (["[v]eth*"], "")):
-            self.assertEqual(" ".join(ports_of(parts, self.found)), wanted, parts)
-
-    def test_none_and_too_many(self) -> None:
-        self.assertEqual(first_ports(["lan*", "!lan3"], self.found, True), [])
-        for parts, may_wait in ((["lan*"], False), (["!swp*"], True)):
-            with self.assertRaises(NoPorts):
-                first_ports(parts, self.found, may_wait)
-        with self.assertRaisesRegex(NoPorts, "65 ports, and 64 are the most.* second service"):
-            first_ports(["p*"], [one(number, f"p{number}") for number in range(65)], True)
-
-
-@on_links
-class TestLaterPorts(OnLinks):
-    """Interfaces that come later, and are given by a pattern."""
-
-    def lan(self, number: int) -> Peer:
-        """Makes a link of another name, and gives its far end."""
-        ip("link", "add", f"lan{number}", "netns", self.wires.here, "type", "veth",
-           "peer", "name", f"far{number}", "netns", self.wires.there)
-        for name, end in ((self.wires.here, f"lan{number}"), (self.wires.there, f"far{number}")):
-            ip("-n", name, "link", "set", end, "up")
-        return self.peer(f"far{number}")
-
-    def test_a_pattern_waits_and_takes_what_comes_later(self) -> None:
-        live = self.live("lan*", "!lan7", awaits=False)
-        self.assertTrue(live.says("lan* !lan7: no such interface yet; waiting for it, and until"))
-        self.assertEqual(live.ask_refused("show neighbors"), "waiting for an interface")
-        first = self.lan(1)
-        self.assertTrue(eventually(live.ask_quietly))
-        first.send(numbered(1, 500))
-        self.assertTrue(eventually(lambda: live.neighbors("lan1") == 1))
-        self.assertEqual(live.ask("configure ports lan1 lldp status rx-only"), [])
-        since = since_of(live.ask("live"))
-        self.lan(7)
-        second = self.lan(2)
-        self.assertTrue(eventually(lambda: "live.lan2.link=up" in live.ask("live")))
-        second.send(numbered(2, 500))
-        self.assertTrue(eventually(lambda: live.neighbors("lan2") == 1))
-        self.assertIsNotNone(second.hears(5))
-        self.assertEqual(live.neighbors("lan1"), 1)
-        self.assertTrue(since.items() <= since_of(live.ask("live")).items())
-        self.assertEqual([line for line in live.ask("show configuration") if "status" in line],
-                         ["configuration.lan1.status=rx-only",
-                          "configuration.lan2.status=rx-and-tx"])
-
-    def test_a_wildcard_alone_takes_no_virtual_interface(self) -> None:
-        live = self.live("*", awaits=False)
-        self.assertTrue(live.says("*: no such interface yet"))
-        self.lan(1)
-        self.assertEqual(live.ask_refused("show neighbors"), "waiting for an interface")
-
-
 @on_links
 class TestLate(OnLinks):
     """An lldpa-live that is started before its interface."""
@@ -143,14 +72,14 @@ class TestLate(OnLinks):
     links = 0
 
     def others(self) -> None:
-        """Makes what is no port and no hardware: a bridge and a pair of veths."""
+        """Makes interfaces that are neither ports nor hardware: a bridge and a pair of veths."""
         ip("-n", self.wires.here, "link", "add", "docker0", "type", "bridge")
         ip("-n", self.wires.here, "link", "add", "vethA", "type", "veth", "peer", "name", "vethB")
         for name in ("docker0", "vethA", "vethB"):
             ip("-n", self.wires.here, "link", "set", name, "up")
 
     def address(self, name: str) -> str:
-        """The address of an interface of this side."""
+        """Returns the address of an interface of this side."""
         shown = subprocess.run(["ip", "-n", self.wires.here, "-br", "link", "show", name],
                                capture_output=True, text=True, check=True).stdout
         return shown.split()[2]
@@ -175,9 +104,9 @@ class TestLate(OnLinks):
         live.signal(signal.SIGTERM)
         self.assertEqual(live.ends(), 0, live.errors())
 
-    @unittest.skipUnless(LLDPD, "it needs Debian's package lldpd")
+    @beside_lldpd
     def test_two_late_hosts_are_two_neighbors(self) -> None:
-        """Both are started before their interface, and a real lldpd hears them."""
+        """Starts both before their interface; a real lldpd hears them."""
         self.others()
         ip("-n", self.wires.there, "link", "add", "br0", "type", "bridge")
         ip("-n", self.wires.there, "link", "set", "br0", "up")
@@ -186,24 +115,16 @@ class TestLate(OnLinks):
             self.assertTrue(live.says("waiting for it"))
         for number in range(2):
             self.wires.add_link(number)
-        os.makedirs("/run/lldpd", exist_ok=True)
         os.chmod(self.wires.folder, 0o755)
-        path = os.path.join(self.wires.folder, "lldpd")
-        with inside(self.wires.there):
-            lldpd = subprocess.Popen([LLDPD, "-d", "-r", "-u", path, "-I", "peer0,peer1", "-O",
-                                      "/dev/null"], stdout=subprocess.DEVNULL,
-                                     stderr=subprocess.DEVNULL)
-        self.addCleanup(lldpd.wait)
-        self.addCleanup(lldpd.terminate)
+        lldpd = Lldpd(self.wires.there, self.wires.folder, "-r", "-I", "peer0,peer1")
+        self.addCleanup(lldpd.close)
         for live in lives:
             self.assertTrue(eventually(live.answers))
 
         def chassis() -> set[str]:
             for live in lives:
                 live.ask("update")
-            shown = subprocess.run(["lldpcli", "-u", path, "-f", "keyvalue", "show", "neighbors"],
-                                   capture_output=True, text=True, check=False).stdout
-            return set(re.findall(r"chassis\.mac=(.*)", shown))
+            return lldpd.values("peer0.chassis.mac") | lldpd.values("peer1.chassis.mac")
 
         wanted = {self.address("eth0"), self.address("eth1")}
         self.assertEqual(len(wanted), 2)
@@ -211,7 +132,8 @@ class TestLate(OnLinks):
 
 
 def asked(live: Live, line: str) -> list[str]:
-    """What lldpa-live answers, the text of a refusal too, nothing while it does not answer."""
+    """Returns what lldpa-live answers, the text of a refusal too, or nothing while it does not
+    answer."""
     try:
         return live.ask(line)
     except OSError:
@@ -284,10 +206,10 @@ class TestAnnounced(OnLinks):
 
 
 def unsent(live: Live) -> int:
-    """How many frames did not go out."""
+    """Returns how many frames were not sent."""
     return number_of(live, "unsent")
 
 
 def number_of(live: Live, name: str) -> int:
-    """A number of lldpa-live about its port."""
+    """Returns a number of lldpa-live about its port."""
     return int(dict(line.split("=") for line in live.ask("live"))[f"live.eth0.{name}"])

@@ -43,7 +43,8 @@ sys.exit(0 if finds() < 0 and ctypes.get_errno() == 126 else 1)
 
 
 class OthersFolders(FilesCase):
-    """What somebody else puts into a folder does not turn the rights of who starts a program."""
+    """What somebody else puts into a folder does not redirect the rights of those who start a
+    program."""
 
     def test_no_program_runs_code_of_its_environment(self) -> None:
         mark = self.folder / "mark"
@@ -107,7 +108,7 @@ class Namespaces(unittest.TestCase):
 
 
 class Keys(unittest.TestCase):
-    """Keys of who starts lldpa-live stay behind."""
+    """Keys of those who start lldpa-live stay behind."""
 
     @unittest.skipIf(os.geteuid(), "it wants root")
     def test_the_session_keyring_is_a_new_one(self) -> None:

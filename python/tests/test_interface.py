@@ -2,11 +2,16 @@
 
 from __future__ import annotations
 
+import asyncio
 import select
 import time
+from types import SimpleNamespace
 
 from lldpa.live.interface import Frame, Interface
 from lldpa.live.links import Links
+from lldpa.live.ports import Ports
+from lldpa.live.relay import Relay
+from lldpa.live.seconds import LEAST_CHANGE, Seconds
 from lldpa.limits import LONGEST_FRAME
 
 from running_live import OnLinks, on_links
@@ -28,7 +33,7 @@ class TestInterface(OnLinks):
         self.sender = self.peer()
 
     def number_of(self, name: str) -> int:
-        """The number of an interface of this side."""
+        """Returns the number of an interface of this side."""
         with inside(self.wires.here):
             links = Links()
             found = {news.name: news.number for news in links.first()}
@@ -36,14 +41,15 @@ class TestInterface(OnLinks):
         return found[name]
 
     def takes(self, octets: bytes, seconds: float = SECONDS) -> bool:
-        """Whether a frame from the other end is taken in time; it must then be whole."""
+        """Returns whether a frame from the other end is received in time; it must then be whole."""
         self.sender.send(octets)
         taken = [frame.octets for frame in eventually(lambda: self.interface.read(10), seconds)]
         self.assertIn(taken, ([], [octets]))
         return bool(taken)
 
     def refuses(self, octets: bytes) -> bool:
-        """Whether a frame from the other end is not taken, although it would be there by now."""
+        """Returns whether a frame from the other end is not received, although it would be there by
+        now."""
         return not self.takes(octets, 0.05)
 
     def test_what_is_taken(self) -> None:
@@ -126,3 +132,21 @@ class TestInterface(OnLinks):
         eventually(lambda: sum_of_both() >= 20_000)
         self.assertEqual(sum_of_both(), 20_000)
         self.assertGreater(self.interface.drops, 0)
+
+    def test_a_question_comes_after_a_frame_whose_stamp_is_a_little_late(self) -> None:
+        self.interface.take(self.number)
+        ports, seconds = Ports([self.interface], [], print), Seconds()
+        seconds.ahead -= 0.9 * LEAST_CHANGE  # so little is not noticed
+        frames: list[tuple[float, Frame]] = []
+
+        async def turn(most: int) -> float:
+            moment = ports.read(seconds, most)
+            frames.extend(ports.frames_until(moment))
+            return moment
+
+        for count in range(1, 101):
+            self.sender.send(numbered(count))
+            self.assertTrue(select.select([self.interface.socket], [], [], SECONDS)[0])
+            asyncio.run(Relay.catch_up(SimpleNamespace(turn=turn, ports=ports)))
+            self.assertEqual(len(frames), count)
+        ports.readable.close()

@@ -1,4 +1,4 @@
-"""What is read of organizationally specific TLVs beside what lldpcli and tshark show of them.
+"""What is read of organizationally specific TLVs, and what lldpcli and tshark show of them.
 
 `judged.json` has frames of real senders and made ones, with what lldpcli 1.0.16 and tshark 4.0.17
 showed of each; `tools/by-hand/try-details.py --save` asks them again.
@@ -10,7 +10,7 @@ import json
 import unittest
 
 from judges import Judged, compare
-from served import PROGRAM, REPOSITORY
+from served import REPOSITORY
 
 
 class BesideOthers(unittest.TestCase):
@@ -21,14 +21,14 @@ class BesideOthers(unittest.TestCase):
         self.judged = [Judged(**one) for one in json.loads(text)]
 
     def test_all_values_are_equal(self) -> None:
-        equal, differences = compare(self.judged, PROGRAM)
+        equal, differences = compare(self.judged)
         self.assertEqual(differences, [])
         self.assertGreater(equal, 13_000)
 
     def test_values_of_real_senders_are_equal(self) -> None:
         for sender, least in (("real-", 600), ("lldpd-", 300)):
             some = [one for one in self.judged if one.name.startswith(sender)]
-            equal, differences = compare(some, PROGRAM)
+            equal, differences = compare(some)
             self.assertEqual(differences, [])
             self.assertGreater(equal, least)
 
@@ -36,8 +36,8 @@ class BesideOthers(unittest.TestCase):
         one = next(one for one in self.judged if one.name == "lldpd-custom")
         for key in ("vlan.vlan-id", "port.mfs.value", "lldp-med.inventory.software.value"):
             pairs = [[name, "7" if name == key else value] for name, value in one.lldpcli]
-            self.assertEqual(len(compare([one._replace(lldpcli=pairs)], PROGRAM)[1]), 1)
+            self.assertEqual(len(compare([one._replace(lldpcli=pairs)])[1]), 1)
         for key in ("lldp.ieee.802_1.port_vlan.id", "lldp.ieee.802_3.max_frame_size"):
             told = [[[name, "7" if name == key else value] for name, value in tlv]
                     for tlv in one.tshark]
-            self.assertEqual(len(compare([one._replace(tshark=told)], PROGRAM)[1]), 1)
+            self.assertEqual(len(compare([one._replace(tshark=told)])[1]), 1)

@@ -1,4 +1,4 @@
-"""LinkNews of interfaces, as rtnetlink tells them."""
+"""LinkNews of interfaces, as rtnetlink reports them."""
 
 from __future__ import annotations
 
@@ -27,7 +27,7 @@ class TestLinks(OnLinks):
         self.addCleanup(self.news.close)
 
     def says(self, **wanted: object) -> bool:
-        """Whether news come that are so."""
+        """Returns whether such news come."""
         def holds() -> bool:
             select.select([self.news.socket], [], [], 0.1)
             return any(all(getattr(news, key) == value for key, value in wanted.items())
@@ -86,7 +86,7 @@ class TestLinks(OnLinks):
 
 
 class TestParted(unittest.TestCase):
-    """Which news go before the frames."""
+    """Which news are given before the frames."""
 
     def test_news_up_to_the_last_time_that_each_ran(self) -> None:
         def one(number: int, is_running: bool) -> LinkNews:

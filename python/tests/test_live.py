@@ -34,17 +34,17 @@ class TestWords(unittest.TestCase):
                 (["eth0.5"], "a VLAN interface cannot be a port"),
                 (["0123456789abcdef"], "1 to 15"),
                 (["eth0", "eth0"], "same port twice"),
-                ([f"p{number}" for number in range(65)], "64 are the most"),
-                (["--log-most", "0", "eth0"], "no number from 1"),
-                (["--log-most", "1e3", "eth0"], "no number from 1"),
+                ([f"p{number}" for number in range(65)], "an agent has at most 64"),
+                (["--log-most", "0", "eth0"], "not a number from 1"),
+                (["--log-most", "1e3", "eth0"], "not a number from 1"),
                 (["--once", "-1", "eth0"], "--once"),
-                (["--connect", "65536", "eth0"], "no number from 1 to 65535"),
+                (["--connect", "65536", "eth0"], "not a number from 1 to 65535"),
                 (["--nonsense", "eth0"], "--nonsense"),
                 (["--con", "4711", "eth0"], "--con"),
-                (["eth0", "--", "eth1"], "behind -- stand options of lldpa alone"),
-                (["eth0", "--", "--mac", "a", "b"], "behind -- stand options of lldpa alone"),
+                (["eth0", "--", "eth1"], "only options of lldpa may follow --"),
+                (["eth0", "--", "--mac", "a", "b"], "only options of lldpa may follow --"),
                 (["eth0", "--", "--mac", "a", "--mac=b"], "--mac is given twice"),
-                (["eth0", "--", "--listen", "1"], "--listen is no option")):
+                (["eth0", "--", "--listen", "1"], "--listen cannot be used with lldpa-live")):
             with self.subTest(words):
                 ended = run(*words)
                 self.assertEqual(ended.returncode, 2)
@@ -78,7 +78,7 @@ class TestWords(unittest.TestCase):
 
 @on_links
 class TestStart(OnLinks):
-    """What it wants to begin."""
+    """What it needs to begin."""
 
     def test_only_existing(self) -> None:
         live = self.live("--only-existing", "eth0", "eth5")
@@ -147,7 +147,7 @@ class TestTerminal(OnLinks):
         self.begun = self.live("eth0", stdin=theirs, stdout=theirs)
 
     def read(self, until: str) -> str:
-        """What stands on the terminal, up to a text."""
+        """Returns what the terminal shows, up to a text."""
         text = ""
         while until not in text and select.select([self.ours], [], [], SECONDS)[0]:
             text += os.read(self.ours, 4096).decode()

@@ -1,4 +1,4 @@
-"""How lldpa-live ends, whatever stands in its way, and what rights it has meanwhile."""
+"""How lldpa-live ends, even if something hinders it, and what rights it has before."""
 
 from __future__ import annotations
 
@@ -16,7 +16,7 @@ from served import PROGRAM, numbered
 
 @on_links
 class TestEnds(OnLinks):
-    """Each end takes leave of the peers, soon."""
+    """Each end withdraws from the peers, soon."""
 
     @by_the_clock
     def test_each_signal_sends_shutdown_frames(self) -> None:
@@ -100,7 +100,7 @@ class TestEnds(OnLinks):
     def test_killed_agent_is_told(self) -> None:
         live = self.live("eth0")
         os.kill(live.agent(), signal.SIGKILL)
-        self.assertTrue(live.says("another one takes its place"))
+        self.assertTrue(live.says("another one replaces it"))
         self.assertTrue(eventually(live.ask_quietly))
         os.kill(live.agent(), signal.SIGKILL)
         self.assertEqual(live.ends(3), 1)
@@ -147,14 +147,14 @@ class TestEnds(OnLinks):
 
 
 def is_caught(pid: int, number: int) -> bool:
-    """Whether a process does something of its own at a signal."""
+    """Returns whether a process has a handler of its own for a signal."""
     status = Path(f"/proc/{pid}/status").read_text()
     caught = next(line for line in status.splitlines() if line.startswith("SigCgt:"))
     return bool(int(caught.split()[1], 16) >> number - 1 & 1)
 
 
 def write_some(number: int) -> bool:
-    """Fills a pipe; False once it is full."""
+    """Fills a pipe; returns False once it is full."""
     try:
         return os.write(number, b"x" * 4096) > 0
     except BlockingIOError:
@@ -226,7 +226,7 @@ class TestControlPath(OnLinks):
 
 
 def asked_by(before: list[str], control: str, line: str) -> str:
-    """What lldpa-ctl says to a user."""
+    """Returns what lldpa-ctl says to a user."""
     ctl = Path(__file__).resolve().parents[2] / "bin" / "lldpa-ctl"
     run = subprocess.run([*before, PYTHON, str(ctl), "--control", control, *line.split()],
                          capture_output=True, text=True)

@@ -10,15 +10,16 @@ import time
 from pathlib import Path
 
 from lldpa.client import Client
+from lldpa.live.bucket import A_SECOND, AT_ONCE
 
 from running_live import Live, OnLinks, is_full, on_links
-from patience import SECONDS, by_the_clock, eventually
+from patience import SECONDS, by_the_clock, eventually, mostly
 from served import numbered
 from wires import flood
 
 WITHOUT_END = 1_000_000_000
 QUESTIONS = 100
-# an answer that takes longer is late; a machine that stands still makes some late, and not more
+# an answer for which lldpa-live works longer is late
 LATE = 0.1
 MOST_LATE = QUESTIONS // 10
 MOST_KIB = 40_000
@@ -26,21 +27,19 @@ MOST_KIB = 40_000
 FRAMES = [numbered(number) for number in range(200)]
 
 
-def seconds_to_answer(client: Client, line: str) -> float:
-    """How long the answer to a question takes."""
-    began = time.monotonic()
-    client.ask(line)
-    return time.monotonic() - began
+def spent(live: Live) -> float:
+    """Returns the processor time of lldpa-live, in seconds, whatever else the machine does."""
+    return int(Path(f"/proc/{live.process.pid}/schedstat").read_text().split()[0]) / 1e9
 
 
 def resident(live: Live) -> int:
-    """The greatest resident set of lldpa-live, in KiB."""
+    """Returns the greatest resident set of lldpa-live, in KiB."""
     status = Path(f"/proc/{live.process.pid}/status").read_text()
     return int(re.search(r"VmHWM:\s*(\d+)", status)[1])
 
 
 def numbers(live: Live) -> dict[str, int]:
-    """How many frames were dropped, and how many were received."""
+    """Returns how many frames were dropped, and how many were received."""
     shown = "\n".join(live.ask("live") + live.ask("show statistics"))
     return {name: int(re.search(rf"[.]{name}=(\d+)$", shown, re.M)[1])
             for name in ("kernel-drops", "limit-drops", "received")}
@@ -57,11 +56,17 @@ class TestFlood(OnLinks):
         self.addCleanup(sender.wait)
         self.addCleanup(sender.kill)
         self.assertTrue(eventually(lambda: numbers(live)["received"]))
+        marks = [(time.monotonic(), spent(live))]
         with contextlib.closing(Client(live.control)) as client:
-            times = [seconds_to_answer(client, "show statistics") for _ in range(QUESTIONS)]
+            for _ in range(QUESTIONS):
+                client.ask("show statistics")
+                marks.append((time.monotonic(), spent(live)))
         self.assertIsNone(sender.poll())
-        late = sorted(seconds for seconds in times if seconds > LATE)
+        times, worked = ([after[at] - before[at] for before, after in zip(marks, marks[1:])]
+                         for at in range(2))
+        late = sorted(seconds for seconds in worked if seconds > LATE)
         self.assertLessEqual(len(late), MOST_LATE, late)
+        self.assertLess(mostly(times), 1)
         self.assertLess(resident(live), MOST_KIB)
 
     def test_what_the_kernel_dropped_is_told(self) -> None:
@@ -74,8 +79,19 @@ class TestFlood(OnLinks):
         told = numbers(live)
         self.assertEqual(sum(told.values()), 20_000, told)
         self.assertGreater(told["kernel-drops"], 0)
-        self.assertTrue(live.says("frames were dropped that came faster than 64 a second at a port:"
+        self.assertTrue(live.says("frames over the limit of 64 a second for a port were dropped:"
                                   " eth0 ") or not told["limit-drops"])
+
+    def test_no_more_than_64_a_second_reach_the_agent(self) -> None:
+        live, peer = self.live("eth0", "--", "--receive-only"), self.peer()
+        began = time.monotonic()
+        for _ in range(50):
+            for octets in FRAMES[:100]:
+                peer.send(octets)
+            time.sleep(0.02)
+        self.assertTrue(eventually(lambda: sum(numbers(live).values()) == 5000))
+        most = AT_ONCE + A_SECOND * (time.monotonic() - began + 1)
+        self.assertLessEqual(numbers(live)["received"], most)
 
     def test_hundred_frames_find_room_while_lldpa_live_sleeps(self) -> None:
         live, peer = self.live("eth0", "--", "--receive-only"), self.peer()
@@ -134,7 +150,7 @@ class TestManyPorts(OnLinks):
 
 
 def is_connected(client: socket.socket) -> bool:
-    """Whether the other end is still there, which may have no room for what is sent."""
+    """Returns whether the other end still exists, which may have no room for what is sent."""
     with contextlib.suppress(BlockingIOError):
         try:
             client.send(b"\n")

@@ -2,6 +2,7 @@
 
 from __future__ import annotations
 
+import os
 import re
 import signal
 import subprocess
@@ -26,7 +27,7 @@ class TestLog(OnLinks):
         self.folder = Path(self.wires.folder, "log")
 
     def logs(self) -> list[Path]:
-        """The files of the folder, oldest first."""
+        """Returns the files of the folder, oldest first."""
         return sorted(self.folder.iterdir(), key=lambda path: path.stat().st_mtime_ns)
 
     @by_the_clock
@@ -57,7 +58,7 @@ class TestLog(OnLinks):
         self.assertNotIn(b"nonsense", log)
 
     def live_a_little(self, live: Live, peer: Peer) -> None:
-        """Frames, questions, refused lines, links, seconds that were missed."""
+        """Sends frames, questions, refused lines, links, seconds that were missed."""
         for frame in (numbered(1), numbered(2), numbered(3, ttl=1)):
             peer.send(frame)
         self.assertTrue(eventually(lambda: "lldp.eth0.ageouts=1" in live.ask("show statistics")))
@@ -111,7 +112,7 @@ class TestLog(OnLinks):
         for number in range(60):
             peer.send(numbered(number).ljust(1500, b"\0"))
             time.sleep(0.01)
-        self.assertTrue(live.says("stops, lldpa-live goes on: No space left on device"))
+        self.assertTrue(live.says("stops, lldpa-live continues: No space left on device"))
         self.assertIn("live.log=full", live.ask("live"))
         self.assertTrue(self.logs()[0].read_bytes().endswith(b"\n"))
         live.signal(signal.SIGTERM)
@@ -127,7 +128,7 @@ class TestLog(OnLinks):
 
 @on_links
 class TestOnce(OnLinks):
-    """A table once all are there."""
+    """A table as soon as each port has a neighbor."""
 
     links = 2
 
@@ -143,6 +144,17 @@ class TestOnce(OnLinks):
         self.assertEqual([line.split()[0] for line in table], ["PORT", "eth0", "eth1", "2"])
         self.assertIsNotNone(peers[0].hears(1, ttl=0))
 
+    def test_it_waits_while_the_agent_does_not_answer(self) -> None:
+        peers = [self.peer("peer0"), self.peer("peer1")]
+        live = self.live("--once", "600", "eth0", "eth1", awaits=False, reads_output=False)
+        self.assertIsNotNone(peers[0].hears())
+        os.kill(live.agent(), signal.SIGSTOP)
+        self.assertTrue(live.says("another one replaces it"))
+        for peer, number in zip(peers, (1, 2)):
+            peer.send(numbered(number))
+        self.assertEqual(live.ends(), 0)
+
+    @by_the_clock
     def test_status_tells_that_one_was_missing(self) -> None:
         peer = self.peer("peer1")
         live = self.live("--once", "1", "eth0", "eth1", awaits=False, reads_output=False)
@@ -170,7 +182,7 @@ class TestConnect(OnLinks):
         eventually(lambda: "4711" in self.listening())
 
     def listening(self) -> str:
-        """What listens in the namespace."""
+        """Returns what listens in the namespace."""
         with inside(self.wires.here):
             return subprocess.run(["ss", "-tln"], capture_output=True, text=True).stdout
 
@@ -204,14 +216,14 @@ class TestConnect(OnLinks):
         self.assertTrue(eventually(lambda: "4711" in self.listening()))
         live = self.live("--connect", "4711", "eth0", awaits=False)
         self.assertEqual(live.ends(), 1)
-        self.assertIn("another user listens at port 4711, with the number 12345", live.errors())
+        self.assertIn("another user, 12345, listens on port 4711", live.errors())
 
     @by_the_clock
     def test_agent_of_other_ports_is_told(self) -> None:
         self.listener(1)
         live = self.live("--connect", "4711", "eth1")
         self.assertEqual(live.ends(), 1)
-        self.assertIn("the agent refused what lldpa-live told it: error: no such port\n",
+        self.assertIn("the agent refused a line of lldpa-live: error: no such port\n",
                       live.errors())
 
     def test_nobody_listens(self) -> None:

@@ -1,4 +1,5 @@
-"""lldpcli's forms, beside what lldpcli printed of the same frames, and of texts with each octet."""
+"""lldpcli's forms, compared with what lldpcli printed of the same frames, and of texts with each
+octet."""
 
 from __future__ import annotations
 
@@ -25,7 +26,7 @@ PORTS = ["swp1", "swp2"]
 
 
 def told_of(agent: Agent, frames: Iterable[Tuple[str, bytes]]) -> Told:
-    """What lldpa-live tells that hears frames at ports."""
+    """Returns the answers of an lldpa-live that hears frames at ports."""
     senders = Senders()
     for port, octets in frames:
         agent.frame(port, octets)
@@ -35,7 +36,7 @@ def told_of(agent: Agent, frames: Iterable[Tuple[str, bytes]]) -> Told:
 
 
 def tree_of(frames: Iterable[Tuple[str, bytes]]) -> Node:
-    """The neighbors in detail of an agent that hears frames."""
+    """Returns the neighbors in detail of an agent that hears frames."""
     with Agent.start(PORTS, PROGRAM, receive_only=True, max_neighbors=128) as agent:
         return neighbors(told_of(agent, frames), None, Depth.DETAILS)
 
@@ -44,7 +45,7 @@ class BesideLldpcli(unittest.TestCase):
     """The forms of frames that a real lldpd heard."""
 
     def compare(self, tree: Node, name: str, forms: Iterable[str]) -> None:
-        """Compares what is printed with what lldpcli did."""
+        """Compares what is printed with what lldpcli printed."""
         for form in forms:
             ours, theirs = FORMS[form](tree), lldpd_heard.sample(name, form).decode()
             ours = re.sub(r"[0-9]+ days, [0-9:]{8}", "0 day, 00:00:00", ours)
@@ -94,7 +95,7 @@ class Texts(unittest.TestCase):
     """Names with each octet, and with some that act on a reader."""
 
     def forms_of(self, name: bytes) -> Dict[str, str]:
-        """The forms of a neighbor with a name."""
+        """Returns the forms of a neighbor with a name."""
         octets = frame(b"\x04\x02\0\0\0\0\1", b"\x05p1", 120, tlv(5, name), tlv(6, name))
         tree = tree_of([("swp1", octets)])
         return {form: made(tree) for form, made in FORMS.items()}
@@ -156,7 +157,7 @@ class Numbers(unittest.TestCase):
 
 
 class Commands(unittest.TestCase):
-    """The words that are taken."""
+    """The words that are accepted."""
 
     def test_of_lldpcli(self) -> None:
         for words, wanted in (

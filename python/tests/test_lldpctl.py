@@ -28,7 +28,7 @@ class Program(unittest.TestCase):
         self.served.frame("eth1", numbered(7, 120, tlv(5, b"there"), vlan))
 
     def run_it(self, program: str, *words: str, status: int = 0, said: str = "") -> str:
-        """What it prints; its status and what it says are looked at."""
+        """Returns what it prints; checks its status and its message."""
         told = subprocess.run([program, "-u", self.served.path, *words], check=False,
                               capture_output=True, text=True)
         name = program.rpartition("/")[2]
@@ -93,7 +93,7 @@ class Answers(Program):
 
 
 class Handed(Program):
-    """What is handed to lldpa-live."""
+    """What is passed on to lldpa-live."""
 
     def test_configuration(self) -> None:
         for words in ("configure lldp tx-interval 20", "conf lldp tx-ho 3",
@@ -190,10 +190,10 @@ class Refusals(Program):
 
     def test_a_configuration_that_is_not_told(self) -> None:
         self.served.hidden = {b"show configuration", b"show chassis"}
-        of_host, numbers = "what this host says", "the configuration"
+        of_host, numbers = "what this host announces", "the configuration"
         for word, what in (("interfaces", of_host), ("chassis", of_host),
                            ("configuration", numbers)):
-            self.run_it(LLDPCTL, "show", word, status=1, said=f"lldpa-live does not tell {what}")
+            self.run_it(LLDPCTL, "show", word, status=1, said=f"lldpa-live did not report {what}")
 
     def test_help(self) -> None:
         for program in (LLDPCTL, LLDPCLI):

@@ -20,7 +20,7 @@ LONG = [numbered(number, 600 + number, tlv(5, b"n%d" % number)).ljust(1514, b"\0
 
 
 def log_process(live: Live) -> int:
-    """The process that writes lldpa-live's log."""
+    """Returns the process that writes lldpa-live's log."""
     pid = live.process.pid
     children = Path(f"/proc/{pid}/task/{pid}/children").read_text().split()
     return next(int(one) for one in children if int(one) != live.agent())
@@ -37,7 +37,7 @@ class TestFiles(OnLinks):
         self.folder = Path(self.wires.folder, "log")
 
     def size(self) -> int:
-        """The octets of all logs."""
+        """Returns the octets of all logs."""
         return sum(path.stat().st_size for path in self.folder.iterdir())
 
     def test_each_file_replays_alone_to_the_tables_that_were_there(self) -> None:
@@ -92,14 +92,14 @@ class TestFiles(OnLinks):
         os.chmod(self.wires.folder, 0o777)
         self.assertTrue(eventually(lambda: "live.log=on" in live.ask("live")))
         self.assertEqual(len(list(self.folder.iterdir())), 1)
-        self.assertTrue(live.says("the log goes on in"))
+        self.assertTrue(live.says("the log continues in"))
 
     def test_folder_without_permission_is_told_at_the_start(self) -> None:
         self.folder.mkdir(mode=0o755)
         (self.folder / "of-somebody-else").touch()
         live = self.live("--log", str(self.folder), "eth0")
         self.assertEqual(live.ends(), 1)
-        self.assertIn(f"{self.folder}: the log's user may make no files there", live.errors())
+        self.assertIn(f"{self.folder}: the log's user may not create files there", live.errors())
 
     def test_folder_that_has_logs_alone_is_taken(self) -> None:
         self.folder.mkdir(mode=0o755)
@@ -115,12 +115,12 @@ class TestFiles(OnLinks):
         writer = log_process(live)
         self.addCleanup(lambda: os.path.exists(f"/proc/{writer}") and os.kill(writer, 9))
         os.kill(writer, signal.SIGSTOP)
-        self.assertTrue(live.says("has stood still for 5 seconds"))
+        self.assertTrue(live.says("has made no progress for 5 seconds"))
         self.assertIn("live.log=stalled", live.ask("live"))
         peer.send(numbered(1))
         self.assertTrue(eventually(live.neighbors, 1))
         os.kill(writer, signal.SIGCONT)
-        self.assertTrue(live.says("the log goes on in"))
+        self.assertTrue(live.says("the log continues in"))
         self.assertTrue(eventually(lambda: len(list(self.folder.iterdir())) == 2))
         self.assertIn("live.log-lines-lost=0", live.ask("live"))
         os.kill(writer, signal.SIGSTOP)
@@ -165,14 +165,14 @@ class TestFrozenDisk(OnLinks):
         peer, live = self.peer(), self.live("--log", str(self.folder), "eth0")
         self.assertTrue(eventually(lambda: list(self.folder.glob("*.trace"))))
         self.freeze()
-        self.assertTrue(live.says("has stood still for 5 seconds"))
+        self.assertTrue(live.says("has made no progress for 5 seconds"))
         live.ask("configure lldp tx-interval 1")
         self.assertIsNotNone(peer.hears())
         began = time.monotonic()
         self.assertIn("lldp.eth0.neighbors=0", live.ask("show neighbors"))
         self.assertLess(time.monotonic() - began, 1)
         subprocess.run(["fsfreeze", "-u", self.folder], check=True)
-        self.assertTrue(live.says("the log goes on in"))
+        self.assertTrue(live.says("the log continues in"))
         self.assertTrue(eventually(lambda: len(list(self.folder.glob("*.trace"))) == 2))
         self.freeze()
         told = live.seconds_told()

@@ -1,4 +1,4 @@
-"""When the tables are looked at: each time that they may be others, and else not."""
+"""When the tables are looked at: each time that they may have changed, and only then."""
 
 from __future__ import annotations
 
@@ -18,7 +18,7 @@ FOREVER = 1e9
 
 
 class BesideAnAgent(unittest.TestCase):
-    """Whatever an agent is told, nothing is new in its tables unless a look is due."""
+    """Whatever an agent is sent, nothing is new in its tables unless a look is due."""
 
     def setUp(self) -> None:
         self.agent = Agent.start(["eth0", "eth1"], PROGRAM, receive_only=True, max_neighbors=3)
@@ -30,7 +30,7 @@ class BesideAnAgent(unittest.TestCase):
         self.look(self.ports())
 
     def ports(self) -> Sequence[Port]:
-        """The tables as they are."""
+        """Returns the present tables."""
         return self.agent.show("neighbors").ports
 
     def look(self, ports: Sequence[Port]) -> None:
@@ -41,8 +41,8 @@ class BesideAnAgent(unittest.TestCase):
         self.made += 1
 
     def tell(self, line: str) -> None:
-        """Tells the agent and the looks a line, and looks if that is due. If not, nothing is new
-        but what they are told again is theirs."""
+        """Sends the agent and the looks a line, and looks if that is due. If it is not due, checks
+        that the tables have nothing new."""
         word, port, digits, *_ = [*line.split(" "), "", ""]
         answer = self.agent.tell([line])
         self.looks.take_line(line.encode())
@@ -78,7 +78,8 @@ class BesideAnAgent(unittest.TestCase):
 
 
 def a_line(chance: random.Random) -> str:
-    """Something that an agent is told: mostly frames of a few senders, who mostly say the same."""
+    """Returns something that an agent is sent: mostly frames of a few senders that mostly repeat
+    themselves."""
     port = chance.choice(["eth0", "eth1"])
     kind = chance.randrange(20)
     if kind < 13:

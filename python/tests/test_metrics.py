@@ -20,12 +20,12 @@ Series = dict[tuple[str, tuple[tuple[str, str], ...]], int]
 
 
 def read(value: str) -> str:
-    """The value of a label, as Prometheus reads it."""
+    """Returns the value of a label, as Prometheus reads it."""
     return re.sub(r"\\(.)", lambda found: {"n": "\n"}.get(found[1], found[1]), value)
 
 
 def series_of(lines: list[str]) -> Series:
-    """Each sample by its name and labels, read as Prometheus does."""
+    """Returns each sample by its name and labels, read as Prometheus does."""
     series: Series = {}
     for line in lines:
         if line.startswith("#"):
@@ -39,14 +39,14 @@ def series_of(lines: list[str]) -> Series:
 
 
 class Metrics(unittest.TestCase):
-    """What lldpa-live tells for Prometheus."""
+    """What lldpa-live reports to Prometheus."""
 
     def setUp(self) -> None:
         self.served = Served(max_neighbors=3)
         self.addCleanup(self.served.close)
 
     def shown(self) -> Series:
-        """The metrics as they are now."""
+        """Returns the present metrics."""
         with self.served.client() as client:
             lines = client.ask("show neighbors") + client.ask("show statistics")
             return series_of(metrics(read_show(lines), client.ask("live")))
@@ -76,7 +76,7 @@ class Metrics(unittest.TestCase):
             ("lldpa_left_out_total", "eth0"): 3, ("lldpa_left_out_total", "eth1"): 0})
 
     def own(self, *lines: bytes) -> Series:
-        """What an lldpa-live that tells these lines as well has of itself."""
+        """Returns the metrics about itself of an lldpa-live that also writes these lines."""
         lines_by_key = {line.partition(b"=")[0]: line for line in (*LIVE_LINES, *lines)}
         self.served.live_lines = list(lines_by_key.values())
         return {(name, labels): value for (name, labels), value in self.shown().items()

@@ -10,10 +10,11 @@ import unittest
 
 from heard import Heard
 from lldpa.live.notify import Manager
+from patience import by_the_clock
 
 
 class Telling(unittest.TestCase):
-    """What is told, and when."""
+    """What is reported, and when."""
 
     def setUp(self) -> None:
         folder = tempfile.TemporaryDirectory()
@@ -22,7 +23,7 @@ class Telling(unittest.TestCase):
         self.addCleanup(self.heard.close)
 
     def manager(self, **environment: str) -> Manager:
-        """One that tells the test."""
+        """Returns one that reports to the test."""
         manager = Manager({"NOTIFY_SOCKET": self.heard.path, **environment})
         self.addCleanup(manager.close)
         return manager
@@ -50,6 +51,7 @@ class Telling(unittest.TestCase):
         self.assertEqual(told, ["STATUS=1 neighbor", "STATUS=no neighbors", "STATUS=1 neighbor"])
         self.assertEqual(self.heard.next(0), [])
 
+    @by_the_clock
     def test_signs_of_life_are_as_many_as_are_wanted(self) -> None:
         manager = self.manager(WATCHDOG_USEC="800000", WATCHDOG_PID=str(os.getpid()))
         began = time.monotonic()
@@ -88,6 +90,7 @@ class Telling(unittest.TestCase):
             self.manager(NOTIFY_SOCKET="@" + name).ready()
             self.assertEqual(abstract.recv(100), b"READY=1")
 
+    @by_the_clock
     def test_nobody_who_reads_is_waited_for(self) -> None:
         manager = self.manager()
         began = time.monotonic()

@@ -1,4 +1,4 @@
-"""Organizationally specific TLVs: what each says, and that nothing else is ever read of it."""
+"""Organizationally specific TLVs: what each says, and that nothing else is ever read from it."""
 
 from __future__ import annotations
 
@@ -12,7 +12,7 @@ from lldpa.organizational.kinds import READERS
 
 
 def changed(octets: bytes) -> list[bytes]:
-    """The octets with each of them changed to each other value."""
+    """Returns the octets with each of them changed to each other value."""
     return [octets[:at] + bytes([value]) + octets[at + 1:]
             for at in range(len(octets)) for value in range(256) if value != octets[at]]
 
@@ -48,7 +48,8 @@ class EachKind(unittest.TestCase):
                 self.assertEqual(count, sample.changed)
 
     def check(self, sample: Sample, octets: bytes) -> bool:
-        """Whether octets are read; if so, what is read has all of them, and in `said_by` too."""
+        """Returns whether octets are read; if so, what is read has all of them, and in `said_by`
+        too."""
         tlv = read_tlv(*sample.kind, octets)
         oui, subtype = sample.kind
         shown = (f"{oui}.{subtype}", octets.hex())

@@ -1,4 +1,5 @@
-"""Standard output that is closed, full or read no more: it is told, and the status says so."""
+"""Standard output that is closed, full or no longer read: it is reported, and the status says
+so."""
 from __future__ import annotations
 
 import os
@@ -16,15 +17,15 @@ FULL = "standard output: No space left on device\n"
 
 
 def run_with(output: str, words: Sequence[str]) -> Tuple[int, str]:
-    """The status of a program whose standard output is redirected so, and what it says."""
+    """Returns the status of a program whose standard output is redirected so, and what it says."""
     ran = subprocess.run(["bash", "-c", f'"$@" {output}', "bash", sys.executable, *words],
                          stderr=subprocess.PIPE, stdin=subprocess.DEVNULL, check=False, timeout=60)
     return ran.returncode, ran.stderr.decode()
 
 
 def unread(words: Sequence[str]) -> Tuple[int, str]:
-    """The status of a program whose standard output nobody reads, and what it says, which is
-    neither a complaint of that nor a traceback."""
+    """Returns the status of a program whose standard output nobody reads, and what it says, which
+    is neither a complaint about that nor a traceback."""
     reader, writer = os.pipe()
     os.close(reader)
     ran = subprocess.run([sys.executable, *words], stdout=writer, stderr=subprocess.PIPE,

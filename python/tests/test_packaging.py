@@ -38,7 +38,7 @@ FALSE = "from lldpa import Agent\nnumber: int = Agent.start(['eth0']).neighbors(
 
 
 def without_network() -> list[str]:
-    """What lets a command run without a network, where that is able."""
+    """Returns what lets a command run without a network, if that is possible here."""
     able = os.geteuid() == 0 and shutil.which("unshare")
     return ["unshare", "-n"] if able else []
 
@@ -61,7 +61,7 @@ class Installed(unittest.TestCase):
             shutil.copytree(REPOSITORY / name, cls.folder / name,
                             ignore=shutil.ignore_patterns("tests", "worked", "__pycache__"))
         plain = {key: value for key, value in os.environ.items() if not key.startswith("PIP_")}
-        plain["PIP_NO_INDEX"] = "1"  # also where the network cannot be taken away
+        plain["PIP_NO_INDEX"] = "1"  # even if the network cannot be taken away
         done = subprocess.run(
             [*without_network(), str(cls.bin("pip")), "install", "--no-cache-dir", "./python"],
             cwd=cls.folder, env=plain, capture_output=True, text=True, check=False)
@@ -71,11 +71,11 @@ class Installed(unittest.TestCase):
 
     @classmethod
     def bin(cls, name: str) -> Path:
-        """A program of the environment."""
+        """Returns a program of the environment."""
         return cls.folder / "venv" / "bin" / name
 
     def run_it(self, *words: str) -> str:
-        """What a program of the environment prints."""
+        """Returns what a program of the environment prints."""
         return subprocess.run([str(self.bin(words[0])), *words[1:]], cwd=self.folder,
                               capture_output=True, text=True, check=True).stdout
 
@@ -131,10 +131,10 @@ class Installed(unittest.TestCase):
 
 
 class Modules(unittest.TestCase):
-    """The package where it stands."""
+    """The package in its folder."""
 
     def run_module(self, *words: str) -> str:
-        """What a module prints."""
+        """Returns what a module prints."""
         path = os.pathsep.join(str(REPOSITORY / name) for name in ("python", "audit"))
         return subprocess.run([sys.executable, "-m", *words], capture_output=True, text=True,
                               check=True, env={**os.environ, "PYTHONPATH": path}).stdout

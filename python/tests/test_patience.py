@@ -15,7 +15,7 @@ class Tried(unittest.TestCase):
     """A test that fails so often, while the machine stands still for so long each time."""
 
     def ran(self, standstills: Sequence[float], failures: int) -> "tuple[bool, list[str], str]":
-        """Whether it passes in the end, what is done in turn, and what is printed."""
+        """Returns whether it passes in the end, what is done in turn, and what is printed."""
         done: list[str] = []
 
         class Case(unittest.TestCase):
@@ -71,7 +71,7 @@ class Measured(unittest.TestCase):
 
 
 class Mostly(unittest.TestCase):
-    """The times that count where some may be the machine's."""
+    """The times that count if some may be the machine's."""
 
     def test_half_of_them_may_be_long(self) -> None:
         for times, time in (([3, 9, 1], 3), ([9, 1, 9, 1], 1), ([9, 2, 9], 9), ([4], 4)):

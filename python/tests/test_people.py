@@ -15,13 +15,13 @@ HOSTILE = bytes([0x1B]) + b"[31m\r\n\x9b2J\x07\x00\xc2\x9b\xff\x7f\\"
 
 
 def neighbor(port: str, name: str, its_port: str, *said: tuple[str, str]) -> Neighbor:
-    """A neighbor with a name."""
+    """Returns a neighbor with a name."""
     return Neighbor(port, 1, Identifier("mac", "02:00:00:00:00:01"),
                     Identifier("ifname", its_port), 120, 98, (("chassis.name", name), *said))
 
 
 def port(name: str, *neighbors: Neighbor, too_many: bool = False) -> Port:
-    """A port and its neighbors."""
+    """Returns a port and its neighbors."""
     return Port(name, len(neighbors), 20, too_many, neighbors)
 
 
@@ -107,13 +107,13 @@ class Table(unittest.TestCase):
                        Port("p2", 128, 0, True)], 1000)
         self.assertEqual(lines, [
             "128 neighbors on 3 ports. eth0 had no room for all: raise --max-neighbors."
-            " p2 had no room for all: 128 is the most that a port can hold."])
+            " p2 had no room for all: a port holds at most 128."])
         for line in table([port("eth0", too_many=True)] * 5, 40):
             self.assertLessEqual(len(line), 40)
 
 
 class Escapes(unittest.TestCase):
-    """Nothing of a peer reaches a terminal as it is."""
+    """Nothing of a peer reaches a terminal unchanged."""
 
     def test_texts_of_a_neighbor_are_printable(self) -> None:
         management = bytes([10, 99]) + HOSTILE[:9] + bytes([2, 0, 0, 0, 1, 0])

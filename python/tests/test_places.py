@@ -1,4 +1,4 @@
-"""Who has a place at the control socket, and which frames and answers are waited for."""
+"""Which clients have a place at the control socket, and which frames and answers are waited for."""
 
 from __future__ import annotations
 
@@ -25,7 +25,7 @@ class TestPlaces(unittest.IsolatedAsyncioTestCase):
     """Places alone."""
 
     def admitted(self, of: Places, count: int, is_preferred: bool = False) -> list[Place]:
-        """So many that come at once, and those of them that are admitted."""
+        """Returns so many that come at once, and those of them that are admitted."""
         clients = [Place() for _ in range(count)]
         for client in clients:
             client.task = asyncio.ensure_future(asyncio.sleep(0))
@@ -136,7 +136,7 @@ class TestAnswers(OnLinks):
     @by_the_clock
     def test_silent_agent_is_ended(self) -> None:
         live = self.live("eth0", "eth1")
-        for ending in ("another one takes its place", "killed by SIGKILL\n"):
+        for ending in ("another one replaces it", "killed by SIGKILL\n"):
             began = time.monotonic()
             os.kill(live.agent(), signal.SIGSTOP)
             self.assertTrue(live.says(ending))

@@ -1,4 +1,4 @@
-"""lldpa-ctl metrics --output: a file that is whole, and says so where nobody answers."""
+"""lldpa-ctl metrics --output: a file that is whole, and says so if nobody answers."""
 
 from __future__ import annotations
 
@@ -17,7 +17,7 @@ from patience import SECONDS
 from served import LIVE_LINES, CTL, Served, numbered
 
 DOWN = """\
-# HELP lldpa_up Whether lldpa-live answers and its agent does, 1 or 0.
+# HELP lldpa_up Whether lldpa-live and its agent answer, 1 or 0.
 # TYPE lldpa_up gauge
 lldpa_up 0
 """
@@ -34,14 +34,14 @@ class Publishing(unittest.TestCase):
         self.file = self.folder / "lldpa.prom"
 
     def ctl(self, *words: str, said: str = "", status: int = 0, **options: Any) -> str:
-        """What lldpa-ctl prints; its status and what it says are looked at."""
+        """Returns what lldpa-ctl prints; checks its status and its message."""
         told = subprocess.run([CTL, "--control", self.served.path, "metrics", *words], check=False,
                               capture_output=True, text=True, timeout=SECONDS, **options)
         self.assertEqual((told.stderr, told.returncode), (said and f"lldpa-ctl: {said}\n", status))
         return told.stdout
 
     def names(self) -> List[str]:
-        """The files in the folder."""
+        """Returns the files in the folder."""
         return sorted(os.listdir(self.folder))
 
     def test_the_file_has_what_is_printed(self) -> None:
@@ -80,8 +80,8 @@ class Publishing(unittest.TestCase):
     def test_lldpa_live_that_ends_or_answers_nonsense_is_down(self) -> None:
         answers = {b"": "lldpa-live has ended the connection",
                    b"=1\n": "lldpa-live has ended the connection",
-                   b"hello\n": "no answer of lldpa-live: 'hello'",
-                   b"=1\nlive.began=now\n=0\n=0\n": "no answer of lldpa-live: not a time as "
+                   b"hello\n": "not an answer of lldpa-live: 'hello'",
+                   b"=1\nlive.began=now\n=0\n=0\n": "not an answer of lldpa-live: not a time as "
                    "lldpa-live writes it: 'now'",
                    b"=0\n=1\nx\n=0\n": "line 1"}
         for answer, said in answers.items():
@@ -146,7 +146,7 @@ class Publishing(unittest.TestCase):
 
 
 def answer_once(listener: socket.socket, answer: bytes) -> None:
-    """Answers who connects, whatever is asked, and ends the connection."""
+    """Answers one client, whatever it asks, and ends the connection."""
     connection, _ = listener.accept()
     with connection:
         connection.settimeout(SECONDS)

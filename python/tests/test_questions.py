@@ -21,10 +21,10 @@ LIVE = [b"live.began=2026-11-23T19:40:00Z", b"live.eth0.interface=present",
 
 
 class Told(Served):
-    """A socket with an lldpa-live that tells more of itself."""
+    """A socket with an lldpa-live that says more of itself."""
 
     async def ask(self, line: bytes) -> list[bytes]:
-        """lldpa-live's lines, or the agent's answer."""
+        """Returns lldpa-live's lines, or the agent's answer."""
         return LIVE if line == b"live" else await super().ask(line)
 
 
@@ -38,7 +38,7 @@ class Words(unittest.TestCase):
         self.served.frame("eth1", numbered(2, 60))
 
     def ctl(self, *words: str, status: int = 0) -> list[str]:
-        """What lldpa-ctl prints, or what it says where its status is another."""
+        """Returns what lldpa-ctl prints, or what it says if its status is another."""
         told = subprocess.run([CTL, "--control", self.served.path, *words], check=False,
                               capture_output=True, text=True)
         self.assertEqual(told.returncode, status, told.stderr)
@@ -46,7 +46,7 @@ class Words(unittest.TestCase):
         return (told.stderr if status else told.stdout).splitlines()
 
     def console(self, line: str) -> list[str]:
-        """What the console answers to a line, as lldpa-live's."""
+        """Returns what the console answers to a line, as lldpa-live's."""
         async def ask(asked: bytes) -> list[bytes]:
             try:
                 return await self.served.ask(asked)
@@ -56,13 +56,13 @@ class Words(unittest.TestCase):
         return [one.decode() for one in lines]
 
     def both(self, line: str) -> list[str]:
-        """What both print, which is the same."""
+        """Returns what both print, which is the same."""
         lines = self.ctl(*line.split())
         self.assertEqual(self.console(line), lines, line)
         return lines
 
     def refused(self, line: str) -> str:
-        """What both say of a line that is refused, which is the same."""
+        """Returns what both say of a line that is refused, which is the same."""
         said, = self.ctl(*line.split(), status=1)
         self.assertEqual(self.console(line), ["error: " + said[len("lldpa-ctl: "):]])
         return said[len("lldpa-ctl: "):]
@@ -185,7 +185,7 @@ class Words(unittest.TestCase):
 
 
 class WhatIsKnown(unittest.TestCase):
-    """The commands that are known here, and what the agent has."""
+    """The commands that are known here, and the agent's."""
 
     def test_each_first_word_asks_something(self) -> None:
         for word in COMMANDS:

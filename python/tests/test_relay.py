@@ -1,4 +1,4 @@
-"""An lldpa-live between an agent and real links, and what was seen to go wrong with one."""
+"""An lldpa-live between an agent and real links, and faults that were once seen there."""
 
 from __future__ import annotations
 
@@ -15,8 +15,9 @@ from wires import Peer
 
 @on_links
 class TestTime(OnLinks):
-    """Frames and seconds go in as they came, whenever that is."""
+    """Frames and seconds are passed on as they came, whenever that is."""
 
+    @by_the_clock
     def test_stopped_lldpa_live_ages_out_nobody_who_was_heard(self) -> None:
         live, peer = self.live("eth0", "--", "--receive-only"), self.peer()
         peer.send(numbered(1, ttl=10))
@@ -61,7 +62,7 @@ class TestTime(OnLinks):
 
 @on_links
 class TestLinks(OnLinks):
-    """Links come and go, and interfaces do."""
+    """Links come up and go down, and interfaces come and go."""
 
     def test_link_that_goes_and_comes(self) -> None:
         peer, live = self.peer(), self.live("eth0")
@@ -160,7 +161,7 @@ class TestLinks(OnLinks):
 
 @on_links
 class TestSending(OnLinks):
-    """What the agent sends goes out."""
+    """What the agent sends is sent."""
 
     @by_the_clock
     def test_fast_start(self) -> None:
@@ -207,7 +208,7 @@ class TestSending(OnLinks):
 
 
 def heard_within(peer: Peer, seconds: float) -> int:
-    """How many frames come in so many seconds."""
+    """Returns how many frames come in so many seconds."""
     last, count = time.monotonic() + seconds, 0
     while (left := last - time.monotonic()) > 0:
         count += peer.hears(left) is not None
@@ -215,21 +216,22 @@ def heard_within(peer: Peer, seconds: float) -> int:
 
 
 def now() -> float:
-    """The moment by the clock that lldpa-live goes by."""
+    """Returns the moment by lldpa-live's clock."""
     return time.clock_gettime(time.CLOCK_BOOTTIME)
 
 
 def seconds_left(shown: list[str]) -> int:
-    """How long the first neighbor of a show is kept."""
+    """Returns how long the first neighbor of a show is kept."""
     return next(int(line.split("=")[1]) for line in shown if ".expires=" in line)
 
 
 def begins_of_its_seconds(live: Live) -> list[tuple[float, float]]:
-    """Between which moments it began to count seconds, by how many it has told again and again
-    for more than one second. They all overlap where none is lost or told twice."""
+    """Returns between which moments it began to count seconds, by how many it has passed on, asked
+    again and again for more than one second. They all overlap if none is lost or passed on
+    twice."""
     last, begins = now() + 1.2, []
     while (before := now()) < last:
-        live.ask("show chassis")  # which it answers when it has told the seconds up to now
+        live.ask("show chassis")  # which it answers after the seconds up to now
         told = live.seconds_told()
         begins.append((before - told - 1, now() - told))
         time.sleep(0.02)
@@ -237,6 +239,6 @@ def begins_of_its_seconds(live: Live) -> list[tuple[float, float]]:
 
 
 def ticks_of(log: Path) -> int:
-    """The seconds of a log."""
+    """Returns the seconds of a log."""
     lines = [line.split() for line in log.read_text().splitlines() if line.startswith("tick")]
     return sum(int(words[1]) if words[1:] else 1 for words in lines)

@@ -1,4 +1,4 @@
-"""What is left to who takes over lldpa-live: LLDP frames, and no right."""
+"""What an attacker who takes over lldpa-live gets: LLDP frames, and no right."""
 
 from __future__ import annotations
 
@@ -40,7 +40,7 @@ print(what_is_refused(port.socket))
 
 
 def what_is_refused(packets: socket.socket) -> list[str]:
-    """Which of the calls that would let a packet socket read more are refused."""
+    """Returns which of the calls that would let a packet socket read more are refused."""
     code = array.array("B", struct.pack("HBBI", 6, 0, 0, 0xFFFF))
     program = struct.pack("HP", 1, code.buffer_info()[0])
     refused = []
@@ -55,7 +55,7 @@ def what_is_refused(packets: socket.socket) -> list[str]:
 
 
 def sockets_of(live: Live) -> list[socket.socket]:
-    """The packet sockets of an lldpa-live, the very ones."""
+    """Returns the packet sockets of an lldpa-live, the very same ones."""
     libc = ctypes.CDLL(None, use_errno=True)
     pid = libc.syscall(SYS_PIDFD_OPEN, live.process.pid, 0)
     found = []
@@ -76,14 +76,14 @@ def sockets_of(live: Live) -> list[socket.socket]:
 
 
 def status_of(pid: int) -> dict[str, str]:
-    """What the kernel says of a process."""
+    """Returns what the kernel says of a process."""
     lines = Path(f"/proc/{pid}/status").read_text().splitlines()
     return dict(line.split(":\t", 1) for line in lines if ":\t" in line)
 
 
 @on_links
 class TestFilter(OnLinks):
-    """The filter of a packet socket is there for good."""
+    """The filter of a packet socket stays for good."""
 
     links = 2
 
@@ -194,7 +194,7 @@ class TestSets(OnLinks):
 
 @on_links
 class Sending(OnLinks):
-    """Of what an agent wants to send, LLDP frames of this host go alone."""
+    """Of what an agent wants to send, only LLDP frames of this host are sent."""
 
     def test_what_is_an_lldp_frame_of_this_host(self) -> None:
         own, other = bytes.fromhex("02000000000a"), bytes.fromhex("02000000000b")
@@ -209,12 +209,13 @@ class Sending(OnLinks):
     def test_a_frame_from_a_foreign_address_is_not_sent(self) -> None:
         program = Path(self.wires.folder, "lldpa")
         foreign = numbered(7).hex()
-        program.write_text(f"#!/bin/sh\n(sleep 1; echo tx eth0 {foreign}) &\nexec {PROGRAM} \"$@\"")
+        program.write_text(f"#!/bin/sh\nwhile sleep 1 && echo tx eth0 {foreign}; do :; done &\n"
+                           f"exec {PROGRAM} \"$@\"")
         program.chmod(0o755)
         Path(self.wires.folder).chmod(0o755)
         peer, live = self.peer(), self.live("eth0", program=str(program))
-        self.assertTrue(live.says("the agent wanted to send what is not an LLDP frame of eth0: "
-                                  f"{foreign[:28]}; another one takes its place"))
+        self.assertTrue(live.says("the agent tried to send what is not an LLDP frame of eth0: "
+                                  f"{foreign[:28]}; another one replaces it"))
         self.assertEqual(live.ends(), 1)
         while (heard := peer.hears(0.2)) is not None:
             self.assertNotEqual(heard.hex(), foreign)

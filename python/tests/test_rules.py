@@ -1,4 +1,4 @@
-"""The alerts of share/prometheus: what they look at is there, and promtool takes them."""
+"""The alerts of share/prometheus: what they look at exists, and promtool accepts them."""
 
 from __future__ import annotations
 

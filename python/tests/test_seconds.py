@@ -11,7 +11,7 @@ from lldpa.live.seconds import Seconds
 
 
 class At:
-    """A clock that stands where it is put."""
+    """A clock that stays as it is set."""
 
     def __init__(self, moment: float) -> None:
         self.moment = moment
@@ -21,7 +21,7 @@ class At:
 
 
 class TestSeconds(unittest.TestCase):
-    """Each second is handed out once."""
+    """Each second is given out once."""
 
     def setUp(self) -> None:
         self.clock = At(1000.25)
@@ -71,7 +71,7 @@ class TestSeconds(unittest.TestCase):
 
 
 class TestNow(unittest.TestCase):
-    """The clock that it goes by."""
+    """The clock that it uses."""
 
     def test_it_is_the_one_that_goes_on_in_sleep(self) -> None:
         before = time.clock_gettime(time.CLOCK_BOOTTIME)

@@ -1,4 +1,4 @@
-"""lldpa-live as a service: what systemd hears, what metrics say, and the lines of --events."""
+"""lldpa-live as a service: what systemd receives, what metrics say, and the lines of --events."""
 
 from __future__ import annotations
 
@@ -26,11 +26,11 @@ class Service(OnLinks):
         self.addCleanup(self.heard.close)
 
     def service(self, *words: str, seconds: float = 4, **options: Any) -> Live:
-        """An lldpa-live that tells the test how it goes, with a sign of life in so many seconds."""
+        """Starts an lldpa-live that reports to the test, with a sign of life in so many seconds."""
         return self.live("--stay", *words, env=self.heard.environment(seconds), **options)
 
     def metrics(self, live: Live) -> str:
-        """What Prometheus would be told."""
+        """Returns what Prometheus would get."""
         return subprocess.run([CTL, "--control", live.control, "metrics"], check=False,
                               capture_output=True, text=True).stdout
 
@@ -73,6 +73,7 @@ class Systemd(Service):
         self.assertTrue(self.heard.hears("STOPPING=1"))
         self.assertEqual(live.ends(), 0)
 
+    @by_the_clock
     def test_signs_of_life_come_while_it_turns(self) -> None:
         live = self.service("eth0", seconds=8)
         for _ in range(3):
@@ -97,7 +98,7 @@ class Systemd(Service):
         self.assertIn("live.agent=silent", live.ask("live"))
         self.assertIn("\nlldpa_up 0\n", self.metrics(live))
         self.heard.forget()
-        self.assertFalse(self.heard.hears("WATCHDOG=1", 4))
+        self.assertFalse(self.heard.hears("WATCHDOG=1", 2.5))
         os.kill(live.agent(), signal.SIGCONT)
         self.assertTrue(self.heard.hears("WATCHDOG=1"))
         self.assertTrue(eventually(lambda: "\nlldpa_up 1\n" in self.metrics(live)))
@@ -110,10 +111,10 @@ class Systemd(Service):
 
 
 class Events(Service):
-    """Who comes, changes and goes."""
+    """Neighbors that come, change and leave."""
 
     def told(self, live: Live) -> list[str]:
-        """The lines of neighbors on standard error."""
+        """Returns the lines of neighbors on standard error."""
         return re.findall("^lldpa-live: (eth0 (?:came|changed|gone): .*)$", live.errors(), re.M)
 
     def test_a_line_for_each_that_comes_changes_or_goes(self) -> None:
@@ -173,10 +174,10 @@ class Events(Service):
         self.peer().send(numbered(1, 60, tlv(5, b"a")))
         self.assertTrue(live.says("<6>eth0 came: a p1\n"))
         os.kill(live.agent(), signal.SIGKILL)
-        self.assertTrue(live.says("<4>the agent was killed by SIGKILL; another one takes"))
+        self.assertTrue(live.says("<4>the agent was killed by SIGKILL; another one replaces"))
         self.assertTrue(eventually(live.ask_quietly))
         live.signal(signal.SIGHUP)
-        self.assertTrue(live.says("<5>the settings were read anew\n"))
+        self.assertTrue(live.says("<5>the settings were read again\n"))
         os.kill(live.agent(), signal.SIGKILL)
         self.assertEqual(live.ends(), 1)
         last = live.errors().splitlines()[-1]

@@ -32,7 +32,7 @@ class InFolder(unittest.IsolatedAsyncioTestCase):
         self.reports: list[str] = []
 
     def logs(self) -> list[Path]:
-        """The files, oldest first."""
+        """Returns the files, oldest first."""
         folder = os.open(self.folder, os.O_RDONLY)
         try:
             return [self.folder / name for name in sizes_of(folder)]
@@ -41,10 +41,10 @@ class InFolder(unittest.IsolatedAsyncioTestCase):
 
 
 class TestSession(InFolder):
-    """What comes to stand in the files."""
+    """What is written to the files."""
 
     async def session(self) -> Session:
-        """A session in the folder."""
+        """Returns a session in the folder."""
         session = Session(str(self.folder), 64, 1024, None, self.reports.append)
         self.addAsyncCleanup(session.close, 5)
         return session
@@ -105,7 +105,7 @@ class TestFiles(InFolder):
     """Files that are written and removed."""
 
     def files(self, keep: int) -> LogFiles:
-        """The files of the folder."""
+        """Returns the files of the folder."""
         files = LogFiles(str(self.folder), open_folder(str(self.folder), None), keep)
         self.addCleanup(lambda: os.close(files.folder))
         self.addCleanup(files.close)
@@ -189,7 +189,7 @@ class TestLogbook(InFolder):
             book.look()
 
     def stop(self, process: int) -> None:
-        """Stops a process, and waits until it stands still."""
+        """Stops a process, and waits until it has stopped."""
         os.kill(process, signal.SIGSTOP)
         status = Path(f"/proc/{process}/stat")
         self.assertTrue(eventually(lambda: status.read_text().rpartition(")")[2].split()[0] == "T"))

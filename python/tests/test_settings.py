@@ -5,17 +5,34 @@ from __future__ import annotations
 import codecs
 import os
 import signal
+import subprocess
 import unittest
+from contextlib import suppress
 from pathlib import Path
 
-from running_live import OnLinks, on_links
+from heard import Heard
+from running_live import PYTHON, OnLinks, on_links
 from lldpa.client.refused import explained
-from patience import eventually
-from served import PROGRAM, numbered
+from patience import SECONDS, eventually
+from served import PROGRAM, REPOSITORY, numbered
+
+# a flood of signals, none of which the event loop reads before its end
+FLOOD = """
+import asyncio, signal
+from types import SimpleNamespace
+from lldpa.live.signals import Signals
+
+async def flood():
+    Signals(asyncio.Event(), SimpleNamespace(given=SimpleNamespace(stay=True), relay=None))
+    for _ in range(3000):
+        signal.raise_signal(signal.SIGHUP)
+
+asyncio.run(flood())
+"""
 
 
 class TestExplained(unittest.TestCase):
-    """Which word is wrong, and what may stand there."""
+    """Which word is wrong, and what is allowed there."""
 
     def test_words_and_ranges(self) -> None:
         for line, text, wanted in (
@@ -54,7 +71,7 @@ class TestSettings(OnLinks):
         Path(self.wires.folder).chmod(0o755)
 
     def words(self) -> list[str]:
-        """The words of an lldpa-live with both."""
+        """Returns the words of an lldpa-live with both."""
         return ["--stay", "--config", str(self.file), "--config", str(self.folder)]
 
     def test_they_are_told_before_any_frame_goes_and_outlive_a_restart(self) -> None:
@@ -137,14 +154,14 @@ class TestSettings(OnLinks):
         self.assertIn("configuration.tx-hold=3", live.ask("show configuration"))
         self.assertIn("configuration.tx-interval=9", live.ask("show configuration"))
         live.signal(signal.SIGHUP)
-        self.assertTrue(live.says("5 settings were not taken"))
+        self.assertTrue(live.says("5 settings were not applied"))
         self.assertEqual(live.errors().splitlines()[5:10], told)
         self.assertIn("live.settings-refused=5", live.ask("live"))
-        self.assertNotIn("read anew", live.errors())
+        self.assertNotIn("were read again", live.errors())
         for path in self.folder.glob("1*.conf"):
             path.rmdir() if path.is_dir() else path.unlink()
         live.signal(signal.SIGHUP)
-        self.assertTrue(live.says("the settings were read anew"))
+        self.assertTrue(live.says("the settings were read again"))
         self.assertIn("live.settings-refused=0", live.ask("live"))
         live.signal(signal.SIGTERM)
         self.assertEqual(live.ends(), 0)
@@ -165,7 +182,30 @@ class TestSettings(OnLinks):
         os.kill(agent, signal.SIGSTOP)
         for _ in range(3000):
             live.signal(signal.SIGHUP)
-        os.kill(agent, signal.SIGCONT)
-        self.assertTrue(live.says("read anew"))
+        with suppress(ProcessLookupError):  # it is replaced if this machine stood still for long
+            os.kill(agent, signal.SIGCONT)
+        self.assertTrue(live.says("were read again"))
         live.ask("show chassis")
-        self.assertIn(live.errors().count("read anew"), (1, 2))
+        self.assertIn(live.errors().count("were read again"), (1, 2))
+
+    def test_a_flood_of_signals_is_not_reported_by_the_interpreter(self) -> None:
+        run = subprocess.run([PYTHON, "-c", FLOOD], capture_output=True, text=True, check=False,
+                             timeout=SECONDS, cwd=REPOSITORY / "python")
+        self.assertEqual((run.returncode, run.stderr), (0, ""))
+
+    def test_a_reload_that_meets_the_end_of_an_agent_is_answered(self) -> None:
+        heard = Heard(self.wires.folder)
+        self.addCleanup(heard.close)
+        self.file.write_text("configure lldp tx-hold 3\n")
+        live = self.live(*self.words(), "eth0", env=heard.environment())
+        self.assertTrue(heard.hears("READY=1"))
+        os.kill(live.agent(), signal.SIGSTOP)
+        self.file.write_text("configure lldp tx-hold 0\nconfigure lldp tx-interval 7\n")
+        live.signal(signal.SIGHUP)
+        self.assertTrue(live.says("another one replaces it"))
+        self.assertTrue(live.says("1 settings were not applied"))
+        self.assertTrue(heard.hears("READY=1"))
+        self.assertIn("configuration.tx-interval=7", live.ask("show configuration"))
+        heard.forget()
+        said = [datagram[0] for datagram in heard.datagrams]
+        self.assertEqual((said.count("READY=1"), said.count("RELOADING=1")), (2, 1))

@@ -10,9 +10,8 @@ from typing import Iterator, List, Tuple
 from lldpa.agent.synchronous import MARK, MARK_ANSWER
 from lldpa.agent.show import (Configuration, Counters, Identifier, Neighbor, Show, ShowFault,
                               lines_of, read_show, unescaped)
-from support import PROGRAM, REPOSITORY
+from served import PROGRAM, REPOSITORY
 
-sys.dont_write_bytecode = True
 sys.path[1:1] = [str(REPOSITORY / "tools" / folder) for folder in ("model", "gate")]
 import fuzz  # type: ignore[import-not-found]  # noqa: E402
 from examples import transcripts  # type: ignore[import-not-found]  # noqa: E402
@@ -69,7 +68,7 @@ ALL = NEIGHBORS + STATISTICS + CHASSIS + CONFIGURATION
 
 
 def shows_of_transcript(name: str) -> Iterator[List[str]]:
-    """What each show of a transcript writes, and all shows behind its lines."""
+    """Returns what each show of a transcript writes, and all shows behind its lines."""
     (_, words, _, trace, steps), = transcripts([name])
     assert not isinstance(steps, str), steps
     lines = [line for line, _ in steps] + [b"show " + show.encode() for show in SHOWS]
@@ -81,7 +80,7 @@ def shows_of_transcript(name: str) -> Iterator[List[str]]:
 
 
 def random_show(seed: int) -> List[str]:
-    """The shows at the end of a random trace, nothing where its words are bad."""
+    """Returns the shows at the end of a random trace, or nothing if its words are bad."""
     dice = fuzz.Dice(seed)
     words, lines = fuzz.new_trace(dice)
     lines[-3:-3] = [MARK]
@@ -129,7 +128,7 @@ class ThereAndBack(unittest.TestCase):
 
 
 class WhatIsRead(unittest.TestCase):
-    """What a show tells."""
+    """What a show says."""
 
     def test_a_neighbor(self) -> None:
         neighbor = read_show(NEIGHBORS).neighbors[0]
@@ -192,10 +191,10 @@ class WhatIsRead(unittest.TestCase):
 
 
 class Refused(unittest.TestCase):
-    """Lines that are no show are told by their number and their text."""
+    """Lines that are not a show are reported by their number and their text."""
 
     def changed(self, old: str, new: List[str]) -> Tuple[int, List[str]]:
-        """All lines, with one that is replaced, and its number."""
+        """Returns all lines, with one that is replaced, and its number."""
         place = ALL.index(old)
         return place + 1, ALL[:place] + new + ALL[place + 1:]
 

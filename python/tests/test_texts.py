@@ -22,7 +22,7 @@ NEVER = ("\x00", "\x07", "\x1b", "\x7f", "\x80", "\x9b", "\x85", "\xa0", "\xad",
 
 
 class ForPeople(unittest.TestCase):
-    """What gets to a terminal."""
+    """What reaches a terminal."""
 
     def test_letters_and_signs_are_shown_as_they_are(self) -> None:
         for letter in SHOWN:

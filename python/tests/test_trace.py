@@ -6,19 +6,20 @@ import random
 import select
 import subprocess
 import sys
-from typing import Dict, List, Optional, Sequence, Tuple
+from typing import Dict, List, Sequence
 
 from lldpa import Source, Told, ports_of, trace_of
 from lldpa.capture.trace import TooManyPorts
 from made_captures import (FORMS, LLDP, OTHER, SECOND, START, TAGGED, Frame, block, interface,
                            lldp_frame, packet, pcap, pcapng, section, whole)
-from support import CAPTURE, PROGRAM, FilesCase, run_capture
+from served import PROGRAM
+from support import CAPTURE, FilesCase
 
 RX = f"rx eth0 {LLDP.hex()}\n"
 
 
 def slow_trace(frames: Sequence[Frame]) -> List[str]:
-    """The trace of a capture, by the rules of docs/CAPTURES.md packet by packet: the
+    """Returns the trace of a capture, by the rules of docs/CAPTURES.md packet by packet: the
     seconds before each LLDP frame, and at the end."""
     lines, passed, set_back, start, latest = [], 0, 0, frames[0][0], frames[0][0]
     for time, octets, length in [*frames, (frames[-1][0], b"", 0)]:
@@ -36,10 +37,10 @@ def slow_trace(frames: Sequence[Frame]) -> List[str]:
 
 
 class Traces(FilesCase):
-    """The lines that the package gives."""
+    """The lines that the package returns."""
 
     def trace(self, *sources: Source, seconds: bool = True) -> List[str]:
-        """The trace, and in `notes` and `faults` what was told."""
+        """Returns the trace; `notes` and `faults` get what was reported."""
         self.notes: List[str] = []
         self.faults: List[str] = []
         return list(trace_of(sources, Told(self.notes.append, self.faults.append), seconds))
@@ -87,7 +88,7 @@ class Traces(FilesCase):
         heard = [packet(whole(LLDP), place=place) for place in range(65)]
         three = self.file(many + heard[7] + heard[64] + heard[3], "three")
         self.assertEqual(ports_of([Source(three)]), ["swp3", "swp7", "swp64"])
-        with self.assertRaisesRegex(TooManyPorts, "65 ports, and 64 are the most"):
+        with self.assertRaisesRegex(TooManyPorts, "65 ports, and the limit is 64"):
             ports_of([Source(self.file(many + b"".join(heard)))])
 
     def test_interfaces_that_are_none_of_ours(self) -> None:
@@ -96,7 +97,7 @@ class Traces(FilesCase):
         file += packet(whole(LLDP)) + packet(whole(LLDP), place=1) + packet(whole(LLDP), place=2)
         self.assertEqual(self.trace(Source(self.file(file))), [RX.strip().replace("eth0", "eth1")])
         name, link_type = self.faults
-        self.assertIn("'eth0.10' can be no port", name)
+        self.assertIn("'eth0.10' cannot be a port", name)
         self.assertIn("--port 'eth0.10=NAME'", name)
         self.assertIn("interface 'any' is LINUX_SLL (113)", link_type)
 
@@ -117,8 +118,8 @@ class Traces(FilesCase):
             with self.subTest(name):
                 path = self.file(form(frames))
                 self.assertEqual(self.trace(Source(path)), [RX.strip()])
-                whys = [(2, "snapped to 30 of 99 octets"), (3, "tagged"),
-                        (4, "snapped to 9 of 60 octets"), (5, "longer than 1514 octets")]
+                whys = [(2, "truncated to 30 of 99 octets"), (3, "tagged"),
+                        (4, "truncated to 9 of 60 octets"), (5, "longer than 1514 octets")]
                 want = [f"{path}: frame {number} is passed over: it is {why}"
                         for number, why in whys]
                 self.assertEqual((self.notes, self.faults), (want, []))
@@ -145,11 +146,6 @@ class Traces(FilesCase):
 
 class Program(FilesCase):
     """lldpa-capture."""
-
-    def ran(self, *words: str, octets: Optional[bytes] = None) -> Tuple[str, str, int]:
-        """What it writes, says and answers."""
-        done = run_capture(list(words), octets, self.folder)
-        return done.stdout, done.stderr, done.returncode
 
     def test_words(self) -> None:
         self.file(pcap([whole(LLDP), whole(LLDP, START + SECOND)]), "a")
@@ -194,7 +190,7 @@ class Program(FilesCase):
         for words, text in ((["--port", "eth0.10", "a"], "eth0.10: a port's name has 1 to 15"),
                             (["eth0.10=a"], "eth0.10: a port's name has 1 to 15"),
                             (["--port", "x" * 16, "a"], "a port's name has 1 to 15"),
-                            ([f"p{i}=a" for i in range(65)], "65 ports, and 64 are the most"),
+                            ([f"p{i}=a" for i in range(65)], "65 ports, and the limit is 64"),
                             ([], "FILE"), (["--por", "x", "a"], "--por")):
             written, said, status = self.ran(*words)
             with self.subTest(words[:2]):
@@ -218,7 +214,7 @@ class Program(FilesCase):
         self.file(b"", "empty")
         self.file(b"#!/bin/sh", "script")
         self.assertEqual(self.ran("empty"), ("", "lldpa-capture: empty: it is empty\n", 1))
-        self.assertIn("script: it is no capture: octet 0", self.ran("script")[1])
+        self.assertIn("script: it is not a capture: octet 0", self.ran("script")[1])
         gone = "lldpa-capture: gone: No such file or directory\n"
         self.assertEqual(self.ran("gone"), ("", gone, 1))
         self.assertEqual(self.ran(str(self.folder))[2], 1)

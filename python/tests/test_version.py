@@ -15,7 +15,7 @@ PROGRAMS = {"lldpa-audit": 1, "lldpa-capture": 1, "lldpa-ctl": 8, "lldpa-live": 
 
 
 def said(name: str, word: str) -> str:
-    """What a program writes for a word."""
+    """Returns what a program writes for a word."""
     words = [sys.executable, str(REPOSITORY / "bin" / name), word]
     return subprocess.run(words, capture_output=True, text=True, check=True).stdout
 

@@ -102,7 +102,7 @@ def _(tables: EtsTables) -> bytes:
 
 
 def of_tables(tables: EtsTables) -> Pairs:
-    """The tables of ETS."""
+    """Returns the tables of ETS."""
     return [*expected("lldp.dcbx.feature.pg.pgid_prio", enumerated(tables.classes)),
             *expected("lldp.dcbx.feature.pg.per", enumerated(tables.bandwidths)),
             *expected("lldp.dcbx.ieee.ets.tsa", enumerated(tables.algorithms))]

@@ -127,7 +127,7 @@ def _(part: PowerOfPairs) -> bytes:
 
 
 def of_pairs(more: PowerOfPairs) -> Pairs:
-    """What IEEE 802.3bt added."""
+    """Returns what IEEE 802.3bt added."""
     return expected("lldp.ieee.802_3.bt_", {
         "ds_pd_requested_power_value_mode_a": more.requested_a,
         "ds_pd_requested_power_value_mode_b": more.requested_b,

@@ -62,7 +62,7 @@ def _(tlv: Coordinates) -> bytes:
 
 @by_tshark.register
 def _(tlv: Coordinates) -> Pairs:
-    # tshark shows latitude and longitude with the six bits of their resolution in front
+    # tshark shows latitude and longitude with the six bits of their resolution before them
     latitude = tlv.latitude_resolution << 34 | tlv.latitude % (1 << 34)
     longitude = tlv.longitude_resolution << 34 | tlv.longitude % (1 << 34)
     return expected("lldp.media.loc.", {

@@ -1,4 +1,4 @@
-"""For tests on real links: a pair of namespaces with veth pairs, and who sends there."""
+"""For tests on real links: a pair of namespaces with veth pairs, and senders there."""
 
 from __future__ import annotations
 
@@ -58,7 +58,7 @@ class Wires:
         eventually(self.all_up)
 
     def all_up(self) -> bool:
-        """Whether all ends are up. (Before that the kernel drops what is sent.)"""
+        """Returns whether all ends are up. (Before that the kernel drops what is sent.)"""
         shown = [subprocess.run(["ip", "-n", name, "-br", "link"], capture_output=True, text=True)
                  for name in (self.here, self.there)]
         ends = [line.split() for run in shown for line in run.stdout.splitlines() if "@" in line]
@@ -76,11 +76,11 @@ class Wires:
         ip("-n", self.here if end.startswith("eth") else self.there, "link", "set", end, *words)
 
     def remove_link(self, end: str) -> None:
-        """Takes a link away."""
+        """Removes a link."""
         ip("-n", self.here if end.startswith("eth") else self.there, "link", "del", end)
 
     def close(self) -> None:
-        """Takes all away."""
+        """Removes everything."""
         for name in (self.here, self.there):
             subprocess.run(["ip", "netns", "del", name], check=False)
         shutil.rmtree(self.folder)
@@ -100,7 +100,7 @@ for number in range(int(sys.argv[2])):
 
 
 def flood(wires: Wires, end: str, frames: list[bytes], count: int) -> subprocess.Popen[bytes]:
-    """Starts who sends so many frames out of an end, one after the other, as fast as it goes."""
+    """Starts a sender of so many frames at an end, one after another, as fast as possible."""
     with inside(wires.there):
         sender = subprocess.Popen([sys.executable, "-c", FLOOD, end, str(count)],
                                   stdin=subprocess.PIPE)
@@ -111,7 +111,7 @@ def flood(wires: Wires, end: str, frames: list[bytes], count: int) -> subprocess
 
 
 class Peer:
-    """Who sends and hears LLDP frames at an end of a link."""
+    """Sends and receives LLDP frames at an end of a link."""
 
     def __init__(self, wires: Wires, end: str) -> None:
         with inside(wires.here if end.startswith("eth") else wires.there):
@@ -123,23 +123,23 @@ class Peer:
         self.socket.send(octets)
 
     def hears(self, seconds: float = SECONDS, ttl: Optional[int] = None) -> Optional[bytes]:
-        """The next frame, or the next that gives this time to live; None if none comes."""
+        """Returns the next frame, or the next with this time to live; None if none comes."""
         last = time.monotonic() + seconds
         while (left := last - time.monotonic()) > 0:
             self.socket.settimeout(left)
-            with contextlib.suppress(OSError):  # none in time, or an end that was down meanwhile
+            with contextlib.suppress(OSError):  # none in time, or an end that was down
                 octets, address = self.socket.recvfrom(2000)
                 if address[2] != socket.PACKET_OUTGOING and ttl in (None, ttl_of(octets)):
                     return octets
         return None
 
     def close(self) -> None:
-        """Lets go of the socket."""
+        """Closes the socket."""
         self.socket.close()
 
 
 def ttl_of(octets: bytes) -> int:
-    """The time to live that a frame gives."""
+    """Returns the time to live of a frame."""
     rest = octets[14:]
     while rest:
         head = int.from_bytes(rest[:2], "big")

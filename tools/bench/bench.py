@@ -1,12 +1,12 @@
 #!/usr/bin/env python3
-"""Measures lldpa beside plain C that does the same work (tools/bench/yardstick.c), all in one run.
+"""Compares lldpa with plain C that does the same work (tools/bench/yardstick.c), all in one run.
 
-Each row is run by each program by turns, several times; the least processor time counts, less that of an empty
-trace. C by vectors, which checks nothing of the TLVs, is the limit. Instructions are counted by valgrind's callgrind
-where there is one, on a shorter trace; their columns begin with #. tshark and tcpdump read the frames of the mix too,
-where they are installed, and the captures that lldpa-capture reads. Needs Python and a C compiler.
+The programs run each row by turns, several times; the least processor time counts, less that of an empty trace. C by
+vectors, which checks nothing of the TLVs, is the limit. If valgrind is installed, its callgrind counts instructions on
+a shorter trace; their columns begin with #. If tshark and tcpdump are installed, they read the frames of the mix and
+the captures of lldpa-capture too. Needs Python and a C compiler.
 
-The rows are in bench_rows.py, what counts instructions in bench_counts.py, the readers of captures in
+The rows are in bench_rows.py, the counting of instructions in bench_counts.py, the readers of captures in
 bench_captures.py, and the picture in bench_picture.py.
 """
 from __future__ import annotations
@@ -32,7 +32,7 @@ HEADS = ["lldpa", "C", "ratio", "vectors"]
 
 
 def resident(words: list[str]) -> int:
-    """Takes the words of a program, gives the kilobytes of memory that it touched when it waits for its first line."""
+    """Returns the kilobytes of memory that a program touched when it waits for its first line."""
     child = subprocess.Popen(words, stdin=subprocess.PIPE, stdout=subprocess.DEVNULL)
     time.sleep(0.2)
     told = Path(f"/proc/{child.pid}/status").read_text()
@@ -42,8 +42,8 @@ def resident(words: list[str]) -> int:
 
 
 def by_turns(row: Row, room: Path, sides: list[list[str]], times: int) -> list[float]:
-    """Takes a row, a folder, the words of programs and how often each runs, gives the least nanoseconds of each for
-    one thing of the row."""
+    """Runs each of some programs so many times, by turns, and returns the least nanoseconds of each for one thing of
+    the row."""
     whole, begin, things = row.traces(room, row.lines)
     best = [[float("inf"), float("inf")] for _ in sides]
     for _ in range(times):
@@ -54,7 +54,7 @@ def by_turns(row: Row, room: Path, sides: list[list[str]], times: int) -> list[f
 
 
 def start(program: str, room: Path) -> list[str]:
-    """Takes lldpa and a folder, gives lines on a start with one port and with 64 ports of 128."""
+    """Returns lines on a start of lldpa with one port and with 64 ports of 128."""
     empty, lines = room / "empty", []
     empty.write_text("")
     for title, words in (("one port", ["eth0"]), ("64 ports of 128", ["--max-neighbors=128", *PORTS])):
@@ -65,7 +65,7 @@ def start(program: str, room: Path) -> list[str]:
 
 
 def columns(figures: list[float], unit: str = "") -> str:
-    """Takes the figures of a row, gives its columns: ours, C's, the ratio, and C's by vectors."""
+    """Returns the columns of the figures of a row: ours, C's, the ratio, and C's by vectors."""
     shown = [f"{value:.0f}{unit}" for value in figures]
     ratio = [f"{figures[0] / figures[1]:.2f}"] if len(figures) > 1 else []
     told = shown[:2] + ratio + shown[2:]
@@ -73,20 +73,20 @@ def columns(figures: list[float], unit: str = "") -> str:
 
 
 def machine() -> str:
-    """Gives the processor and the system."""
+    """Returns the processor and the system."""
     found = re.search(r"model name\s*:\s*(.*)", Path("/proc/cpuinfo").read_text())
     return f"{found.group(1) if found else platform.processor()}, {platform.system()} {platform.release()}"
 
 
 def compiled(room: Path) -> str:
-    """Takes a folder, gives the path of the yardstick, which it compiles there."""
+    """Compiles the yardstick in a folder, and returns its path."""
     yardstick = str(room / "yardstick")
     subprocess.run(["cc", "-O2", "-o", yardstick, str(TOP / "tools/bench/yardstick.c")], check=True)
     return yardstick
 
 
 def table(options: argparse.Namespace, room: Path, count: bool) -> list[dict[str, Any]]:
-    """Takes the options, a folder and whether to count instructions, gives the rows, printed as they come."""
+    """Returns the rows, printed as they come, with or without the instructions counted."""
     heads = HEADS + [f"# {head}" for head in HEADS] if count else HEADS
     print(" " * 34 + "".join(f"{head:>11}" for head in heads))
     yardstick, told = compiled(room), []
@@ -101,7 +101,7 @@ def table(options: argparse.Namespace, room: Path, count: bool) -> list[dict[str
 
 
 def measured(options: argparse.Namespace, room: Path) -> dict[str, Any]:
-    """Takes the options and a folder, gives the table as it is saved and drawn."""
+    """Returns the table as it is saved and drawn."""
     count = bool(shutil.which("valgrind")) and not options.no_instructions
     print(f"machine: {machine()}")
     told: dict[str, Any] = {"machine": machine(), "rows": table(options, room, count)}
@@ -116,7 +116,7 @@ def measured(options: argparse.Namespace, room: Path) -> dict[str, Any]:
 
 
 def counted_anew(options: argparse.Namespace, room: Path, told: dict[str, Any]) -> None:
-    """Takes the options, a folder and the table that was kept, and counts the instructions in it anew."""
+    """Counts the instructions in a saved table again."""
     yardstick = compiled(room)
     kept = {row["title"]: row for row in told["rows"]}
     for row in rows(options.program, room):
@@ -128,7 +128,7 @@ def counted_anew(options: argparse.Namespace, room: Path, told: dict[str, Any]) 
 
 
 def kept(options: argparse.Namespace, room: Path) -> dict[str, Any]:
-    """Takes the options and a folder, gives the table that was kept, with what is to be measured anew."""
+    """Returns the saved table, with what is to be measured again."""
     told: dict[str, Any] = json.loads(Path(options.saved).read_text())
     if options.captures:
         told["captures"] = capture_rows(room, options.times)
@@ -139,7 +139,7 @@ def kept(options: argparse.Namespace, room: Path) -> dict[str, Any]:
 
 
 def read_options() -> argparse.Namespace:
-    """Gives the options of the command line."""
+    """Returns the options of the command line."""
     parser = argparse.ArgumentParser(description=(__doc__ or "").splitlines()[0])
     add = parser.add_argument
     add("--program", default=str(TOP / "crates/lldpa/out/lldpa"), help="the built program")
@@ -156,7 +156,7 @@ def read_options() -> argparse.Namespace:
 
 
 def main() -> None:
-    """Measures, or takes what was kept; saves and draws it."""
+    """Measures, or takes what was saved; saves and draws it."""
     options = read_options()
     with tempfile.TemporaryDirectory() as folder:
         told = (kept if options.saved else measured)(options, Path(folder))

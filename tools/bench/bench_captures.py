@@ -1,4 +1,4 @@
-"""What other readers of frames and captures cost, beside lldpa's own scripts."""
+"""What other readers of frames and captures cost, compared with lldpa's own scripts."""
 from __future__ import annotations
 
 import os
@@ -22,7 +22,7 @@ PCAP = bytes.fromhex("d4c3b2a1020004000000000000000000ffff000001000000")
 
 
 def seconds(words: list[str], trace: Path) -> float:
-    """Takes the words of a program and its input, gives the processor time of one run."""
+    """Returns the processor time of one run of a program with this input."""
     with trace.open("rb") as file:
         child = subprocess.Popen(words, stdin=file, stdout=subprocess.DEVNULL, stderr=subprocess.DEVNULL)
         _, status, usage = os.wait4(child.pid, 0)
@@ -33,8 +33,7 @@ def seconds(words: list[str], trace: Path) -> float:
 
 
 def spent(words: list[str]) -> tuple[float, float]:
-    """Takes the words of a program, gives the seconds of processor time of one run, and the megabytes of memory that
-    it took at most."""
+    """Returns the seconds of processor time of one run of a program, and the most megabytes of memory that it took."""
     child = subprocess.Popen(words, stdout=subprocess.DEVNULL, stderr=subprocess.DEVNULL)
     ended, kilobytes = 0, ["0"]
     while not ended:
@@ -47,12 +46,12 @@ def spent(words: list[str]) -> tuple[float, float]:
 
 
 def put_record(file: BinaryIO, octets: bytes, at: int, micros: int) -> None:
-    """Takes a file, a packet and its time in seconds and microseconds, and writes its record of a capture."""
+    """Writes the record of a packet in a capture, with its time in seconds and microseconds."""
     file.write(struct.pack("<IIII", at, micros, len(octets), len(octets)) + octets)
 
 
 def write_mix(path: Path, frames: list[bytes], times: int) -> None:
-    """Takes a path and frames, and writes them so many times as a capture."""
+    """Writes frames so many times as a capture."""
     with path.open("wb") as file:
         file.write(PCAP)
         for octets in frames * times:
@@ -60,7 +59,7 @@ def write_mix(path: Path, frames: list[bytes], times: int) -> None:
 
 
 def write_small_frames(path: Path) -> None:
-    """Takes a path, and writes 200 MB of small frames that are not LLDP's, a thousand a second."""
+    """Writes 200 MB of small frames that are not LLDP's, a thousand a second."""
     rng = random.Random(3)
     octets = [rng.randbytes(127) for _ in range(100)]
     with path.open("wb") as file:
@@ -70,7 +69,7 @@ def write_small_frames(path: Path) -> None:
 
 
 def write_lldp_frames(path: Path) -> None:
-    """Takes a path, and writes 100,000 LLDP frames of the mix, a hundred a second."""
+    """Writes 100,000 LLDP frames of the mix, a hundred a second."""
     frames = mix(992, 32)
     with path.open("wb") as file:
         file.write(PCAP)
@@ -79,7 +78,7 @@ def write_lldp_frames(path: Path) -> None:
 
 
 def other_readers(room: Path, times: int) -> list[str]:
-    """Takes a folder and how often each runs, gives a line on each tool that prints what it reads of the mix."""
+    """Runs each tool that prints what it reads of the mix so many times, and returns a line on each."""
     frames, capture, nothing = mix(992, 32), room / "mix.pcap", room / "nothing"
     write_mix(capture, frames, 20)
     nothing.write_text("")
@@ -100,7 +99,7 @@ CAPTURE_READERS = (("lldpa-capture", [sys.executable, str(TOP / "bin/lldpa-captu
 
 
 def capture_row(title: str, capture: Path, times: int) -> str:
-    """Takes a capture and how often each reader runs, by turns, gives the line on it."""
+    """Runs each reader of a capture so many times, by turns, and returns the line on it."""
     readers = [(name, words) for name, words in CAPTURE_READERS if shutil.which(words[0])]
     runs: dict[str, list[tuple[float, float]]] = {name: [] for name, _ in readers}
     for _ in range(times):
@@ -111,7 +110,7 @@ def capture_row(title: str, capture: Path, times: int) -> str:
 
 
 def capture_rows(room: Path, times: int) -> list[str]:
-    """Takes a folder and how often each reader runs, gives a line on each capture."""
+    """Runs each reader so many times, and returns a line on each capture."""
     lines = []
     for title, write in CAPTURES:
         capture = room / "capture.pcap"
@@ -121,7 +120,7 @@ def capture_rows(room: Path, times: int) -> list[str]:
 
 
 def audit_of_cabling(room: Path) -> list[str]:
-    """Takes a folder, gives a line on what an audit of 100,000 links costs, and the memory that it takes."""
+    """Returns a line on what an audit of 100,000 links costs, and the memory that it takes."""
     words = cabling.Network(2000, 100).write(room)
     used, _, megabytes = min(cabling.measured(words) for _ in range(3))
     return [f"{AUDIT}: {used:.1f} s, {megabytes:.0f} MB"]

@@ -3,10 +3,10 @@
 
     python3 tools/bench/bench_counts.py [--program PROGRAM]
 
-A row that takes more than 1 % more than it did fails, also on a busy machine; with another C library than the counts
-were made with, more than 5 %. Needs valgrind; without it the status is 3. The last line is `N passed, M failed`. What
-is slower on purpose is counted anew by `tools/bench/bench.py --saved docs/bench.json --counts --save docs/bench.json
---svg docs/bench.svg`.
+A row fails if it takes over 1 % more than it did, even on a busy machine; over 5 % if the C library is not the one of
+the saved counts. Needs valgrind; without it the status is 3. The last line is `N passed, M failed`. If a row is slower
+on purpose, `tools/bench/bench.py --saved docs/bench.json --counts --save docs/bench.json --svg docs/bench.svg` counts
+it again.
 """
 from __future__ import annotations
 
@@ -24,6 +24,9 @@ from typing import Any
 from bench_rows import MANY, PORTS, Row, rows
 
 TOP = Path(__file__).resolve().parents[2]
+sys.path.append(str(TOP / "tools" / "gate"))
+from counts import Counts  # noqa: E402
+
 MOST, MOST_ELSEWHERE = 1.01, 1.05
 START = "start with 64 ports of 128"
 HELD = ("a frame of the mix, 32 held", "a frame of 36 octets", "a frame of the mix, 128 held",
@@ -32,8 +35,8 @@ HELD = ("a frame of the mix, 32 held", "a frame of 36 octets", "a frame of the m
 
 
 def instructions(words: list[str], trace: Path) -> int:
-    """Takes the words of a program and a trace, gives how many instructions it runs for it. The loader's count too, and
-    it reads the environment and the program's path: so neither is the caller's."""
+    """Returns how many instructions a program runs for a trace. The loader's count too, and depend on the environment
+    and the program's path, so neither is the caller's."""
     program = Path(words[0])
     run = [shutil.which("valgrind") or "valgrind", "--tool=callgrind", "--callgrind-out-file=/dev/null"]
     with trace.open("rb") as file:
@@ -46,39 +49,39 @@ def instructions(words: list[str], trace: Path) -> int:
 
 
 def library() -> str:
-    """Gives the C library, and whether it finds AVX2, by which it chooses how it copies and searches."""
+    """Returns the C library, and whether it finds AVX2, which decides how it copies and searches."""
     found = re.search(r"\bavx2\b", Path("/proc/cpuinfo").read_text())
     return " ".join(platform.libc_ver()) + (" with AVX2" if found else "")
 
 
 def counted(row: Row, room: Path, sides: list[list[str]]) -> list[float]:
-    """Takes a row, a folder and the words of programs, gives the instructions of each for one thing of the row."""
+    """Returns the instructions of each of some programs for one thing of the row."""
     whole, begin, things = row.traces(room, max(1, row.lines // 50))
     return [(instructions(words, whole) - instructions(words, begin)) / things for words in sides]
 
 
 def counted_start(program: str, room: Path) -> int:
-    """Takes lldpa and a folder, gives the instructions of a start with 64 ports of 128 and an empty trace."""
+    """Returns the instructions of a start with 64 ports of 128 and an empty trace."""
     empty = room / "empty"
     empty.write_text("")
     return instructions([program, *MANY, *PORTS], empty)
 
 
 def saved_counts(told: dict[str, Any]) -> dict[str, float]:
-    """Takes the table that was kept, gives what each row took by its title."""
+    """Returns the saved instructions of each row by its title."""
     counts = {row["title"]: row["instructions"][0] for row in told["rows"] if row["instructions"]}
     return {**counts, START: told["start_instructions"]}
 
 
 def counts(program: str, room: Path) -> dict[str, float]:
-    """Takes lldpa and a folder, gives what each row that is held takes, by its title."""
+    """Returns the instructions of each row that is compared, by its title."""
     held = [row for row in rows(program, room) if row.title in HELD]
     found = {row.title: counted(row, room, [[program, *row.words]])[0] for row in held}
     return {**found, START: counted_start(program, room)}
 
 
 def main() -> int:
-    """Compares, prints a line for each row, and gives the exit status."""
+    """Compares, prints a line for each row, and returns the exit status."""
     parser = argparse.ArgumentParser(description=(__doc__ or "").splitlines()[0])
     parser.add_argument("--program", default=str(TOP / "crates/lldpa/out/lldpa"), help="the built program")
     program = parser.parse_args().program
@@ -87,15 +90,13 @@ def main() -> int:
         return 3
     told = json.loads((TOP / "docs/bench.json").read_text())
     saved, most = saved_counts(told), MOST if told["library"] == library() else MOST_ELSEWHERE
-    failed = 0
+    judged = Counts()
     with tempfile.TemporaryDirectory() as folder:
         now = counts(program, Path(folder))
     for title, count in now.items():
-        slower = count > most * saved[title]
-        failed += slower
-        print(f"{'FAILED: ' if slower else ''}{title}: {count:.0f} instructions, {saved[title]:.0f} before")
-    print(f"{len(now) - failed} passed, {failed} failed")
-    return 1 if failed else 0
+        print(f"{title}: {count:.0f} instructions, {saved[title]:.0f} before")
+        judged.that(f"{title} is as fast as before", count <= most * saved[title])
+    return judged.end()
 
 
 if __name__ == "__main__":

@@ -1,13 +1,13 @@
-"""The picture and the table of the benchmark: lldpa beside C, in words of those who have not read the benchmark."""
+"""The picture and the table of the benchmark: lldpa and C, in the words of those who have not read the benchmark."""
 from __future__ import annotations
 
 import html
 from typing import Any
 
 LEFT, WIDEST, TOP, BAR, WIDTH = 300, 330, 66, 15, 940
-# What the programs of a row are called here, in the order in which its figures stand.
+# The names here of the programs of a row, in the order of its figures.
 NAMES = ["lldpa", "plain C", "C that checks nothing, with vector instructions"]
-# What each row is called here.
+# The names of the rows here.
 WORDS = {
     "a frame of the mix, 32 held": "receive a typical frame, 32 neighbors",
     "a frame of 36 octets": "receive the shortest frame, 36 octets",
@@ -26,25 +26,25 @@ FILLS = ["#3b7dd8", "#a9b4c2", "#d9b26f"]
 
 
 def in_words(line: str) -> str:
-    """Takes a line below the bars, gives it in words for all."""
+    """Returns a line below the bars in words for everybody."""
     for ours, theirs in CHANGED.items():
         line = line.replace(ours, theirs)
     return html.escape(line)
 
 
 def high(row: dict[str, Any]) -> int:
-    """Takes a row, gives its height: a bar for each figure, and a gap."""
+    """Returns the height of a row: a bar for each figure, and a gap."""
     return BAR * len(row["time"]) + 10
 
 
 def scale_of(rows: list[dict[str, Any]]) -> float:
-    """Takes the rows, gives the length of C's bar, by which the longest bar of all still fits."""
+    """Returns the length of C's bar with which the longest bar of all still fits."""
     ratios: list[float] = [max(row["time"]) / row["time"][1] for row in rows]
     return WIDEST / max(ratios)
 
 
 def bars(row: dict[str, Any], y: float, scale: float) -> list[str]:
-    """Takes a row, where it begins and the length of C's bar, gives its lines of the picture."""
+    """Returns the lines of a row in the picture, by its place and the length of C's bar."""
     ours, theirs = row["time"][:2]
     middle = y + high(row) / 2
     out = [f'<text x="{LEFT - 10}" y="{middle:.0f}" text-anchor="end">{html.escape(WORDS[row["title"]])}</text>']
@@ -57,7 +57,7 @@ def bars(row: dict[str, Any], y: float, scale: float) -> list[str]:
 
 
 def head(told: dict[str, Any], height: float) -> list[str]:
-    """Takes the table and the picture's height, gives the lines of its title."""
+    """Returns the lines of the picture's title."""
     return [f'<svg xmlns="http://www.w3.org/2000/svg" width="{WIDTH}" height="{height}" viewBox="0 0 {WIDTH} {height}" '
             'font-family="sans-serif" font-size="13">',
             '<rect width="100%" height="100%" fill="white"/>',
@@ -67,7 +67,7 @@ def head(told: dict[str, Any], height: float) -> list[str]:
 
 
 def table(told: dict[str, Any]) -> str:
-    """Takes the table as it is saved, gives it as a page shows it: nanoseconds and instructions of each program."""
+    """Returns the saved table as a page shows it: nanoseconds and instructions of each program."""
     heads = ["ns", "ns, C", "ns, C by vectors", "instructions", "C's", "C's by vectors"]
     lines = [f"| | {' | '.join(heads)} |", "|---|" + "---|" * len(heads)]
     for row in told["rows"]:
@@ -78,7 +78,7 @@ def table(told: dict[str, Any]) -> str:
 
 
 def picture(told: dict[str, Any]) -> str:
-    """Takes the table, gives its picture: bars for each row that C does too, and lines for the others."""
+    """Returns the picture of the table: bars for each row that C has too, and lines for the others."""
     rows_of_c = [row for row in told["rows"] if len(row["time"]) > 1]
     others = [row for row in told["rows"] if len(row["time"]) == 1]
     end = TOP + sum(high(row) for row in rows_of_c)

@@ -12,30 +12,28 @@ PORTS = [f"eth{i}" for i in range(64)]
 LONG = "configure lldp tx-interval 3600\n"
 ONE_PORT = ["--receive-only", "eth0"]
 MANY = ["--receive-only", "--max-neighbors=128"]
-# What the programs of a row are called, in the order in which its figures stand.
-NAMES = ["lldpa", "C", "C by vectors, nothing checked"]
 
 
 # Frames
 
 def tlv(kind: int, body: bytes) -> bytes:
-    """Takes a TLV's type and body, gives its octets."""
+    """Returns the octets of a TLV."""
     return (kind << 9 | len(body)).to_bytes(2, "big") + body
 
 
 def frame(chassis: bytes, port: bytes, tlvs: list[bytes], ttl: int = 65535) -> bytes:
-    """Takes the bodies of the first two TLVs, the TLVs after the third and a TTL, gives a frame."""
+    """Returns a frame with the bodies of the first two TLVs, the TLVs after the third and a TTL."""
     begin = tlv(1, chassis) + tlv(2, port) + tlv(3, ttl.to_bytes(2, "big"))
     return NEAREST_BRIDGE + b"\x02\0\0\0\0\x99" + LLDP + begin + b"".join(tlvs) + b"\0\0"
 
 
 def name(i: int) -> tuple[bytes, bytes]:
-    """Gives the chassis ID and port ID of sender i."""
+    """Returns the chassis ID and port ID of sender i."""
     return b"\x04\x02\x00\x5e" + i.to_bytes(3, "big"), b"\x05swp%d" % (i % 48 + 1)
 
 
 def common_tlvs(rng: random.Random) -> list[bytes]:
-    """Gives what a switch or a host says of itself: now little, now much, 280 octets in the mean."""
+    """Returns what a switch or a host says of itself: sometimes little, sometimes much, 280 octets on average."""
     system = rng.choice([
         b"Debian GNU/Linux 12 (bookworm) Linux 6.1.0-18-amd64 #1 SMP PREEMPT_DYNAMIC x86_64",
         b"Cisco IOS Software, C3750E Software (C3750E-UNIVERSALK9-M), Version 15.2(4)E8, RELEASE SOFTWARE (fc3)",
@@ -51,35 +49,35 @@ def common_tlvs(rng: random.Random) -> list[bytes]:
 
 
 def mix(count: int, names: int) -> list[bytes]:
-    """Gives so many frames of so many senders, by turns."""
+    """Returns so many frames of so many senders, by turns."""
     rng = random.Random(1)
     return [frame(*name(i % names), common_tlvs(rng)) for i in range(count)]
 
 
 def least(names: int) -> list[bytes]:
-    """Gives a frame of 36 octets of each of so many senders."""
+    """Returns a frame of 36 octets of each of so many senders."""
     return [frame(b"\x04" + i.to_bytes(6, "big"), b"\x05e-%02d" % i, []) for i in range(names)]
 
 
 def greatest(names: int) -> list[bytes]:
-    """Gives a frame of 1,514 octets of each of so many senders."""
+    """Returns a frame of 1,514 octets of each of so many senders."""
     said = [tlv(127, b"\0\x80\xc2\x63" + bytes(507))] * 2
     room = [1514 - len(frame(*name(i), said)) for i in range(names)]
     return [frame(*name(i), [*said, tlv(127, b"\0\x80\xc2\x63" + bytes(room[i] - 6))]) for i in range(names)]
 
 
-# Two segments that the table's tag of a name does not tell apart; seven of them in a row make 128 names of one tag.
+# Two segments to which the table's tag of a name is blind; seven of them in a row make 128 names of one tag.
 ONE_TAG = bytes([70, 40, 10, 107]), bytes([98, 119, 110, 100])
 
 
 def one_tag() -> list[bytes]:
-    """Gives frames of 128 senders whose names have one tag."""
+    """Returns frames of 128 senders whose names have one tag."""
     chassis = [b"\x07" + b"".join(ONE_TAG[i >> k & 1] for k in range(7)) for i in range(128)]
     return [frame(octets, b"\x05swp1", []) for octets in chassis]
 
 
 def own_tags() -> list[bytes]:
-    """Gives frames of 128 senders with names as long, which have tags of their own."""
+    """Returns frames of 128 senders with names as long, each with a tag of its own."""
     rng = random.Random(2)
     return [frame(b"\x07" + rng.randbytes(28), b"\x05swp1", []) for _ in range(128)]
 
@@ -87,12 +85,12 @@ def own_tags() -> list[bytes]:
 # Traces
 
 def received(frames: list[bytes], port: str = "eth0") -> str:
-    """Gives the trace in which a port receives these frames."""
+    """Returns the trace in which a port receives these frames."""
     return "".join(f"rx {port} {octets.hex()}\n" for octets in frames)
 
 
 def held_everywhere() -> str:
-    """Gives the trace after which each of 64 ports holds 128 neighbors."""
+    """Returns the trace after which each of 64 ports holds 128 neighbors."""
     frames = mix(128, 128)
     return LONG + "".join(received(frames, port) for port in PORTS)
 
@@ -112,8 +110,8 @@ class Row:
     per: int = 1
 
     def traces(self, room: Path, lines: int) -> tuple[Path, Path, int]:
-        """Takes a folder and a number of lines, gives the trace, that of its beginning alone, and how many things
-        stand in it."""
+        """Writes the trace with so many lines, and that of its beginning alone; returns both, and how many things the
+        first one has."""
         whole, begin = room / "trace", room / "begin"
         repeats = max(1, lines // self.line.count("\n"))
         begin.write_text(self.before)
@@ -121,17 +119,17 @@ class Row:
         return whole, begin, repeats * self.line.count("\n") * self.per
 
     def sides(self, program: str, yardstick: str) -> list[list[str]]:
-        """Takes both programs, gives the words that start lldpa, and C for each way in which it does the work."""
+        """Returns the words that start lldpa, and C for each way in which it does the work."""
         return [[program, *self.words]] + [[yardstick, *words] for words in self.yardsticks]
 
 
 def both(neighbors: int) -> list[list[str]]:
-    """Gives the words of C that reads frames, as usual and by vectors."""
+    """Returns the words of C that reads frames, as usual and by vectors."""
     return [["read", str(neighbors)], ["vectors", str(neighbors)]]
 
 
 def rows_received() -> list[Row]:
-    """Gives the rows of frames that one port receives. By vectors C looks at 16 octets of a name, which is too few
+    """Returns the rows of frames that one port receives. By vectors C looks at 16 octets of a name, which is too few
     for names of one tag."""
     many, plain = [*MANY, "eth0"], [["read", "128"]]
     own, one = own_tags(), one_tag()
@@ -146,7 +144,7 @@ def rows_received() -> list[Row]:
 
 
 def rows_of_ports(program: str, room: Path) -> list[Row]:
-    """Takes lldpa and a folder, gives the rows of 64 ports. What C writes is written by lldpa first."""
+    """Returns the rows of 64 ports. What C writes is written by lldpa first."""
     words, held = [*MANY, *PORTS], held_everywhere()
     default, lines = room / "frame", room / "lines"
     sent = subprocess.run([program, "eth0"], input=b"tick\n", capture_output=True, check=True).stdout
@@ -165,5 +163,5 @@ def rows_of_ports(program: str, room: Path) -> list[Row]:
 
 
 def rows(program: str, room: Path) -> list[Row]:
-    """Takes lldpa and a folder for what rows read, gives all rows."""
+    """Returns all rows; what they read is written to a folder."""
     return rows_received() + rows_of_ports(program, room)

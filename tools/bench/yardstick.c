@@ -2,8 +2,8 @@
  *
  *   yardstick read NEIGHBORS < TRACE      reads lines `rx PORT HEX`, decodes the digits by a table, walks the TLVs and
  *                                         refreshes the neighbor of that name among so many; counts ticks
- *   yardstick vectors NEIGHBORS < TRACE   the same, where the digits are read by SSE, nothing of the TLVs is checked,
- *                                         and the first 16 octets of an LLDPDU are taken for its name (x86-64 alone)
+ *   yardstick vectors NEIGHBORS < TRACE   the same, but the digits are read by SSE, nothing of the TLVs is checked,
+ *                                         and the first 16 octets of an LLDPDU are taken for its name (x86-64 only)
  *   yardstick show LINES < TRACE          writes the lines of that file for each line that begins with `show`
  *   yardstick send FRAME < TRACE          writes 64 lines `tx eth0 HEX` of that frame, digit by digit, for each line
  */
@@ -37,7 +37,7 @@ static void make_values(void)
         value_of['a' + i] = value_of['A' + i] = 10 + i;
 }
 
-/* The octets of pairs of digits, or -1 where one is none. */
+/* Decodes pairs of digits. Returns the number of octets, or -1 if something is not a digit. */
 static int decode(const char *digits, int count, uint8_t *octets)
 {
     int bad = 0;
@@ -88,13 +88,13 @@ static void take(const uint8_t *pdu, int length, int limit)
 }
 
 #ifdef __SSE2__
-/* Those of these octets that are at most so much, as lanes of ones. */
+/* Returns lanes of ones for those octets that are at most so much. */
 static inline __m128i at_most(__m128i octets, int most)
 {
     return _mm_cmpeq_epi8(_mm_min_epu8(octets, _mm_set1_epi8(most)), octets);
 }
 
-/* Eight octets, each in two, of sixteen digits. Lanes that are no digits are cleared in `good`. */
+/* Returns eight octets, each in two, of sixteen digits. Clears in `good` the lanes that are not digits. */
 static inline __m128i octets_of(const char *digits, __m128i *good)
 {
     __m128i all = _mm_loadu_si128((const __m128i *)digits);
@@ -107,7 +107,7 @@ static inline __m128i octets_of(const char *digits, __m128i *good)
     return _mm_and_si128(_mm_or_si128(_mm_slli_epi16(values, 4), _mm_srli_epi16(values, 8)), _mm_set1_epi16(255));
 }
 
-/* As `decode`, 32 digits at a time; the last block begins as many before the end. */
+/* Decodes as `decode` does, 32 digits at a time; the last block begins as many before the end. */
 static int decode_by_vectors(const char *digits, int count, uint8_t *octets)
 {
     __m128i good = _mm_set1_epi8(-1);
@@ -122,7 +122,7 @@ static int decode_by_vectors(const char *digits, int count, uint8_t *octets)
     return _mm_movemask_epi8(good) == 0xffff ? count / 2 : -1;
 }
 
-/* Whether the first 16 octets are the same. */
+/* Returns whether the first 16 octets are the same. */
 static int may_be_same(const uint8_t *a, const uint8_t *b)
 {
     __m128i same = _mm_cmpeq_epi8(_mm_loadu_si128((const __m128i *)a), _mm_loadu_si128((const __m128i *)b));

@@ -1,14 +1,20 @@
 #!/usr/bin/env python3
-"""Floods one port of an lldpa-live that logs, and sees that the log of the others goes on.
+"""Floods one port of an lldpa-live that logs, and checks that the log of the others continues.
 
-    tools/by-hand/flood-log.py [--frames 3000000] [--most 2] [--keep 20]
+    tools/by-hand/flood-log.py [--frames 3000000] [--most 2] [--keep 20] [--minutes 10]
 
-So many frames of 200 neighbors, as long as they may be, come in at one port as fast as it goes; at
+One port receives so many frames of 200 neighbors, as long as they may be, as fast as possible; at
 another one five neighbors come, change and age out. The log's files have `most` megabytes each and
-`keep` together. At ten moments lldpa-live is asked for its tables, and answers in time; each
-moment's tables must be those that a replay of its one file alone gives. The folder must never have
-more than it may, and no frame of the quiet port may be dropped. It needs Linux and root. LLDPA
-names the program. The last line is `N passed, M failed`.
+`keep` together. At ten moments lldpa-live is asked for its tables, and must answer in time; a replay
+of the one file of that moment must give the same tables. The folder must never have more than it
+may, and no frame of the quiet port may be dropped.
+
+With --minutes one port receives hostile frames for so long, and another one those of five quiet
+neighbors; the interface of a third one comes and goes. Meanwhile settings are reloaded, questions
+asked, addresses changed, agents killed and stopped, and lldpa-live itself is stopped for a while.
+No frame of the quiet port may be lost, no neighbor be false, and nothing grow.
+
+It needs Linux and root. LLDPA names the program. The last line is `N passed, M failed`.
 """
 import argparse
 import pathlib
@@ -16,33 +22,29 @@ import sys
 import time
 
 TOP = pathlib.Path(__file__).resolve().parents[2]
-sys.path[:0] = [str(TOP / "python"), str(TOP / "python" / "tests")]
+sys.path[:0] = [str(TOP / "python"), str(TOP / "python" / "tests"), str(TOP / "tools" / "gate")]
+from counts import Counts  # noqa: E402
 from running_live import Live  # noqa: E402
 from replays import Moments, differing  # noqa: E402
 from served import numbered, tlv  # noqa: E402
+from unrest import Unrest  # noqa: E402
 from wires import Peer, Wires, flood  # noqa: E402
 
 LATE = 1.0
 MOMENTS = 10
 FRAMES = [numbered(number, 600, tlv(5, b"n%d" % number)).ljust(1514, b"\0")
           for number in range(200)]
-counts = {True: 0, False: 0}
-
-
-def judge(holds, text):
-    """Counts a check, and tells of one that failed."""
-    counts[bool(holds)] += 1
-    print(text if holds else f"FAILED: {text}", flush=True)
+counts = Counts()
 
 
 def numbers(live):
-    """The numbers that lldpa-live and its agent tell."""
+    """Returns the numbers that lldpa-live and its agent report."""
     lines = [line.split("=", 1) for line in live.ask("live") + live.ask("show statistics")]
     return {key: int(value) for key, value in lines if value.isdigit()}
 
 
 def take(live, peer, moments, folder, keep, number, sent):
-    """Has the quiet port's neighbors send, and takes a moment."""
+    """Lets the quiet port's neighbors send, and takes a moment."""
     for place in range(5):
         if place != number % 5:
             peer.send(numbered(place, 30, tlv(5, b"moment %d" % number)))
@@ -51,9 +53,8 @@ def take(live, peer, moments, folder, keep, number, sent):
     moments.take()
     took = time.monotonic() - began
     size = sum(path.stat().st_size for path in folder.iterdir())
-    judge(took < LATE, f"moment {number + 1}: answered in {took:.3f} s")
-    files = len(list(folder.iterdir()))
-    judge(size <= keep * 1_000_000, f"moment {number + 1}: {size} octets in {files} files")
+    counts.that(f"moment {number + 1}: answered in {took:.3f} s", took < LATE)
+    counts.that(f"moment {number + 1}: {size} octets", size <= keep * 1_000_000)
     return sent
 
 
@@ -75,29 +76,40 @@ def compare(given, wires):
     for name in ("live.eth0.kernel-drops", "live.eth0.limit-drops", "lldp.eth0.received",
                  "lldp.eth1.received"):
         print(f"{name}={told[name]}")
-    judge(told["lldp.eth1.received"] == sent, f"all {sent} frames of the quiet port came in")
-    judge(told["live.log-lines-lost"] == 0, "no line of the log was lost")
+    counts.that(f"all {sent} frames of the quiet port came in", told["lldp.eth1.received"] == sent)
+    counts.that("no line of the log was lost", told["live.log-lines-lost"] == 0)
     live.close()
     wrong = differing(folder, moments)
-    judge(not wrong, f"{len(moments.answers)} moments replay alone: {wrong}")
+    counts.that(f"{len(moments.answers)} moments replay alone: {wrong}", not wrong)
     print(live.errors(), end="")
 
 
+def disturb(given, wires):
+    """Does everything at once."""
+    unrest = Unrest(wires)
+    try:
+        unrest.run(60 * given.minutes)
+        unrest.judge(lambda holds, text: counts.that(text, holds))
+    finally:
+        print(unrest.live.errors()[-2000:], end="")
+        unrest.live.close()
+
+
 def main():
-    """Runs the flood."""
+    """Runs the flood, or everything at once."""
     parser = argparse.ArgumentParser(description=__doc__,
                                      formatter_class=argparse.RawDescriptionHelpFormatter)
     parser.add_argument("--frames", type=int, default=3_000_000)
     parser.add_argument("--most", type=int, default=2)
     parser.add_argument("--keep", type=int, default=20)
+    parser.add_argument("--minutes", type=float)
     given = parser.parse_args()
-    wires = Wires(2)
+    wires = Wires(3)
     try:
-        compare(given, wires)
+        (compare if given.minutes is None else disturb)(given, wires)
     finally:
         wires.close()
-    print(f"{counts[True]} passed, {counts[False]} failed")
-    return 1 if counts[False] else 0
+    return counts.end()
 
 
 if __name__ == "__main__":

@@ -1,4 +1,4 @@
-"""What the library and other readers tell of frames, and the rules of docs/STANDARD.md by which
+"""What the library and other readers say of frames, and the rules of docs/STANDARD.md by which
 they differ."""
 from __future__ import annotations
 
@@ -31,62 +31,62 @@ class Frame:
             self.told = None
 
     def optional(self, kind: int) -> list[bytes]:
-        """The bodies of the TLVs of a type."""
+        """Returns the bodies of the TLVs of a type."""
         return [tlv.body for tlv in self.inside if tlv.kind == kind]
 
     def is_shutdown(self) -> bool:
-        """Whether nothing behind the TTL matters."""
+        """Returns whether nothing behind the TTL matters."""
         return self.told is not None and self.told.ttl == 0
 
 
 def has_odd_subtype(frame: Frame) -> bool:
-    """Whether an identifier has a reserved subtype."""
+    """Returns whether an identifier has a reserved subtype."""
     return any(not 1 <= tlv.body[0] <= 7 for tlv in frame.inside[:2] if tlv.body)
 
 
 def has_address_that_is_none(frame: Frame) -> bool:
-    """Whether a Management Address has more than 16 octets of an address, or is none of IP."""
+    """Returns whether a Management Address has more than 16 octets of an address, or is not one of IP."""
     return any(body[:1] > b"\x11" or body[1:2] not in (b"\1", b"\2") for body in frame.optional(8))
 
 
 def has_read_organization(frame: Frame) -> bool:
-    """Whether a peer reads what is in an organizationally specific TLV."""
+    """Returns whether a peer reads what is in an organizationally specific TLV."""
     return any(body[:3] in OUIS_READ for body in frame.optional(127))
 
 
 LLDPD, SD_LLDP, BOTH = {"lldpd"}, {"sd-lldp"}, {"lldpd", "sd-lldp"}
 
-# The words of a rule, the peers that do otherwise, and whether a frame is what the rule is about.
+# The words of a rule, the peers that differ, and whether a frame is what the rule is about.
 Reason = tuple[str, set[str], Callable[[Frame], bool]]
 
-# Why the library takes a frame that a peer refuses.
+# Why the library accepts a frame that a peer refuses.
 TAKEN: list[Reason] = [
-    ("an LLDPDU without one is accepted", BOTH, lambda frame: not frame.has_end),
+    ("it may be missing", BOTH, lambda frame: not frame.has_end),
     ("one with a length above 0 ends the LLDPDU too", BOTH,
      lambda frame: frame.end is not None and frame.end.body != b""),
     ("a reserved subtype is accepted", LLDPD, has_odd_subtype),
-    ("of a longer one the first two octets are read", SD_LLDP,
+    ("only the first two octets of a longer one are read", SD_LLDP,
      lambda frame: len(frame.inside[2].body) > 2),
     ("A TLV in error is discarded and counted; the others are used", BOTH,
      lambda frame: frame.told is not None and frame.told.ttl > 0 and frame.told.discarded > 0),
-    ("With a TTL of 0 the sender's entry is deleted, and nothing else in the LLDPDU matters", BOTH,
+    ("A TTL of 0 deletes the sender's entry; the rest of the LLDPDU does not matter", BOTH,
      Frame.is_shutdown),
     ("Their organization defines what they mean", LLDPD, has_read_organization),
     ("1 to 31 octets of address", LLDPD, has_address_that_is_none),
 ]
 
-# Why a peer takes a frame that the library refuses, or that is no LLDP frame for it.
+# Why a peer accepts a frame that the library refuses, or does not take for an LLDP frame.
 REFUSED: list[Reason] = [
-    ("A frame goes to one of three group addresses", BOTH,
+    ("Frames are sent to one of three group addresses", BOTH,
      lambda frame: frame.octets[:6] != model.NEAREST_BRIDGE),
     ("it has 14 to 1,514 octets", BOTH, lambda frame: not 14 <= len(frame.octets) <= 1514),
-    ("An LLDPDU begins with a Chassis ID, a Port ID and a Time To Live, in this order", SD_LLDP,
+    ("It begins with Chassis ID, Port ID and Time To Live, in this order", SD_LLDP,
      lambda frame: frame.kinds[:3] != [1, 2, 3]),
 ]
 
 
 class Told:
-    """What a program tells of a frame."""
+    """What a program says of a frame."""
 
     def __init__(self, line: str):
         words = line.split(" ")
@@ -95,13 +95,13 @@ class Told:
 
 
 def verdicts(command: list[str]) -> list[Told]:
-    """What a program tells of each frame."""
+    """Returns what a program says of each frame."""
     ran = subprocess.run(command, capture_output=True, text=True, check=True)
     return [Told(line) for line in ran.stdout.splitlines()]
 
 
 def identifiers(told: Told, is_ours: bool) -> tuple[bytes, bytes]:
-    """Chassis ID and port ID with their subtypes."""
+    """Returns Chassis ID and port ID with their subtypes."""
     both = [bytes.fromhex(told.fields[name]) for name in ("chassis", "port")]
     if not is_ours:
         subtypes = [bytes([int(told.fields[name])]) for name in ("ctype", "ptype")]
@@ -110,18 +110,18 @@ def identifiers(told: Told, is_ours: bool) -> tuple[bytes, bytes]:
 
 
 def rule_for(reasons: list[Reason], peer: str, frame: Frame) -> str | None:
-    """The rule that says why there is a difference, or None."""
+    """Returns the rule that says why there is a difference, or None."""
     return next((rule for rule, peers, holds in reasons if peer in peers and holds(frame)), None)
 
 
 def plain(body: bytes) -> bool:
-    """Whether a text is one that peers show as it is."""
+    """Returns whether a text is one that peers show unchanged."""
     is_plain = all(0x20 <= octet < 0x7f and octet not in b"\"'\\" for octet in body)
     return is_plain and 0 < len(body) <= 255
 
 
 def fault_of_texts(frame: Frame, told: Told) -> str | None:
-    """What is wrong with a text that a peer tells, where it stands once and is plain."""
+    """Returns what is wrong with a text that a peer shows, if it occurs once and is plain; or None."""
     for kind, name in TEXTS.items():
         bodies = frame.optional(kind)
         if len(bodies) == 1 and plain(bodies[0]) and told.fields.get(name) != bodies[0].hex():
@@ -130,7 +130,7 @@ def fault_of_texts(frame: Frame, told: Told) -> str | None:
 
 
 def compared(peer: str, frame: Frame, ours: Told, theirs: Told) -> str:
-    """The same, the rule by which they differ, or `?` and how they differ."""
+    """Returns "the same", the rule by which they differ, or `?` and how they differ."""
     if ours.is_accepted != theirs.is_accepted:
         rule = rule_for(TAKEN if ours.is_accepted else REFUSED, peer, frame)
         return rule or f"? the library {'takes' if ours.is_accepted else 'refuses'} it"
@@ -146,7 +146,7 @@ def compared(peer: str, frame: Frame, ours: Told, theirs: Told) -> str:
 
 
 def fault_of_ours(frame: Frame, ours: Told) -> str | None:
-    """How the library differs from the model, or None."""
+    """Returns how the library differs from the model, or None."""
     told = frame.told
     if ours.is_accepted != (told is not None):
         return "taken or refused"

@@ -2,25 +2,23 @@
 from __future__ import annotations
 
 import os
-import re
 import signal
 import subprocess
-import time
 from pathlib import Path
-from typing import Any, Iterator
+from typing import Any
 
 from patience import eventually
 from real_lldpd import Lldpd
 from running_live import Live
-from wires import Peer, Wires, inside, ip
+from served import PROGRAM
+from wires import Wires, ip
 
-TOP = Path(__file__).resolve().parents[2]
 BOTH = ["eth0", "eth1"]
 SAID = ["--hostname", "bridge-one", "--management", "192.0.2.1", "--role", "bridge"]
 
 
 def of_interface(namespace: str, name: str, field: str) -> str:
-    """Returns what the kernel tells of an interface: its address, or its index."""
+    """Returns a field that the kernel has of an interface: its address, or its index."""
     file = f"/sys/class/net/{name}/{field}"
     return subprocess.run(["ip", "netns", "exec", namespace, "cat", file], text=True,
                           capture_output=True, check=True).stdout.strip()
@@ -33,19 +31,11 @@ def lines_of(folder: Path) -> list[str]:
 
 
 class Recorded(Live):
-    """An lldpa-live with its log in a folder, of which all that it answers is kept."""
+    """An lldpa-live with its log in a folder."""
 
     def __init__(self, wires: Wires, name: str, *words: str, **options: Any) -> None:
         self.log = Path(wires.folder, name)
-        self.answered: list[str] = []
         super().__init__(wires, "--log", str(self.log), *words, **options)
-
-    def read_output(self) -> None:
-        """Keeps the lines of standard output."""
-        assert self.process.stdout is not None
-        for line in self.process.stdout:
-            self.answered.append(line.decode().rstrip("\n"))
-            self.lines.put(self.answered[-1])
 
     def sees(self, field: str) -> bool:
         """Returns whether the agent shows this of a neighbor."""
@@ -61,8 +51,8 @@ class Recorded(Live):
 class Pair:
     """An lldpd at one end of two links, and at the other an lldpa-live, whose lldpa may listen."""
 
-    def __init__(self, program: str, listens: bool) -> None:
-        self.program, self.mode = program, "listens" if listens else "child"
+    def __init__(self, listens: bool) -> None:
+        self.mode = "listens" if listens else "child"
         self.wires = Wires(2)
         os.chmod(self.wires.folder, 0o755)  # lldpd gives up root
         ip("-n", self.wires.there, "addr", "add", "192.0.2.2/24", "dev", "peer0")
@@ -82,7 +72,7 @@ class Pair:
     def new_live(self, name: str) -> Recorded:
         """Returns an lldpa-live that sends every two seconds, with its log in that folder."""
         if self.mode == "child":
-            live = Recorded(self.wires, name, *BOTH, "--", *SAID, program=self.program)
+            live = Recorded(self.wires, name, *BOTH, "--", *SAID)
         else:
             words = ["--mac", self.mac, *SAID]
             self.listen(words)
@@ -96,7 +86,7 @@ class Pair:
         """Starts an lldpa that listens, unless one does."""
         command = ["ip", "netns", "exec", self.wires.here]
         if self.listener is None:
-            self.listener = subprocess.Popen([*command, self.program, *words, "--listen", "4711",
+            self.listener = subprocess.Popen([*command, PROGRAM, *words, "--listen", "4711",
                                               "--connections", "9", *BOTH])
         eventually(lambda: b"127.0.0.1:4711 " in subprocess.run(
             [*command, "ss", "-tln"], capture_output=True, check=True).stdout)
@@ -142,52 +132,8 @@ class Pair:
         return self.live.sees(f"{port}.neighbors=0")
 
 
-def answers(program: str, words: list[str], trace: list[str]) -> list[str]:
+def answers(words: list[str], trace: list[str]) -> list[str]:
     """Returns what the program answers to a trace, without the frames that it sends."""
-    run = subprocess.run([program, *words], input="\n".join([*trace, ""]), capture_output=True,
+    run = subprocess.run([PROGRAM, *words], input="\n".join([*trace, ""]), capture_output=True,
                          text=True, check=True)
     return [line for line in run.stdout.splitlines() if not line.startswith("tx ")]
-
-
-def without_ages(lines: list[str]) -> list[str]:
-    """Returns a show without the seconds that are left, by which two runs may differ."""
-    return [re.sub("expires=.*", "expires=some", line) for line in lines]
-
-
-def play(sender: Peer, trace: list[str]) -> None:
-    """Sends the frames of a trace in their time."""
-    for word, *rest in map(str.split, filter(None, trace)):
-        if word == "tick":
-            time.sleep(int(rest[0]) if rest else 1)
-        elif word == "rx":
-            sender.send(bytes.fromhex(rest[1]))
-
-
-def of_trace(program: str, path: Path, wires: Wires) -> Iterator[tuple[str, bool]]:
-    """Yields whether lldpa shows what is expected of a trace: over a link, and from a capture."""
-    trace, wanted = (path.with_suffix(end).read_text().splitlines()
-                     for end in (".trace", ".expect"))
-    shows = [line for line in trace if line.startswith("show")]
-    capture = Path(wires.folder, "capture")
-    with inside(wires.here):
-        dump = subprocess.Popen(["tcpdump", "-i", "eth0", "--immediate-mode", "-U", "-w", capture,
-                                 "-Z", "root", "ether proto 0x88cc"], stderr=subprocess.DEVNULL)
-    eventually(lambda: capture.exists() and capture.stat().st_size)
-    live = Recorded(wires, path.stem, "eth0", "--", "--receive-only", program=program)
-    sender = Peer(wires, "peer0")
-    play(sender, trace)
-    time.sleep(0.5)
-    for line in shows:
-        live.say(line)
-    live.ends_by_itself()
-    dump.send_signal(signal.SIGINT)
-    dump.wait()
-    yield "over a link", bool(eventually(
-        lambda: without_ages(live.answered) == without_ages(wanted)))
-    read = subprocess.run([TOP / "bin" / "lldpa-capture", capture], text=True, check=True,
-                          capture_output=True)
-    shown = answers(program, ["--receive-only", "eth0"], read.stdout.splitlines() + shows)
-    yield "from a capture", without_ages(shown) == without_ages(wanted)
-    capture.unlink()
-    sender.close()
-    live.close()

@@ -1,18 +1,18 @@
 #!/bin/sh
 # Long runs of the built program, to be started by hand; it takes some minutes and prints its figures:
 #  - ten million lines of frames, seconds and shows, in which neighbors come, are refreshed, are dropped and
-#    expire, want no more memory than a hundred thousand, whose text is what the model writes; the last counters are
+#    expire, need no more memory than a hundred thousand, whose text is what the model writes; the last counters are
 #    the numbers of lines that were fed;
 #  - 4 GiB of blank lines from a pipe end with status 0 and no output.
 #     tools/by-hand/long.sh [PROGRAM]
-# The resident set is the greatest that Linux tells in /proc. The last line is `N passed, M failed`.
+# The resident set is the greatest that Linux reports in /proc. The last line is `N passed, M failed`.
 set -u
 cd "$(dirname "$0")/../.." || exit 2
 program=$(realpath -- "${1:-crates/lldpa/out/lldpa}")
 [ -x "$program" ] || { echo "no program at $program: rt run in crates/lldpa builds it"; exit 2; }
 . tools/gate/parts.sh
 
-# Runs so many thousand lines, and prints the greatest resident set in KiB, or a large number where the text is wrong.
+# Runs so many thousand lines, and prints the greatest resident set in KiB, or a large number if the text is wrong.
 resident_set() {
     python3 - "$program" "$1" <<'END'
 import re, subprocess, sys, threading, time

@@ -1,15 +1,14 @@
 #!/usr/bin/env python3
 """Gathers facts by Ansible's module community.general.lldp with lldpctl of this package and with lldpd's, and compares them.
 
-    tools/by-hand/try-ansible.py [--program PATH]
+    tools/by-hand/try-ansible.py
 
-At the far end of two links stands an lldpd, at the near end `lldpd -r` and lldpa-live, as in
-tools/by-hand/try-lldpctl.py. Ansible finds one lldpctl or the other on its path; each is told its socket by a script of
-two lines. All facts must be equal but for the age. It needs Linux, root, and Debian's packages lldpd, iproute2 and
+At the far end of two links runs an lldpd, at the near end `lldpd -r` and lldpa-live, as in
+tools/by-hand/try-lldpctl.py. Ansible finds one lldpctl or the other on its path; a script of two lines gives each its
+socket. All facts except the age must be equal. It needs Linux, root, and Debian's packages lldpd, iproute2 and
 ansible. The last line is `N passed, M failed`.
 """
-import argparse
-import importlib.util
+import importlib
 import json
 import os
 import pathlib
@@ -17,17 +16,15 @@ import subprocess
 import sys
 
 TOP = pathlib.Path(__file__).resolve().parents[2]
-SPEC = importlib.util.spec_from_file_location("try_lldpctl", TOP / "tools" / "by-hand" / "try-lldpctl.py")
-try_lldpctl = importlib.util.module_from_spec(SPEC)
-SPEC.loader.exec_module(try_lldpctl)
-# the module fails at a second VLAN with a name, and at a second unknown TLV, whoever tells of them
+try_lldpctl = importlib.import_module("try-lldpctl")
+# the module fails at a second VLAN with a name, and at a second unknown TLV, with either program
 SECOND = ("configure lldp custom-tlv add oui 00,80,c2 subtype 3 oui-info 00,79,05,67,75,65,73,74",
           "configure lldp custom-tlv add oui 33,44,55 subtype 254")
 SENDERS = {name: [one for one in commands if one not in SECOND] for name, commands in try_lldpctl.SENDERS.items()}
 
 
 def facts(folder, program):
-    """What the module gathers with a program."""
+    """Returns what the module gathers with a program."""
     path = os.path.join(folder, "bin")
     os.makedirs(path, exist_ok=True)
     with open(os.path.join(path, "lldpctl"), "w", encoding="utf-8") as script:
@@ -44,7 +41,7 @@ def facts(folder, program):
 
 
 def leaves(told, path=""):
-    """The keys of facts, whole, and their values, but for the age."""
+    """Returns the whole keys of facts, and their values, except the age."""
     if isinstance(told, dict):
         for key, value in told.items():
             yield from leaves(value, f"{path}.{key}".lstrip("."))
@@ -53,7 +50,7 @@ def leaves(told, path=""):
 
 
 def compare(name, theirs, ours):
-    """How many facts are equal, and which are not."""
+    """Returns how many facts are equal, and which are not."""
     theirs, ours = dict(leaves(theirs)), dict(leaves(ours))
     differing = [f"{name}: {key}: lldpd's {theirs.get(key)!r}, ours {ours.get(key)!r}"
                  for key in {**theirs, **ours} if theirs.get(key) != ours.get(key)]
@@ -62,11 +59,8 @@ def compare(name, theirs, ours):
 
 def main():
     """Runs the comparison, and cleans up."""
-    parser = argparse.ArgumentParser(description=__doc__, formatter_class=argparse.RawDescriptionHelpFormatter)
-    parser.add_argument("--program", default=str(TOP / "crates" / "lldpa" / "out" / "lldpa"))
-    given = parser.parse_args()
     os.makedirs("/run/lldpd", exist_ok=True)
-    lab = try_lldpctl.Lab(given.program)
+    lab = try_lldpctl.Lab()
     passed, failed = 0, []
     try:
         for name, commands in SENDERS.items():

@@ -1,15 +1,15 @@
 #!/usr/bin/env python3
 """Compares what is read of organizationally specific TLVs with what lldpcli and tshark show of the same frames.
 
-    tools/by-hand/try-details.py [--program PATH] [--save FILE] [--octets]
+    tools/by-hand/try-details.py [--save FILE] [--octets]
 
-Frames of real senders (lldpd, ladvd, lldpad) come from python/tests/judged.json; further ones are sent by an lldpd that is
-configured for it, and frames with a TLV of each kind and with each value that has a name are made. Each goes over a link to a
-receiving lldpd, whose lldpcli is asked (-f json0), and to tshark. Each value that they show and each that is read here must be
-equal, but for what python/tests/judges.py and by_tshark.py list with its reason. --save keeps the frames with the answers
-of both, which python/tests/test_judged.py compares without them. --octets gives tshark each front of one of each kind too, and
-each of its octets changed to each other value. It needs Linux, root, and Debian's packages lldpd, iproute2
-and tshark. The last line is `N passed, M failed`.
+The frames come from real senders (lldpd, ladvd, lldpad; python/tests/judged.json) and from an lldpd that is configured
+for it; others are made, with a TLV of each kind and with each value that has a name. Each is sent over a link to a
+receiving lldpd, whose lldpcli is asked (-f json0), and to tshark. The values that they show and those read here must be
+equal, except what python/tests/judges.py and by_tshark.py list with its reason. --save keeps the frames with the
+answers of both, which python/tests/test_judged.py compares without them. --octets also gives tshark each front of one
+of each kind, and each of its octets changed to each other value. It needs Linux, root, and Debian's packages lldpd,
+iproute2 and tshark. The last line is `N passed, M failed`.
 """
 import argparse
 import json
@@ -32,7 +32,7 @@ from test_organizational import changed  # noqa: E402
 from wires import Peer, Wires  # noqa: E402
 
 JUDGED = TOP / "python" / "tests" / "judged.json"
-# what an lldpd is told, by the name of what it then sends
+# the settings of an lldpd, by the name of what it then sends
 SENDERS = {
     "lldpd-pse": (
         "configure ports peer0 dot3 power pse supported enabled paircontrol powerpairs spare class class-3 type 2"
@@ -70,7 +70,7 @@ SENDERS = {
 
 
 def sent_by_lldpd(wires):
-    """The frames of an lldpd, by what it was told."""
+    """Returns the frames of an lldpd, by its settings."""
     hearing = Peer(wires, "eth0")
     for name, commands in SENDERS.items():
         sender = Lldpd(wires.there, wires.folder, "-M", "4", "-S", "a real peer", "-I", "peer0")
@@ -85,7 +85,7 @@ def sent_by_lldpd(wires):
 
 
 def made():
-    """Frames with a TLV of each kind, and with each value that has a name."""
+    """Makes frames with a TLV of each kind, and with each value that has a name."""
     for number, sample in enumerate(SAMPLES):
         (oui, subtype), octets = sample.kind, bytes.fromhex(sample.octets)
         yield f"{oui}.{subtype}-{number}", bytes.fromhex(oui) + bytes([subtype]) + octets
@@ -111,15 +111,15 @@ def made():
 
 
 def with_tlv(body):
-    """A frame with this organizationally specific TLV. One of LLDP-MED stands behind that of its capabilities, without
-    which lldpd does not look at it."""
+    """Returns a frame with this organizationally specific TLV. One of LLDP-MED follows that of its capabilities,
+    without which lldpd does not look at it."""
     is_of_med = body.startswith(bytes.fromhex("0012bb")) and body[3] > 1
     before = [tlv(127, bytes.fromhex("0012bb01003f03"))] if is_of_med else []
     return frame(b"\x04\x02\0\0\0\0\1", b"\x05p1", 120, tlv(5, b"made"), *before, tlv(127, body))
 
 
 def shown_by_tshark(frames, room):
-    """What tshark shows of the organizationally specific TLVs of each frame."""
+    """Returns what tshark shows of the organizationally specific TLVs of each frame."""
     path = os.path.join(room, "frames.pcap")
     with open(path, "wb") as file:
         file.write(struct.pack("<IHHiIII", 0xA1B2C3D4, 2, 4, 0, 0, 65535, 1))
@@ -133,7 +133,7 @@ def shown_by_tshark(frames, room):
 
 
 def shown_by_lldpcli(frames, wires):
-    """What lldpcli shows of each frame."""
+    """Returns what lldpcli shows of each frame."""
     receiver = Lldpd(wires.here, wires.folder, "-r", "-M", "4", "-I", "eth0")
     sending = Peer(wires, "peer0")
     for octets in frames:
@@ -147,8 +147,9 @@ def shown_by_lldpcli(frames, wires):
 
 
 def compare_octets(room):
-    """How many fronts and changed octets are read as tshark reads them, and which are not. Those are passed over that stay
-    in hexadecimal, that have reserved bits, and that have a text with a NUL, which tshark cuts, or without UTF-8."""
+    """Returns how many fronts and changed octets are read as tshark reads them, and which are not. Skips those that
+    stay in hexadecimal, that have reserved bits, and that have a text with a NUL, which tshark cuts, or without
+    UTF-8."""
     equal, differences = 0, []
     for sample in SAMPLES:
         octets = bytes.fromhex(sample.octets)
@@ -165,19 +166,19 @@ def compare_octets(room):
 
 
 def has_odd_text(tlv):
-    """Whether a text in it has a NUL, or is no UTF-8."""
+    """Returns whether a text in it has a NUL, or is not UTF-8."""
     texts = [value for value in vars(tlv).values() if isinstance(value, bytes)] if not hasattr(tlv, "protocol") else []
     texts += [text for _, text in getattr(tlv, "elements", ())]
     return any(b"\0" in text or text != text.decode("utf-8", "replace").encode() for text in texts)
 
 
 def tlv_of(kind, octets):
-    """The TLV of a kind."""
+    """Returns the TLV of a kind."""
     return tlv(127, bytes.fromhex(kind[0]) + bytes([kind[1]]) + octets)
 
 
 def run(given, wires):
-    """The comparison."""
+    """Compares."""
     saved = json.loads(JUDGED.read_text()) if JUDGED.exists() else []
     frames = {one["name"]: bytes.fromhex(one["frame"]) for one in saved if one["name"].startswith("real-")}
     frames.update(sent_by_lldpd(wires))
@@ -195,14 +196,13 @@ def run(given, wires):
 def main():
     """Runs the comparison, and cleans up."""
     parser = argparse.ArgumentParser(description=__doc__, formatter_class=argparse.RawDescriptionHelpFormatter)
-    parser.add_argument("--program", default=str(TOP / "crates" / "lldpa" / "out" / "lldpa"))
     parser.add_argument("--save", metavar="FILE")
     parser.add_argument("--octets", action="store_true")
     given = parser.parse_args()
     wires = Wires()
     os.chmod(wires.folder, 0o755)
     try:
-        equal, differences = compare(run(given, wires), given.program)
+        equal, differences = compare(run(given, wires))
         print(f"{equal} values are those of lldpcli and tshark, {len(differences)} are not")
         more, others = compare_octets(wires.folder) if given.octets else (0, [])
     finally:

@@ -1,16 +1,16 @@
 #!/usr/bin/env python3
 """Reads the same frames by the library, by lldpd's decoder and by systemd's sd-lldp, and compares
-what they tell and how long they take. Where they differ, a rule of docs/STANDARD.md must say so.
+what they say and how long they take. If they differ, a rule of docs/STANDARD.md must say so.
 
     tools/by-hand/try-library-peers.py --peers FOLDER [--library FOLDER] [--frames FILE ..] [--count N]
                                [--seed N] [--rounds N]
 
 The folder of the peers has the programs lldpd_decode and sd_decode, built over the sources of their
 projects: each is given `verdict FILE` and `bench FILE N`, with a frame in hexadecimal on each line
-of the file. That of the library is what tools/library/library.sh makes, as it does unless it is named.
---frames names captures (pcap) and traces, beside those of docs and examples. The N frames, 300,000
-unless given, are those of all these, altered ones, and those of tools/model/fuzz.py. What the library
-tells is also compared with the model of tools/model/model.py. The last line is `N passed, M failed`.
+of the file. The folder of the library is what tools/library/library.sh makes, which runs unless one
+is given. --frames names captures (pcap) and traces, besides those of docs and examples. The N frames,
+300,000 unless given, are those of all these, altered ones, and those of tools/model/fuzz.py. What the
+library says is also compared with tools/model/model.py. The last line is `N passed, M failed`.
 """
 from __future__ import annotations
 
@@ -18,16 +18,14 @@ import argparse
 import collections
 import pathlib
 import re
-import statistics
 import subprocess
 import sys
 import tempfile
-from typing import Iterator
 
-sys.dont_write_bytecode = True
 TOP = pathlib.Path(__file__).resolve().parents[2]
-sys.path.append(str(TOP / "tools" / "model"))
+sys.path += [str(TOP / "tools" / "model"), str(TOP / "tools" / "gate"), str(TOP / "python")]
 import fuzz  # noqa: E402
+from lldpa.capture.packets import packets_of  # noqa: E402
 from library_peers import Frame, Told, compared, fault_of_ours, verdicts  # noqa: E402
 
 STANDARD = TOP / "docs" / "STANDARD.md"
@@ -35,22 +33,13 @@ OURS = "the library"
 SAME = ("the same", "the same as the model")
 
 
-def pcap_frames(path: pathlib.Path) -> Iterator[bytes]:
-    """The frames of a capture."""
-    octets = path.read_bytes()
-    order, at = ("little" if octets[3] == 0xa1 else "big"), 24
-    while at + 16 <= len(octets):
-        end = at + 16 + int.from_bytes(octets[at + 8:at + 12], order)  # type: ignore[arg-type]
-        yield octets[at + 16:end]
-        at = end
-
-
 def captured_frames(paths: list[pathlib.Path]) -> list[bytes]:
-    """The frames of captures and of traces, each once."""
+    """Returns the frames of captures and of traces, each once."""
     found: dict[bytes, None] = {}
     for path in paths:
         if path.suffix == ".pcap":
-            found.update(dict.fromkeys(pcap_frames(path)))
+            with path.open("rb") as file:
+                found.update(dict.fromkeys(packet.octets for packet in packets_of(file)))
             continue
         for digits in re.findall(rb"^rx \S+ ((?:[0-9a-fA-F]{2})+)$", path.read_bytes(), re.M):
             found[bytes.fromhex(digits.decode())] = None
@@ -58,7 +47,7 @@ def captured_frames(paths: list[pathlib.Path]) -> list[bytes]:
 
 
 def corpus(captured: list[bytes], count: int, seed: int) -> list[bytes]:
-    """Captured frames, then altered ones of them and those of tools/model/fuzz.py in turn."""
+    """Returns captured frames, then altered ones of them and those of tools/model/fuzz.py in turn."""
     dice = fuzz.Dice(seed)
     frames = list(captured)
     while len(frames) < count:
@@ -70,17 +59,17 @@ def corpus(captured: list[bytes], count: int, seed: int) -> list[bytes]:
 
 
 def nanoseconds(command: list[str], rounds: int) -> float:
-    """The time a frame, the median of some rounds."""
+    """Returns the time for a frame, the least of some rounds."""
     times = []
     for _ in range(rounds):
         ran = subprocess.run(command, capture_output=True, text=True, check=True)
         times.append(float(re.findall(r"ns_per_frame=([0-9.]+)", ran.stdout)[0]))
-    return statistics.median(times)
+    return min(times)
 
 
 def print_times(programs: dict[str, list[str]], files: dict[str, pathlib.Path],
                 rounds: int) -> None:
-    """The time a frame of each program over each file."""
+    """Prints the time for a frame of each program over each file."""
     for of_what, path in files.items():
         for name, command in programs.items():
             took = nanoseconds([*command, str(path), "600000"], rounds)
@@ -88,7 +77,7 @@ def print_times(programs: dict[str, list[str]], files: dict[str, pathlib.Path],
 
 
 def found_of(peer: str, frame: Frame, ours: Told, theirs: Told) -> str:
-    """How a program's answer compares: the same, a rule, or `?` and what is wrong."""
+    """Returns how a program's answer compares: the same, a rule, or `?` and what is wrong."""
     if peer != OURS:
         return compared(peer, frame, ours, theirs)
     fault = fault_of_ours(frame, ours)
@@ -96,7 +85,7 @@ def found_of(peer: str, frame: Frame, ours: Told, theirs: Told) -> str:
 
 
 def judge(peer: str, frames: list[Frame], ours: list[Told], theirs: list[Told]) -> tuple[int, int]:
-    """Compares all that a program told, and prints how it differs. How much held, and did not."""
+    """Compares all that a program said, and prints how it differs. Returns how many held, and how many did not."""
     counts: collections.Counter[str] = collections.Counter()
     for frame, our, their in zip(frames, ours, theirs):
         found = found_of(peer, frame, our, their)
@@ -114,7 +103,7 @@ def judge(peer: str, frames: list[Frame], ours: list[Told], theirs: list[Told]) 
 
 
 def read_arguments() -> argparse.Namespace:
-    """The words of the command line."""
+    """Reads the words of the command line."""
     parser = argparse.ArgumentParser(description=(__doc__ or "").splitlines()[0])
     parser.add_argument("--peers", type=pathlib.Path, required=True)
     parser.add_argument("--library", type=pathlib.Path)
@@ -126,7 +115,7 @@ def read_arguments() -> argparse.Namespace:
 
 
 def built(library: pathlib.Path | None, room: pathlib.Path) -> str:
-    """The program over the library, built."""
+    """Returns the program over the library, built."""
     if library is None:
         library = room / "lib"
         command = [TOP / "tools" / "library" / "library.sh", library]
@@ -142,22 +131,24 @@ def built(library: pathlib.Path | None, room: pathlib.Path) -> str:
 def main() -> int:
     """Makes the frames, asks each program, and compares."""
     words = read_arguments()
-    ours = [*sorted((TOP / "docs").rglob("*.pcap")), *sorted((TOP / "examples").glob("*.trace"))]
-    captured = captured_frames([*ours, *words.frames])
+    corpora = {"frames of captures": captured_frames([*sorted((TOP / "docs").rglob("*.pcap")), *words.frames]),
+               "frames of traces": captured_frames(sorted((TOP / "examples").glob("*.trace")))}
+    captured = list(dict.fromkeys(frame for found in corpora.values() for frame in found))
     octets = corpus(captured, words.count, words.seed)
     print(f"{len(octets)} frames, {len(captured)} of captures and traces")
     frames, passed, failed = [Frame(frame) for frame in octets], 0, 0
     with tempfile.TemporaryDirectory() as name:
         room = pathlib.Path(name)
-        files = {"captured frames": room / "captured", "all frames": room / "all"}
-        for path, which in zip(files.values(), (captured, octets)):
-            path.write_text("".join(f"{frame.hex()}\n" for frame in which))
+        corpora |= {"both": captured, "all frames": octets}
+        files = {of_what: room / of_what.replace(" ", "-") for of_what in corpora}
+        for of_what, path in files.items():
+            path.write_text("".join(f"{frame.hex()}\n" for frame in corpora[of_what]))
         programs = {OURS: built(words.library, room), "lldpd": str(words.peers / "lldpd_decode"),
                     "sd-lldp": str(words.peers / "sd_decode")}
         told = {peer: verdicts([program, "verdict", str(files["all frames"])])
                 for peer, program in programs.items()}
         for peer, theirs in told.items():
-            assert len(theirs) == len(frames), f"{peer} tells of other frames"
+            assert len(theirs) == len(frames), f"{peer} reports other frames"
             held, not_held = judge(peer, frames, told[OURS], theirs)
             passed, failed = passed + held, failed + not_held
         timed = {f"{OURS}, without a walk": [programs[OURS], "examine"]}

@@ -1,17 +1,13 @@
 #!/usr/bin/env python3
 """Puts bin/lldpa-live beside a real lldpd, over two links, and checks what each sees of the other.
 
-    tools/by-hand/try-live.py [--program PATH] [--traces FOLDER]
+    tools/by-hand/try-live.py
 
-First lldpa is a child of lldpa-live, then it listens. With a folder of NAME.trace and NAME.expect
-the frames of these traces are sent over a link too, in their time, and what lldpa shows of them is
-compared, live and from a capture of tcpdump. It needs Linux, root, and Debian's packages lldpd,
-iproute2 and, for the folder, tcpdump. The last line is `N passed, M failed`.
+First lldpa is a child of lldpa-live, then it listens. It needs Linux, root, and Debian's packages
+lldpd and iproute2. LLDPA names the program. The last line is `N passed, M failed`.
 """
 from __future__ import annotations
 
-import argparse
-import os
 import re
 import shlex
 import signal
@@ -23,11 +19,10 @@ from typing import Callable
 TOP = Path(__file__).resolve().parents[2]
 sys.path[:0] = [str(TOP / "python"), str(TOP / "python" / "tests"), str(TOP / "tools" / "gate")]
 from counts import Counts  # noqa: E402
-from live_pair import (Pair, Recorded, answers, lines_of, of_interface,  # noqa: E402
-                       of_trace)
+from live_pair import Pair, Recorded, answers, lines_of, of_interface  # noqa: E402
 from patience import SECONDS, eventually  # noqa: E402
 from replays import Moments  # noqa: E402
-from wires import Peer, Wires  # noqa: E402
+from wires import Peer  # noqa: E402
 
 HEAD = bytes.fromhex("0180c200000e021122334455")
 counts = Counts()
@@ -41,21 +36,21 @@ class Checks(Pair):
         counts.that(f"{self.mode}: {what}", eventually(holds, seconds))
 
     def check_both_see(self, number: int = 0) -> None:
-        """Both see each other on a link."""
+        """Checks that both see each other on a link."""
         self.check(f"lldpd sees lldpa on link {number}",
                    lambda: self.lldpd_sees(f"peer{number}.port.ifname=eth{number}"))
         self.check(f"lldpa sees lldpd on link {number}",
                    lambda: self.live.sees(f"eth{number}.1.port.descr=peer{number}"))
 
     def check_fields(self, theirs: list[str], ours: list[str]) -> None:
-        """lldpd sees fields of lldpa, and lldpa fields of lldpd."""
+        """Checks that lldpd sees fields of lldpa, and lldpa fields of lldpd."""
         for field in theirs:
             self.check(f"lldpd sees {field}", lambda: self.lldpd_sees(field))
         for field in ours:
             self.check(f"lldpa sees {field}", lambda: self.live.sees(field))
 
     def check_what_is_sent(self) -> None:
-        """Each field of both is seen on both links."""
+        """Checks that each field of both is seen on both links."""
         system = re.search(r'^PRETTY_NAME="?(.*?)"?$', Path("/etc/os-release").read_text(), re.M)
         descr = system[1] if system and self.mode == "child" else "lldpa"
         chassis, index = (of_interface(self.wires.there, "peer0", field)
@@ -75,7 +70,7 @@ class Checks(Pair):
                               [f"eth{number}.1.{field}" for field in ours])
 
     def check_changes(self) -> None:
-        """Changes at both ends are seen at the other."""
+        """Checks that changes at both ends are seen at the other."""
         for say, name, text, hold in ((self.live.say, "bridge-two", "with a space", 10),
                                       (self.lldpd.tell, "peer-two", "another text", 4)):
             say(f"configure system hostname {name}")
@@ -88,7 +83,7 @@ class Checks(Pair):
                                              "chassis.descr=another text", "ttl=8")])
 
     def check_statuses(self) -> None:
-        """A port that is disabled goes, and comes back."""
+        """Checks that a disabled port withdraws, and comes back."""
         self.live.say("configure ports eth0 lldp status disabled")
         self.check("a port that lldpa disables is gone at once",
                    lambda: self.lldpd_forgot("peer0"), 3)
@@ -102,12 +97,12 @@ class Checks(Pair):
         self.check_both_see()
 
     def was_told(self, port: str, state: str) -> bool:
-        """Returns whether that is the last that lldpa-live told of the link of a port."""
+        """Returns whether that is the last report of lldpa-live about the link of a port."""
         told = [line for line in lines_of(self.live.log) if line in (f"up {port}", f"down {port}")]
         return told[-1:] == [f"{state} {port}"]
 
     def check_links(self) -> None:
-        """A link that goes and comes is told, at either end."""
+        """Checks that a link that goes down and comes up is reported, at either end."""
         for end, port in (("peer0", "eth0"), ("eth1", "eth1")):
             for state in ("down", "up"):
                 self.wires.set_link(end, state)
@@ -115,7 +110,7 @@ class Checks(Pair):
             self.check_both_see(int(port[-1]))
 
     def check_what_is_taken(self) -> None:
-        """Of frames that come in, lldpa is told those without a tag that others sent."""
+        """Checks that lldpa gets only those received frames that have no tag and that others sent."""
         sender = Peer(self.wires, "peer0")
         for name, tag in (("ta", "81000000"), ("tb", "81000005"), ("tc", "88a80005"), ("un", "")):
             sender.send(HEAD + bytes.fromhex(tag + "88cc020407") + name.encode()
@@ -127,7 +122,7 @@ class Checks(Pair):
             self.check(f"a {what} is not", lambda: not self.was_taken(pattern), 0)
 
     def was_taken(self, pattern: str) -> bool:
-        """Returns whether lldpa was told a frame of that pattern."""
+        """Returns whether lldpa got a frame of that pattern."""
         return any(re.match(f"rx eth. {pattern}", line) for line in lines_of(self.live.log))
 
     def received(self) -> int:
@@ -136,7 +131,7 @@ class Checks(Pair):
         return int(found["lldp.peer0.rx.rx"])
 
     def check_missed_seconds(self) -> None:
-        """Seconds of a standstill are told, and of their frames the last goes out."""
+        """Checks that seconds of a standstill are passed on, and that the last one of their frames is sent."""
         self.live.say("configure lldp tx-interval 1")
         before, told = self.received(), self.live.seconds_told()
         eventually(lambda: self.live.seconds_told() > told + 1 and self.received() > before)
@@ -144,7 +139,7 @@ class Checks(Pair):
         self.live.signal(signal.SIGSTOP)
         time.sleep(6)
         self.live.signal(signal.SIGCONT)
-        self.check("missed seconds are told", lambda: self.live.seconds_told() >= told + 6)
+        self.check("missed seconds are passed on", lambda: self.live.seconds_told() >= told + 6)
         time.sleep(1)
         heard = self.received() - before
         self.check(f"of their frames the last alone goes out ({heard} heard)",
@@ -152,13 +147,13 @@ class Checks(Pair):
         self.live.say("configure lldp tx-interval 2")
 
     def check_age(self, whose: str, seconds: float, is_gone: Callable[[], object]) -> None:
-        """A neighbor that says no more is there for so many seconds yet, and then goes."""
+        """Checks that a neighbor that says no more is held for so many more seconds, and then ages out."""
         time.sleep(seconds)
         self.check(f"{whose} that was killed is there yet", lambda: not is_gone(), 0)
         self.check(f"{whose} that was killed ages out", is_gone, 5)
 
     def check_ends_of_lldpd(self) -> None:
-        """lldpa sees at once that lldpd has ended, and in time that it was killed."""
+        """Checks that lldpa sees at once that lldpd has ended, and in time that it was killed."""
         self.check_both_see()
         self.kill_lldpd()
         shown = dict(line.split("=", 1) for line in self.live.told("show neighbors"))
@@ -172,7 +167,7 @@ class Checks(Pair):
         self.check_both_see()
 
     def check_ends_of_live(self) -> None:
-        """lldpd sees at once that lldpa-live has ended, and in time that it was killed."""
+        """Checks that lldpd sees at once that lldpa-live has ended, and in time that it was killed."""
         first, before = self.live, Moments(self.live)
         before.take()
         first.signal(signal.SIGTERM)
@@ -181,7 +176,7 @@ class Checks(Pair):
             self.check(f"and sends a shutdown frame to {port}", lambda: self.lldpd_forgot(port), 3)
         second = self.live = self.new_live("second")
         self.check_both_see()
-        self.check("the next one was told of its links", lambda: self.was_told("eth1", "up"))
+        self.check("the next one got its links", lambda: self.was_told("eth1", "up"))
         behind = Moments(second)
         behind.take()
         self.check("the end of input ends it well", lambda: second.ends_by_itself() == 0)
@@ -196,19 +191,19 @@ class Checks(Pair):
         self.check_age("an lldpa-live", 4, lambda: self.lldpd_forgot("peer0"))
 
     def check_replay(self, lives: list[Recorded], moments: Moments) -> None:
-        """The logs of one lldpa, one after the other, replay to the tables of the last moment."""
+        """Checks that the logs of one lldpa, one after another, replay to the tables of the last moment."""
         (line, tables), = moments.answers.items()
         trace = [line for live in lives for line in lines_of(live.log)]
         last = len(trace) - trace[::-1].index(line)
         words = shlex.split(trace[0].removeprefix("# lldpa "))
-        shown = answers(self.program, words, [*trace[:last], "show neighbors"])
+        shown = answers(words, [*trace[:last], "show neighbors"])
         self.check("the log replays to the same tables",
                    lambda: [line for line in shown if line.startswith("lldp.")] == tables, 0)
 
 
-def check_live(program: str, listens: bool) -> None:
-    """Checks a pair, and takes it away."""
-    pair = Checks(program, listens)
+def check_live(listens: bool) -> None:
+    """Checks a pair, and removes it."""
+    pair = Checks(listens)
     try:
         for check in (pair.check_what_is_sent, pair.check_changes, pair.check_statuses,
                       pair.check_links, pair.check_what_is_taken, pair.check_missed_seconds,
@@ -220,20 +215,8 @@ def check_live(program: str, listens: bool) -> None:
 
 def main() -> int:
     """Runs all."""
-    parser = argparse.ArgumentParser(description=__doc__,
-                                     formatter_class=argparse.RawDescriptionHelpFormatter)
-    parser.add_argument("--program", default=str(TOP / "crates" / "lldpa" / "out" / "lldpa"))
-    parser.add_argument("--traces", type=Path, default=Path(os.devnull))
-    given = parser.parse_args()
     for listens in (False, True):
-        check_live(given.program, listens)
-    wires = Wires()
-    try:
-        for path in sorted(given.traces.glob("*.trace")):
-            for where, holds in of_trace(given.program, path, wires):
-                counts.that(f"{path.stem} {where}", holds)
-    finally:
-        wires.close()
+        check_live(listens)
     return counts.end()
 
 

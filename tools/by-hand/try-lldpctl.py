@@ -1,15 +1,15 @@
 #!/usr/bin/env python3
 """Compares what lldpctl prints of lldpa-live with what lldpcli prints of an lldpd beside it, on the same two links.
 
-    tools/by-hand/try-lldpctl.py [--program PATH] [--verbose]
+    tools/by-hand/try-lldpctl.py [--verbose]
 
 At the far end an lldpd sends what it is configured to: TLVs of IEEE 802.1 and 802.3, LLDP-MED and custom ones. Then
 frames of real senders and made ones (python/tests/judged.json) are sent, and texts with every octet. At the near end
-stand `lldpd -r` and lldpa-live, which receive the same. Each command is asked in each of the forms plain, keyvalue,
-json and json0, and each key and each value is compared but for the age. A difference is a failure unless docs/LLDPD.md
-lists it. It needs Linux, root, and Debian's packages lldpd and iproute2. The last line is `N passed, M failed`.
+run `lldpd -r` and lldpa-live, which receive the same. Each command is asked in each of the forms plain, keyvalue, json
+and json0, and each key and each value except the age is compared. A difference is a failure unless docs/LLDPD.md lists
+it; --verbose prints those that it lists. It needs Linux, root, and Debian's packages lldpd and iproute2. The last line
+is `N passed, M failed`.
 """
-import argparse
 import collections
 import contextlib
 import json
@@ -46,7 +46,7 @@ IDENTIFIER = re.compile(r"(chassis|port)\.(mac|ip|ifname|ifalias|local|unhandled
 AGE = re.compile(r"Time: \d+ days?, [0-9:]+")
 COORDINATES = [(degrees, resolution) for degrees in (0, 48.8566613, -33.8567844, 0.5, -0.5, -1, 89.9999999, -0.001)
                for resolution in (0, 5, 9, 10, 15, 22, 25, 34)]
-# what the lldpd at the far end is told, by what it then is
+# the settings of the lldpd at the far end, by what it then is
 SENDERS = {
     "a switch": (
         "configure ports peer0 dot3 power pse supported enabled paircontrol powerpairs spare class class-3",
@@ -87,7 +87,7 @@ class Comparison:
         self.rows = listed_keys(PAGE.read_text())
 
     def compare(self, where, theirs, ours):
-        """Compares the blocks of two answers: pairs of keys and values, by the neighbor or port that they tell of."""
+        """Compares the blocks of two answers: pairs of keys and values, by the neighbor or port that they are about."""
         for name in dict.fromkeys([*theirs, *ours]):
             of_theirs, of_ours = by_key(theirs.get(name, [])), by_key(ours.get(name, []))
             for key in dict.fromkeys([*of_theirs, *of_ours]):
@@ -110,7 +110,7 @@ class Comparison:
             print(f"listed: {where}: {name}: {key}: lldpcli {theirs}, lldpctl {ours}")
 
     def row_of(self, where, key, theirs, ours):
-        """What of the page lists a difference, None where nothing does."""
+        """Returns the row of the page that lists a difference, or None if none does."""
         if escaped_alike(theirs) == escaped_alike(ours) and ("neighbors", "a text") in self.rows:
             return "a text"
         if [SIGN.sub("", str(value)) for value in theirs] == [SIGN.sub("", str(value)) for value in ours]:
@@ -120,7 +120,7 @@ class Comparison:
 
 
 def listed_keys(page):
-    """The shows in the first column of the page's table of differences, each with a key in the second."""
+    """Returns the shows in the first column of the page's table of differences, each with a key in the second."""
     table = page.partition(HEADING)[2].partition("\n## ")[0]
     rows = [line.split("|")[1:3] for line in table.splitlines() if line.startswith("|")]
     return [(show, key) for shows, keys in rows for show in re.findall("`([^`]*)`", shows)
@@ -128,12 +128,12 @@ def listed_keys(page):
 
 
 def escaped_alike(values):
-    """Texts with all escaped that is escaped here in one form or another."""
+    """Escapes in texts all that is escaped here in one form or another."""
     return [printable(one_line(str(value))) for value in values]
 
 
 def by_key(pairs):
-    """The values of each key, in their order."""
+    """Returns the values of each key, in their order."""
     found = {}
     for key, value in pairs:
         found.setdefault(key, []).append(value)
@@ -141,7 +141,7 @@ def by_key(pairs):
 
 
 def blocks_of(form, octets):
-    """The blocks of an answer in a form: pairs of keys and values, by what they tell of."""
+    """Returns the blocks of an answer in a form: pairs of keys and values, by what they are about."""
     if form == "plain":
         return named(plain_blocks(octets.decode("utf-8", "surrogateescape")))
     if form == "keyvalue":
@@ -150,7 +150,7 @@ def blocks_of(form, octets):
 
 
 def named(blocks):
-    """Blocks by what they are of: a port, and of a neighbor its identifiers."""
+    """Names blocks by what they are of: a port, and for a neighbor its identifiers."""
     found = {}
     for port, pairs in blocks:
         of = [one_line(str(value)) for key, value in pairs if IDENTIFIER.fullmatch(key)]
@@ -159,7 +159,7 @@ def named(blocks):
 
 
 def plain_blocks(text):
-    """Of the form plain: what stands before the colon of a line is its key."""
+    """Reads the form plain: what precedes the colon of a line is its key."""
     title, *blocks = AGE.sub("Time", text).split(LINE + "\n")[1:]
     yield "title", [("title", title)]
     for block in filter(None, blocks):
@@ -171,7 +171,7 @@ def plain_blocks(text):
 
 
 def keyvalue_blocks(text):
-    """Of the form keyvalue."""
+    """Reads the form keyvalue."""
     blocks = []
     for line in text.split("\n")[:-1]:
         key, _, value = line.partition("=")
@@ -185,7 +185,7 @@ def keyvalue_blocks(text):
 
 
 def json_blocks(told):
-    """Of both forms of JSON."""
+    """Reads both forms of JSON."""
     (root, inner), = told.items()
     inner = inner[0] if isinstance(inner, list) else inner
     some = inner.get("interface", inner)
@@ -199,7 +199,7 @@ def json_blocks(told):
 
 
 def unnamed(key, names):
-    """A key without the name of a chassis, which stands in it where the chassis has one."""
+    """Returns a key without the name of a chassis, which is part of it if the chassis has one."""
     front = f"chassis.{names[0]}." if names and names != ["id"] else None
     return "chassis." + key[len(front):] if front and key.startswith(front) else key
 
@@ -207,7 +207,7 @@ def unnamed(key, names):
 class Lab:
     """Both ends."""
 
-    def __init__(self, program):
+    def __init__(self):
         self.last = None
         self.wires = Wires(2)
         for side, interface, address in (("here", "eth0", 1), ("there", "peer0", 2)):
@@ -215,7 +215,7 @@ class Lab:
         os.chmod(self.wires.folder, 0o755)
         self.lldpd = Lldpd(self.wires.here, self.wires.folder, "-r", "-I", "eth0,eth1")
         self.live = Live(self.wires, "eth0", "eth1", "--no-description", "--", "--receive-only",
-                         "--management=192.0.2.1", program=program)
+                         "--management=192.0.2.1")
         self.live.ask("configure system description alike")
         for command in ALIKE:
             self.lldpd.tell(command)
@@ -225,7 +225,7 @@ class Lab:
                 one.bind((f"peer{number}", 0))
 
     def lldpctl(self, form, command, name="lldpcli"):
-        """What lldpctl prints."""
+        """Returns what lldpctl prints."""
         done = subprocess.run([str(TOP / "bin" / name), "-u", self.live.control, "-f", form, *command.split()],
                               capture_output=True, check=False)
         if done.returncode or done.stderr:
@@ -239,15 +239,15 @@ class Lab:
                 theirs, ours = self.both(form, command)
                 try:
                     of_theirs = blocks_of(form, theirs)
-                except ValueError:  # lldpcli leaves names that are keys, and one control character, without escapes
+                except ValueError:  # lldpcli does not escape names that are keys, and one control character
                     whole = json.loads(self.lldpd.ask("-f", "json0", *command.split()), strict=False)
                     short = {root: shortened(inner) for root, inner in whole.items()}
                     of_theirs = named(json_blocks(short if form == "json" else whole))
-                    comparison.listed["JSON of lldpcli that is none"] += 1
+                    comparison.listed["what lldpcli writes for JSON, and is not"] += 1
                 comparison.compare(f"{where}: {command} -f {form}", of_theirs, blocks_of(form, ours))
 
     def both(self, form, command):
-        """What both print, of counters that did not change meanwhile."""
+        """Returns what both print, while no counters changed."""
         words = ("-f", form, *command.split())
         while True:
             theirs, ours = self.lldpd.ask(*words), self.lldpctl(form, command)
@@ -255,13 +255,13 @@ class Lab:
                 return theirs, ours
 
     def keys(self):
-        """How many neighbors both show."""
+        """Returns how many neighbors both show."""
         return [blocks.count(b".port.ttl=") for blocks in (self.lldpd.ask("-f", "keyvalue", "show", "neighbors"),
                                                            self.lldpctl("keyvalue", "show neighbors"))]
 
     @contextlib.contextmanager
     def hearing(self, name, commands):
-        """An lldpd at the far end that was told commands and is heard, and then is no more."""
+        """Runs an lldpd at the far end with these commands until it is heard, and then ends it."""
         sender = Lldpd(self.wires.there, self.wires.folder, "-M", "4", "-S", "a real peer", "-I", "peer0,peer1")
         try:
             for command in commands:
@@ -275,7 +275,7 @@ class Lab:
         eventually(lambda: self.keys() == [0, 0])
 
     def is_still(self):
-        """Whether both show two neighbors, and the same as a moment ago."""
+        """Returns whether both show two neighbors, and the same as a moment ago."""
         before, self.last = self.last, (AGE.sub("", self.lldpd.ask("show", "neighbors", "details").decode()),
                                         self.lldpctl("json0", "show statistics"))
         return before == self.last and self.keys() == [2, 2]
@@ -290,7 +290,7 @@ class Lab:
 
 
 def configured(lab, comparison):
-    """Senders that are lldpds."""
+    """Compares senders that are lldpds."""
     for name, commands in SENDERS.items():
         with lab.hearing(name, commands):
             lab.compare(comparison, name, COMMANDS)
@@ -298,7 +298,7 @@ def configured(lab, comparison):
 
 
 def sent(lab, comparison, name, frames):
-    """Frames that are sent as they are, some at a time."""
+    """Compares frames that are sent as they are, some at a time."""
     for at in range(0, len(frames), BATCH):
         some = frames[at:at + BATCH]
         for number in range(2):  # one port behind the other, so that all come in one order
@@ -315,7 +315,7 @@ def sent(lab, comparison, name, frames):
 
 
 def judged_frames():
-    """The frames of real senders, and made ones, each from a chassis of its own."""
+    """Returns the frames of real senders, and made ones, each from a chassis of its own."""
     for number, one in enumerate(json.loads(JUDGED.read_text())):
         octets = bytes.fromhex(one["frame"])
         rest = octets[16 + (int.from_bytes(octets[14:16], "big") & 511):]
@@ -323,7 +323,7 @@ def judged_frames():
 
 
 def place_of(degrees, resolution):
-    """Coordinates with that latitude, longitude and altitude."""
+    """Returns coordinates with that latitude, longitude and altitude."""
     value, altitude = round(degrees * (1 << 25)), round(degrees * 256)
     bits = (resolution << 122 | (value & (1 << 34) - 1) << 88 | resolution << 82 | (value & (1 << 34) - 1) << 48
             | (resolution % 4) << 44 | min(resolution, 30) << 38 | (altitude & (1 << 30) - 1) << 8 | resolution % 5)
@@ -331,7 +331,7 @@ def place_of(degrees, resolution):
 
 
 def odd_frames():
-    """Names with each octet, texts with several, and identifiers of each kind."""
+    """Returns names with each octet, texts with several, and identifiers of each kind."""
     def chassis(number):
         return b"\x04\x02\0\0\x09" + number.to_bytes(2, "big")
     for number in range(1, 256):
@@ -351,12 +351,8 @@ def odd_frames():
 
 def main():
     """Runs the comparison, and cleans up."""
-    parser = argparse.ArgumentParser(description=__doc__, formatter_class=argparse.RawDescriptionHelpFormatter)
-    parser.add_argument("--program", default=str(TOP / "crates" / "lldpa" / "out" / "lldpa"))
-    parser.add_argument("--verbose", action="store_true", help="print the differences that the page lists")
-    given = parser.parse_args()
     os.makedirs("/run/lldpd", exist_ok=True)
-    comparison, lab = Comparison(given.verbose), Lab(given.program)
+    comparison, lab = Comparison(sys.argv[1:] == ["--verbose"]), Lab()
     try:
         configured(lab, comparison)
         sent(lab, comparison, "judged", list(judged_frames()))

@@ -5,7 +5,7 @@
 # ROOT is a folder with a Debian that has python3, systemd-sysv, dbus and iproute2, and is left as it is; unless given,
 # debootstrap makes one, which takes a minute and a network. It needs Linux, root, and Debian's packages
 # systemd-container and, without ROOT, debootstrap. LLDPA names the program, as for tools/release/package.sh. The last
-# line is `N passed, M failed`; where something is missing it says so, and its status is 77.
+# line is `N passed, M failed`; if something is missing it says so, and its status is 77.
 set -u
 skip() {
     echo "skipped: $1"
@@ -41,12 +41,12 @@ check() {
     shift
     if "$@" > /root/said 2>&1; then echo "held: $what"; else echo "FAILED: $what: $(tail -n 3 /root/said)"; fi
 }
-# All files but logs and what dpkg and systemd write by themselves.
+# Lists all files except logs and those that dpkg and systemd write by themselves.
 listed() {
     find /etc /usr /opt /srv /var/lib /run/lldpa -path /var/lib/dpkg -prune -o -printf '%p %M %u %g %l\n' 2> /dev/null |
         grep -v '^/var/lib/systemd/\(timers\|random-seed\|catalog\)\|^/\(etc\|var/lib\|var/lib/systemd\) ' | sort
 }
-# Runs a command, which may go on until it is ended.
+# Runs a command, which may run until it is ended.
 for_a_while() {
     local status
     timeout 15 bash -c "$1" < /dev/null
@@ -65,47 +65,12 @@ reads() { lldpa-capture --show /usr/share/doc/lldpa/docs/lab.pcap | lldpa --rece
 
 notifies() { systemctl show -p Type -p StatusText lldpa | grep -c -x -e Type=notify -e 'StatusText=[0-9no]* neighbors\? on 1 port' | grep -x 2; }
 tells() { journalctl -u lldpa -g 'eth0 came: sender p1'; }
-# Runs a program in the place of the one that writes the metrics, with that unit's rights: 0 if each act is refused.
-confined() {
-    touch /boot/probe /home/probe
-    cat > /usr/probe.py <<'END'
-import os, socket, sys
-
-def refused(act):
-    try:
-        act()
-    except OSError:
-        return True
-    return False
-
-def look(folder):
-    if not os.listdir(folder):
-        raise OSError
-
-acts = [lambda: open("/etc/passwd"), lambda: open("/root/try.sh"), lambda: look("/boot"), lambda: look("/home"),
-        lambda: look("/var/lib/dpkg"), lambda: open("/run/systemd/private"), lambda: open("/usr/probe", "w"),
-        lambda: os.kill(1, 0), lambda: os.kill(os.getpid(), 0), lambda: socket.socket(socket.AF_INET),
-        lambda: socket.socket(socket.AF_PACKET, socket.SOCK_RAW), lambda: open("/dev/shm/probe", "w"),
-        lambda: open("/dev/mqueue/probe", "w")]
-allowed = [at for at, act in enumerate(acts) if not refused(act)]
-sys.exit(f"not refused: {allowed}" if allowed else 0)
-END
-    mkdir -p /run/systemd/system/lldpa-metrics.service.d
-    printf '%s\n' '[Service]' ExecStart= 'ExecStart=/usr/bin/python3 /usr/probe.py' \
-        > /run/systemd/system/lldpa-metrics.service.d/probe.conf
-    systemctl daemon-reload
-    systemctl start lldpa-metrics
-    local status
-    status=$(systemctl show -p ExecMainStatus --value lldpa-metrics)
-    rm -r /run/systemd/system/lldpa-metrics.service.d /usr/probe.py /boot/probe /home/probe
-    systemctl daemon-reload
-    journalctl -u lldpa-metrics -o cat -g 'not refused'
-    [ "$status" -eq 0 ]
-}
-# The same in the place of lldpa-live.
-confined_live() {
-    touch /boot/probe /var/log/probe
-    cat > /usr/probe.py <<'END'
+# Runs acts in the place of a service, with its rights: 0 if each is refused. Further lines are of its [Service].
+refuses() {
+    local unit=$1 acts=$2 status
+    shift 2
+    touch /boot/probe /home/probe /var/log/probe
+    cat > /usr/probe.py <<END
 import os, socket, sys
 
 def refused(act):
@@ -123,30 +88,37 @@ def connect(path, kind):
     with socket.socket(socket.AF_UNIX, kind) as one:
         one.connect(path)
 
-acts = [lambda: look("/boot"), lambda: look("/var/log"), lambda: open("/dev/shm/probe", "w"), lambda: look("/root"),
-        lambda: open("/dev/mqueue/probe", "w"), lambda: connect("/run/dbus/system_bus_socket", socket.SOCK_STREAM),
-        lambda: connect("/run/systemd/journal/socket", socket.SOCK_DGRAM), lambda: open("/usr/probe", "w"),
-        lambda: socket.socket(socket.AF_INET), lambda: os.kill(1, 0), lambda: open("/etc/probe", "w")]
+acts = [lambda: open("/usr/probe", "w"), lambda: open("/dev/shm/probe", "w"), lambda: open("/dev/mqueue/probe", "w"),
+        lambda: look("/boot"), lambda: os.kill(1, 0), lambda: socket.socket(socket.AF_INET), $acts]
 allowed = [at for at, act in enumerate(acts) if not refused(act)]
 sys.exit(f"not refused: {allowed}" if allowed else 0)
 END
-    mkdir -p /run/systemd/system/lldpa.service.d
-    printf '%s\n' '[Service]' Type=oneshot Restart=no WatchdogSec=0 ExecStart= 'ExecStart=/usr/bin/python3 /usr/probe.py' \
-        > /run/systemd/system/lldpa.service.d/probe.conf
+    mkdir -p "/run/systemd/system/$unit.service.d"
+    printf '%s\n' '[Service]' "$@" ExecStart= 'ExecStart=/usr/bin/python3 /usr/probe.py' \
+        > "/run/systemd/system/$unit.service.d/probe.conf"
     systemctl daemon-reload
-    systemctl restart lldpa
-    local status
-    status=$(systemctl show -p ExecMainStatus --value lldpa)
-    rm -r /run/systemd/system/lldpa.service.d /usr/probe.py /boot/probe /var/log/probe
+    systemctl restart "$unit"
+    status=$(systemctl show -p ExecMainStatus --value "$unit")
+    rm -r "/run/systemd/system/$unit.service.d" /usr/probe.py /boot/probe /home/probe /var/log/probe
     systemctl daemon-reload
-    journalctl -u lldpa -o cat -g 'not refused'
+    journalctl -u "$unit" -o cat -g 'not refused'
     [ "$status" -eq 0 ]
+}
+confined() {
+    refuses lldpa-metrics 'lambda: open("/etc/passwd"), lambda: open("/root/try.sh"), lambda: look("/home"),
+        lambda: look("/var/lib/dpkg"), lambda: open("/run/systemd/private"), lambda: os.kill(os.getpid(), 0),
+        lambda: socket.socket(socket.AF_PACKET, socket.SOCK_RAW)'
+}
+confined_live() {
+    refuses lldpa 'lambda: look("/var/log"), lambda: look("/root"), lambda: open("/etc/probe", "w"),
+        lambda: connect("/run/dbus/system_bus_socket", socket.SOCK_STREAM),
+        lambda: connect("/run/systemd/journal/socket", socket.SOCK_DGRAM)' Type=oneshot Restart=no WatchdogSec=0
 }
 published() { eventually grep -x "lldpa_up $1" /var/lib/prometheus/node-exporter/lldpa.prom; }
 stop_agent() { kill -STOP "$(cat "/proc/$(process)/task/$(process)/children" | tr ' ' '\n' | while read -r one; do
     [ "$(cat "/proc/$one/comm" 2> /dev/null)" = lldpa ] && echo "$one"; done)"; }
 is_replaced() { lldpa-ctl live | grep -x live.agent-restarts=1; }
-# A neighbor that says once who it is, for an hour.
+# Sends the frame of a neighbor once, with a time to live of an hour.
 say_once() {
     python3 -c 'import socket
 sender = socket.socket(socket.AF_PACKET, socket.SOCK_RAW)
@@ -156,7 +128,7 @@ sender.send(bytes.fromhex("0180c200000e02000000000b88cc02070402000000000b0403057
 keeps() { eventually sh -c 'lldpa-ctl neighbors | grep keeper'; }
 is_another_active() { is_another && systemctl is-active lldpa; }
 starts_anew() { eventually is_another_active; }
-# A neighbor at the other end of the link, which says again each second who it is.
+# Sends the frame of a neighbor at the other end of the link each second.
 neighbor() {
     python3 -c 'import socket, time
 sender = socket.socket(socket.AF_PACKET, socket.SOCK_RAW)
@@ -178,7 +150,7 @@ while read -r command; do
     check "sudo $command" for_a_while "$command"
     sleep 1
 done < /root/commands
-check "systemd is told how it goes" notifies
+check "systemd receives its state" notifies
 check "the journal has who came" tells
 systemctl start lldpa-metrics
 check "its metrics are written" published 1
@@ -198,7 +170,7 @@ check "a restart is done" systemctl restart lldpa
 check "a restart keeps the table" keeps
 old=$(process)
 kill -STOP "$old"
-check "an lldpa-live that stands still is noticed, and the service starts anew" starts_anew
+check "an lldpa-live that hangs is noticed, and the service starts again" starts_anew
 mkdir -p /etc/lldpa.d && echo 'configure system description "of the folder"' > /etc/lldpa.d/a.conf
 check "it reloads" systemctl reload lldpa
 check "its settings are those of the folder" shows 'descr=of the folder'

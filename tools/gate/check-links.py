@@ -1,18 +1,18 @@
 #!/usr/bin/env python3
-"""Looks up what the pages name, without a network: links and their anchors, files in backticks, calls in backticks, options,
-lines of sources in blocks that say `rust` or `antt`, which stand in one file one behind another, on pages about proofs
-each clause, definition, lemma and large number, in rows of out/REFERENCE.md that a clause is one of their call, and
-that a large number stands in the code and not in its comments alone, that each module of a crate and each file of lemmas
-says in its first line what it is, and that no file of definitions lacks its row in out/REFERENCE.md, and no transcript
-its row in examples/README.md. Each row of SECURITY.md that says what it is shown by
-names a law or call of the crates, a test of python/tests or audit/tests or a script, and all of these are there. No page says
-"the bridge" of lldpa-live, and no line of text is over
-120 columns long.
+"""Looks up what the pages name, without a network.
 
     tools/gate/check-links.py [--installed FOLDER]
 
-With --installed only the links of the pages in that folder, where tools/release/install.sh has put them. The last line counts
-what was looked up.
+It looks up links and their anchors; files, calls and options; and lines of sources in blocks that say `rust` or `antt`,
+which must be consecutive lines of one file. On pages about proofs it looks up each clause, definition, lemma and large
+number. A large number of out/REFERENCE.md must be in the code, and not only in its comments. The first line of each
+module of a crate and of each file of lemmas must say what it is, and each transcript must have its row in
+examples/README.md. Each row of SECURITY.md that says what shows it must name a law or call of the crates, a test of
+python/tests or audit/tests or a script, and these must exist. No page may call lldpa-live "the bridge", and no line of
+text may be over 120 columns long.
+
+With --installed it looks up only the links of the pages in that folder, which tools/release/install.sh has filled. The
+last line counts what was looked up.
 """
 import pathlib
 import re
@@ -50,12 +50,12 @@ FOLDERS_OF_A_CRATE = ("specs", "proofs", "src", "must-fail")
 
 
 def without_code(text):
-    """The text, with blocks of code left out."""
+    """Returns the text without blocks of code."""
     return re.sub(r"^```.*?^```$", "", text, flags=re.M | re.S)
 
 
 def anchors(page):
-    """The anchors that the headings of a page give, as its readers make them."""
+    """Returns the anchors of the headings of a page, as its readers make them."""
     found = set()
     for heading in re.findall(r"^#+ (.*)$", without_code(page.read_text()), re.M):
         plain = re.sub(r"\[([^]]*)\]\([^)]*\)", r"\1", heading).lower()
@@ -65,7 +65,7 @@ def anchors(page):
 
 
 def fault_of_link(page, target):
-    """What is wrong with a link, or None."""
+    """Returns what is wrong with a link, or None."""
     name, _, anchor = target.partition("#")
     file = (page.parent / name).resolve() if name else page
     if not file.exists():
@@ -76,13 +76,14 @@ def fault_of_link(page, target):
 
 
 def links(text):
-    """The targets of a page's links, those to other hosts left out."""
+    """Returns the targets of a page's links, without those to other hosts."""
     found = re.findall(r"\]\(([^)\s]+)\)", text) + re.findall(r"^\[[^]]+\]: (\S+)$", text, re.M)
     return [target for target in found if not re.match(r"[a-z]+://", target)]
 
 
 def is_there(name):
-    """Whether a file of the repository has this name: from the top, in a crate, or within some crate, with its ending or without."""
+    """Returns whether a file of the repository has this name: from the top, in a crate, or within some crate, with or
+    without its ending."""
     folders = [TOP, TOP / "crates"]
     if name.split("/")[0] in FOLDERS_OF_A_CRATE:
         folders += [TOP / "crates" / crate for crate in CRATES]
@@ -91,7 +92,8 @@ def is_there(name):
 
 
 def file_names(text):
-    """Names of files in backticks: of a folder of the repository, without a place that a reader is to fill in."""
+    """Returns the names of files in backticks: of a folder of the repository, without a place that the reader fills
+    in."""
     tops = {path.name for path in TOP.iterdir()} | set(FOLDERS_OF_A_CRATE) | set(CRATES)
     for name in re.findall(r"`([\w.*/-]+)`", text):
         is_path = "/" in name and name.split("/")[0] in tops and "out" not in name.split("/")
@@ -100,29 +102,30 @@ def file_names(text):
 
 
 def calls(text):
-    """Calls in backticks that are named with their type."""
+    """Returns the calls in backticks that are named with their type."""
     found = re.findall(r"`(?:\w+::)*([A-Z]\w*)::(\w+)(?:\([^`]*\))?`", text)
     return [(owner, call) for owner, call in found if call != "default"]
 
 
 def names(text):
-    """Names in backticks: of a clause, a definition, a lemma, a call or a file."""
+    """Returns the names in backticks: of a clause, a definition, a lemma, a call or a file."""
     return re.findall(r"`([A-Za-z]\w*(?:-\w+)*)`", text)
 
 
 def excerpts(text):
-    """The lines that a page shows of the sources, block by block, in blocks that say their language."""
+    """Returns the lines of the sources that a page shows, block by block, in blocks that say their language."""
     for block in re.findall(r"^```(?:rust|antt)\n(.*?)^```$", text, re.M | re.S):
         yield [line.strip() for line in block.splitlines() if line.strip()]
 
 
 def begins_something(before):
-    """Whether a line behind this one begins an item or a clause: it is empty, a comment, an attribute, or opens a block."""
+    """Returns whether a line after this one begins an item or a clause: it is empty, a comment, an attribute, or opens
+    a block."""
     return re.match(r"\s*(//|--|#\[|$)", before) is not None or before.endswith("{")
 
 
 def lines_of_sources():
-    """The lines of each source, without those that are empty, and which of them begin something."""
+    """Returns the lines of each source, without empty ones, and which of them begin something."""
     for folder in ("src", "specs"):
         for path in TOP.glob(f"crates/*/{folder}/**/*"):
             if path.suffix in (".rt", ".antt"):
@@ -136,8 +139,8 @@ LINES = list(lines_of_sources())
 
 
 def is_shown(lines):
-    """Whether these lines stand in a source, one behind another from where something begins, and no bracket of theirs is
-    left open."""
+    """Returns whether these lines are consecutive lines of a source, from the beginning of something on, with each
+    bracket closed."""
     shown = "\n".join(lines)
     are_closed = all(shown.count(one) == shown.count(other) for one, other in ("()", "{}", "[]"))
     return are_closed and any(
@@ -147,46 +150,14 @@ def is_shown(lines):
 
 
 def large_numbers(text):
-    """The numbers of four digits and more that stand by themselves, but for years."""
+    """Returns the numbers of four digits and more that are whole words, without years."""
     for number in re.findall(r"(?<![\w.,-])(\d{1,3}(?:,\d{3})+|\d{4,})(?![\w,.-]*\w)", text):
         if number not in ("2009", "2016"):
             yield number.replace(",", "")
 
 
-def clauses_of_crate(crate):
-    """The names of the clauses of each function of a crate, and of each type: those of its functions."""
-    found = {}
-    for path in (TOP / "crates" / crate / "src").rglob("*.rt"):
-        text, of_file = path.read_text(), set()
-        for name, head in re.findall(r"\bfn (\w+)(.*?)(?=\bfn \w+|\Z)", text, re.S):
-            clauses = set(re.findall(r"(?:ensures\*?|requires|accesses|\n +)\s*([a-z]\w*) \{ ", head)) - {"ensures", "requires"}
-            found.setdefault(name, set()).update(clauses)
-            of_file |= clauses
-        for name in re.findall(r"\b(?:struct|trait) (\w+)", text):
-            found.setdefault(name, set()).update(of_file)
-    return found
-
-
-def parameters_of_crate(crate):
-    """The names of the parameters of each function of a crate."""
-    found = {}
-    for path in (TOP / "crates" / crate / "src").rglob("*.rt"):
-        for name, head in re.findall(r"\bfn (\w+)(?:<[^(]*>)?\(([^{;]*?)\n?\)", path.read_text()):
-            found.setdefault(name, set()).update(re.findall(r"\b(\w+): ", head))
-    return found
-
-
-def rows_about_clauses(section):
-    """The rows of a section of out/REFERENCE.md that are about a call or a law: its name, what is said of it, and the words
-    that have to be its clauses."""
-    for line in section.splitlines():
-        cells = [cell.strip() for cell in re.split(r"(?<!\\)\|", line)[1:-1]]
-        if line.startswith("| `") and len(cells) > 3:
-            yield re.findall(r"(\w+)`", cells[0])[0], cells[1], cells[2]
-
-
 class Checks(Counts):
-    """What was looked up, by its fault or None."""
+    """Counts what was looked up, by its fault or None."""
 
     def see(self, page, what, fault):
         self.judge(fault, f"{page}: {what}")
@@ -210,58 +181,30 @@ def check_page(checks, page):
     if page.name in ABOUT_PROOFS:
         for word in names(text):
             checks.see(name, word, None if word in NAMES else "no such name in the sources")
+        known = NUMBERS_WITHOUT_COMMENTS if page.name == "REFERENCE.md" else NUMBERS_OF_SOURCES
         for number in large_numbers(text):
-            checks.see(name, number, None if number in NUMBERS_OF_SOURCES else "no such number in the sources")
+            checks.see(name, number, None if number in known else "no such number in the sources")
     for option in re.findall(r"(?<![\w-])--[a-z][a-z-]*[a-z]", page.read_text()):
         checks.see(name, option, None if option in OPTIONS else "no such option")
     for lines in excerpts(page.read_text()):
-        checks.see(name, lines[0], None if is_shown(lines) else "these lines do not stand in the sources one behind another")
-
-
-def check_claims(checks):
-    """A clause that a row of out/REFERENCE.md names is one of the call of that row, or a parameter in what is said of it,
-    and a large number in the section of a crate stands in the code or the definitions."""
-    page = "out/REFERENCE.md"
-    for crate, section in re.findall(r"^## `(\w+)`.*?\n(.*?)(?=^## |\Z)", (TOP / page).read_text(), re.M | re.S):
-        clauses, parameters = clauses_of_crate(crate), parameters_of_crate(crate)
-        named = set().union(*clauses.values())
-        for number in large_numbers(section):
-            is_known = number in NUMBERS_WITHOUT_COMMENTS
-            checks.see(page, f"{crate}: {number}", None if is_known else "no such number in the code")
-        for call, says, front in rows_about_clauses(section):
-            own = clauses.get(call, set())
-            fronts, others = (set(re.findall(r"`(\w+)`", text)) for text in (front, says))
-            for word in sorted(fronts | others & named - {call} - parameters.get(call, set())):
-                checks.see(page, f"{call}: {word}", None if word in own else "no clause of this call")
+        checks.see(name, lines[0], None if is_shown(lines) else "these are not consecutive lines of a source")
 
 
 def check_modules(checks):
-    """The first line of each module says what it is."""
+    """Checks that the first line of each module says what it is, and that of each file of lemmas what it proves."""
     for crate in CRATES:
         for path in sorted((TOP / "crates" / crate / "src").rglob("*.rt")):
             if "tests" not in path.relative_to(TOP).parts:
                 says = re.match(r"//! \w", path.read_text())
                 checks.see(path.relative_to(TOP), "its first line", None if says else "does not say what the module is")
-
-
-def check_definitions(checks):
-    """Each file of definitions is told in the section of its crate, and each of lemmas says in its first line what it is."""
-    page = "out/REFERENCE.md"
-    for crate in CRATES:
-        specs, proofs = TOP / "crates" / crate / "specs", TOP / "crates" / crate / "proofs"
-        told = re.search(rf"^## `{crate}`$.*?(?=^## `|\Z)", (TOP / page).read_text(), re.M | re.S)
-        for path in sorted(specs.rglob("*.antt")):
-            name = path.relative_to(specs).with_suffix("").as_posix()
-            if name != "Lib" and not path.with_suffix("").is_dir():
-                is_told = told is not None and f"| [{name}](" in told[0]
-                checks.see(page, f"{crate}, {name}", None if is_told else "is not told")
-        for path in sorted(proofs.glob("*.antt")):
+        for path in sorted((TOP / "crates" / crate / "proofs").glob("*.antt")):
             says = path.stem == "Lib" or re.match(r"-- \w", path.read_text())
             checks.see(path.relative_to(TOP), "its first line", None if says else "does not say what the file proves")
 
 
 def is_shown_by(name):
-    """Whether there is such a script, test of the Python package (test_file.test_name), or law or call of the crates."""
+    """Returns whether there is such a script, test of the Python package (test_file.test_name), or law or call of the
+    crates."""
     module, _, test = name.partition(".")
     if name.startswith("tools/"):
         return (TOP / name).is_file()
@@ -272,7 +215,7 @@ def is_shown_by(name):
 
 
 def check_security(checks):
-    """Each row of SECURITY.md below a head that ends with `Shown by` names what shows it."""
+    """Checks that each row of SECURITY.md below a head that ends with `Shown by` names what shows it."""
     page, is_claimed = "SECURITY.md", False
     for line in (TOP / page).read_text().splitlines():
         if not line.startswith("|"):
@@ -287,7 +230,7 @@ def check_security(checks):
 
 
 def check_transcripts(checks):
-    """Each transcript is a row of examples/README.md."""
+    """Checks that each transcript is a row of examples/README.md."""
     page = "examples/README.md"
     rows = re.findall(r"^\| \[([\w-]+)\]", (TOP / page).read_text(), re.M)
     for path in sorted((TOP / "examples").glob("*.args")):
@@ -295,7 +238,7 @@ def check_transcripts(checks):
 
 
 def check_installed(checks, folder):
-    """No link of an installed page leads to what is not there, or out of the folder."""
+    """Checks that each link of an installed page leads to an installed file in the folder."""
     for page in sorted(folder.rglob("*.md")):
         for target in links(without_code(page.read_text())):
             is_inside = (page.parent / target.partition("#")[0]).resolve().is_relative_to(folder)
@@ -312,8 +255,6 @@ def main():
     for page in PAGES:
         check_page(checks, page)
     check_modules(checks)
-    check_definitions(checks)
-    check_claims(checks)
     check_security(checks)
     check_transcripts(checks)
     return checks.end()

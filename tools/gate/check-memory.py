@@ -1,17 +1,16 @@
 #!/usr/bin/env python3
-"""Sees by the sources alone what types and contracts leave to reading.
+"""Checks from the sources alone what types and contracts leave to a reader.
 
-Memory: one type has the storage that is taken at opening, `Room`. So below the program no other module
-names a type that takes memory, no other type has a field with an allocator, only opening calls are
-handed one, by one name, and they hand it to opening calls alone, each once and for no more than what is
-to be held. `Global` comes from the runtime, and only the modules that read the words of the command line
-are handed it.
+Memory: one type, `Room`, has the storage that is taken at opening. So below the program no other module names a type
+that takes memory, and no other type has a field with an allocator. Only opening calls are given one, by one name, and
+they pass it only to opening calls, each once and for no more than what is to be held. `Global` comes from the runtime,
+and only the modules that read the words of the command line are given it.
 
-Accesses: `Times` counts each get and set of a stored time. So its numbers are reached by `get`, `set`
-and `look` alone, and it cannot be copied; and `look`, which is not counted, is reached from
-`Table::entries` and `entry`, which no tick calls: the show of neighbors alone calls the one, and the tests
-the other. No type of a table has a field more, which could store the times again. A proof by hand could say of a count what it likes, so there is none but the two of `Count`, and
-those of the library for C, which move the pointer of a handle.
+Accesses: `Times` counts each get and set of a stored time. So only `get`, `set` and `look` reach its numbers, and it
+cannot be copied. `look`, which is not counted, is reached from `Table::entries` and `entry`, which no tick calls: only
+the show of neighbors calls the first, and only the tests the second. No type of a table has another field, which could
+store the times again. A proof by hand could say anything of a count, so there are only the two of `Count`, and those of
+the library for C, which move the pointer of a handle.
 
     tools/gate/check-memory.py
 
@@ -23,6 +22,7 @@ from __future__ import annotations
 import pathlib
 import re
 import sys
+from concurrent.futures import ProcessPoolExecutor
 
 TOP = pathlib.Path(__file__).resolve().parents[2]
 sys.path.insert(0, str(TOP / "tools" / "mutants"))
@@ -40,7 +40,7 @@ TAKES_MEMORY = r"\b(?:Vec|VecDeque|Box|String|Rc|Arc|HashMap|BTreeMap|vec!|forma
 ALLOCATOR = r"\b(\w+): (?:&(?:'\w+ )?)?(?:mut )?(?:A|Global|impl Allocator)\b"
 HOLDS_A_ROOM = r"\b(?:Room<\w+(?:<A>)?, A>|Table<A>|Port<A>)"
 OPENING_CALLS = ("open", "open_ports")
-# Each call that an allocator is handed on to, and the one module that makes it, once.
+# Each call that an allocator is passed to, and the one module that makes it, once.
 HANDED_ON = (
     ("Room::open(alloc, limit as usize)", "lldp_table/src/table.rt"),
     ("Table::open(alloc, options.max_neighbors)", "lldp_engine/src/port.rt"),
@@ -58,7 +58,7 @@ LIBRARY_OPENS = "lldpa_c/src/open.rt"
 LIBRARY_TAKES = ("Agent::open(alloc, &given)", "Box::new(alloc, agent)")
 HANDLES = "lldpa_c/proofs/handle/"
 WALKS = ("count/Count/add/Proof.antt", "count/Count/new/Proof.antt")
-# What may be reached how often, and from which modules of lldp_table alone.
+# What may be reached how often, and from which modules of lldp_table only.
 REACHED: tuple[tuple[str, dict[str, int]], ...] = (
     (r"\bself\.each\b", {"times.rt": 3}),
     (r"\bself\.each\[slot as usize\]", {"times.rt": 3}),
@@ -83,12 +83,12 @@ FIELD = r"(?:^|[{,])\s*(?:pub(?:\(crate\))? )?(?:ghost )?(\w+):"
 
 
 def without_comments(text: str) -> str:
-    """The code alone."""
+    """Returns the code alone."""
     return re.sub(r"//.*", "", text)
 
 
 class Sources:
-    """The sources of all crates, tests left out, by their names below `crates`."""
+    """The sources of all crates, without tests, by their names below `crates`."""
 
     def __init__(self) -> None:
         self.texts: dict[str, str] = {}
@@ -100,7 +100,7 @@ class Sources:
                 self.texts[name] = path.read_text()
 
     def code(self, *crates: str) -> dict[str, str]:
-        """The code of some crates."""
+        """Returns the code of some crates."""
         texts = self.texts.items()
         return {name: without_comments(text) for name, text in texts if name.startswith(crates)}
 
@@ -112,26 +112,26 @@ class Sources:
 
 
 def counts_of(pattern: str, texts: dict[str, str]) -> dict[str, int]:
-    """How often something is named in each text, where it is."""
+    """Returns how often something is named in each text that names it."""
     counts = {name: len(re.findall(rf"(?<!fn ){pattern}", text)) for name, text in texts.items()}
     return {name: count for name, count in counts.items() if count > 0}
 
 
 def functions_handed(code: str) -> list[str]:
-    """The functions that are handed an allocator, by name. One that does not call it `alloc` is told too."""
+    """Returns the functions that are given an allocator, by name. One that does not call it `alloc` is reported too."""
     heads = re.findall(r"\bfn (\w+)(?:<[^(]*>)?\(([^{;]*?)\)", code)
     taken = [(name, one) for name, all_taken in heads for one in re.findall(ALLOCATOR, all_taken)]
     return [name if one == "alloc" else f"{name} ({one})" for name, one in taken]
 
 
 def fields(code: str) -> list[str]:
-    """The fields of structs and enums, a line for each."""
+    """Returns the fields of structs and enums, a line for each."""
     bodies = re.findall(r"\b(?:struct|enum) \w+[^{;]*\{(.*?)\n\}", code, re.S)
     return [line.strip() for body in bodies for line in body.splitlines()]
 
 
 def see_room(sources: Sources) -> None:
-    """One module takes memory, once, and it is short enough to be read."""
+    """Checks that one module takes memory, once, and that it is short enough to be read."""
     text = sources.texts[ROOM]
     code = re.sub(r"\bstd::alloc\b", "", without_comments(text))
     lines = text.count("\n")
@@ -147,7 +147,7 @@ def see_room(sources: Sources) -> None:
 
 
 def see_fields(sources: Sources) -> None:
-    """Only `Room` has a field with an allocator; other types have rooms, or what has them."""
+    """Checks that only `Room` has a field with an allocator; other types have rooms, or what has them."""
     for name, code in sources.code(*BELOW_THE_PROGRAM).items():
         for field in fields(code):
             rest = re.sub(HOLDS_A_ROOM, "", field)
@@ -156,7 +156,7 @@ def see_fields(sources: Sources) -> None:
 
 
 def see_handed(sources: Sources) -> None:
-    """Only opening calls are handed an allocator, under one name, and it is handed on to them alone."""
+    """Checks that only opening calls are given an allocator, under one name, and pass it on to them only."""
     for name, code in sources.code(*BELOW_THE_PROGRAM).items():
         for function in functions_handed(code):
             is_opening = function in OPENING_CALLS
@@ -172,15 +172,15 @@ def see_handed(sources: Sources) -> None:
 
 
 def see_handed_on(sources: Sources) -> None:
-    """Each call that an allocator is handed on to stands once."""
+    """Checks that each call that an allocator is passed to occurs once."""
     code = sources.code("")
     for call, module in HANDED_ON:
         found = counts_of(re.escape(call), code)
-        sources.see(found == {module: 1}, f"{call} stands in {found}")
+        sources.see(found == {module: 1}, f"{call} is found in {found}")
 
 
 def see_global(sources: Sources) -> None:
-    """`Global` is named as a type alone, and handed to those that read the words."""
+    """Checks that `Global` is named only as a type, and given only to those that read the words."""
     for name, code in sources.code("lldp_", "lldpa/").items():
         rest = re.sub(r"^use .*?;", "", code, flags=re.M | re.S)
         rest = re.sub(r": Global\b[,)]|<A: Allocator = Global>", "", rest)
@@ -192,11 +192,12 @@ def see_global(sources: Sources) -> None:
 
 
 def see_library(sources: Sources) -> None:
-    """The library for C takes memory where it opens an agent, for the agent and for the box behind a handle."""
+    """Checks that the library for C takes memory only when it opens an agent, for the agent and for the box behind a
+    handle."""
     code = sources.code("lldpa_c/")
     for call in LIBRARY_TAKES:
         found = counts_of(re.escape(call), code)
-        sources.see(found == {LIBRARY_OPENS: 1}, f"{call} stands in {found}")
+        sources.see(found == {LIBRARY_OPENS: 1}, f"{call} is found in {found}")
     for name, text in code.items():
         rest = re.sub(r"\bspecs\.Box\b|\bBox<\w+(?:, A)?>|\bBox::(?:new\(alloc, agent\)|into_raw|from_raw)", "", text)
         takes = re.search(TAKES_MEMORY, rest) is not None
@@ -204,7 +205,8 @@ def see_library(sources: Sources) -> None:
 
 
 def see_reached(sources: Sources) -> None:
-    """Stored times are reached by what is counted, or from `Table::entries` and `entry`, and are not copied."""
+    """Checks that stored times are reached by what is counted, or from `Table::entries` and `entry`, and are not
+    copied."""
     code = sources.code("lldp_table")
     for pattern, modules in REACHED:
         found = counts_of(pattern, code)
@@ -221,7 +223,7 @@ def see_reached(sources: Sources) -> None:
 
 
 def see_stores(sources: Sources) -> None:
-    """What a table is made of has these fields and no other: one more could store times that no clause counts."""
+    """Checks that what a table is made of has only these fields: one more could store times that no clause counts."""
     code = "\n".join(sources.code("lldp_table").values())
     for name, held in HOLDS.items():
         body = re.search(rf"\bstruct {name}\b[^{{;]*\{{(.*?)\n\}}", code, re.S)
@@ -230,7 +232,7 @@ def see_stores(sources: Sources) -> None:
 
 
 def see_all(sources: Sources) -> None:
-    """All rules that the sources have to keep."""
+    """Checks all rules that the sources have to keep."""
     see_room(sources)
     see_fields(sources)
     see_handed(sources)
@@ -242,19 +244,20 @@ def see_all(sources: Sources) -> None:
 
 
 def see_walks(sources: Sources) -> None:
-    """No proof is written by hand but those of `Count`, and those of what moves a handle of C's."""
+    """Checks that only `Count`, and what moves a handle of C's, have proofs written by hand."""
     for path in sorted(CRATES.glob("*/proofs/**/Proof.antt")):
         name = str(path.relative_to(CRATES))
         is_known = name in [f"lldp_table/proofs/{walk}" for walk in WALKS] or name.startswith(HANDLES)
         sources.see(is_known, f"{name}: by hand")
 
 
-def with_mutant(mutant: Mutant) -> Sources:
-    """The sources with a mutant in them."""
+def is_seen(mutant: Mutant) -> bool:
+    """Returns whether the sources with a mutant in them break some rule."""
     sources = Sources()
     for file, text in mutant.texts().items():
         sources.texts[f"{mutant.crate}/{file}"] = text
-    return sources
+    see_all(sources)
+    return len(sources.broken) > 0
 
 
 def main() -> int:
@@ -262,11 +265,10 @@ def main() -> int:
     sources = Sources()
     see_all(sources)
     see_walks(sources)
-    for mutant in others():
-        if mutant.refused_by == ITSELF:
-            wrong = with_mutant(mutant)
-            see_all(wrong)
-            sources.see(len(wrong.broken) > 0, f"{mutant.crate}/{mutant.name}: not seen")
+    mutants = [mutant for mutant in others() if mutant.refused_by == ITSELF]
+    with ProcessPoolExecutor() as pool:
+        for mutant, seen in zip(mutants, pool.map(is_seen, mutants)):
+            sources.see(seen, f"{mutant.crate}/{mutant.name}: not seen")
     for fault in sources.broken:
         print(fault)
     print(f"{sources.rules - len(sources.broken)} passed, {len(sources.broken)} failed")

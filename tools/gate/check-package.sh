@@ -1,6 +1,6 @@
 #!/bin/sh
-# Builds the Debian package, and compares it with what tools/release/install.sh installs; runs what is in it; and sees
-# that what is installed is all taken away again, and that lintian, where it is installed, finds nothing.
+# Builds the Debian package, and compares it with what tools/release/install.sh installs; runs what is in it; and checks
+# that all that is installed is removed again, and that lintian, if it is installed, finds nothing.
 #     tools/gate/check-package.sh [PROGRAM]
 # No root is needed, and nothing is installed on this host. The last line is `N passed, M failed`; without dpkg-deb it
 # says so, and its status is 3.
@@ -8,12 +8,12 @@ set -u
 LLDPA=$(realpath -- "${1:-$(dirname "$0")/../../crates/lldpa/out/lldpa}")
 export LLDPA
 cd "$(dirname "$0")/../.." || exit 2
-for needed in dpkg-deb dpkg strip objdump; do
+for needed in dpkg-deb dpkg strip objdump nm; do
     command -v "$needed" > /dev/null || { echo "skipped: the package, since there is no $needed"; exit 3; }
 done
 . tools/gate/parts.sh
 
-# The files, folders and links of a tree, each with its mode and where it leads.
+# Lists the files, folders and links of a tree, each with its mode and where it leads.
 listed() {
     (cd "$1" && find . -mindepth 1 -printf '%P %M %l\n' | LC_ALL=C sort)
 }
@@ -48,13 +48,13 @@ diff -rq "$room/usr" "$room/package" | grep -v 'Only in .*package/usr/share' > "
 [ ! -s "$room/out" ]
 judge $? "files differ: $(cat "$room/out")"
 
-# So it is with the prefix that is taken unless one is given, but for folders that Debian names otherwise.
+# The same holds for the default prefix, except folders that Debian names otherwise.
 install_into "$room/local" --python /usr/local/lib/python3/dist-packages
 (cd "$room/local" && find . ! -type d | sed 's,/usr/local/,/usr/,; s,/site-functions/,/vendor-completions/,' | LC_ALL=C sort) > "$room/out"
 (cd "$room/usr" && find . ! -type d | LC_ALL=C sort) | diff "$room/out" -
 judge $? "the prefix /usr/local has other files than /usr"
 
-# All that is installed goes again, but for a configuration that was changed.
+# All that is installed is removed again, except a configuration that was changed.
 for prefix in /usr /usr/local /opt/lldpa; do
     install_into "$room/gone" --python /opt/python "$prefix"
     DESTDIR=$room/gone tools/release/install.sh --uninstall --python /opt/python "$prefix" > "$room/said" 2>&1
@@ -100,18 +100,22 @@ judge $? "import lldpa: $(cat "$room/out")"
     /usr/bin/python3 -m lldpa_audit --version) > "$room/out" 2>&1
 grep -q "^lldpa-audit " "$room/out"
 judge $? "python3 -m lldpa_audit: $(cat "$room/out")"
-# No link of an installed page leads to what is not installed.
+# The pages are those for operators, and each of their links leads to something that is installed.
+(cd "$room/package/usr/share/doc/lldpa" && find . -name '*.md' | LC_ALL=C sort | xargs) > "$room/out"
+[ "$(cat "$room/out")" = "./README.md ./SECURITY.md ./audit/README.md ./docs/CAPTURES.md ./docs/LLDPD.md \
+./docs/OPERATORS.md ./docs/PROGRAMS.md" ]
+judge $? "the package has other pages: $(cat "$room/out")"
 python3 tools/gate/check-links.py --installed "$room/package/usr/share/doc/lldpa" > "$room/out" 2>&1
 judge $? "links of installed pages: $(cat "$room/out")"
 dpkg-deb --info "$package" conffiles | grep -qx /etc/default/lldpa
-judge $? "/etc/default/lldpa is no configuration file of the package"
+judge $? "/etc/default/lldpa is not a configuration file of the package"
 units=$room/package/usr/lib/systemd/system
 grep -q '^ExecStart=/usr/bin/lldpa-live --program /usr/bin/lldpa ' "$units/lldpa.service" &&
     grep -q '^ExecStart=/usr/bin/lldpa-ctl metrics ' "$units/lldpa-metrics.service"
 judge $? "the services of the package do not run its programs"
 [ -f "$units/lldpa-metrics.timer" ] && [ -f "$room/package/usr/share/lldpa/lldpa.rules.yml" ]
 judge $? "the package has no timer for metrics, or no rules for Prometheus"
-# The service reads the settings of its folder, which is there; below another prefix that is another.
+# The service reads the settings of its folder, which exists; another prefix has another folder.
 [ -d "$room/package/etc/lldpa.d" ] && [ -d "$room/local/etc/lldpa.d" ] &&
     grep -q '^ExecStart=.* --config /etc/lldpa.conf --config /etc/lldpa.d ' "$units/lldpa.service"
 judge $? "the service of the package does not read /etc/lldpa.d"
@@ -121,42 +125,74 @@ install_into "$room/opt" --python /opt/python /opt/lldpa
     "$room/opt/opt/lldpa/lib/systemd/system/lldpa.service"
 judge $? "the service below /opt/lldpa does not read /opt/lldpa/etc/lldpa.d"
 
-# The package of the library has what tools/release/install.sh --library installs, and pkg-config finds it there.
-library_package() {
+# The packages of the library have what tools/release/install.sh --library installs, and pkg-config finds it there.
+library_packages() {
     LLDPA_LIB_DIR=$room/built
     export LLDPA_LIB_DIR
-    developed=$(tools/release/package.sh --library "$room" 2> "$room/said")
-    judge $? "tools/release/package.sh --library: $(cat "$room/said")"
-    dpkg-deb -x "$developed" "$room/developed"
+    for kind in library shared; do
+        made=$(tools/release/package.sh "--$kind" "$room" 2> "$room/said")
+        judge $? "tools/release/package.sh --$kind: $(cat "$room/said")"
+        dpkg-deb -x "$made" "$room/$kind"
+        dpkg-deb -x "$made" "$room/developed"
+        developed="$developed $made"
+    done
     install_into "$room/dev" --library /usr
-    listed "$room/developed" | grep -v '^usr/share/doc/lldpa-dev/\(copyright\|changelog.Debian.gz\) \|^usr/share/lintian\>' > "$room/packaged"
+    own='^usr/share/doc/\(lldpa1\|lldpa-dev/\(copyright\|changelog.Debian.gz\)\) \|^usr/share/doc/lldpa1/\|^usr/share/lintian\>'
+    listed "$room/developed" | grep -v "$own" > "$room/packaged"
     listed "$room/dev" | diff - "$room/packaged"
-    judge $? "the package of the library has other files than tools/release/install.sh --library installs"
+    judge $? "the packages of the library have other files than tools/release/install.sh --library installs"
     DESTDIR=$room/dev tools/release/install.sh --uninstall --library /usr > "$room/said" 2>&1
     left=$(find "$room/dev" ! -type d)
     [ -z "$left" ]
     judge $? "tools/release/install.sh --uninstall --library leaves $left"
+    shared_object
     if command -v pkg-config > /dev/null && command -v cc > /dev/null; then
-        told=$(dirname "$(find "$room/developed" -name lldpa.pc)")
-        # shellcheck disable=SC2046 # these are flags, each a word
-        cc examples/c/who.c -o "$room/who" $(PKG_CONFIG_LIBDIR=$told PKG_CONFIG_SYSROOT_DIR=$room/developed \
-            pkg-config --cflags --libs lldpa) > "$room/out" 2>&1 && "$room/who" docs/lab.pcap > "$room/out" 2>&1 &&
-            cmp -s "$room/out" examples/c/who.expect
-        judge $? "examples/c/who.c, built as pkg-config says: $(cat "$room/out")"
+        told_by_pkg_config liblldpa.so.1
+        told_by_pkg_config -l:liblldpa.a
     else
         echo "skipped: a program that is built as pkg-config says, since there is no pkg-config or no cc"
     fi
 }
 
+# lldpa1 has the shared object and no other file but its papers. It has its name, and exports what the header declares.
+shared_object() {
+    files=$(cd "$room/shared" && find . -type f -printf '%f\n' | LC_ALL=C sort | tr '\n' ' ')
+    [ "$files" = "changelog.Debian.gz copyright liblldpa.so.1 lldpa1 " ]
+    judge $? "lldpa1 has the files $files"
+    shared=$(find "$room/shared" -name liblldpa.so.1)
+    objdump -p "$shared" | grep -qx ' *SONAME  *liblldpa.so.1'
+    judge $? "the shared object has another name: $(objdump -p "$shared" | grep SONAME)"
+    nm -D --defined-only "$shared" | sed 's/.* //; s/@@LLDPA_1$//' | grep -vx LLDPA_1 | sort > "$room/exported"
+    sed -n 's/^[a-z0-9_]* \(lldpa_[a-z_]*\)(.*/\1/p' crates/lldpa_c/include/lldpa.h | sort | diff - "$room/exported"
+    judge $? "the shared object exports other names than lldpa.h declares"
+    [ "$(dpkg-deb -f "$made" Package)" = lldpa1 ] && dpkg-deb --info "$made" shlibs | grep -q '^liblldpa 1 lldpa1 '
+    judge $? "lldpa1 does not say which package a program depends on"
+}
+
+# examples/c/who.c, built as pkg-config says, runs: with the shared object, or with the archive.
+told_by_pkg_config() {
+    told=$(dirname "$(find "$room/developed" -name lldpa.pc)")
+    flags=$(PKG_CONFIG_LIBDIR=$told PKG_CONFIG_SYSROOT_DIR=$room/developed pkg-config --cflags --libs lldpa)
+    case $1 in -l*) flags=$(echo "$flags" | sed "s/-llldpa/$1/") ;; esac
+    # shellcheck disable=SC2086 # these are flags, each a word
+    cc examples/c/who.c -o "$room/who" $flags > "$room/out" 2>&1 &&
+        LD_LIBRARY_PATH=$(dirname "$told") "$room/who" docs/lab.pcap > "$room/out" 2>&1 &&
+        cmp -s "$room/out" examples/c/who.expect
+    judge $? "examples/c/who.c, built as pkg-config says with $1: $(cat "$room/out")"
+    needed=$(objdump -p "$room/who" | sed -n 's/ *NEEDED *\(liblldpa.*\)/\1/p')
+    case $1 in -l*) [ -z "$needed" ] ;; *) [ "$needed" = "$1" ] ;; esac
+    judge $? "examples/c/who.c, built with $1, needs $needed"
+}
+
 developed=
 if tools/library/library.sh "$room/built" > "$room/said" 2>&1; then
-    library_package
+    library_packages
 else
-    echo "skipped: the package of the library: $(cat "$room/said")"
+    echo "skipped: the packages of the library: $(cat "$room/said")"
 fi
 
 if command -v lintian > /dev/null; then
-    # shellcheck disable=SC2086 # there may be no package of the library
+    # shellcheck disable=SC2086 # these are the packages of the library, each a word
     lintian --fail-on error,warning --allow-root "$package" $developed > "$room/out" 2>&1 && [ ! -s "$room/out" ]
     judge $? "lintian: $(cat "$room/out")"
 else

@@ -1,10 +1,10 @@
 #!/usr/bin/env python3
-"""Looks that each script of tools can be read by its language, and that something calls it: the
+"""Checks that the language of each script of tools can read it, and that something calls it: the
 gate, another script, a test, or a person, if CONTRIBUTING lists it below "By hand".
 
     tools/gate/check-scripts.py
 
-What stands in a comment or a docstring calls nothing. The last line is `N passed, M failed`,
+A name in a comment or a docstring is not a call. The last line is `N passed, M failed`,
 counted by script.
 """
 from __future__ import annotations

@@ -19,6 +19,7 @@ cheap() {
     part "numbers of docs/TESTING.md" python3 tools/write/numbers.py --check
     part "reference of the crates" python3 tools/write/reference.py
     part "links of the pages" python3 tools/gate/check-links.py
+    part "habits of English" python3 tools/gate/check-english.py
     part "what is tried by name" python3 tools/gate/check-named.py
     part "whether each mutant can be applied" python3 tools/mutants/try.py --check
     part "manual pages and units" tools/gate/manuals-and-units.sh
@@ -36,8 +37,9 @@ built() {
     part "arguments and streams" tools/gate/words.sh "$program"
     part "tests of the Python package" python3 tools/gate/test-python.py "$program"
     part "audit of eight ports" python3 audit/tools/check.py --program "$program"
-    part "the library" python3 tools/library/check-library.py
-    part "arm64, by qemu" python3 tools/library/check-arm64.py
+    # The first of these proves the library, the second finds that proof.
+    part "arm64, by qemu" tools/gate/kept.py arm64 python3 tools/library/check-arm64.py
+    part "the library" tools/gate/kept.py library python3 tools/library/check-library.py
     part "the package" tools/gate/check-package.sh "$program"
     part "cut and altered frames, and full tables" python3 tools/model/check-frames.py "$program"
     part "lines that are nearly right" python3 tools/model/check-words.py "$program"

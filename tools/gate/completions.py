@@ -1,7 +1,7 @@
 #!/usr/bin/env python3
 """Compares what the completions for bash and zsh offer with what the programs say in --help, and
 completes words at some places of the cursor: a value behind its option, a word with others behind
-it, and what stands behind `--` or `<`.
+it, and what follows `--` or `<`.
 
     tools/gate/completions.py
 
@@ -104,7 +104,7 @@ def offered(words: list[str]) -> list[str]:
 
 
 class Comparisons(Counts):
-    """How many comparisons held."""
+    """Counts how many comparisons held."""
 
     def compare(self, what: str, got: object, wanted: object) -> None:
         """Counts a comparison, and says what differs."""
@@ -148,7 +148,7 @@ def compare_commands(counts: Comparisons) -> None:
 
 
 def read_until(terminal: int, wanted: str, seconds: float = 60) -> str:
-    """Returns what stands on the terminal, up to a text or for so many seconds."""
+    """Returns what the terminal shows, up to a text or for so many seconds."""
     text, end = "", time.monotonic() + seconds
     while wanted not in text:
         if not select.select([terminal], [], [], max(0, end - time.monotonic()))[0]:

@@ -4,25 +4,25 @@
     python3 tools/gate/examples.py PROGRAM [NAME ...]
     python3 tools/gate/examples.py --as-root
 
-The transcripts stand under examples/: NAME.args has the words, one a line, and NAME.trace the input. NAME.expect
-shows each line of the input behind `> `, a long one by its first octets and `...`, and below it what it writes.
-The last line of NAME.args may be a filter, `| grep TEXT` or `| grep -e TEXT -e TEXT`, as a shell would have it: of what
-is written the lines are shown that have one of the texts. A text is of small letters and hyphens, and some line that is
-shown has it; a filter of another form is a failure.
-Each is run four ways: its first lines, one more each time; without its last LF, which changes nothing; octet by
-octet; and in two pieces, cut at every place (but for inputs of more than 10,000 octets). A piece is written when
-the program has read the one before it. Each run must end with status 0 and say nothing on standard error.
+The transcripts are in examples/: NAME.args has the words, one a line, and NAME.trace the input. NAME.expect shows each
+line of the input behind `> `, a long one by its first octets and `...`, and below it what it writes. The last line of
+NAME.args may be a filter, `| grep TEXT` or `| grep -e TEXT -e TEXT`, as in a shell: only lines with one of the texts
+are shown. A text has small letters and hyphens, and some line that is shown has it; a filter of another form is a
+failure.
+Each is run four ways: its first lines, one more each time; without its last LF, which changes nothing; octet by octet;
+and in two pieces, cut at every place (except inputs of more than 10,000 octets). A piece is written when the program
+has read the one before it. Each run must end with status 0 and write nothing on standard error.
 receive-counters.rows names counters of eth0 in its first line. Each row has the name of a transcript and the values of
-these counters, which are compared where `show statistics` stands behind its lines; other counters are not looked at.
+these counters, which `show statistics` behind its lines must show; other counters are ignored.
 
-The examples of the pages and of the manual page are blocks whose first line begins with `$ `. Each such line
-is a command, with its input up to the line EOF where it ends with <<'EOF' or <<EOF; what stands below is what it
-writes, up to the next command. A status other than 0 is shown by the command `echo $?`. Nothing may come on standard
-error. The number of a port behind --listen stands for a free one. A block that takes too long has failed, and all that
-it started is ended. A block whose commands begin with sudo is left to tools/by-hand/try-package.sh, for which --as-root lists
-these commands; a block with commands of both kinds has failed.
+The examples of the pages and of the manual page are blocks whose first line begins with `$ `. Each such line is a
+command; if it ends with <<'EOF' or <<EOF, its input follows up to the line EOF. Below is what it writes, up to the next
+command. The command `echo $?` shows a status other than 0. Nothing may come on standard error. The number of a port
+behind --listen stands for a free one. A block that takes too long has failed, and all that it started is ended. A block
+whose commands begin with sudo is left to tools/by-hand/try-package.sh, for which --as-root lists these commands; a
+block with commands of both kinds has failed.
 
-With names only those transcripts and their rows are run. The last line counts each way of each transcript, each row
+If names are given, only those transcripts and their rows are run. The last line counts each way of each transcript, each row
 and each block.
 """
 import array
@@ -41,12 +41,14 @@ import tempfile
 import termios
 import time
 
+from counts import Counts
+
 TOP = pathlib.Path(__file__).resolve().parents[2]
 
-# what a command that needs root begins with
+# the beginning of a command that needs root
 AS_ROOT = "$ sudo "
 
-# what some counters are after the lines of transcripts
+# some counters after the lines of transcripts
 ROWS = TOP / "examples" / "receive-counters.rows"
 SHOW = b"show statistics\n"
 
@@ -58,7 +60,7 @@ LONGEST_CUT = 10000
 
 
 def unread(pipe):
-    """How many octets of a pipe were not read yet."""
+    """Returns how many octets of a pipe were not read yet."""
     octets = array.array("i", [0])
     fcntl.ioctl(pipe, termios.FIONREAD, octets)
     return octets[0]
@@ -76,14 +78,15 @@ def feed(ran, pieces):
 
 
 def difference(written, wanted):
-    """Where two texts differ first, in words."""
+    """Returns where two texts differ first, in words."""
     got, want = written.splitlines(), wanted.splitlines()
     place = next((at for at in range(len(got) + 1) if got[at:at + 1] != want[at:at + 1]), len(got))
     return f"line {place + 1} of its output is {got[place:place + 1]}, and not {want[place:place + 1]}"
 
 
 def words_and_filter(args):
-    """The words of a file of arguments, and the texts of its filter: none without one, None if it cannot be read."""
+    """Returns the words of a file of arguments, and the texts of its filter: none without one, None if it cannot be
+    read."""
     words = args.splitlines()
     if not words or not words[-1].startswith("|"):
         return words, []
@@ -92,13 +95,13 @@ def words_and_filter(args):
 
 
 def lines_with(written, texts):
-    """The lines that have one of some texts, and all where there are none."""
+    """Returns the lines that have one of some texts, or all lines if there are no texts."""
     lines = written.splitlines(keepends=True)
     return b"".join(line for line in lines if not texts or any(text.encode() in line for text in texts))
 
 
 def fault_of_run(program, words, texts, run):
-    """What is wrong where the program is fed an input in pieces and is to show some lines, or None."""
+    """Returns what is wrong if the program is fed an input in pieces and must show some lines, or None."""
     pieces, wanted = run
     with tempfile.TemporaryFile() as out, tempfile.TemporaryFile() as said:
         ran = subprocess.Popen([program, *words], stdin=subprocess.PIPE, stdout=out, stderr=said)
@@ -119,7 +122,7 @@ def fault_of_run(program, words, texts, run):
 
 
 def steps_of(trace, shown):
-    """Each line of an input with what it writes, or a text that says where the two files differ."""
+    """Returns each line of an input with what it writes, or a text that says where the two files differ."""
     lines = trace.removesuffix(b"\n").split(b"\n") if trace else []
     steps = []
     for line in shown.splitlines(keepends=True):
@@ -136,7 +139,8 @@ def steps_of(trace, shown):
 
 
 def ways(trace, steps):
-    """The ways in which an input is fed: the name of each, and its runs, each with its pieces and what it writes."""
+    """Returns the ways in which an input is fed: the name of each, and its runs, each with its pieces and what it
+    writes."""
     fronts, texts = [b""], [b""]
     for line, written in steps:
         fronts.append(trace[:len(fronts[-1]) + len(line) + 1])
@@ -152,7 +156,7 @@ def ways(trace, steps):
 
 
 def fault_of_filter(texts, steps):
-    """What is wrong with the texts of a filter, or None."""
+    """Returns what is wrong with the texts of a filter, or None."""
     if texts is None:
         return "its filter is not of the form | grep TEXT or | grep -e TEXT -e TEXT"
     lines = b"".join(line for _, written in steps for line in written)
@@ -160,7 +164,7 @@ def fault_of_filter(texts, steps):
 
 
 def transcripts(only):
-    """The name, words, texts of the filter and input of each transcript, and its lines with what they show."""
+    """Returns the name, words, texts of the filter and input of each transcript, and its lines with what they show."""
     for args in sorted((TOP / "examples").glob("*.args")):
         if not only or args.stem in only:
             words, texts = words_and_filter(args.read_text())
@@ -184,7 +188,8 @@ def run_transcripts(program, only):
 
 
 def rows(only):
-    """The name of each row, its counters with their values, and its transcript, or a text that says what is wrong."""
+    """Returns the name of each row, its counters with their values, and its transcript, or a text that says what is
+    wrong."""
     counters, *table = [line.split() for line in ROWS.read_text().splitlines()]
     shown = {one[0]: one for one in transcripts([])}
     for name, *values in table:
@@ -210,7 +215,7 @@ def run_rows(program, only):
 
 
 def blocks():
-    """The name and the lines of each block of the pages and of the manual page."""
+    """Returns the name and the lines of each block of the pages and of the manual page."""
     for path in [path for folder in (".", "docs", "examples") for path in sorted((TOP / folder).glob("*.md"))]:
         for place, block in enumerate(re.findall(r"^```\w*\n(.*?)^```$", path.read_text(), re.M | re.S), 1):
             yield f"{path.relative_to(TOP)}, block {place}", block.splitlines()
@@ -220,7 +225,7 @@ def blocks():
 
 
 def commands(lines):
-    """The lines of a block that are commands."""
+    """Returns the lines of a block that are commands."""
     return [line for line in lines if line.startswith("$ ")]
 
 
@@ -233,7 +238,7 @@ def list_as_root():
 
 
 def script_and_output(lines):
-    """The commands of a block with their input, and what they write."""
+    """Returns the commands of a block with their input, and what they write."""
     script, wanted, is_input = [], [], False
     for line in lines:
         if is_input:
@@ -248,7 +253,7 @@ def script_and_output(lines):
 
 
 def with_free_ports(text, script):
-    """The text with each port at which the script listens replaced by a free one."""
+    """Returns the text with each port at which the script listens replaced by a free one."""
     for number in sorted(set(re.findall(r"--listen[ =](\d+)", script))):
         text = re.sub(rf"\b{number}\b", free_port(number), text)
     return text
@@ -256,14 +261,15 @@ def with_free_ports(text, script):
 
 @functools.lru_cache(None)
 def free_port(number):
-    """A port of this host at which nobody listens, the same one for the same number of the pages."""
+    """Returns a port of this host at which nobody listens, the same one for the same number of the pages."""
     with socket.socket() as one:
         one.bind(("127.0.0.1", 0))
         return str(one.getsockname()[1])
 
 
 def ended(ran):
-    """What a script wrote and said, or a text that says that it took too long; all that it started is then ended."""
+    """Returns what a script wrote on both streams, or a text that says that it took too long; all that it started is
+    then ended."""
     try:
         return ran.communicate(timeout=SECONDS)
     except subprocess.TimeoutExpired:
@@ -275,7 +281,7 @@ def ended(ran):
 
 
 def fault_of_block(lines, folder):
-    """What is wrong with a block, or None."""
+    """Returns what is wrong with a block, or None."""
     script, wanted = (with_free_ports(text, script_and_output(lines)[0]) for text in script_and_output(lines))
     ran = subprocess.Popen(["sh", "-c", f'PATH="{folder}:$PATH"\n{script}'], stdin=subprocess.DEVNULL, cwd=TOP, text=True,
                            stdout=subprocess.PIPE, stderr=subprocess.PIPE, start_new_session=True)
@@ -311,14 +317,11 @@ def main():
         list_as_root()
         return 0
     program, only = pathlib.Path(sys.argv[1]).resolve(), sys.argv[2:]
-    passed = failed = 0
+    counts = Counts()
     for runs in (run_transcripts(program, only), run_rows(program, only), [] if only else run_blocks(program)):
         for name, fault in runs:
-            passed, failed = passed + (not fault), failed + bool(fault)
-            if fault:
-                print(f"{name}: {fault}")
-    print(f"{passed} passed, {failed} failed")
-    return 0 if passed and not failed else 1
+            counts.judge(fault or None, name)
+    return counts.end()
 
 
 if __name__ == "__main__":

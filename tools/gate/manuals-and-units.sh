@@ -1,5 +1,5 @@
 #!/bin/sh
-# Sees that the manual pages are well formed, that the services have few rights, and that their settings stand in the
+# Checks that the manual pages are well formed, that the services have few rights, and that their settings are in the
 # file of defaults. The last line is `N passed, M failed`.
 set -u
 cd "$(dirname "$0")/../.." || exit 2

@@ -1,13 +1,14 @@
 # What the scripts of the gate count with; they read this file from the top of the repository. `room` is a folder that
-# goes when they end.
+# is removed when they end.
 room=$(mktemp -d) || exit 2
 trap 'rm -rf "$room"' EXIT
 passed=0
 failed=0
+kept=0
 export PYTHONDONTWRITEBYTECODE=1
 : > "$room/seconds"
 
-# judge STATUS WHAT: counts a check that held (0), or one that did not, which is told.
+# judge STATUS WHAT: counts a check that held (0), or one that did not, which is reported.
 judge() {
     if [ "$1" -eq 0 ]; then
         passed=$((passed + 1))
@@ -17,7 +18,7 @@ judge() {
     fi
 }
 
-# needs COMMAND: whether that command is installed; if not, it says what is skipped.
+# needs COMMAND: succeeds if that command is installed; if not, it says what is skipped.
 needs() {
     command -v "$1" > /dev/null && return
     echo "skipped: $1, which is not installed"
@@ -48,6 +49,7 @@ part() {
     else
         passed=$((passed + counted))
         failed=$((failed + uncounted))
+        grep -q "^kept: " "$room/part" && kept=$((kept + counted))
     fi
 }
 
@@ -56,6 +58,7 @@ finish() {
     if [ -s "$room/seconds" ]; then
         echo "== seconds of each part"
         sort -rn "$room/seconds"
+        echo "kept from an earlier run: $kept of $passed"
     fi
     echo "$passed passed, $failed failed"
     [ "$failed" -eq 0 ]

@@ -1,15 +1,15 @@
 #!/bin/sh
-# Refuses memory to the built program and sees that it says so: status 2, `lldpa: no memory` on its standard
+# Refuses memory to the built program and checks that it says so: status 2, `lldpa: no memory` on its standard
 # error and nothing on standard output. Each request for memory of a run is refused once with all later ones,
 # and once alone:
 #  - with all later ones, the run always ends so;
-#  - alone, a request may also be survived, and the run then gives its right output with status 0: std asks
-#    for all the room that an iterator hints at and, where it does not get that, for less. That is no want.
+#  - alone, the run may also survive it, and then writes its right output with status 0: std asks for all the
+#    room that an iterator hints at and, if it does not get that, for less. That is not a fault.
 # The runs are the stored run of the program, and one that opens 64 ports of 128 neighbors. Then each transcript of
-# examples/ is run: a run asks for memory as often as one of the same words over an empty input, so nothing behind
-# the opening does; and where each request behind those of the opening is refused, it writes the same.
+# examples/ is run: a run asks for memory as often as one of the same words over an empty input, so nothing after
+# the opening does; and if each request after those of the opening is refused, it writes the same.
 # It takes the program (the gate's unless given), and needs a C compiler for refuse.c, which it preloads. Its
-# last line counts the runs; the status is 3 where it had to be skipped.
+# last line counts the runs; the status is 3 if it had to be skipped.
 set -u
 cd "$(dirname "$0")/../.." || exit 2
 program=$(realpath -- "${1:-crates/lldpa/out/lldpa}") && [ -x "$program" ] || { echo "no program"; exit 2; }
@@ -32,7 +32,7 @@ survives() {
     [ "$status" -eq 0 ] && [ ! -s "$room/err" ] && cmp -s "$room/out" "$room/want"
 }
 
-# judge_run STATUS WHAT: counts a run that was well (0), else tells what it did.
+# judge_run STATUS WHAT: counts a run that was well (0), else reports what it did.
 judge_run() {
     judge "$1" "$2: status $status, wrote $(head -c 200 "$room/out"), said $(head -c 200 "$room/err")"
 }
@@ -77,7 +77,7 @@ printf 'local-chassis.%s\n' mac=00:00:5e:00:53:01 name=sw1 descr=lldpa caps=Brid
     > "$room/want"
 refuse_each "$@"
 
-# The requests of a run of the words given.
+# Counts the requests of a run of the words given.
 requests_of_run() {
     TELL_TO=$room/requests run "$@"
     cat "$room/requests"

@@ -5,7 +5,7 @@ but never more than there are processors.
 
     python3 tools/gate/test-python.py [PROGRAM]
 
-PROGRAM is the lldpa that they run. What is skipped is told with its reason, and not counted. The
+PROGRAM is the lldpa that they run. What is skipped is reported with its reason, and not counted. The
 last line is `N passed, M failed`.
 """
 import concurrent.futures
@@ -19,8 +19,10 @@ from typing import NamedTuple
 
 TOP = pathlib.Path(__file__).resolve().parents[2]
 TESTS = [TOP / "python" / "tests", TOP / "audit" / "tests"]
-AT_ONCE = min(3, os.cpu_count() or 1)
-# what wants an answer within a tenth of a second has the processors for itself
+# these take longest; one of them that began last would hold up the gate
+LONGEST = ("test_agents", "test_audit_given", "test_service", "test_relay", "test_audit_command", "test_live_ends",
+           "test_log_files", "test_trace", "test_lldpctl", "test_settings", "test_packaging", "test_hostile")
+# a test that wants an answer within a tenth of a second has the processors for itself
 ALONE = ("test_live_flood",)
 
 
@@ -53,9 +55,9 @@ def run_module(name):
 
 
 def run_all(names):
-    """Runs the modules, in a process each, and tells of each once it has ended."""
+    """Runs the modules, in a process each, and reports each when it has ended."""
     beside = [name for name in names if name not in ALONE]
-    for workers, some in ((AT_ONCE, beside), (1, [name for name in names if name in ALONE])):
+    for workers, some in ((os.cpu_count(), beside), (1, [name for name in names if name in ALONE])):
         with concurrent.futures.ProcessPoolExecutor(workers, initializer=prepare) as pool:
             yield from pool.map(run_module, some)
 
@@ -65,7 +67,8 @@ def main():
     if len(sys.argv) > 1:
         os.environ["LLDPA"] = str(pathlib.Path(sys.argv[1]).resolve())
     passed = failed = 0
-    for ran in run_all(sorted(path.stem for folder in TESTS for path in folder.glob("test_*.py"))):
+    others = sorted(path.stem for folder in TESTS for path in folder.glob("test_*.py") if path.stem not in LONGEST)
+    for ran in run_all([*LONGEST, *others]):
         print(ran.said, flush=True)
         passed += max(ran.tests - ran.skipped - ran.failed, 0)
         failed += ran.failed if ran.tests else 1

@@ -1,9 +1,9 @@
 #!/bin/sh
-# Sees by mypy that the Python packages have the types that they say. The last line is `N passed, M failed`.
+# Checks by mypy that the Python packages have the types that they say. The last line is `N passed, M failed`.
 set -u
 cd "$(dirname "$0")/../.." || exit 2
 . tools/gate/parts.sh
 needs mypy || exit 3
-mypy --strict --cache-dir "$room/types" python/lldpa audit/lldpa_audit
+mypy --strict --cache-dir out/types python/lldpa audit/lldpa_audit
 judge $? "mypy --strict"
 finish

@@ -12,8 +12,8 @@ frame=0180c200000e02000000000188cc0207040200000000010405056574683006020079080465
 frame=${frame}00a096c6f63616c686f73740c056c6c6470610e04008000800000
 
 # ends STATUS SAID COMMAND [WRITTEN]: a command for the shell, run with empty input in a folder of its own,
-# ends with that status, says that line on standard error (none where it is empty, a text of that pattern where
-# it begins with `*`) and writes those lines (none unless given, or likewise).
+# ends with that status, says that line on standard error (none if it is empty, a text of that pattern if it
+# begins with `*`) and writes those lines (none unless given; patterns as before).
 ends() {
     (cd "$room" && PATH="$room/bin:$PATH" sh -c "$3") < /dev/null > "$room/out" 2> "$room/err"
     status=$?
@@ -24,7 +24,7 @@ ends() {
     judge "$is_so" "$3: status $status, said $(head -c 200 "$room/err"), wrote $(head -c 200 "$room/out")"
 }
 
-# Whether a file has those lines: none where they are empty, and a text of that pattern where they begin with `*`.
+# Succeeds if a file has those lines: none if they are empty, and a text of that pattern if they begin with `*`.
 holds() {
     case $1 in
         "") [ ! -s "$2" ] ;;
@@ -33,7 +33,7 @@ holds() {
     esac
 }
 
-# The rows of arguments that are refused, each as it stands in the specification.
+# Tries the rows of arguments that are refused, each as in the specification.
 refused_arguments() {
     echo "== words: refused arguments"
     ends 2 "lldpa: no ports" 'lldpa'
@@ -184,7 +184,7 @@ tx eth0 $frame"
     fi
 }
 
-# Input that is not text, against the model.
+# Compares the answers to input that is not text with the model's.
 binary_input() {
     echo "== binary input"
     python3 -c 'import random, sys

@@ -1,6 +1,6 @@
 # Reads the words `[--arch amd64|arm64] [--cpu CPU] [FOLDER]`, for tools/library/library.sh and tools/release/build.sh.
-# What is given stands in `arch`, `cpu` and `folder`; in `tools` stands what the names of the compiler and of binutils
-# begin with, if the architecture is not this machine's. The script that reads this file has a function `fail`.
+# Sets `arch`, `cpu` and `folder` to what is given, and `tools` to what the names of the compiler and of binutils begin
+# with, if the architecture is not this machine's. The script that reads this file has a function `fail`.
 here=$(uname -m | sed 's/x86_64/amd64/; s/aarch64/arm64/')
 arch=$here
 cpu=

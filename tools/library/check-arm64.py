@@ -1,41 +1,31 @@
 #!/usr/bin/env python3
-"""Builds the program and the library for arm64, and runs them by qemu: all transcripts of examples/, the vectors, rows and
-transcripts of the library, NULL for each pointer, and random traces beside the model.
+"""Builds the program and the library for arm64, and runs them by qemu: all transcripts of examples/, the vectors, rows
+and transcripts of the library, NULL for each pointer, and random traces, which the model runs too. Makes the packages.
 
     python3 tools/library/check-arm64.py [FOLDER]
 
-FOLDER is what tools/release/build.sh --arch arm64 made, and made anew unless it is given. Without gcc for arm64 or
+FOLDER is what tools/release/build.sh --arch arm64 made; unless it is given, that is made first. Without gcc for arm64 or
 qemu-user the status is 3. The last line is `N passed, M failed`.
 """
 from __future__ import annotations
 
 import functools
-import importlib.util
+import importlib
+import os
 import pathlib
 import shutil
 import sys
 import tempfile
-import types
 
-sys.dont_write_bytecode = True
-from library_parts import TOP, WARNINGS, Counts, count_of, fault_of, ran, skip  # noqa: E402
+from library_parts import TOP, WARNINGS, Counts, fault_of, ran, side_by_side, skip
 
 COMPILER = "aarch64-linux-gnu-gcc"
 QEMU = ["qemu-aarch64", "-L", "/usr/aarch64-linux-gnu"]
 TOOLS = TOP / "tools" / "library" / "c"
 MODEL = TOP / "tools" / "model"
 TRACES = "200"
-WRAPPED = ["-Wl,--wrap=malloc,--wrap=realloc,--wrap=free"]
-
-
-@functools.cache
-def native() -> types.ModuleType:
-    """Returns the script that checks the library of this machine."""
-    spec = importlib.util.spec_from_file_location("native", TOP / "tools" / "library" / "check-library.py")
-    assert spec is not None and spec.loader is not None
-    script = importlib.util.module_from_spec(spec)
-    spec.loader.exec_module(script)
-    return script
+EM_AARCH64 = 183
+NATIVE = importlib.import_module("check-library")
 
 
 def wrapped(program: pathlib.Path) -> pathlib.Path:
@@ -47,9 +37,9 @@ def wrapped(program: pathlib.Path) -> pathlib.Path:
 
 
 def check_program(program: pathlib.Path, counts: Counts) -> None:
-    """The transcripts of examples/, each in one piece, and random traces beside the model."""
+    """Runs the transcripts of examples/, each in one piece, and random traces, and compares them with the model."""
     script = wrapped(program)
-    native().check_transcripts([str(script)], counts)
+    NATIVE.check_transcripts([str(script)], counts)
     command = [sys.executable, MODEL / "fuzz.py", "--program", script, "--traces", TRACES, "--seed", "1"]
     ended = ran(command)
     is_passed = ended.stdout.rstrip().endswith("1 passed, 0 failed")
@@ -57,16 +47,34 @@ def check_program(program: pathlib.Path, counts: Counts) -> None:
 
 
 def check_library(folder: pathlib.Path, room: pathlib.Path, counts: Counts) -> None:
-    """The programs in C over the library."""
-    for name, words in (("vectors", [str(native().ROWS)]), ("nulls", []), ("refused", []), ("transcript", [])):
-        more = WRAPPED if name == "refused" else []
+    """Runs the programs in C over the library, and one over the shared object."""
+    for name, linked in (("vectors", "liblldpa.a"), ("vectors", "liblldpa.so.1"), ("nulls", "liblldpa.a"),
+                         ("refused", "liblldpa.a"), ("transcript", "liblldpa.a")):
+        more = NATIVE.WRAPPED if name == "refused" else []
         fault = fault_of([COMPILER, "-std=c99", "-O2", *WARNINGS, *more, f"-I{folder}", TOOLS / f"{name}.c",
-                          folder / "liblldpa.a", "-o", room / name])
-        counts.judge(fault, f"building {name} for arm64")
-        if fault is None and name == "transcript":
-            native().check_transcripts([*QEMU, str(room / name)], counts)
-        elif fault is None:
-            count_of([*QEMU, str(room / name), *words], f"{name} on arm64", counts)
+                          folder / linked, "-o", room / name])
+        counts.judge(fault, f"building {name} for arm64 over {linked}")
+        if fault is None:
+            command = [*QEMU, "-E", f"LD_LIBRARY_PATH={folder}", str(room / name)]
+            NATIVE.run_program(name, command, room, counts)
+
+
+def check_packages(folder: pathlib.Path, room: pathlib.Path, counts: Counts) -> None:
+    """Checks that each Debian package can be made, and that what is compiled in it is for arm64."""
+    for command in ("dpkg-deb", "dpkg-architecture"):
+        if shutil.which(command) is None:
+            skip(f"the packages for arm64, since there is no {command}")
+            return
+    settings = os.environ | {"LLDPA": str(folder / "lldpa"), "LLDPA_LIB_DIR": str(folder / "lib")}
+    for name, words in (("lldpa", []), ("lldpa-dev", ["--library"]), ("lldpa1", ["--shared"])):
+        made = ran([TOP / "tools" / "release" / "package.sh", *words, "--arch", "arm64", room], env=settings)
+        package, tree = made.stdout.strip(), room / f"{name}.tree"
+        is_named = made.returncode == 0 and package.startswith(f"{room}/{name}_") and package.endswith("_arm64.deb")
+        counts.judge(None if is_named else made.stderr, f"the package {name} for arm64")
+        ran(["dpkg-deb", "-x", package, tree])
+        begins = [path.read_bytes()[:20] for path in tree.rglob("*") if path.is_file()]
+        machines = {octets[18] for octets in begins if octets.startswith(b"\x7fELF")}
+        counts.judge(None if machines <= {EM_AARCH64} else machines, f"what is compiled in {name} for arm64")
 
 
 def main() -> int:
@@ -83,12 +91,11 @@ def main() -> int:
             fault = fault_of([TOP / "tools" / "release" / "build.sh", "--arch", "arm64", folder])
             counts.judge(fault, "tools/release/build.sh --arch arm64")
         if not counts.failed:
-            for program in ("lldpa", "lldpa-static"):
-                copied = shutil.copy(folder / program, room / program)
-                check_program(pathlib.Path(copied), counts)
-            check_library(folder / "lib", room, counts)
-    print(f"{counts.passed} passed, {counts.failed} failed")
-    return 1 if counts.failed or not counts.passed else 0
+            programs = [pathlib.Path(shutil.copy(folder / name, room)) for name in ("lldpa", "lldpa-static")]
+            side_by_side([*(functools.partial(check_program, program) for program in programs),
+                          functools.partial(check_library, folder / "lib", room),
+                          functools.partial(check_packages, folder, room)], counts)
+    return counts.end()
 
 
 if __name__ == "__main__":

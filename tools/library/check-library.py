@@ -1,39 +1,45 @@
 #!/usr/bin/env python3
-"""Checks the library for C: runs vectors and rows (tools/library/c/vectors.c), the transcripts of
-examples/ (tools/library/c/transcript.c), NULL for each pointer (tools/library/c/nulls.c) and refused memory
+"""Checks the library for C: runs vectors and rows, and cut and altered LLDPDUs beside the model
+(tools/library/c/vectors.c), the transcripts of examples/ and whole shows beside the model
+(tools/library/c/transcript.c), NULL for each pointer (tools/library/c/nulls.c) and refused memory
 (tools/library/c/refused.c, under valgrind) over it, with the compiler's sanitizers; the crate
 rust/lldpa with its tests; and the examples of docs/LIBRARY.md and of examples/.
 
     python3 tools/library/check-library.py [FOLDER]
 
-FOLDER is where liblldpa.a, liblldpa.so and lldpa.h stand; unless it is given tools/library/library.sh makes
-them. What cannot be tried here, as with cargo or valgrind that are not installed, is said and not
+FOLDER has liblldpa.a, liblldpa.so.1 and lldpa.h; unless it is given tools/library/library.sh makes them.
+What cannot be tried here, for instance since cargo or valgrind is not installed, is reported and not
 counted; without a C compiler or a library the status is 3. The last line is `N passed, M failed`.
 """
 from __future__ import annotations
 
 import concurrent.futures
+import importlib
 import os
 import pathlib
 import re
 import shutil
+import subprocess
 import sys
 import tempfile
-from typing import Any
+from typing import Any, Callable
 
-sys.dont_write_bytecode = True
-sys.path.append(str(pathlib.Path(__file__).resolve().parents[1] / "gate"))
+sys.path += [str(pathlib.Path(__file__).resolve().parents[1] / name) for name in ("gate", "model")]
+import compare  # noqa: E402
 import examples  # noqa: E402
+import model  # noqa: E402
 from library_examples import check_page, check_receive, check_sd_lldp_rx, check_who  # noqa: E402
 from library_front import check_front  # noqa: E402
 from library_layout import check_layout  # noqa: E402
 from library_machine import check_machine  # noqa: E402
 from library_parts import (TOP, WARNINGS, Counts, Library, count_of, fault_of, ran,  # noqa: E402
-                           skip)
+                           side_by_side, skip)
 
+FRAMES = importlib.import_module("check-frames")
 TOOLS = TOP / "tools" / "library" / "c"
 ROWS = TOP / "examples" / "vectors.rows"
 CRATE = TOP / "rust" / "lldpa"
+MANUAL = TOP / "crates" / "lldpa_c" / "include" / "lldpa.3"
 SANITIZERS = ["-fsanitize=address,undefined", "-fno-sanitize-recover=all"]
 WRAPPED = ["-Wl,--wrap=malloc,--wrap=realloc,--wrap=free"]
 VALGRIND = ["valgrind", "-q", "--error-exitcode=9", "--leak-check=full", "--show-leak-kinds=all",
@@ -41,7 +47,7 @@ VALGRIND = ["valgrind", "-q", "--error-exitcode=9", "--leak-check=full", "--show
 
 
 def check_header(library: Library, counts: Counts) -> None:
-    """The header stands alone, in C and in C++."""
+    """Checks that the header can be included alone, in C and in C++."""
     header = library.folder / "lldpa.h"
     for compiler, language, standard in (("cc", "c", "c99"), ("cc", "c", "c11"),
                                          ("c++", "c++", "c++11")):
@@ -54,17 +60,32 @@ def check_header(library: Library, counts: Counts) -> None:
 
 
 def check_functions(library: Library, counts: Counts) -> None:
-    """The library has the functions that the header declares, and no other of such a name."""
+    """Checks that the library defines the functions that the header declares and no other name, and that the manual
+    page names them."""
     header = (library.folder / "lldpa.h").read_text()
     declared = set(re.findall(r"^\w+ (lldpa_\w+)\(", header, re.M))
-    defined = ran(["nm", "--defined-only", library.folder / "liblldpa.a"]).stdout
-    found = set(re.findall(r" T (lldpa_\w+)$", defined, re.M))
+    defined = ran(["nm", "--defined-only", "--extern-only", library.folder / "liblldpa.a"]).stdout
+    found = set(re.findall(r"^\w+ \w (\S+)$", defined, re.M))
     is_same = found == declared and len(found) > 0
     counts.judge(None if is_same else f"{sorted(found ^ declared)}", "the functions of lldpa.h")
+    named = set(re.findall(r'(lldpa_\w+) ?"?\(', MANUAL.read_text()))
+    counts.judge(None if named == declared else f"{sorted(named ^ declared)}", "the functions of lldpa(3)")
+
+
+def check_size(library: Library, counts: Counts) -> None:
+    """Checks that a program gets less than 6 KB of the archive if it uses only the reader."""
+    sizes = []
+    for name, call in (("without", "0"), ("with", "lldpa_examine((const uint8_t *)words, (size_t)count, &told)")):
+        source = library.room / f"{name}.c"
+        source.write_text("#include <lldpa.h>\nint main(int count, char **words)\n{\n    lldpa_examined told = {0};\n"
+                          f"    return words != NULL && told.ttl == 0 ? {call} : count;\n}}\n")
+        counts.judge(library.compiled(source, name), f"building a program {name} the reader")
+        sizes.append(int(ran(["size", library.room / name]).stdout.split()[-3]))
+    counts.judge(None if 0 < sizes[1] - sizes[0] < 6000 else f"{sizes} octets", "the size of the reader in a program")
 
 
 def check_transcripts(program: list[str], counts: Counts) -> None:
-    """Each transcript, in one piece."""
+    """Runs each transcript, in one piece."""
     def fault_of_one(one: Any) -> tuple[str, str | None]:
         name, words, texts, trace, steps = one
         if isinstance(steps, str):
@@ -79,29 +100,68 @@ def check_transcripts(program: list[str], counts: Counts) -> None:
 
 
 def has_sanitizers(room: pathlib.Path) -> bool:
-    """Whether the compiler has the sanitizers, and what it builds with them runs."""
+    """Returns whether the compiler has the sanitizers, and what it builds with them runs."""
     (room / "empty.c").write_text("int main(void) { return 0; }\n")
     built = ["cc", *SANITIZERS, room / "empty.c", "-o", room / "empty"]
     return fault_of(built) is None and fault_of([room / "empty"]) is None
 
 
 def check_programs(library: Library, counts: Counts) -> None:
-    """The programs in C, with the sanitizers where the compiler has them."""
+    """Runs the programs in C, with the sanitizers if the compiler has them."""
     flags = SANITIZERS if has_sanitizers(library.room) else []
     if not flags:
         skip("the sanitizers, which the compiler does not have")
-    for name, words in (("vectors", [str(ROWS)]), ("transcript", []), ("nulls", [])):
+    for name in ("vectors", "transcript", "nulls"):
         fault = library.compiled(TOOLS / f"{name}.c", name, *flags)
         counts.judge(fault, f"building {name}")
-        command = [str(library.room / name), *words]
-        if fault is None and name == "transcript":
-            check_transcripts(command, counts)
-        elif fault is None:
-            count_of(command, name, counts)
+        if fault is None:
+            run_program(name, [str(library.room / name)], library.room, counts)
+    check_whole_shows(str(library.room / "transcript"), counts)
+
+
+def check_whole_shows(program: str, counts: Counts) -> None:
+    """Compares every show of 64 ports, and of a full table, with the model. The program also asks for each line alone."""
+    for ports, neighbors in ((64, 2), (1, 128)):
+        names = [f"p{port}" for port in range(ports)]
+        lines = [f"rx {name} {FRAMES.frame_of(number, 120).hex()}" for name in names for number in range(neighbors)]
+        lines += [f"show {show}" for show in model.SHOWS]
+        words = ["--receive-only", "--max-neighbors", "128", *names]
+        fault = compare.difference(program, words, [line.encode() for line in lines])
+        counts.judge(fault, f"shows of {ports} ports with {neighbors} neighbors")
+
+
+def run_program(name: str, command: list[str], room: pathlib.Path, counts: Counts) -> None:
+    """Runs one of the programs in C, which was built."""
+    if name == "transcript":
+        check_transcripts(command, counts)
+    elif name == "vectors":
+        count_of([*command, ROWS], name, counts)
+        (room / "altered.rows").write_text("".join(map(row_of, altered())))
+        counts.judge(fault_of([*command, room / "altered.rows", "examine"]), "cut and altered LLDPDUs")
+    else:
+        count_of(command, name, counts)
+
+
+def altered() -> list[bytes]:
+    """Returns each front of the LLDPDUs of tools/model/check-frames.py, and each with one octet changed."""
+    return [b"", *(pdu for whole in FRAMES.LLDPDUS for pdu in FRAMES.altered(whole))]
+
+
+def row_of(pdu: bytes) -> str:
+    """Returns the row of examples/vectors.rows that has what the model reads of an LLDPDU."""
+    fields: list[Any] = ["examine", pdu.hex() or "-", pdu.hex() or "-"]
+    try:
+        told = model.Lldpdu(pdu)
+        fields += ["told", told.ttl, *(name.hex() for name in told.name)]
+        fields += ([len(told.extent), told.discarded, told.unrecognized] if told.ttl else [0, 0, 0])
+        fields += [f"{tlv.kind}:{tlv.body.hex()}" for tlv in (told.kept if told.ttl else [])]
+    except model.UnsoundLldpdu as fault:
+        fields += ["fault", *fault.args]
+    return "\t".join(map(str, fields)) + "\n"
 
 
 def check_refused(library: Library, counts: Counts) -> None:
-    """Refused memory, under valgrind if it is there: AddressSanitizer has a malloc of its own."""
+    """Refuses memory, under valgrind if it is installed: AddressSanitizer has a malloc of its own."""
     wrapper = VALGRIND if shutil.which("valgrind") else []
     if not wrapper:
         skip("valgrind, which is not installed")
@@ -112,44 +172,83 @@ def check_refused(library: Library, counts: Counts) -> None:
 
 
 def check_stack(library: Library, counts: Counts) -> None:
-    """No call takes more stack than the header says. What each takes is printed."""
+    """Checks that no call takes more stack than the header says. What each takes is printed."""
     fault = library.compiled(TOOLS / "stack.c", "stack", "-std=gnu99")
     counts.judge(fault, "building stack")
     if fault is None:
         count_of([library.room / "stack"], "stack", counts)
 
 
+def strange_archive(library: Library) -> pathlib.Path:
+    """Makes an archive that answers 77 to all but lldpa_open, and is of another version if LLDPA_STRANGE is set.
+    Returns its folder."""
+    header = (library.folder / "lldpa.h").read_text()
+    found = re.search(r"define LLDPA_VERSION (\d+)", header)
+    assert found is not None
+    answers = {"lldpa_open": "0", "lldpa_version": f'getenv("LLDPA_STRANGE") ? 1 : {found[1]}', "lldpa_close": ""}
+    lines = [f"{kind} {name}() {{ return {answers.get(name, '77')}; }}"
+             for kind, name in re.findall(r"^(\w+) (lldpa_\w+)\(", header, re.M)]
+    source, strange = library.room / "strange.c", library.room / "strange.o"
+    source.write_text("\n".join(["#include <stdbool.h>", "#include <stdint.h>", "#include <stdlib.h>", *lines, ""]))
+    ran(["cc", "-c", source, "-o", strange])
+    ran(["ar", "rcs", library.room / "liblldpa.a", strange])
+    return library.room
+
+
+def cargo(words: list[str], folder: pathlib.Path, library: Library) -> subprocess.CompletedProcess[str]:
+    """Runs cargo in the crate over the archive in a folder. A warning is an error."""
+    settings = os.environ | {"LLDPA_LIB_DIR": str(folder), "RUSTFLAGS": "-D warnings",
+                             "CARGO_TARGET_DIR": str(library.room / "target")}
+    return ran(["cargo", words[0], "--offline", "--locked", "--quiet", *words[1:]], CRATE, settings)
+
+
+def check_crate(words: list[str], folder: pathlib.Path, library: Library, counts: Counts) -> None:
+    """Counts the tests of the crate that pass, as cargo says, and that cargo ends well."""
+    ended = cargo(words, folder, library)
+    results = re.findall(r"^test result: \w+\. (\d+) passed; \d+ failed", ended.stdout, re.M)
+    counts.passed += sum(map(int, results))
+    is_right = ended.returncode == 0 and (words[0] != "test" or sum(map(int, results)) > 0)
+    counts.judge(None if is_right else f"{ended.stdout[-1500:]}{ended.stderr[-1500:]}", f"cargo {' '.join(words)}")
+
+
 def check_rust(library: Library, counts: Counts) -> None:
-    """The crate for Rust: its tests and examples, and that its build says what is missing."""
+    """Checks the crate for Rust: its tests and examples, also over an archive that answers what no library does; clippy;
+    and that its build says what is missing."""
     if shutil.which("cargo") is None:
         skip("the crate for Rust, since there is no cargo")
         return
-    settings = os.environ | {"LLDPA_LIB_DIR": str(library.folder), "RUSTFLAGS": "-D warnings",
-                             "CARGO_TARGET_DIR": str(library.room / "target")}
-    words = ["--offline", "--locked", "--quiet"]
-    ended = ran(["cargo", "test", *words], CRATE, settings)
-    results = re.findall(r"^test result: \w+\. (\d+) passed; (\d+) failed", ended.stdout, re.M)
-    counts.passed += sum(int(passed) for passed, _ in results)
-    if ended.returncode != 0 or not results:
-        counts.judge(f"{ended.stdout[-1500:]}{ended.stderr[-1500:]}", "cargo test")
-    settings["LLDPA_LIB_DIR"] = str(library.room / "none")
-    missing = ran(["cargo", "check", *words], CRATE, settings)
+    check_crate(["test"], library.folder, library, counts)
+    if fault_of(["cargo", "clippy", "--version"]) is None:
+        for words in (["--all-targets"], ["--no-default-features"]):
+            check_crate(["clippy", *words, "--", "-D", "warnings"], library.folder, library, counts)
+    else:
+        skip("clippy, which is not installed")
+    check_crate(["test", "--test", "strange", "--", "--ignored"], strange_archive(library), library, counts)
+    missing = cargo(["check"], library.room / "none", library)
     is_said = missing.returncode != 0 and "Set LLDPA_LIB_DIR to the folder" in missing.stderr
     counts.judge(None if is_said else missing.stderr, "the crate for Rust without an archive")
 
 
-CHECKS = (check_header, check_layout, check_functions, check_machine, check_programs,
-          check_refused, check_stack, check_front, check_rust, check_page, check_who, check_sd_lldp_rx,
-          check_receive)
+# The longest come first.
+CHECKS = (check_programs, check_rust, check_front, check_refused, check_receive, check_layout, check_header,
+          check_functions, check_size, check_machine, check_stack, check_page, check_who, check_sd_lldp_rx)
 
 
 def made(room: pathlib.Path) -> pathlib.Path | None:
-    """The folder that tools/library/library.sh makes, or None where it cannot."""
+    """Returns the folder that tools/library/library.sh makes, or None if it cannot."""
     ended = ran([TOP / "tools" / "library" / "library.sh", room / "lib"])
     if ended.returncode != 0:
         skip(f"the library: {ended.stderr.strip()}")
         return None
     return room / "lib"
+
+
+def in_own_room(check: Callable[[Library, Counts], None], folder: pathlib.Path,
+                room: pathlib.Path) -> Callable[[Counts], None]:
+    """Returns a check of the library in a folder, which has a room of its own."""
+    own = Library(folder, room / check.__name__)
+    own.room.mkdir()
+    return lambda counts: check(own, counts)
 
 
 def main() -> int:
@@ -163,8 +262,7 @@ def main() -> int:
         folder = pathlib.Path(sys.argv[1]).resolve() if sys.argv[1:] else made(room)
         if folder is None:
             return 3
-        for check in CHECKS:
-            check(Library(folder, room), counts)
+        side_by_side([in_own_room(check, folder, room) for check in CHECKS], counts)
     return counts.end()
 
 

@@ -2,12 +2,12 @@
 # Makes the library that programs link: liblldpa.a, liblldpa.so.1 and lldpa.h, in a folder.
 #     tools/library/library.sh [--arch amd64|arm64] [--cpu CPU] [FOLDER]
 # FOLDER is crates/lldpa_c/out/lib unless given. The architecture is that of this machine unless given; for another one
-# it needs a C compiler and binutils, as of the package gcc-aarch64-linux-gnu. CPU is x86-64 for amd64 unless given.
+# it needs a C compiler and binutils, such as the package gcc-aarch64-linux-gnu. CPU is x86-64 for amd64 unless given.
 #
-# The functions of the archive that `rt lib` builds are renamed to begin with `proved_`; those that programs call stand
-# in crates/lldpa_c/front, which answer for NULL and ask malloc for memory. Each group of calls below is one object of liblldpa.a with all that it
-# reaches, and the archive defines no global name but those of lldpa.h. `rt lib` runs if a source, a definition, a proof,
-# crates.txt or the toolchain changed since it ran for this architecture. The name of the folder goes to standard output.
+# The functions of the archive that `rt lib` builds are renamed to begin with `proved_`. Programs call those of
+# crates/lldpa_c/front, which handle NULL and ask malloc for memory. Each group of calls below is one object of
+# liblldpa.a with all that it reaches, and the archive defines only the global names of lldpa.h. `rt lib` runs if a source, a definition, a proof,
+# crates.txt or the toolchain changed since it ran for this architecture. Prints the name of the folder.
 set -eu
 cd "$(dirname "$0")/../.."
 front=crates/lldpa_c/front
@@ -24,8 +24,8 @@ groups() {
     echo "reading lldpa_frame_pdu lldpa_examine lldpa_next_kept lldpa_caps lldpa_mgmt"
     echo "building lldpa_build"
     echo "machine lldpa_transmit_new lldpa_transmit_event lldpa_transmit_credit"
-    echo "texts lldpa_command_text"
-    echo "agent $(sed -n 's/^[a-z0-9_]* \(lldpa_[a-z_]*\)(lldpa_agent .*/\1/p' $header/lldpa.h | tr '\n' ' ') lldpa_open"
+    echo "texts lldpa_command_text lldpa_fault_text"
+    echo "agent $(sed -n 's/^[a-z0-9_]* \(lldpa_[a-z_]*\)(\(const \)*lldpa_agent .*/\1/p' $header/lldpa.h | tr '\n' ' ') lldpa_open"
 }
 
 . tools/library/arch.sh
@@ -80,11 +80,10 @@ done
 rm -f "$room/liblldpa.a"
 (cd "$room/objects" && "${tools}ar" rcsD ../liblldpa.a ./*.o)
 install -m 644 "$room/liblldpa.a" "$header/lldpa.h" "$folder"
-# What the front stands on, for tests that put another one before it.
+# What the front calls, for tests that put another front before it.
 cp "$room/proved.a" "$folder/proved.a"
 "${tools}ar" rsD "$folder/proved.a" "$room/memory.o" 2> /dev/null
 echo 'LLDPA_1 { global: lldpa_*; local: *; };' > "$room/exports"
 "${tools}gcc" -shared -o "$folder/liblldpa.so.1" "$room/front.o" -Wl,--start-group "$room/proved.a" "$room/memory.o" \
-    -Wl,--end-group -Wl,--gc-sections -Wl,-z,defs,-soname,liblldpa.so.1 -Wl,--version-script="$room/exports"
-install -m 644 "$folder/liblldpa.so.1" "$folder/liblldpa.so" # rt takes no link in its out folder
+    -Wl,--end-group -Wl,--gc-sections -Wl,-z,defs,-z,now,-soname,liblldpa.so.1 -Wl,--version-script="$room/exports"
 echo "$folder"

@@ -5,7 +5,7 @@ those of examples/ in C and Python on a capture and on a link.
     python3 tools/library/library_examples.py --hear PROGRAM
 
 in a network namespace of its own: runs examples/c/receive.c, which was built as PROGRAM, at one end
-of a link, and sends frames at the other end until it tells of their sender.
+of a link, and sends frames at the other end until it reports their sender.
 """
 from __future__ import annotations
 
@@ -20,22 +20,21 @@ import sys
 import time
 from typing import Mapping, Sequence
 
-sys.dont_write_bytecode = True
-from library_parts import SECONDS, TOP, Counts, Library, fault_of, ran, skip  # noqa: E402
+from library_parts import SECONDS, TOP, Counts, Library, fault_of, ran, skip
 
 CAPTURE = TOP / "docs" / "lab.pcap"
 EXAMPLES = TOP / "examples"
 PAGE = TOP / "docs" / "LIBRARY.md"
 LINK = ("link add here type veth peer name there", "link set here up", "link set there up")
 
-# Frames of 00:11:22:33:44:55, port eth0, and what is told of each: it comes, has a name, and leaves; it comes for one
+# Frames of 00:11:22:33:44:55, port eth0, and the reports about each: it comes, has a name, and leaves; it comes for one
 # second, and ages out.
 KEY = "02070400112233445504050565746830"
 HEARD = ((KEY + "06020078", b"new"), (KEY + "060200780a03737731", b"changed"), (KEY + "06020000", b"gone"),
          (KEY + "06020001", b"new"), ("", b"aged out"))
 SENDER = b" 04:00:11:22:33:44:55 05:65:74:68:30\n"
 
-# What examples/c/sd_lldp_rx.c is given, and what it tells.
+# The input of examples/c/sd_lldp_rx.c, and what it writes.
 PLAYED = ((KEY + "06020003", "added eth0", "due in 3"), (KEY + "06020003", "refreshed eth0", "due in 3"),
           ("tick 2", "", "due in 1"), (KEY + "060200050a03737731", "updated eth0", "due in 5"),
           ("tick 4", "", "due in 1"), ("tick 9", "removed eth0", "nothing is due"),
@@ -43,13 +42,13 @@ PLAYED = ((KEY + "06020003", "added eth0", "due in 3"), (KEY + "06020003", "refr
 
 
 def frame_of(pdu: str) -> bytes:
-    """A frame with this LLDPDU, in hexadecimal, and its end."""
+    """Returns a frame with this LLDPDU, in hexadecimal, and its end."""
     return bytes.fromhex(f"0180c200000e00112233445588cc{pdu}0000").ljust(60, b"\0")
 
 
 def check_example(name: str, command: Sequence[object], wanted: str, counts: Counts,
                   cwd: pathlib.Path | None = None, env: Mapping[str, str] | None = None) -> None:
-    """An example writes what it ought to."""
+    """Checks that an example writes what it must."""
     ended = ran(command, cwd, env)
     if ended.returncode != 0 or ended.stderr:
         counts.judge(f"status {ended.returncode}, {ended.stderr[-1500:]}", name)
@@ -58,18 +57,18 @@ def check_example(name: str, command: Sequence[object], wanted: str, counts: Cou
 
 
 def blocks_of_page(language: str) -> list[tuple[str, str]]:
-    """The blocks of the page in a language that are whole programs, each with what it writes."""
+    """Returns the blocks of the page in a language that are whole programs, each with what it writes."""
     pattern = rf"^```{language}\n(.*?)^```\n\n```text\n(.*?)^```$"
     return re.findall(pattern, PAGE.read_text(), re.M | re.S)
 
 
 def loading(library: Library) -> dict[str, str]:
-    """The environment of a program that loads the shared object."""
+    """Returns the environment of a program that loads the shared object."""
     return os.environ | {"LLDPA_LIB_DIR": str(library.folder)}
 
 
 def check_page(library: Library, counts: Counts) -> None:
-    """The programs of docs/LIBRARY.md in C and in Python; those in Rust are tests of the crate."""
+    """Runs the programs of docs/LIBRARY.md in C and in Python; those in Rust are tests of the crate."""
     for at, (text, wanted) in enumerate(blocks_of_page("c")):
         source = library.room / f"page-{at}.c"
         source.write_text(text)
@@ -81,7 +80,8 @@ def check_page(library: Library, counts: Counts) -> None:
 
 
 def hear(program: str) -> int:
-    """Whether a receive loop tells what becomes of a neighbor on a link, and ends when it is asked to: 0, or else 1."""
+    """Returns 0 if a receive loop reports what happens to a neighbor on a link, and ends when it is asked to, or else
+    1."""
     for words in LINK:
         subprocess.run(["ip", *words.split()], check=True)
     told, end = b"", time.monotonic() + SECONDS
@@ -103,7 +103,8 @@ def hear(program: str) -> int:
 
 
 def check_sd_lldp_rx(library: Library, counts: Counts) -> None:
-    """The sketch of sd_lldp_rx tells each neighbor that is added, updated, refreshed and removed, and when one is due."""
+    """Checks that the sketch of sd_lldp_rx reports each neighbor that is added, updated, refreshed and removed, and
+    when one is due."""
     source = EXAMPLES / "c" / "sd_lldp_rx.c"
     counts.judge(library.compiled(source, "sd_lldp_rx"), "building examples/c/sd_lldp_rx.c")
     lines = [given if " " in given else f"rx {frame_of(given).hex()}" for given, _, _ in PLAYED]
@@ -116,7 +117,7 @@ def check_sd_lldp_rx(library: Library, counts: Counts) -> None:
 
 
 def check_receive(library: Library, counts: Counts) -> None:
-    """The receive loop hears a neighbor on a link, where a network namespace may be made."""
+    """Checks that the receive loop hears a neighbor on a link, if a network namespace may be made."""
     fault = library.compiled(EXAMPLES / "c" / "receive.c", "receive")
     counts.judge(fault, "building examples/c/receive.c")
     if shutil.which("ip") is None or fault_of(["unshare", "--net", "true"]) is not None:
@@ -127,7 +128,7 @@ def check_receive(library: Library, counts: Counts) -> None:
 
 
 def check_who(library: Library, counts: Counts) -> None:
-    """The examples in C and Python tell the same of a capture."""
+    """Checks that the examples in C and Python say the same of a capture."""
     wanted = (EXAMPLES / "c" / "who.expect").read_text()
     counts.judge(library.compiled(EXAMPLES / "c" / "who.c", "who"), "building examples/c/who.c")
     check_example("examples/c/who.c", [library.room / "who", CAPTURE], wanted, counts)
@@ -135,7 +136,7 @@ def check_who(library: Library, counts: Counts) -> None:
         command = [sys.executable, EXAMPLES / "python" / "who.py", CAPTURE]
         check_example("examples/python/who.py", command, wanted, counts, env=loading(library))
     else:
-        skip("the examples in Python, since there is no liblldpa.so")
+        skip("the examples in Python, since there is no liblldpa.so.1")
 
 
 if __name__ == "__main__":

@@ -7,11 +7,11 @@ from library_parts import TOP, Counts, Library, fault_of, ran
 FRONT = TOP / "crates" / "lldpa_c" / "front" / "lldpa.c"
 NULLS = TOP / "tools" / "library" / "c" / "nulls.c"
 
-# What is wrong, the text that stands once in the front, and the text in its place.
+# What is wrong, the text that the front has once, and the text in its place.
 EDITS = (
     ("lldpa_frame_pdu does not look for the place", "is_missing(frame, length) || pdu == NULL",
      "is_missing(frame, length)"),
-    ("lldpa_examine does not look for what it tells", "is_missing(pdu, length) || told == NULL",
+    ("lldpa_examine does not check where to write", "is_missing(pdu, length) || told == NULL",
      "is_missing(pdu, length)"),
     ("lldpa_build does not look for bodies", "if (lacks_body(tlvs, tlv_count))", "if (false)"),
     ("lldpa_transmit_credit answers another number", "machine == NULL ? 0", "machine == NULL ? 1"),
@@ -19,11 +19,14 @@ EDITS = (
      "if (!is_copied(&given.hostname, &options->hostname))", "if (false)"),
     ("lldpa_open looks at 64 names", "#define MOST_NAMES 65", "#define MOST_NAMES 64"),
     ("lldpa_ticks answers another number",
-     "told == NULL ? LLDPA_NULL", "told == NULL ? LLDPA_NOT_OPEN"),
-    ("lldpa_frame tells news where none are asked for", "news == NULL ? proved_lldpa_frame",
+     "marks == NULL || told == NULL ? LLDPA_NULL", "marks == NULL || told == NULL ? LLDPA_NOT_OPEN"),
+    ("lldpa_due does not look for the seconds", "agent == NULL || seconds == NULL", "agent == NULL"),
+    ("lldpa_frame writes news if none are asked for", "news == NULL ? proved_lldpa_frame",
      "news != NULL ? proved_lldpa_frame"),
     ("lldpa_open takes options of another size", "if (options->size != sizeof *options)",
      "if (options->size == 0)"),
+    ("lldpa_frame_of writes to the handle that it reads", "proved_lldpa_frame_of(&copy",
+     "proved_lldpa_frame_of((lldpa_agent *)agent"),
     ("lldpa_close does not look for the agent", "if (agent != NULL)", "if (true)"),
     ("NULL with a length of 0 is refused", "return at == NULL && count > 0;",
      "return at == NULL;"),
@@ -31,10 +34,10 @@ EDITS = (
 
 
 def fault_of_edit(library: Library, old: str, new: str) -> str | None:
-    """Why a wrong front is not seen, or None."""
+    """Returns why a wrong front is not seen, or None."""
     text = FRONT.read_text()
     if text.count(old) != 1:
-        return f"{old!r} does not stand once in {FRONT.name}"
+        return f"{old!r} does not occur once in {FRONT.name}"
     source, program = library.room / "front.c", library.room / "front"
     source.write_text(text.replace(old, new))
     fault = fault_of(["cc", "-std=gnu99", f"-I{library.folder}", source, NULLS,
@@ -45,6 +48,6 @@ def fault_of_edit(library: Library, old: str, new: str) -> str | None:
 
 
 def check_front(library: Library, counts: Counts) -> None:
-    """Each wrong front is seen."""
+    """Checks that each wrong front is seen."""
     for what, old, new in EDITS:
         counts.judge(fault_of_edit(library, old, new), f"a wrong front: {what}")

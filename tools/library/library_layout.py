@@ -1,5 +1,6 @@
-"""Compares what the header, crates/lldpa_c and rust/lldpa/src/sys.rs say of each struct and function of the library: the
-fields and the parameters, in order, by their types.
+"""Compares what the header, crates/lldpa_c and rust/lldpa/src/sys.rs say of each struct and function of the library:
+the fields and the parameters, in order, by their types, and which pointers are only read. The front asserts the size of
+each struct and the place of each field, and does not compile with a header that has another one.
 
 A slice of Rattle is a pointer and a length in C. A handle's memory is a pointer that only the library knows.
 """
@@ -7,15 +8,21 @@ from __future__ import annotations
 
 import re
 
-from library_parts import TOP, Counts, Library
+from library_parts import TOP, Counts, Library, ran
 
 CRATE = TOP / "crates" / "lldpa_c" / "src"
+FRONT = TOP / "crates" / "lldpa_c" / "front" / "lldpa.c"
 SYS = TOP / "rust" / "lldpa" / "src" / "sys.rs"
 PARTS = TOP / "crates" / "lldp_transmit" / "src" / "parts.rt"
 
 # The types of C, and of Rust and Rattle, by one name; a struct's is its name in small letters without a prefix.
 TYPES = {"uint8_t": "u8", "uint16_t": "u16", "uint32_t": "u32", "size_t": "usize", "bool": "bool", "void": "()",
-         "ticks_taken": "ticks", "tickstaken": "ticks", "parts": "machine"}
+         "ticks_taken": "ticks", "tickstaken": "ticks", "parts": "machine", "statistics_told": "statistics",
+         "configuration_told": "configuration"}
+
+# How many octets a type has, on the platforms that the library is built for.
+OCTETS = {"u8": 1, "u16": 2, "u32": 4, "usize": 8, "bool": 1, "pointer": 8, "const pointer": 8}
+STRUCT = re.compile(r"typedef struct lldpa_\w+ \{(.*?)\} lldpa_(\w+);", re.S)
 Lists = dict[str, list[str]]
 
 
@@ -28,7 +35,7 @@ def plain(name: str) -> str:
 def of_c(declared: str) -> str:
     """Returns the type of a field or a parameter of C, as `const uint8_t *octets`."""
     if "*" in declared:
-        return "pointer"
+        return "const pointer" if declared.startswith("const ") else "pointer"
     words = declared.replace("const ", "").split()
     length = re.search(r"\[(\d+)\]", declared)
     return f"[{plain(words[0])}; {length[1]}]" if length else plain(words[0])
@@ -37,10 +44,12 @@ def of_c(declared: str) -> str:
 def of_rust(declared: str) -> list[str]:
     """Returns the types that a field or a parameter of Rust or Rattle is in C."""
     declared = declared.strip()
+    is_written = re.match(r"(&('a )?mut |\*mut )", declared) is not None
+    pointer = "pointer" if is_written else "const pointer"
     if re.match(r"&('a )?(mut )?\[", declared):
-        return ["pointer", "usize"]
+        return [pointer, "usize"]
     if declared.startswith(("*", "&")):
-        return ["pointer"]
+        return [pointer]
     array = re.fullmatch(r"\[(\w+); (\d+)\]", declared)
     if array:
         return [f"[{plain(array[1])}; {array[2]}]"]
@@ -52,11 +61,14 @@ def split(text: str) -> list[str]:
     return [part.strip() for part in text.split(",") if part.strip()]
 
 
+def structs_of(text: str) -> Lists:
+    """Returns the structs of the header, each with the declarations of its fields."""
+    return {name: [field.strip() for field in body.split(";") if field.strip()] for body, name in STRUCT.findall(text)}
+
+
 def header_lists(text: str) -> Lists:
     """Returns the structs and the functions of the header."""
-    text = re.sub(r"/\*.*?\*/", "", text, flags=re.S)
-    found = {plain(name): [of_c(field) for field in body.split(";") if field.strip()]
-             for body, name in re.findall(r"typedef struct lldpa_\w+ \{(.*?)\} lldpa_(\w+);", text, re.S)}
+    found = {plain(name): [of_c(field) for field in fields] for name, fields in structs_of(text).items()}
     for answer, name, body in re.findall(r"^(\w+) (lldpa_\w+)\((.*?)\);", text, re.M | re.S):
         found[name] = [*(of_c(one) for one in split(body) if one != "void"), plain(answer)]
     return found
@@ -75,17 +87,52 @@ def rust_lists(text: str) -> Lists:
     return found
 
 
+def assertions(text: str) -> list[str]:
+    """Returns what the front asserts of the header's structs, if each has its fields as C lays them out: each field at
+    the next place that its type's alignment divides, and the size a multiple of the greatest alignment."""
+    found, sizes = [], {name: (octets, octets) for name, octets in OCTETS.items()}
+    for name, fields in structs_of(text).items():
+        end, greatest, places = 0, 1, []
+        for field in fields:
+            array = re.fullmatch(r"\[(\w+); (\d+)\]", of_c(field))
+            size, alignment = sizes[array[1] if array else of_c(field)]
+            at = -(-end // alignment) * alignment
+            called = re.findall(r"\w+", field.split("[")[0])[-1]
+            places.append(f"AT({name}, {called}, {at})")
+            end, greatest = at + size * int(array[2] if array else 1), max(greatest, alignment)
+        sizes[plain(name)] = -(-end // greatest) * greatest, greatest
+        found += [f"SIZE({name}, {sizes[plain(name)][0]})", *places]
+    return found
+
+
+def check_assertions(library: Library, text: str, counts: Counts) -> None:
+    """Checks that the front asserts each size and place, and that a further field in a struct of the header is seen."""
+    wanted, found = assertions(text), re.findall(r"\b(?:SIZE|AT)\(\w+, [\w, ]*\d\)", FRONT.read_text())
+    counts.judge(None if found == wanted else f"{set(found) ^ set(wanted)}", "what the front asserts of the structs")
+    header = (library.folder / "lldpa.h").read_text()
+    for name in structs_of(text):
+        (library.room / "lldpa.h").write_text(re.sub(rf"(struct lldpa_{name} {{)", r"\1 char more;", header))
+        said = ran(["cc", "-std=gnu99", "-fsyntax-only", f"-I{library.room}", FRONT]).stderr
+        is_seen = re.search(rf"error.*the size of lldpa_{name}\b", said) is not None
+        counts.judge(None if is_seen else said[:1500], f"a field more in lldpa_{name}")
+
+
 def check_layout(library: Library, counts: Counts) -> None:
-    """The three say the same."""
-    header = header_lists((library.folder / "lldpa.h").read_text())
+    """Checks that the three say the same, and that the front asserts it."""
+    text = re.sub(r"/\*.*?\*/", "", (library.folder / "lldpa.h").read_text(), flags=re.S)
+    check_assertions(library, text, counts)
+    header = header_lists(text)
+    # The front gives a proved reader of an agent a copy of its handle.
+    fronted = header_lists(text.replace("(const lldpa_agent *", "(lldpa_agent *"))
     proved: Lists = {}
     for file in [*sorted(CRATE.rglob("*.rt")), PARTS]:
         proved |= rust_lists(file.read_text())
     # The front has a function of its own, and one that calls either of two.
     proved["lldpa_version"] = header["lldpa_version"]
     proved["lldpa_frame"] = proved.pop("lldpa_frame_news")
-    for what, found in (("crates/lldpa_c", proved), ("rust/lldpa/src/sys.rs", rust_lists(SYS.read_text()))):
-        for name, wanted in header.items():
+    declared = rust_lists(SYS.read_text())
+    for what, found, wants in (("crates/lldpa_c", proved, fronted), ("rust/lldpa/src/sys.rs", declared, header)):
+        for name, wanted in wants.items():
             is_same = found.get(name) == wanted
             counts.judge(None if is_same else f"{found.get(name)}, and in lldpa.h {wanted}", f"{name} in {what}")
         more = [name for name in found if name not in header and name not in ("held", "()")]

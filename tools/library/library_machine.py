@@ -1,5 +1,5 @@
-"""Looks at the machine code of the archive: in no function a branch stands before the loop that probes the pages of a
-large frame. A compiler that moved one there has overwritten the register that the loop needs."""
+"""Checks the machine code of the archive: no function branches before the loop that probes the pages of a large stack
+frame. A compiler that moved a branch there has overwritten the register that the loop needs."""
 from __future__ import annotations
 
 import re
@@ -12,7 +12,7 @@ PROBE = re.compile(r"\ssub\s+\$0x1000,%rsp")
 
 
 def branched_before(code: str) -> list[str]:
-    """Returns the functions of what objdump writes that branch before they probe."""
+    """Returns the functions in objdump's output that branch before they probe."""
     found, name, has_branched = [], "", False
     for line in code.splitlines():
         begins = FUNCTION.match(line)
@@ -26,7 +26,7 @@ def branched_before(code: str) -> list[str]:
 
 
 def check_machine(library: Library, counts: Counts) -> None:
-    """No function of the archive does so, and one that does is seen."""
+    """Checks that no function of the archive does so, and that one that does is seen."""
     code = ran(["objdump", "-d", "--no-show-raw-insn", library.folder / "liblldpa.a"]).stdout
     found = branched_before(code)
     counts.judge(f"{found} branch before they probe" if found else None, "the machine code of the archive")

@@ -1,11 +1,12 @@
 """What the checks of the library share: commands, counts, and programs built over it."""
 from __future__ import annotations
 
+import concurrent.futures
 import pathlib
 import re
 import subprocess
 import sys
-from typing import Any, Mapping, Sequence
+from typing import Any, Callable, Iterable, Mapping, Sequence
 
 TOP = pathlib.Path(__file__).resolve().parents[2]
 sys.path.append(str(TOP / "tools" / "gate"))
@@ -13,8 +14,8 @@ from counts import Counts  # noqa: E402
 
 WARNINGS = ["-pedantic", "-Wall", "-Wextra", "-Werror"]
 
-# How long one command may take, in seconds.
-SECONDS = 600
+# The most seconds that one command may take. The longest proves the library on a slow machine.
+SECONDS = 1800
 
 
 def skip(what: str) -> None:
@@ -24,14 +25,14 @@ def skip(what: str) -> None:
 
 def ran(command: Sequence[object], cwd: pathlib.Path | None = None,
         env: Mapping[str, str] | None = None) -> subprocess.CompletedProcess[str]:
-    """A command that has ended, with what it wrote."""
+    """Returns a command that has ended, with what it wrote."""
     settings: dict[str, Any] = {"capture_output": True, "text": True, "timeout": SECONDS}
     return subprocess.run([str(word) for word in command], stdin=subprocess.DEVNULL, cwd=cwd,
                           env=env, check=False, **settings)
 
 
 def fault_of(command: Sequence[object]) -> str | None:
-    """What a command says where its status is not 0, or None."""
+    """Returns what a command says if its status is not 0, or None."""
     ended = ran(command)
     if ended.returncode == 0:
         return None
@@ -52,6 +53,19 @@ def count_of(command: Sequence[object], what: str, counts: Counts) -> None:
     counts.failed += int(found[2])
 
 
+def side_by_side(checks: Iterable[Callable[[Counts], None]], counts: Counts) -> None:
+    """Runs checks, three at a time, and adds up what they count."""
+    def counted(check: Callable[[Counts], None]) -> Counts:
+        own = Counts()
+        check(own)
+        return own
+
+    with concurrent.futures.ThreadPoolExecutor(3) as pool:
+        for own in pool.map(counted, checks):
+            counts.passed += own.passed
+            counts.failed += own.failed
+
+
 class Library:
     """The library in its folder, and programs that are built over it in a folder of their own."""
 
@@ -59,11 +73,11 @@ class Library:
         self.folder, self.room = folder, room
 
     def compiled(self, source: pathlib.Path, name: str, *flags: str) -> str | None:
-        """What is wrong with building a program, or None."""
+        """Builds a program. Returns what is wrong, or None."""
         return fault_of(["cc", "-std=c99", "-O2", "-g", *WARNINGS, *flags, f"-I{self.folder}",
                          source, self.folder / "liblldpa.a", "-o", self.room / name])
 
     def shared(self) -> pathlib.Path | None:
-        """The shared object, or None where there is none."""
-        found = self.folder / "liblldpa.so"
+        """Returns the shared object, or None if there is none."""
+        found = self.folder / "liblldpa.so.1"
         return found if found.is_file() else None

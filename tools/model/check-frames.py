@@ -1,5 +1,5 @@
 #!/usr/bin/env python3
-"""Gives the built program cut and altered frames, and full tables whose neighbors come and go, beside the model.
+"""Gives the built program and the model cut and altered frames, and full tables whose neighbors come and leave.
 
     tools/model/check-frames.py PROGRAM [SEED]
 
@@ -30,7 +30,7 @@ MANY_KINDS = ADDRESS + spelled(127, b"\0\x12\x0f\1") + spelled(9, b"") + spelled
 LLDPDUS = (
     MANDATORY + END,
     MANDATORY + spelled(5, b"sw2") + END,
-    MANDATORY + spelled(5, b"abc" + bytes(17))[:5],  # it says 20 octets and has 3
+    MANDATORY + spelled(5, b"abc" + bytes(17))[:5],  # its length says 20 octets, and it has 3
     MANDATORY + CHASSIS + END,
     MANDATORY + CAPABILITIES + END,
     MANDATORY + MANY_KINDS + END,
@@ -40,13 +40,13 @@ LLDPDUS = (
 LOOK = [b"show neighbors", b"show statistics"]
 EMPTY = [b"configure ports eth0 lldp status disabled", b"configure ports eth0 lldp status rx-only"]
 
-NEIGHBORS = 180  # with octets of their own; there is room for 128
+NEIGHBORS = 180  # of different octets; there is room for 128
 ROUNDS = 3000
 LOOK_EACH = 25
 
 
 def altered(frame):
-    """Each front of a frame that has an octet, and the frame with each octet changed to each other value."""
+    """Returns each front of a frame that has an octet, and the frame with each octet changed to each other value."""
     for end in range(1, len(frame) + 1):
         yield frame[:end]
     for place, octet in enumerate(frame):
@@ -56,24 +56,24 @@ def altered(frame):
 
 
 def heard(frame):
-    """The line with which a frame comes."""
+    """Returns the line with which a frame comes."""
     return b"rx eth0 " + frame.hex().encode()
 
 
 def frame_of(number, ttl):
-    """A frame of the neighbor with this number."""
+    """Returns a frame of the neighbor with this number."""
     return HEADER + CHASSIS + spelled(2, bytes([7, number])) + spelled(3, ttl.to_bytes(2, "big")) + END
 
 
 def altered_trace(pdu):
-    """The lines with which an LLDPDU is heard, altered, one after the other."""
+    """Returns the lines with which an LLDPDU is heard, altered, one after another."""
     known = heard(HEADER + LLDPDUS[0])
     return [line for frame in altered(HEADER + pdu)
             for line in (heard(frame), *LOOK, *EMPTY, known, heard(frame), *LOOK, *EMPTY)]
 
 
 def random_trace(seed):
-    """Lines with which a table is full, and neighbors of it expire, refresh and leave."""
+    """Returns lines with which a table is full, and neighbors of it expire, refresh and leave."""
     dice = random.Random(seed)
     for round_ in range(ROUNDS):
         number = dice.randrange(NEIGHBORS)
@@ -91,7 +91,7 @@ def random_trace(seed):
 
 
 def fault_of(case):
-    """What is wrong with a case, an LLDPDU or the seed of a random trace, or None."""
+    """Returns what is wrong with a case, an LLDPDU or the seed of a random trace, or None."""
     lines = list(random_trace(case)) if isinstance(case, int) else altered_trace(case)
     return compare.difference(sys.argv[1], ["--receive-only", "--max-neighbors", "128", "eth0"], lines)
 

@@ -5,9 +5,9 @@
 
 A client asks a question whose answer is written in several pieces, and asks again when it has read all of it. Each
 answer has to come at once: a program that does not set TCP_NODELAY keeps the last piece back until the one before it
-was acknowledged, some 40 milliseconds each time. Where too many are late while the machine stands still, that is said
-and all are asked again, at most twice. Then clients come one after the other to a program that was asked to serve
-65,535, the greatest number; each is answered, and the program goes on. The last line is `N passed, M failed`.
+was acknowledged, some 40 milliseconds each time. If too many are late while the machine stands still, it says so and
+asks all again, at most twice. Then clients come one after another to a program that was asked to serve 65,535, the
+greatest number; each is answered, and the program keeps running. The last line is `N passed, M failed`.
 """
 import pathlib
 import socket
@@ -16,10 +16,10 @@ import sys
 import time
 
 from compare import asked, connected, free_port
+from counts import Counts
 from model import COUNTERS
 
 TOP = pathlib.Path(__file__).resolve().parents[2]
-sys.dont_write_bytecode = True
 sys.path.insert(0, str(TOP / "python" / "tests"))
 from patience import NOTICEABLE, TRIES, Standstill  # noqa: E402
 
@@ -39,7 +39,7 @@ CLIENTS = 5
 
 
 def answer(client):
-    """All that comes up to the mark."""
+    """Returns all that comes up to the mark."""
     octets = b""
     while not octets.endswith(END):
         piece = client.recv(65536)
@@ -50,7 +50,7 @@ def answer(client):
 
 
 def late_answers(client):
-    """How many questions are answered late, or None where an answer is not whole."""
+    """Returns how many questions are answered late, or None if an answer is not whole."""
     late = 0
     for _ in range(QUESTIONS):
         begin = time.perf_counter()
@@ -62,7 +62,7 @@ def late_answers(client):
 
 
 def late_by_the_program(client):
-    """How many questions are answered late, without those tries in which the machine stood still."""
+    """Returns how many questions are answered late, without those tries in which the machine stood still."""
     for left in reversed(range(TRIES)):
         with Standstill() as standstill:
             late = late_answers(client)
@@ -70,11 +70,12 @@ def late_by_the_program(client):
         print(f"of {QUESTIONS} questions over a connection {late} were answered late")
         if late is None or late <= MOST_LATE or not left or seconds < NOTICEABLE:
             return late
-        print(f"asked again, since the machine stood still for {seconds:.2f} s meanwhile")
+        print(f"asked again, since the machine stood still for {seconds:.2f} s")
 
 
 def serves_the_most():
-    """Whether a program asked to serve as many connections as it can be answers some clients, and waits for the next."""
+    """Returns whether a program asked to serve as many connections as it can be answers some clients, and waits for the
+    next."""
     number = free_port()
     words = [sys.argv[1], "--listen", number, "--connections", "65535", "--receive-only", "eth0"]
     with subprocess.Popen(words, stdin=subprocess.DEVNULL) as program:
@@ -89,7 +90,7 @@ def serves_the_most():
 
 
 def answers_soon():
-    """Whether few answers over a connection are late."""
+    """Returns whether few answers over a connection are late."""
     number = free_port()
     words = [sys.argv[1], "--listen", number, "--receive-only", *PORTS]
     with subprocess.Popen(words, stdin=subprocess.DEVNULL) as program:
@@ -101,14 +102,10 @@ def answers_soon():
 
 
 def main():
-    passed = 0
+    counts = Counts()
     for part in (answers_soon, serves_the_most):
-        holds = part()
-        passed += holds
-        if not holds:
-            print(f"FAILED: {part.__doc__}")
-    print(f"{passed} passed, {2 - passed} failed")
-    return 0 if passed == 2 else 1
+        counts.that(part.__doc__, part())
+    return counts.end()
 
 
 if __name__ == "__main__":

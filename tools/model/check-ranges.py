@@ -1,11 +1,11 @@
 #!/usr/bin/env python3
-"""Tries every value of every range on the built program, and one past each end, beside the model.
+"""Tries every value of every range on the built program and the model, and one past each end.
 
     tools/model/check-ranges.py PROGRAM
 
 Of the numbers of --listen and --connections, and of the seconds of `tick N`, which are too many to be tried one by one,
 it tries those near a power of two or of ten and those near the ends. It opens agents with a hostname of every length,
-and with every role, too: that no opening is refused for want of memory is not proved. The last line is
+and with every role, too: it is not proved that no opening is refused for lack of memory. The last line is
 `N passed, M failed`.
 """
 import sys
@@ -26,14 +26,14 @@ COMMANDS["max-neighbors"] = model.OPENING["max_neighbors"]
 
 
 def near_round_ones(greatest):
-    """The numbers near a power of two or of ten, and near the ends."""
+    """Returns the numbers near a power of two or of ten, and near the ends."""
     round_ones = [2 ** power for power in range(18)] + [10 ** power for power in range(6)] + [greatest]
     near = {one + step for one in round_ones for step in (-1, 0, 1)}
     return sorted(number for number in near if 0 <= number <= greatest + 1)
 
 
 def runs():
-    """The words and lines of each run."""
+    """Returns the words and lines of each run."""
     for option, greatest in model.OPENING.items():
         for number in range(greatest + 2):
             yield [model.option_word(option), str(number), "eth0"], SHOWS

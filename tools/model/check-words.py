@@ -1,11 +1,11 @@
 #!/usr/bin/env python3
-"""Gives the built program lines that are nearly right, beside the model: each word of each form of a line in turn one slip
+"""Gives the built program and the model lines that are nearly right: each word of each form of a line in turn one slip
 away, or another word of English or of lldpcli, a word more or less, and each octet before a line. Also roles and options
 that are nearly right, each of which the program must refuse.
 
     tools/model/check-words.py PROGRAM
 
-What the program takes and the model does not is an addition to its commands, or the other way round. A difference is
+What the program accepts and the model does not is an addition to its commands, or the other way round. A difference is
 made small and shown. The last line is `N passed, M failed`, counted by form.
 """
 import string
@@ -13,11 +13,10 @@ import subprocess
 import sys
 from concurrent.futures import ProcessPoolExecutor
 
-sys.dont_write_bytecode = True
-import compare  # noqa: E402
-import fuzz  # noqa: E402
-import near  # noqa: E402
-from counts import Counts  # noqa: E402
+import compare
+import fuzz
+import near
+from counts import Counts
 
 # besides the right lines one with octets whose upper case latin-1 does not have
 FORMS = [*near.LINES, ["configure", "system", "hostname", "\u00ff\u00b5"]]
@@ -30,7 +29,7 @@ SENDING = ["eth0"]
 
 
 def lines_of(form):
-    """All lines that are nearly one, and the line behind each mark."""
+    """Returns all lines that are nearly one, and the line behind each mark."""
     lines = [" ".join(words).encode("latin-1") for words in near.lines_near(form)]
     whole = " ".join(form).encode("latin-1")
     for mark in near.MARKS:
@@ -39,7 +38,7 @@ def lines_of(form):
 
 
 def fault_of(form):
-    """What differs of a form, or None."""
+    """Returns what differs for a form, or None."""
     for words in (WORDS, SENDING):
         lines = lines_of(form)
         if compare.difference(sys.argv[1], words, lines) is not None:
@@ -49,13 +48,13 @@ def fault_of(form):
 
 
 def roles():
-    """The arguments with a role that there is not."""
+    """Returns the arguments with a role that does not exist."""
     words = [*near.WORDS, *(other for role in ROLES for other in near.near(role)), ""]
     return [["--role", word, "eth0"] for word in dict.fromkeys(words) if word not in ROLES and not word.startswith("-")]
 
 
 def options():
-    """The arguments with an option that there is not, long or short."""
+    """Returns the arguments with an option that does not exist, long or short."""
     words = [*near.WORDS, *(other for option in OPTIONS for other in near.misspelled(option))]
     names = [word for word in dict.fromkeys(words) if word.partition("=")[0] not in OPTIONS and word]
     shorts = [f"-{letter}" for letter in string.ascii_letters + string.digits if letter not in SHORT]
@@ -64,7 +63,7 @@ def options():
 
 
 def is_taken(arguments):
-    """Whether the program runs with these arguments."""
+    """Returns whether the program runs with these arguments."""
     return subprocess.run([sys.argv[1], *arguments], stdin=subprocess.DEVNULL, capture_output=True).returncode != 2
 
 

@@ -1,6 +1,8 @@
-"""Runs lldpa on words and a trace, over standard input or over connections, and compares what it answers with what the
-model of tools/model/model.py, the table of wrong arguments in docs/TRACE.md and the judge of tools/model/judge.py
-say."""
+"""Runs lldpa on words and a trace, over standard input or over connections, and compares its answers with the model of
+tools/model/model.py, the table of wrong arguments in docs/TRACE.md and the judge of tools/model/judge.py."""
+import contextlib
+import itertools
+import os
 import pathlib
 import re
 import socket
@@ -12,12 +14,12 @@ sys.path.append(str(pathlib.Path(__file__).resolve().parents[1] / "gate"))
 import judge  # noqa: E402
 import model  # noqa: E402
 
-# stands for the number of a free port of this host, which differs from run to run
+# the number of a free port of this host, which differs from run to run
 FREE_PORT = "FREE"
 
 SECONDS = 60
 
-# how the program tells of wrong arguments, as docs/TRACE.md has it
+# how the program reports wrong arguments, by docs/TRACE.md
 WRONG_WORDS = (
     r"error: unexpected argument '(?P<word>.+)' found",
     r"error: invalid value '(?P<value>.*)' for '(?P<option>--[a-z-]+) <.*",
@@ -28,14 +30,17 @@ WRONG_WORDS = (
 
 
 def free_port():
-    """A number of a port of this host at which nobody listens now."""
-    with socket.socket() as one:
-        one.bind(("127.0.0.1", 0))
-        return str(one.getsockname()[1])
+    """Returns a port of this host at which nobody listens: one of this process's hundred, none of which the kernel gives
+    to a connection."""
+    first = 10000 + os.getpid() % 200 * 100
+    for number in itertools.cycle(range(first, first + 100)):
+        with socket.socket() as one, contextlib.suppress(OSError):
+            one.bind(("127.0.0.1", number))
+            return str(number)
 
 
 def connected(number, program):
-    """A connection to the program, or None where it ended before it listened."""
+    """Returns a connection to the program, or None if it ended before it listened."""
     end = time.monotonic() + SECONDS
     while time.monotonic() < end:
         try:
@@ -48,7 +53,7 @@ def connected(number, program):
 
 
 def asked(client, octets):
-    """Sends octets over a connection, and gives all that is answered."""
+    """Sends octets over a connection, and returns all that is answered."""
     answer = b""
     client.sendall(octets)
     client.shutdown(socket.SHUT_WR)
@@ -59,7 +64,7 @@ def asked(client, octets):
 
 
 def cut_at_lines(octets, count):
-    """The octets in so many pieces, each but the last ended by an LF or empty."""
+    """Returns the octets in so many pieces, each but the last ended by an LF or empty."""
     lines = re.findall(rb"[^\n]*\n|[^\n]+", octets)
     size = len(lines) // count
     pieces = [b"".join(lines[at * size:(at + 1) * size]) for at in range(count - 1)]
@@ -67,7 +72,7 @@ def cut_at_lines(octets, count):
 
 
 def number_of_connections(words):
-    """How many connections the words ask for. A word behind `--` is a port, whatever it looks like."""
+    """Returns how many connections the words ask for. A word behind `--` is a port, whatever it looks like."""
     try:
         given, _ = model.read_words(words)
     except model.NoRun:
@@ -76,7 +81,7 @@ def number_of_connections(words):
 
 
 def answer_over_connections(program, words, trace):
-    """What the program answers over connections, of which each brings a piece of the trace."""
+    """Returns what the program answers over connections, of which each brings a piece of the trace."""
     number = free_port()
     words = [word.replace(FREE_PORT, number) for word in words]
     ran = subprocess.Popen([program, *words], stdin=subprocess.DEVNULL, stdout=subprocess.PIPE, stderr=subprocess.PIPE)
@@ -97,7 +102,7 @@ def answer_over_connections(program, words, trace):
 
 
 def answer_of_program(program, words, trace):
-    """Status, output and standard error; a program that does not end has no status."""
+    """Returns status, output and standard error; a program that does not end has no status."""
     if any(FREE_PORT in word for word in words):
         return answer_over_connections(program, words, trace)
     try:
@@ -108,7 +113,8 @@ def answer_of_program(program, words, trace):
 
 
 def is_told(complaint, words):
-    """Whether what is said of wrong words has a form of the table in docs/TRACE.md, and names what is wrong."""
+    """Returns whether the message about wrong words has a form of the table in docs/TRACE.md, and names what is
+    wrong."""
     first = complaint.split("\n")[0]
     found = next(filter(None, (re.fullmatch(form, first) for form in WRONG_WORDS)), None)
     if found is None:
@@ -123,7 +129,7 @@ def is_told(complaint, words):
 
 
 def fault_of_refusal(status, output, complaint, words):
-    """What is wrong where the reader of words answers by itself, or None."""
+    """Returns what is wrong if the reader of words answers by itself, or None."""
     if status == 0:
         is_well = output and not complaint
     else:
@@ -132,7 +138,7 @@ def fault_of_refusal(status, output, complaint, words):
 
 
 def difference(program, words, lines):
-    """What program and model answer otherwise, or None."""
+    """Returns in what the answers of program and model differ, or None."""
     trace = b"\n".join(lines)
     status, output, complaint = answer_of_program(program, words, trace)
     wanted_status, wanted, wanted_complaint = model.run([word.replace(FREE_PORT, "1") for word in words], trace)
@@ -150,7 +156,7 @@ def difference(program, words, lines):
 
 
 def is_run(words):
-    """Whether the words open an agent over standard input."""
+    """Returns whether the words open an agent over standard input."""
     try:
         model.opened(words)
     except model.NoRun:
@@ -159,7 +165,7 @@ def is_run(words):
 
 
 def judged(program, words, lines):
-    """What the judge of the windows finds wrong, or None."""
+    """Returns what the judge of the windows finds wrong, or None."""
     if not is_run(words):
         return None
     return judge.judged(lambda words, trace: answer_of_program(program, words, trace)[1], words, lines)

@@ -1,28 +1,33 @@
 #!/usr/bin/env python3
 """Runs lldpa and the model of tools/model/model.py on the same random words and traces, and compares the answers. Some
-of the traces also go to the judge of tools/model/judge.py, which looks when frames went.
+of the traces also go to the judge of tools/model/judge.py, which checks when frames were sent.
 
     python3 tools/model/fuzz.py [--program FILE] [--seed N] [--seconds S] [--traces N] [--judge-one-in N]
 
 Each trace has a seed of its own: trace K of a run has the seed N + K, so `--seed SEED --traces 1` runs one
-alone. The first seed is printed first. At the first difference the trace is made small and printed with its seed.
+alone. The first seed is printed first. After the first difference the trace is made small and printed with its seed.
 Without --seconds and --traces it runs for half a minute. The last line is `1 passed, 0 failed` or `0 passed, 1 failed`.
 """
 import argparse
+import functools
 import pathlib
 import random
 import re
 import shlex
 import sys
 import time
+from concurrent.futures import ProcessPoolExecutor
 
-sys.dont_write_bytecode = True
+import model
+import near
+from compare import FREE_PORT, difference, judged
+from examples import words_and_filter
+
 TOP = pathlib.Path(__file__).resolve().parents[2]
-import model  # noqa: E402
-import near  # noqa: E402
-from compare import FREE_PORT, difference, judged  # noqa: E402
-from examples import words_and_filter  # noqa: E402
 
+
+# so many traces are handed to the processors at once
+AT_ONCE = 200
 
 # ------------------------------------------------------------------------------------------------ frames
 HEADER = bytes.fromhex("0180c200000e00112233445588cc")
@@ -34,28 +39,28 @@ class Dice(random.Random):
     """Random choices with names."""
 
     def happens(self, one_in):
-        """Whether something happens that happens once in so many times."""
+        """Returns whether something happens that happens once in so many times."""
         return self.randrange(one_in) == 0
 
     def octets(self, length):
-        """Octets, mostly printable ones, sometimes of any value."""
+        """Returns octets, mostly printable ones, sometimes of any value."""
         if self.happens(3):
             return self.randbytes(length)
         return bytes(self.choices(PRINTABLE, k=length))
 
     def weighted(self, weights):
-        """A key of the dictionary, as often as its weight says."""
+        """Returns a key of the dictionary, as often as its weight says."""
         return self.choices(list(weights), list(weights.values()))[0]
 
 
 def spelled(kind, body):
-    """A TLV. A body that is too long for it is cut."""
+    """Returns a TLV. A body that is too long for it is cut."""
     body = body[:511]
     return (kind << 9 | len(body)).to_bytes(2, "big") + body
 
 
 def identifier(dice):
-    """The body of a Chassis ID or Port ID: mostly one of a few, so that the same names come again."""
+    """Returns the body of a Chassis ID or Port ID: mostly one of a few, so that the same names come again."""
     if not dice.happens(8):
         return dice.choice([b"\4\0\1\2\3\4" + bytes([dice.randrange(3)]), b"\5p%d" % dice.randrange(4)])
     if dice.happens(2):
@@ -65,7 +70,7 @@ def identifier(dice):
 
 
 def management_address(dice):
-    """The body of a Management Address, most often a well-formed one."""
+    """Returns the body of a Management Address, most often a well-formed one."""
     family, length = dice.choice([(1, 4), (1, 4), (2, 16), (6, 6), (1, 5), (2, 4), (0, 31), (0, 32), (0, 0)])
     oid = dice.octets(dice.choice([0, 0, 0, 1, 7, 128, 129]))
     body = bytes([length + 1, family]) + dice.randbytes(length)
@@ -73,7 +78,7 @@ def management_address(dice):
 
 
 def optional_tlv(dice):
-    """A TLV as it stands behind the first three."""
+    """Returns a TLV as it may follow the first three."""
     kind = dice.weighted({4: 5, 5: 6, 6: 5, 7: 6, 8: 7, 9: 1, 50: 1, 126: 1, 127: 6, 0: 1, 1: 1, 2: 1, 3: 1})
     if dice.happens(6):
         return spelled(kind, dice.octets(dice.choice(LENGTHS)))
@@ -90,7 +95,7 @@ def optional_tlv(dice):
 
 
 def lldpdu(dice):
-    """An LLDPDU, most often a sound one."""
+    """Returns an LLDPDU, most often a sound one."""
     ttl = dice.choice([0, 1, 1, 2, 3, 5, 9, 20, 120, 65535, dice.randrange(65536)])
     time_to_live = ttl.to_bytes(2, "big") + dice.octets(dice.choice([0, 0, 0, 0, 0, 0, 1, 5]))
     parts = [spelled(1, identifier(dice)), spelled(2, identifier(dice)), spelled(3, time_to_live)]
@@ -105,7 +110,7 @@ def lldpdu(dice):
 
 
 def altered_octets(dice, octets):
-    """The octets with some of them changed, taken away or added."""
+    """Returns the octets with some of them changed, taken away or added."""
     place = dice.randrange(len(octets) + 1)
     change = dice.choice(["change", "change", "bit", "cut", "drop", "insert"])
     if change == "cut":
@@ -121,7 +126,7 @@ def altered_octets(dice, octets):
 
 
 def frame(dice):
-    """An Ethernet frame, most often an LLDP frame."""
+    """Returns an Ethernet frame, most often an LLDP frame."""
     octets = HEADER + lldpdu(dice)
     for _ in range(dice.choice([0, 0, 0, 0, 1, 2])):
         octets = altered_octets(dice, octets)
@@ -142,7 +147,7 @@ ODD_WORDS = (b"x tick rx up show lldp status neighbors eth9 0 TICK tick\r \xff c
 
 
 def ticks(dice, port_count):
-    """A tick line. Long waits are rare, and rarer with many ports, since each tick of a port takes time."""
+    """Returns a tick line. Long waits are rare, and rarer with many ports, since each tick of a port takes time."""
     if port_count > 9:
         return b"tick"
     if dice.happens(20000 * port_count):
@@ -153,7 +158,7 @@ def ticks(dice, port_count):
 
 
 def good_line(dice, ports):
-    """A line that is most often accepted."""
+    """Returns a line that is most often accepted."""
     form = dice.weighted({"rx": 30, "tick": 25, "show": 8, "update": 6, "status": 8, "link": 6, "number": 5,
                           "text": 3, "limit": 4})
     port = dice.choice(ports) if ports else b"eth0"
@@ -182,7 +187,7 @@ def good_line(dice, ports):
 
 
 def restart(dice, port):
-    """Lines that stop a port, or take its link, and let it start again, with changes before and behind."""
+    """Returns lines that stop a port, or take its link, and let it start again, with changes before and behind."""
     updates = [b"update"] * dice.randrange(7)
     if dice.happens(2):
         away, back = b"down " + port, b"up " + port
@@ -194,7 +199,7 @@ def restart(dice, port):
 
 
 def altered_line(dice, line):
-    """A line with something wrong in it, or unusual."""
+    """Returns a line with something wrong in it, or unusual."""
     words = line.split(b" ")
     place = dice.randrange(len(words))
     change = dice.weighted({"near": 12, "word": 5, "number": 4, "drop": 4, "add": 4, "quote": 4, "mark": 4, "space": 3,
@@ -232,7 +237,7 @@ def altered_line(dice, line):
 
 
 def line_of(dice, ports):
-    """A line of a trace."""
+    """Returns a line of a trace."""
     if dice.happens(40):
         return dice.choice([b"", b" ", b"\t \t", b"# a b", b"  #\"", b"\r", dice.octets(dice.randrange(30))])
     line = good_line(dice, ports)
@@ -240,7 +245,7 @@ def line_of(dice, ports):
 
 
 def near_line(dice):
-    """A line that is nearly right, of any form as often as of another."""
+    """Returns a line that is nearly right, of any form as often as of another."""
     words = list(dice.choice(near.LINES))
     if dice.happens(20):
         return dice.choice(near.MARKS) + " ".join(words).encode()
@@ -256,7 +261,7 @@ ODD_VALUES = ["", "-", "0", "00:11", "00:11:22:33:44:5g", "1.2.3", "1.2.3.04", "
 
 
 def ports_of(dice):
-    """The ports that a program is started with, most often one or two good ones."""
+    """Returns the ports that a program is started with, most often one or two good ones."""
     count = dice.choice([1, 1, 1, 1, 1, 2, 2, 2, 3, 4])
     if dice.happens(150):
         count = dice.choice([0, 63, 64, 65])
@@ -264,7 +269,7 @@ def ports_of(dice):
 
 
 def words_of(dice):
-    """Options and ports. Most are good; the traces are not worth their time where they are not."""
+    """Returns options and ports. Most are good: with bad ones a trace is not worth its time."""
     ports = ports_of(dice)
     options = []
     for name, most in model.OPENING.items():
@@ -294,7 +299,7 @@ def words_of(dice):
 
 
 def altered_words(dice, options, ports):
-    """The same with something wrong in it, or unusual."""
+    """Returns the same with something wrong in it, or unusual."""
     change = dice.choice(["value", "value", "twice", "port", "port", "same", "unknown", "help"])
     if change == "value":
         name = dice.choice(sorted(model.VALUED)).replace("_", "-")
@@ -312,18 +317,21 @@ def altered_words(dice, options, ports):
     return options + [(dice.choice(["--help", "-V", "--version", "-h", "--", "-x", "--mac"]),)], ports
 
 
+@functools.cache
 def examples():
-    """The words and traces that the pages show, and the transcripts."""
+    """Returns the words and traces that the pages show, and the transcripts."""
+    found = []
     pages = "".join(path.read_text() for path in sorted((TOP / "docs").glob("*.md")))
     command = r"\$ (?:lldpa ([^\n|]*?) *(?:2>&1)?|\(lldpa ([^\n|]*?) *\|[^\n]*\)) *<<'EOF'"
     for shown in re.finditer(rf"^{command}\n(.*?)^EOF$", pages, re.M | re.S):
-        yield shlex.split(shown[1] or shown[2]), shown[3].encode().split(b"\n")
+        found.append((shlex.split(shown[1] or shown[2]), shown[3].encode().split(b"\n")))
     for args in sorted((TOP / "examples").glob("*.args")):
-        yield words_and_filter(args.read_text())[0], args.with_suffix(".trace").read_bytes().split(b"\n")
+        found.append((words_and_filter(args.read_text())[0], args.with_suffix(".trace").read_bytes().split(b"\n")))
+    return found
 
 
 def altered_example(dice, words, lines):
-    """An example with some lines altered, dropped, repeated or added."""
+    """Returns an example with some lines altered, dropped, repeated or added."""
     words, lines = list(words), list(lines)
     for _ in range(dice.randrange(1, 12)):
         place = dice.randrange(len(lines) + 1)
@@ -340,7 +348,7 @@ def altered_example(dice, words, lines):
 
 
 def new_trace(dice):
-    """Words and lines of all kinds, and shows at the end."""
+    """Returns words and lines of all kinds, and shows at the end."""
     words = words_of(dice)
     ports = [word.encode() for word in words if re.fullmatch("[0-9A-Za-z_/:-]*[0-9]", word)]
     length = dice.choice([10, 20, 30, 40, 50, 60, 150]) if len(ports) < 9 else 10
@@ -352,17 +360,17 @@ def new_trace(dice):
 
 
 def near_trace(dice):
-    """Lines that are nearly right, one after the other."""
+    """Returns lines that are nearly right, one after another."""
     return [*dice.choice([[], ["--receive-only"]]), "eth0"], [near_line(dice) for _ in range(dice.choice([20, 200]))]
 
 
-def case(seed, known):
-    """The words and the lines of a trace; joined by LF the lines are the input."""
+def case(seed):
+    """Returns the words and the lines of a trace; joined by LF the lines are the input."""
     dice = Dice(seed)
     if dice.happens(10):
         words, lines = near_trace(dice)
-    elif known and dice.happens(8):
-        words, lines = altered_example(dice, *dice.choice(known))
+    elif dice.happens(8):
+        words, lines = altered_example(dice, *dice.choice(examples()))
     else:
         words, lines = new_trace(dice)
     return words, lines + [b""] * dice.happens(4)
@@ -370,7 +378,7 @@ def case(seed, known):
 
 # ------------------------------------------------------------------------------------------- making small
 def without_runs(items, differs):
-    """The items without the runs that a difference does not need, longest runs first."""
+    """Returns the items without the runs that a difference does not need, longest runs first."""
     size = len(items)
     while size:
         at = 0
@@ -385,7 +393,7 @@ def without_runs(items, differs):
 
 
 def shorter_line(line, differs):
-    """The line without the words, the pairs of octets and the octets that a difference does not need."""
+    """Returns the line without the words, the pairs of octets and the octets that a difference does not need."""
     line = b" ".join(without_runs(line.split(b" "), lambda words: differs(b" ".join(words))))
     for size in (2, 1):
         parts = [line[at:at + size] for at in range(0, len(line), size)]
@@ -394,7 +402,7 @@ def shorter_line(line, differs):
 
 
 def made_small(find, program, words, lines):
-    """Words and lines that still differ, and need all that they have, as far as two minutes reach."""
+    """Returns words and lines that still differ, and need all that they have, as far as two minutes reach."""
     end = time.monotonic() + 120
 
     def differs(words, lines):
@@ -413,7 +421,7 @@ def made_small(find, program, words, lines):
 
 
 def as_command(program, words, lines):
-    """A line for the shell that shows the difference again."""
+    """Returns a line for the shell that shows the difference again."""
     octets = b"\n".join(lines)
     text = re.sub(rb"[^ -&(-\[\]-~]", lambda octet: b"\\0%03o" % octet[0][0], octets).decode()
     text = text.replace("\\0012", "\\n")
@@ -422,7 +430,7 @@ def as_command(program, words, lines):
 
 # -------------------------------------------------------------------------------------------------- main
 def options():
-    """The options of the command line."""
+    """Reads the options of the command line."""
     parser = argparse.ArgumentParser(description=__doc__.splitlines()[0])
     parser.add_argument("--program", type=pathlib.Path, default=TOP / "crates" / "lldpa" / "out" / "lldpa")
     parser.add_argument("--seed", type=int, default=random.randrange(10 ** 9))
@@ -433,35 +441,37 @@ def options():
 
 
 def main():
-    """Runs the traces."""
+    """Runs the traces, on all processors."""
     given = options()
     seconds = given.seconds or (30 if given.traces is None else float("inf"))
     print(f"seeds from {given.seed}", flush=True)
-    known, begin, ran = list(examples()), time.monotonic(), 0
-    while time.monotonic() - begin < seconds and (given.traces is None or ran < given.traces):
-        seed = given.seed + ran
-        finders = [difference] + [judged] * (seed % given.judge_one_in == 0)
-        if any(is_found(find, given.program, seed, known) for find in finders):
-            print("FAILED: the program and the model differ\n0 passed, 1 failed")
-            return 1
-        ran += 1
-        if ran % 10000 == 0:
-            print(f"{ran} traces agree so far", flush=True)
+    begin, ran, most = time.monotonic(), 0, given.traces or sys.maxsize
+    with ProcessPoolExecutor(initializer=sys.setrecursionlimit, initargs=(100000,)) as pool:
+        while time.monotonic() - begin < seconds and ran < most:
+            seeds = range(given.seed + ran, given.seed + min(ran + AT_ONCE, most))
+            for seed, finder in zip(seeds, pool.map(functools.partial(finder_of, given), seeds, chunksize=5)):
+                if finder is not None:
+                    show(finder, given.program, seed)
+                    return 1
+            ran += len(seeds)
     print(f"{ran} traces agree, {time.monotonic() - begin:.0f} seconds\n1 passed, 0 failed")
     return 0
 
 
-def is_found(find, program, seed, known):
-    """Whether something is found wrong with the trace of a seed; it is then made small and told."""
-    words, lines = case(seed, known)
-    what = find(program, words, lines)
-    if what is None:
-        return False
-    print(f"seed {seed} differs: {what[:1000]}", flush=True)
+def finder_of(given, seed):
+    """Returns what finds something wrong with the trace of a seed, or None."""
+    words, lines = case(seed)
+    finders = [difference] + [judged] * (seed % given.judge_one_in == 0)
+    return next((find for find in finders if find(given.program, words, lines) is not None), None)
+
+
+def show(find, program, seed):
+    """Makes the trace of a seed small, and prints what is wrong with it."""
+    words, lines = case(seed)
+    print(f"seed {seed} differs: {find(program, words, lines)[:1000]}", flush=True)
     words, lines = made_small(find, program, words, lines)
-    print(f"made small: {find(program, words, lines)}")
-    print(as_command(program, words, lines))
-    return True
+    print(f"made small: {find(program, words, lines)}\n{as_command(program, words, lines)}")
+    print("FAILED: the program and the model differ\n0 passed, 1 failed")
 
 
 if __name__ == "__main__":

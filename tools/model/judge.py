@@ -1,17 +1,13 @@
-#!/usr/bin/env python3
 """A second judge of when ports send, beside tools/model/model.py, with which it shares no state.
 
-It is handed words, a trace and the frames that the program sent at each event, and asks of each event, by whole lists
-alone, what the definitions of lldp_transmit and lldp_engine say: whether a port stops there, whether a frame is due there, and whether no run of
-events that ends there would hold more frames than the greatest credit and one for each second after its first event.
-A frame has to go exactly where both hold, so none goes late. There is no timer, no credit and no table here: each
-question goes back over the events.
-
-    python3 tools/model/judge.py PROGRAM WORDS.. < TRACE
+It takes words, a trace and the frames that the program sent at each event. For each event it computes, only from whole
+lists, what the definitions of lldp_transmit and lldp_engine say: whether a port stops there, whether a frame is due
+there, and whether no run of events that ends there would hold more frames than the greatest credit plus one for each
+second after its first event. A frame has to be sent exactly if both hold, so none is late. There is no timer, no credit
+and no table here: each question goes back over the events.
 """
 import functools
 import re
-import sys
 from typing import NamedTuple, Optional
 
 import model
@@ -20,22 +16,22 @@ import model
 MARK = b"#" * 4097
 MARK_ANSWER = b"error: line too long"
 
-# so many seconds are judged at most, since each question goes over all events
+# at most so many seconds are judged, since each question goes over all events
 MOST_TICKS = 300
 
-# what is no local change; every other event is a setting, and one
+# what is not a local change; every other event is a setting, and one
 NO_CHANGES = ("tick", "frame", "link", "status")
 
 
 class Event(NamedTuple):
-    """An event: its kind, the port that it is for (None where it is for all), and what it brings."""
+    """An event: its kind, the port that it is for (None if it is for all), and what it brings."""
     kind: str
     port: Optional[str] = None
     value: object = None
 
 
 def events_of_line(line):
-    """The events of a line that was accepted: as many seconds as it tells, one other event, or none (a show)."""
+    """Returns the events of a line that was accepted: so many seconds, one other event, or none (a show)."""
     words = model.Words(line.decode("latin-1")).left
     if words[0] == "tick":
         return [Event("tick")] * int(words[1] if words[1:] else 1)
@@ -51,8 +47,8 @@ def events_of_line(line):
 
 
 def single_seconds(lines):
-    """The lines with each line of several seconds as so many lines of one. None where they cannot be judged: they are
-    too many, one is as long as a mark, or a word that tells seconds is quoted."""
+    """Returns the lines with each line of several seconds as so many lines of one. Returns None if they cannot be
+    judged: they are too many, one is as long as a mark, or a word that gives seconds is quoted."""
     single, ticks = [], 0
     for line in lines:
         words = re.split(rb"[ \t]+", line.strip(b" \t"))
@@ -66,7 +62,7 @@ def single_seconds(lines):
 
 
 def answers(output):
-    """The lines that stand before each mark's answer."""
+    """Returns the lines before each mark's answer."""
     found, held = [], []
     for line in output.split(b"\n"):
         if line == MARK_ANSWER:
@@ -79,7 +75,7 @@ def answers(output):
 
 class Port:
     """What the definitions say of one port at each position of the list of its events. `sent` are the positions at
-    which an ordinary frame went."""
+    which an ordinary frame was sent."""
 
     def __init__(self, name, options, events, sent):
         self.name = name
@@ -95,11 +91,11 @@ class Port:
             setattr(self, question, functools.lru_cache(None)(getattr(self, question)))
 
     def ticks(self, i, k):
-        """How many seconds there are at positions i to k."""
+        """Returns how many seconds there are at positions i to k."""
         return self.ticks_to[k + 1] - self.ticks_to[i] if i <= k else 0
 
     def last(self, kind, k, other):
-        """What the last event of this kind at or before k brought, or the other where there is none."""
+        """Returns what the last event of this kind at or before k brought, or the other if there is none."""
         found = (e.value for e in reversed(self.events[:k + 1]) if e.kind == kind and e.port in (None, self.name))
         return next(found, other)
 
@@ -117,7 +113,7 @@ class Port:
 
     # ---- receiving
     def learned(self, k):
-        """The sound LLDPDU that is heard at k, or None."""
+        """Returns the sound LLDPDU that is heard at k, or None."""
         event = self.events[k]
         is_heard = event.kind == "frame" and event.port == self.name and self.hears(k - 1) and self.up(k - 1)
         octets = event.value if is_heard else b""
@@ -132,7 +128,7 @@ class Port:
         return self.hears(k - 1) and not self.hears(k)
 
     def stored(self, k):
-        """Whether an LLDPDU is stored at k: its neighbor is live, or there is room for one more."""
+        """Returns whether an LLDPDU is stored at k: its neighbor is live, or there is room for one more."""
         heard = self.learned(k)
         if heard is None or heard.ttl == 0:
             return False
@@ -142,7 +138,8 @@ class Port:
         return heard.name in live or len(live) < limit
 
     def live(self, name, k):
-        """Whether the last event up to k that says something of this neighbor stored it, and has not run out."""
+        """Returns whether the last event up to k that says something of this neighbor stored it, and has not run
+        out."""
         for p in range(k, -1, -1):
             heard = self.learned(p)
             if self.purges(p) or heard is not None and heard.name == name and heard.ttl == 0:
@@ -165,7 +162,7 @@ class Port:
                 and is_free)
 
     def active(self, k):
-        """Whether a start came, and since then neither a stop nor a link that went."""
+        """Returns whether a start came, and since then neither a stop nor a link that went down."""
         for p in range(k, -1, -1):
             if self.stops(p) or not self.up(p):
                 return False
@@ -177,7 +174,7 @@ class Port:
         return next(p for p in range(k, -1, -1) if self.starts(p))
 
     def signal(self, k):
-        """Why a frame is wanted at k: "start", "change", "new", "timer", or None."""
+        """Returns why a frame is wanted at k: "start", "change", "new", "timer", or None."""
         if not self.active(k):
             return None
         if self.starts(k):
@@ -191,7 +188,7 @@ class Port:
         return "timer" if ends else None
 
     def left(self, k):
-        """How many signals of a burst are left after k."""
+        """Returns how many signals of a burst are left after k."""
         if k < 0 or not self.active(k):
             return 0
         start = self.last_start(k)
@@ -206,33 +203,33 @@ class Port:
         return 1 if self.left(s) > 0 else int(self.last("tx-interval", s, 30))
 
     def is_due(self, k):
-        """Whether a signal since the start has had no frame yet."""
+        """Returns whether a signal since the start has had no frame yet."""
         if not self.active(k):
             return False
         return any(self.signal(s) and self.sent_to[k] == self.sent_to[s] for s in range(self.last_start(k), k + 1))
 
     def is_open(self, k):
-        """Whether no run of events that ends at k would hold too many frames with one more there."""
+        """Returns whether no run of events that ends at k would hold too many frames with one more there."""
         most = self.options.tx_credit_max
         return all(self.sent_to[k] - self.sent_to[i] + 1 <= most + self.ticks(i + 1, k) for i in range(k + 1))
 
     def fault(self, k, shut_down):
-        """What is wrong with what went at k, or None."""
+        """Returns what is wrong with what was sent at k, or None."""
         if shut_down != self.stops(k):
-            return "a shutdown frame goes where the port does not stop, or lacks where it does"
+            return "a shutdown frame is sent though the port does not stop, or is missing though it does"
         if (k in self.sent) != (self.is_due(k) and self.is_open(k)):
             return f"due: {self.is_due(k)}, open: {self.is_open(k)}, sent: {k in self.sent}"
         return None
 
 
 def is_shutdown(frame):
-    """Whether a frame that the agent sent says that it leaves: its third TLV is a TTL of 0."""
+    """Returns whether a frame of the agent says that it leaves: its third TLV is a TTL of 0."""
     tlvs, _ = model.cut(frame[14:])
     return tlvs[2].body == b"\0\0"
 
 
 def fault_of(words, lines, said):
-    """What is wrong with what was said to each of these lines, or None. No line tells more than one second."""
+    """Returns what is wrong with the answers to these lines, or None. No line has more than one second."""
     given, names = model.read_words(words)
     options = model.SimpleNamespace(**{**model.DEFAULTS, **given})
     events, ordinary, shutdowns = [], {name: set() for name in names}, {name: set() for name in names}
@@ -241,7 +238,7 @@ def fault_of(words, lines, said):
         found = events_of_line(line) if is_event else []
         for frame in (w.split(b" ") for w in written if w.startswith(b"tx ")):
             if not found:
-                return f"a frame goes at {line[:60]!r}, which is no event"
+                return f"a frame goes at {line[:60]!r}, which is not an event"
             kind = shutdowns if is_shutdown(bytes.fromhex(frame[2].decode())) else ordinary
             kind[frame[1].decode()].add(len(events))
         events += found
@@ -255,7 +252,8 @@ def fault_of(words, lines, said):
 
 
 def judged(run, words, lines):
-    """What is wrong with what a program does with words and lines, or None. `run` gives its output of an input."""
+    """Returns what is wrong with what a program does with words and lines, or None. `run` returns its output for an
+    input."""
     single = single_seconds(lines)
     if single is None:
         return None
@@ -263,19 +261,3 @@ def judged(run, words, lines):
     if len(said) != len(single):
         return f"{len(said)} answers to {len(single)} lines"
     return fault_of(words, single, said)
-
-
-def main():
-    import subprocess
-
-    def run(words, trace):
-        return subprocess.run([sys.argv[1], *words], input=trace, capture_output=True, check=True).stdout
-
-    sys.setrecursionlimit(100000)
-    fault = judged(run, sys.argv[2:], sys.stdin.buffer.read().split(b"\n"))
-    print(fault or "each frame goes where it is due and the window is open, and nowhere else")
-    return 1 if fault else 0
-
-
-if __name__ == "__main__":
-    sys.exit(main())

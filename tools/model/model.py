@@ -5,8 +5,8 @@
 
 takes the words of lldpa and a trace, and writes what lldpa must write, over connections as over standard output. It was
 written from the text of IEEE 802.1AB-2009 (clauses 8 and 9) and docs/TRACE.md, and shares no code with lldpa.
-tools/model/fuzz.py compares the two. Where lldpa's reader of words answers by itself (a bad option, --help), the
-model knows the status and not the text.
+tools/model/fuzz.py compares the two. If lldpa's reader of words answers by itself (a bad option, --help), the model
+knows the status and not the text.
 
 Time is a clock that counts ticks since opening; what lasts some ticks is kept as the time at which it ends.
 """
@@ -27,15 +27,15 @@ class Tlv(NamedTuple):
     body: bytes
 
 def spelled(kind, body):
-    """A TLV: seven bits of type, nine bits of length, the body."""
+    """Returns a TLV: seven bits of type, nine bits of length, the body."""
     return (kind << 9 | len(body)).to_bytes(2, "big") + body
 
 def number(octets):
-    """An unsigned number, most significant octet first."""
+    """Returns an unsigned number, most significant octet first."""
     return int.from_bytes(octets, "big")
 
 def cut(octets):
-    """The complete TLVs from the front, and the rest, which begins no complete TLV."""
+    """Returns the complete TLVs from the front, and the rest, which does not begin with a complete TLV."""
     tlvs, at = [], 0
     while at + 2 <= len(octets):
         header = number(octets[at:at + 2])
@@ -47,8 +47,8 @@ def cut(octets):
     return tlvs, octets[at:]
 
 def management_fields(body):
-    """Family, address, interface numbering, interface number and OID of a Management Address whose length is
-    exactly what the two lengths in it say, else None."""
+    """Returns family, address, interface numbering, interface number and OID of a Management Address whose length is
+    exactly what the two lengths in it say, or else None."""
     if not body or not 2 <= body[0] <= 32 or len(body) < body[0] + 7:
         return None
     address, behind = body[1:1 + body[0]], body[1 + body[0]:]
@@ -57,7 +57,7 @@ def management_fields(body):
     return (address[0], address[1:], numbering, interface, oid) if is_exact else None
 
 def is_well_formed(tlv):
-    """Whether an optional TLV has a body as its type wants it."""
+    """Returns whether an optional TLV has a body as its type wants it."""
     length = len(tlv.body)
     if tlv.kind in (PORT_DESCRIPTION, SYSTEM_NAME, SYSTEM_DESCRIPTION):
         return length <= 255
@@ -70,18 +70,21 @@ def is_well_formed(tlv):
 MANDATORY = ((CHASSIS_ID, 256), (PORT_ID, 256), (TIME_TO_LIVE, 511))
 
 class UnsoundLldpdu(Exception):
-    """An LLDPDU that is refused."""
+    """An LLDPDU that is refused, by the number of the first check that it fails."""
 
 class Lldpdu:
-    """What a sound LLDPDU tells: its MSAP identifier as `name`, its `ttl`, and where that is above 0 its
-    `extent`, the TLVs `kept` of it, how many of these are `unrecognized`, and how many are `discarded`."""
+    """What a sound LLDPDU says: its MSAP identifier as `name`, its `ttl`, and if that is above 0 its `extent`, the TLVs
+    `kept` of it, how many of these are `unrecognized`, and how many are `discarded`."""
 
     def __init__(self, octets):
         tlvs, rest = cut(octets)
-        are_there = len(tlvs) >= 3 and all(
-            tlv.kind == kind and 2 <= len(tlv.body) <= most for tlv, (kind, most) in zip(tlvs, MANDATORY))
-        if not are_there:
-            raise UnsoundLldpdu
+        for at, (kind, most) in enumerate(MANDATORY):
+            if at == len(tlvs):
+                raise UnsoundLldpdu(1)
+            if tlvs[at].kind != kind:
+                raise UnsoundLldpdu(2 * at + 2)
+            if not 2 <= len(tlvs[at].body) <= most:
+                raise UnsoundLldpdu(2 * at + 3)
         self.name = (tlvs[0].body, tlvs[1].body)
         self.ttl = number(tlvs[2].body[:2])
         if self.ttl == 0:
@@ -92,7 +95,7 @@ class Lldpdu:
         self.kept = []
         for tlv in inside[3:]:
             if tlv.kind in (CHASSIS_ID, PORT_ID, TIME_TO_LIVE):
-                raise UnsoundLldpdu
+                raise UnsoundLldpdu(8)
             is_second = tlv.kind <= CAPABILITIES and tlv.kind in [earlier.kind for earlier in self.kept]
             if is_well_formed(tlv) and not is_second:
                 self.kept.append(tlv)
@@ -110,7 +113,7 @@ class Table:
         self.too_many_until = 0
 
     def learn(self, lldpdu, limit, now):
-        """Stores an LLDPDU, or drops it for want of room; answers "new", "refreshed" or "dropped"."""
+        """Stores an LLDPDU, or drops it for lack of room; returns "new", "refreshed" or "dropped"."""
         expires_at = now + lldpdu.ttl
         is_held = lldpdu.name in self.held
         if not is_held and len(self.held) >= limit:
@@ -120,7 +123,7 @@ class Table:
         return "refreshed" if is_held else "new"
 
     def age(self, now):
-        """Removes the neighbors whose time has come, and answers how many."""
+        """Removes the neighbors whose time has come, and returns how many."""
         gone = [name for name, (_, expires_at) in self.held.items() if expires_at <= now]
         for name in gone:
             del self.held[name]
@@ -128,7 +131,7 @@ class Table:
 
 # ------------------------------------------------------------------------------ when a port sends (clause 9)
 class Transmitter:
-    """When a port sends. An event that can make it send answers "ordinary", "shutdown" or None."""
+    """When a port sends. An event that can make it send returns "ordinary", "shutdown" or None."""
 
     def __init__(self, agent):
         self.agent = agent
@@ -137,7 +140,7 @@ class Transmitter:
         self.may_start_at = self.timer_ends_at = self.signals_left = 0
 
     def tick(self, may_send):
-        """One second: first its credit, then a start or the end of the timer."""
+        """Takes a second: first its credit, then a start or the end of the timer."""
         self.credit = min(self.agent.options.tx_credit_max, self.credit + 1)
         if self.is_active and self.agent.now == self.timer_ends_at:
             self.signals_left = max(0, self.signals_left - 1)
@@ -149,25 +152,25 @@ class Transmitter:
         return self.frame_if_due()
 
     def local_change(self):
-        """Something was set: what the frames say, or how often they go."""
+        """Takes a local change: what the frames say was set, or how often they are sent."""
         if self.is_active:
             self.signal()
         return self.frame_if_due()
 
     def new_neighbor(self):
-        """A neighbor came that was not held: it opens a burst if none is open, and takes a signal of it."""
+        """Takes a neighbor that was not held: it opens a burst if none is open, and takes a signal of it."""
         if self.is_active:
             self.signals_left = (self.signals_left or self.agent.options.tx_fast_init) - 1
             self.signal()
         return self.frame_if_due()
 
     def signal(self):
-        """Wants a frame, and sets the timer to the next signal: one second in a burst, else the interval."""
+        """Requests a frame, and sets the timer to the next signal: one second in a burst, else the interval."""
         self.is_frame_wanted = True
         self.timer_ends_at = self.agent.now + (1 if self.signals_left else self.agent.tx_interval)
 
     def frame_if_due(self):
-        """A wanted frame goes as soon as there is credit for it."""
+        """Returns a requested frame as soon as there is credit for it."""
         if not self.is_frame_wanted or self.credit == 0:
             return None
         self.is_frame_wanted = False
@@ -175,7 +178,7 @@ class Transmitter:
         return "ordinary"
 
     def stop(self):
-        """The right to transmit is gone: an active port says so, and waits before it starts again."""
+        """Takes the right to transmit away: an active port says so, and waits before it starts again."""
         if not self.is_active:
             return None
         self.fall_silent()
@@ -183,7 +186,7 @@ class Transmitter:
         return "shutdown"
 
     def fall_silent(self):
-        """The port is no longer active, and wants no more what it wanted."""
+        """Makes the port inactive, and drops its requests."""
         self.is_active = self.is_frame_wanted = False
 
 # ---------------------------------------------------------------------------------------------------- a port
@@ -193,7 +196,7 @@ COUNTERS = ("sent", "shutdowns", "received", "discarded", "errors", "tlvs-discar
             "ageouts", "drops")
 
 class Port:
-    """A port: status and link, neighbors, transmitter, counters. Events answer as the transmitter's do."""
+    """A port: status and link, neighbors, transmitter, counters. Events return what the transmitter's do."""
 
     def __init__(self, name, agent):
         self.name = name
@@ -205,12 +208,12 @@ class Port:
         self.counters = dict.fromkeys(COUNTERS, 0)
 
     def tick(self):
-        """One second passes."""
+        """Takes a second."""
         self.counters["ageouts"] += self.table.age(self.agent.now)
         return self.transmitter.tick(self.status in TRANSMITTING and self.is_up)
 
     def hear(self, frame):
-        """A frame comes in; one that is no LLDP frame, or that comes to a deaf port, changes nothing."""
+        """Takes a frame; one that is not an LLDP frame, or that comes to a deaf port, changes nothing."""
         is_lldp = frame[:6] == NEAREST_BRIDGE and frame[12:14] == ETHERTYPE and len(frame) <= 1514
         if not is_lldp or self.status not in RECEIVING or not self.is_up:
             return None
@@ -232,13 +235,13 @@ class Port:
         return self.transmitter.new_neighbor() if learned == "new" else None
 
     def link(self, is_up):
-        """The link comes or goes."""
+        """Takes a link that comes up or goes down."""
         self.is_up = is_up
         if not is_up:
             self.transmitter.fall_silent()
 
     def set_status(self, status):
-        """A status command; one that takes receiving away empties the table."""
+        """Takes a status command; one that takes receiving away empties the table."""
         if self.status in RECEIVING and status not in RECEIVING:
             self.table = Table()
         self.status = status
@@ -252,15 +255,15 @@ DEFAULTS = {"mac": "02:00:00:00:00:01", "hostname": "localhost", "management": "
             "max_neighbors": 32, "tx_credit_max": 5, "tx_fast_init": 4, "reinit_delay": 2}
 
 class Range(NamedTuple):
-    """A number that `configure lldp` sets: from 1 to this, and what it is at the start."""
+    """A number that `configure lldp` sets: from 1 to this, and its value at the start."""
     greatest: int
     at_start: int
 
-# all of them but the limit, which begins with what an option says and goes no higher
+# all of them but the limit, which begins with the value of an option and cannot be higher
 SETTINGS = {"tx-interval": Range(3600, 30), "tx-hold": Range(100, 4)}
 
 def attribute(name):
-    """What the agent has a number under."""
+    """Returns the name of the agent's attribute for a number."""
     return name.replace("-", "_")
 
 class Agent:
@@ -277,19 +280,19 @@ class Agent:
         self.ports = [Port(name, self) for name in names]
 
     def ttl(self):
-        """The TTL of an ordinary frame."""
+        """Returns the TTL of an ordinary frame."""
         return min(65535, self.tx_interval * self.tx_hold + 1)
 
     def capabilities(self):
-        """The body of System Capabilities: the role is available, and enabled."""
+        """Returns the body of System Capabilities: the role is available, and enabled."""
         return 2 * ROLES[self.options.role].to_bytes(2, "big")
 
     def management(self):
-        """The body of the Management Address: an IPv4 one, with no interface and no OID."""
+        """Returns the body of the Management Address: an IPv4 one, with no interface and no OID."""
         return b"\5\1" + bytes(map(int, self.options.management.split("."))) + b"\1\0\0\0\0\0"
 
     def frame(self, port, kind):
-        """The frame that a port sends, "ordinary" or "shutdown"."""
+        """Returns the frame that a port sends, "ordinary" or "shutdown"."""
         name, ttl = port.name.encode(), self.ttl() if kind == "ordinary" else 0
         octets = NEAREST_BRIDGE + self.mac + ETHERTYPE + spelled(CHASSIS_ID, b"\4" + self.mac)
         octets += spelled(PORT_ID, b"\5" + name) + spelled(TIME_TO_LIVE, ttl.to_bytes(2, "big"))
@@ -302,7 +305,7 @@ class Agent:
         return octets + spelled(END, b"")
 
     def meet(self, ports, event):
-        """Has ports meet an event, in their order, and gives the lines of the frames that they send."""
+        """Gives ports an event, in their order, and returns the lines of the frames that they send."""
         lines = []
         for port in ports:
             kind = event(port)
@@ -312,12 +315,12 @@ class Agent:
         return lines
 
     def tick(self):
-        """One second passes for all."""
+        """Takes a second for all."""
         self.now += 1
         return self.meet(self.ports, Port.tick)
 
     def local_change(self):
-        """A command was accepted that each active port answers with a frame."""
+        """Takes an accepted command that each active port answers with a frame."""
         return self.meet(self.ports, lambda port: port.transmitter.local_change())
 
 # ------------------------------------------------------------------------------------- values of shown lines
@@ -329,18 +332,18 @@ CAPABILITY_NAMES = ("Other Repeater Bridge Wlan Router Tel Docsis Station Cvlan 
                     "bit11 bit12 bit13 bit14 bit15").split()
 
 def escaped(octets):
-    """Printable octets as they stand, a backslash twice, all others as two digits."""
+    """Returns printable octets unchanged, a backslash twice, all others as two digits."""
     return "".join("\\\\" if octet == 0x5c else chr(octet) if 0x20 <= octet <= 0x7e else f"\\x{octet:02x}"
                    for octet in octets)
 
 def shown_ip(family, octets):
-    """An IPv4 or IPv6 address, or None where the octets are neither."""
+    """Returns an IPv4 or IPv6 address, or None if the octets are neither."""
     if family == 1 and len(octets) == 4:
         return ".".join(str(octet) for octet in octets)
     return octets.hex(":", 2) if family == 2 and len(octets) == 16 else None
 
 def shown_identifier(body, keys):
-    """KEY=VALUE of a Chassis ID or Port ID."""
+    """Returns KEY=VALUE of a Chassis ID or Port ID."""
     key, value = keys.get(body[0]), body[1:]
     if key == "mac":
         shown = value.hex(":") if len(value) == 6 else None
@@ -351,19 +354,19 @@ def shown_identifier(body, keys):
     return f"unhandled={body.hex()}" if shown is None else f"{key}={shown}"
 
 def shown_capabilities(body):
-    """The available capabilities, each with whether it is enabled."""
+    """Returns the available capabilities, each with whether it is enabled."""
     available, enabled = number(body[:2]), number(body[2:])
     return ",".join(f"{name}:{'on' if enabled >> bit & 1 else 'off'}"
                     for bit, name in enumerate(CAPABILITY_NAMES) if available >> bit & 1)
 
 def shown_management(body):
-    """A management address, its interface and its OID."""
+    """Returns a management address, its interface and its OID."""
     family, address, numbering, interface, oid = management_fields(body)
     shown = shown_ip(family, address) or f"af{family}:{address.hex()}"
     return f"{shown},{numbering},{interface},{oid.hex()}"
 
 def shown_tlv(tlv):
-    """KEY=VALUE of a kept TLV."""
+    """Returns KEY=VALUE of a kept TLV."""
     kind, body = tlv
     if kind in TEXT_KEYS:
         return f"{TEXT_KEYS[kind]}={escaped(body)}"
@@ -377,7 +380,7 @@ def shown_tlv(tlv):
 
 # ----------------------------------------------------------------------------------------------------- shows
 def show_neighbors(agent):
-    """Each port's neighbors, in the table's order, with all that they tell."""
+    """Returns each port's neighbors, in the table's order, with all that they say."""
     for port in agent.ports:
         held = port.table.held.values()
         yield f"lldp.{port.name}.neighbors={len(held)}"
@@ -392,12 +395,12 @@ def show_neighbors(agent):
             yield from (front + shown_tlv(tlv) for tlv in lldpdu.kept)
 
 def show_statistics(agent):
-    """Each port's counters, which go round at 2 to the 32."""
+    """Returns each port's counters, which wrap around at 2 to the 32."""
     for port in agent.ports:
         yield from (f"lldp.{port.name}.{name}={port.counters[name] % 2 ** 32}" for name in COUNTERS)
 
 def show_chassis(agent):
-    """What the agent says of itself."""
+    """Returns what the agent says of itself."""
     yield f"local-chassis.mac={agent.mac.hex(':')}"
     yield f"local-chassis.name={escaped(agent.hostname)}"
     yield f"local-chassis.descr={escaped(agent.description)}"
@@ -406,7 +409,7 @@ def show_chassis(agent):
         yield f"local-chassis.mgmt={shown_management(agent.management())}"
 
 def show_configuration(agent):
-    """The numbers in force, and each port's status."""
+    """Returns the numbers in force, and each port's status."""
     options = agent.options
     numbers = {name: getattr(agent, attribute(name)) for name in SETTINGS}
     numbers |= {"ttl": agent.ttl(), "reinit-delay": options.reinit_delay, "tx-fast-init": options.tx_fast_init,
@@ -426,8 +429,8 @@ class RefusedLine(Exception):
     """A line that is refused, with its text."""
 
 class Words:
-    """The words of a line, taken from left to right; the first that fails gives the line's fault. Octets
-    stand as the characters of the same numbers."""
+    """The words of a line, taken from left to right; the first that fails decides the line's fault. Octets are the
+    characters of the same numbers."""
 
     def __init__(self, line):
         self.left, at = [], 0
@@ -439,27 +442,27 @@ class Words:
             at = word.end()
 
     def next(self, choices=None):
-        """The next word, which is one of the choices, if some are given."""
+        """Takes the next word, which must be one of the choices, if some are given."""
         if not self.left or choices and self.left[0] not in choices:
             raise RefusedLine("unknown command")
         return self.left.pop(0)
 
     def spelled(self, pattern, fault):
-        """The next word, which is spelled as the pattern says."""
+        """Takes the next word, which must be spelled as the pattern says."""
         word = self.next()
         if not re.fullmatch(pattern, word):
             raise RefusedLine(fault)
         return word
 
     def number(self, most):
-        """The next word as a number from 1 on."""
+        """Takes the next word as a number from 1 on."""
         value = int(self.spelled(NUMBER, "not a number"))
         if not 1 <= value <= most:
             raise RefusedLine("out of range")
         return value
 
     def port(self, agent):
-        """The next word as the name of a port."""
+        """Takes the next word as the name of a port."""
         name = self.next()
         for port in agent.ports:
             if port.name == name:
@@ -467,13 +470,13 @@ class Words:
         raise RefusedLine("no such port")
 
     def end(self, value=None):
-        """Sees that no word is left, and gives back the value."""
+        """Checks that no word is left, and returns the value."""
         if self.left:
             raise RefusedLine("extra word")
         return value
 
 def obey(agent, words):
-    """Does what the words of a line ask for, and gives the lines that it writes."""
+    """Does what the words of a line ask for, and returns the lines that it writes."""
     form = words.next(("tick", "rx", "up", "down", "show", "configure", "update"))
     if form == "tick":
         ticks = words.end(words.number(65535) if words.left else 1)
@@ -493,13 +496,13 @@ def obey(agent, words):
     return agent.local_change()
 
 def set_text(agent, words):
-    """The hostname or the description."""
+    """Sets the hostname or the description."""
     name = words.next(("hostname", "description"))
     setattr(agent, name, words.end(words.spelled(TEXT, "bad text")).encode())
     return agent.local_change()
 
 def set_number(agent, words):
-    """A setting or the limit; the limit does not go below what a port holds."""
+    """Sets a number or the limit; the limit cannot be lower than what a port holds."""
     greatest = {name: setting.greatest for name, setting in SETTINGS.items()}
     greatest["max-neighbors"] = agent.options.max_neighbors
     name = words.next(greatest)
@@ -510,7 +513,7 @@ def set_number(agent, words):
     return agent.local_change()
 
 def set_status(agent, words):
-    """The status of a port."""
+    """Sets the status of a port."""
     port = words.port(agent)
     words.next(("lldp",))
     words.next(("status",))
@@ -518,7 +521,7 @@ def set_status(agent, words):
     return agent.meet([port], lambda port: port.set_status(status))
 
 def answer(agent, line):
-    """The lines that one line of a trace gives."""
+    """Returns the lines that answer one line of a trace."""
     if len(line) > 4096:
         return ["error: line too long"]
     if line.lstrip(" \t")[:1] in ("", "#"):
@@ -530,8 +533,8 @@ def answer(agent, line):
 
 # ----------------------------------------------------------------------------------------------- the program
 class NoRun(Exception):
-    """Words with which no trace is run: the status, and the line on standard error, or None where that is
-    the text of lldpa's reader of words."""
+    """Words with which no trace is run: the status, and the line on standard error, or None if that is the text of
+    lldpa's reader of words."""
 
 # the numbers of options: those that the agent is opened with, and those of the sockets
 OPENING = {"max_neighbors": 128, "tx_credit_max": 10, "tx_fast_init": 8, "reinit_delay": 10}
@@ -542,11 +545,11 @@ BELOW_256 = "(25[0-5]|2[0-4][0-9]|1[0-9][0-9]|[1-9]?[0-9])"
 IPV4 = BELOW_256 + (r"\." + BELOW_256) * 3
 
 def option_word(name):
-    """The option of this name, as it is written."""
+    """Returns the option of this name, as it is written."""
     return "--" + name.replace("_", "-")
 
 def option_value(name, word):
-    """The value of an option, as far as the reader of words checks it."""
+    """Returns the value of an option, as far as the reader of words checks it."""
     is_number = name in GREATEST and re.fullmatch("[+-]?[0-9]+", word) is not None
     if name in GREATEST and not (is_number and 1 <= int(word) <= GREATEST[name]):
         raise NoRun(2, None)
@@ -555,7 +558,7 @@ def option_value(name, word):
     return int(word) if is_number else word
 
 def read_words(words):
-    """The options given, by name, and the ports. A word that begins with `-` is an option, up to a `--`."""
+    """Returns the options given, by name, and the ports. A word that begins with `-` is an option, up to a `--`."""
     given, ports, left = {}, [], list(words)
     while left:
         word = left.pop(0)
@@ -578,8 +581,8 @@ def read_words(words):
     return given, ports
 
 def opened(words):
-    """The agent that the words ask for; the first check that fails says why there is none."""
-    if re.search("[\ud800-\udfff]", " ".join(words)):  # octets that are no UTF-8
+    """Returns the agent that the words ask for; the first check that fails says why there is none."""
+    if re.search("[\ud800-\udfff]", " ".join(words)):  # octets that are not UTF-8
         raise NoRun(2, "lldpa: no memory")
     given, ports = read_words(words)
     options = SimpleNamespace(**{**DEFAULTS, **given})
@@ -595,8 +598,8 @@ def opened(words):
     return Agent(options, ports)
 
 def run(words, trace):
-    """What lldpa does with words and a trace: its status, its output, and its line on standard error, which
-    is empty where there is none and None where the model does not know it."""
+    """Returns what lldpa does with words and a trace: its status, its output, and its line on standard error, which is
+    empty if there is none and None if the model does not know it."""
     try:
         agent = opened(words)
     except NoRun as why:

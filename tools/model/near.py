@@ -1,9 +1,9 @@
 """Words that are nearly right: a letter more, less or another, letters exchanged, a front of a word, another case, and
-words of ordinary English, of other command lines and of lldpcli. A program that takes one of them takes too much."""
+words of ordinary English, of other command lines and of lldpcli. A program that accepts one accepts too much."""
 
 LETTERS = "abcdefghijklmnopqrstuvwxyz0189-_.=+;:/?!"
 
-# what the program or lldpcli has at some place, and what might stand there in their stead
+# words that the program or lldpcli has at some place, and those that might be written instead
 WORDS = """
 tick tock ticks second seconds sec s time timer wait sleep step next clock advance elapse pause delay minute age hour now
 rx tx recv receive received frame packet in input hear get read send transmit output out write tx-frame rx-frame pdu
@@ -35,10 +35,10 @@ quiet silent verbose-mode daemon foreground config-file no-mac oneshot dry-run h
 
 UNITS = ("s", "sec", "secs", "ms", "m", "min", "h", "x", "%")
 
-# what may stand in front of a port's name or behind it, if a program looks at a part of it
+# what may precede or follow a port's name, if a program looks at a part of it
 FILLINGS = "@.:/-_0xe%*~"
 
-# what begins a comment elsewhere, or is passed over there
+# what begins a comment elsewhere, or is ignored there
 MARKS = [bytes([octet]) for octet in range(256) if octet != 0x0a] + [b"//", b"--", b"/*", b"REM ", b"> ", b"$ ", b"\xef\xbb\xbf"]
 
 PORT = "eth0"
@@ -55,7 +55,7 @@ LINES = [line.split() for line in (
 
 
 def misspelled(word):
-    """Each word that is one slip away from a word."""
+    """Returns each word that is one slip away from a word."""
     for place in range(len(word) + 1):
         front, rest = word[:place], word[place:]
         yield front
@@ -67,7 +67,8 @@ def misspelled(word):
 
 
 def otherwise_written(word):
-    """A word in other letters and quotes, and joined otherwise. Octets beyond ASCII are no letters, and have no case."""
+    """Returns a word in other letters and quotes, and joined otherwise. Octets beyond ASCII are not letters, and have
+    no case."""
     octets = word.encode("latin-1")
     yield from (octets.upper().decode("latin-1"), octets.capitalize().decode("latin-1"))
     yield from (word + word, word.replace("-", "_"), word.replace("-", ""))
@@ -75,7 +76,7 @@ def otherwise_written(word):
 
 
 def numbers(word):
-    """A number with zeros before it, up to more digits than any integer has, and with digits behind it."""
+    """Returns a number with zeros before it, up to more digits than any integer has, and with digits behind it."""
     for count in (*range(1, 70), 255, 1000):
         yield "0" * count + word
         yield word + "0" * count
@@ -84,7 +85,7 @@ def numbers(word):
 
 
 def longer_names(name):
-    """A port's name with up to 16 octets in front of it or behind it."""
+    """Returns a port's name with up to 16 octets before it or behind it."""
     for filling in FILLINGS:
         for count in range(1, 17):
             yield filling * count + name
@@ -92,7 +93,7 @@ def longer_names(name):
 
 
 def near(word):
-    """Each word that is nearly one, in a fixed order, none twice and not the word itself."""
+    """Returns each word that is nearly one, in a fixed order, none twice and not the word itself."""
     found = list(WORDS) + list(otherwise_written(word))
     if len(word) < len(FRAME):
         found += misspelled(word)
@@ -104,7 +105,7 @@ def near(word):
 
 
 def some_near(dice, word):
-    """One of them. Most words of the lists are as likely as all slips together."""
+    """Returns one of them. Most words of the lists are as likely as all slips together."""
     if dice.happens(2):
         return dice.choice(WORDS)
     slips = list(otherwise_written(word))
@@ -118,7 +119,7 @@ def some_near(dice, word):
 
 
 def lines_near(words):
-    """The lines that are nearly a line: one word another, one more, one less, or one word for all of it."""
+    """Returns the lines that are nearly a line: one word another, one more, one less, or one word for all of it."""
     yield from ([other] for other in WORDS)
     for place, word in enumerate(words):
         front, behind = words[:place], words[place + 1:]

@@ -71,7 +71,7 @@ def read_edits(lines: list[str]) -> tuple[Edit, ...]:
 
 
 def read_mutants(crate: str, text: str) -> list[Mutant]:
-    """Reads the mutants of a crate's file, which are apart by empty lines."""
+    """Reads the mutants of a crate's file, which are separated by empty lines."""
     mutants = []
     refused_by = ""
     for part in text.strip().split("\n\n"):

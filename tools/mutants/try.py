@@ -3,17 +3,16 @@
 
     tools/mutants/try.py                          lists the crates that changed since all their mutants were tried
     tools/mutants/try.py CRATE .. [--only NAME]   tries those of these crates, or one of them
-    tools/mutants/try.py --check                  tries none: looks whether each can be applied, and what refuses it exists
+    tools/mutants/try.py --check                  tries none: checks that each can be applied, and what refuses it exists
 
 The prover takes some 20 seconds for a mutant, a test of `lldp_tests` or a script that runs the program three minutes.
-They are tried on a copy of the crates that begins with what `rt check` proved here. A refusal by the prover counts only
-if it is one of a contract, and not of a proof that names what the mutant took away. If all of a crate are refused,
-tools/mutants/tried notes its sources. The last line is `N passed, M failed`.
+They are tried on a copy of the crates, with what `rt check` proved here. A refusal by the prover counts only if it
+refuses a contract, and not a proof that names what the mutant took away. If all of a crate are refused,
+out/kept notes its sources. The last line is `N passed, M failed`.
 """
 from __future__ import annotations
 
 import argparse
-import hashlib
 import pathlib
 import re
 import shutil
@@ -21,9 +20,12 @@ import subprocess
 import sys
 import tempfile
 
-from mutants import CRATES, FOLDER, PROVER, TEST, TOP, Mutant, others, tried_by_the_gate
+from mutants import CRATES, PROVER, TEST, TOP, Mutant, others, tried_by_the_gate
 
-TRIED = FOLDER / "tried"
+sys.path.append(str(TOP / "tools" / "gate"))
+import kept  # noqa: E402
+from counts import Counts  # noqa: E402
+
 REFUSED = ": refused, as it must be"
 BY_SHAPE = " (only "
 FAILED_TEST = re.compile(r"^test \S*::(\w+) \.\.\. (?:FAILED|failed)", re.MULTILINE)
@@ -33,26 +35,8 @@ CHECK_MEMORY = "tools/gate/check-memory.py"
 
 def state_of(crate: str) -> str:
     """Returns a digest of the crate's sources and of its mutants."""
-    folders = [CRATES / crate / name for name in ("src", "specs", "proofs")]
-    paths = sorted(path for folder in folders for path in folder.rglob("*") if path.is_file())
-    digest = hashlib.sha256()
-    for path in [*paths, FOLDER / f"{crate}.edits"]:
-        digest.update(str(path.relative_to(TOP)).encode() + b"\0" + path.read_bytes() + b"\0")
-    return digest.hexdigest()[:16]
-
-
-def tried() -> dict[str, str]:
-    """Returns the state in which each crate's mutants were last tried."""
-    lines = TRIED.read_text().splitlines() if TRIED.exists() else []
-    return dict(line.split() for line in lines if not line.startswith("#"))
-
-
-def note(crates: list[str]) -> None:
-    """Notes that all mutants of these crates were refused."""
-    states = {**tried(), **{crate: state_of(crate) for crate in crates}}
-    lines = [f"{crate} {state}\n" for crate, state in sorted(states.items())]
-    TRIED.write_text("# Written by tools/mutants/try.py: the state of each crate whose mutants were all tried.\n"
-                     + "".join(lines))
+    return kept.state_of([f"crates/{crate}/{name}" for name in ("src", "specs", "proofs")]
+                         + [f"tools/mutants/{crate}.edits"])
 
 
 def exists(mutant: Mutant) -> bool:
@@ -81,11 +65,10 @@ def check() -> int:
     """Looks at all mutants, also at those that the gate tries."""
     mutants = others() + tried_by_the_gate()
     names = [(mutant.crate, mutant.name) for mutant in mutants]
-    faults = [fault for fault in (fault_of(mutant, names) for mutant in mutants) if fault is not None]
-    for fault in faults:
-        print(f"FAILED: {fault}")
-    print(f"{len(mutants) - len(faults)} passed, {len(faults)} failed")
-    return 1 if faults or not mutants else 0
+    counts = Counts()
+    for mutant in mutants:
+        counts.judge(fault_of(mutant, names), mutant.name)
+    return counts.end()
 
 
 def copy_crates(folder: pathlib.Path) -> pathlib.Path:
@@ -180,7 +163,8 @@ def main() -> int:
     if given.check:
         return check()
     if not given.crate:
-        print("".join(f"{crate}\n" for crate in known if tried().get(crate) != state_of(crate)), end="")
+        noted = kept.notes()
+        print("".join(f"{crate}\n" for crate in known if state_of(crate) not in noted.get(f"mutants-{crate}", [])), end="")
         return 0
     passed = wanted = 0
     for crate in given.crate:
@@ -188,7 +172,7 @@ def main() -> int:
         refused = try_crate(of_crate)
         passed, wanted = passed + refused, wanted + len(of_crate)
         if refused == len(of_crate) and given.only is None:
-            note([crate])
+            kept.note(f"mutants-{crate}", state_of(crate), refused)
     print(f"{passed} passed, {wanted - passed} failed")
     return 1 if passed < wanted or not wanted else 0
 

@@ -1,16 +1,16 @@
 #!/bin/sh
 # Builds the program and the library for an architecture, in a folder.
 #     tools/release/build.sh [--arch amd64|arm64] [--cpu CPU] [FOLDER]
-# FOLDER is crates/lldpa/out/ARCH unless given. The architecture is that of this machine unless given; for another one it needs
-# gcc and binutils for it, as of the package gcc-aarch64-linux-gnu. CPU is x86-64, any processor of amd64, unless given.
+# FOLDER is crates/lldpa/out/ARCH unless given. The architecture is that of this machine unless given; another one needs
+# its gcc and binutils, such as the package gcc-aarch64-linux-gnu. CPU is x86-64, any processor of amd64, unless given.
 # In FOLDER are then
 #     lldpa          the program, linked to the GNU C library of the system, 2.34 or later
 #     lldpa-static   the same with all that it needs, for any Linux: it runs in an empty folder. It contains the GNU C
-#                    library, whose licence (LGPL) asks that lldpa.o is given with it, so that it can be linked anew
+#                    library, whose licence (LGPL) requires lldpa.o with it, so that it can be linked again
 #     lldpa.o        the program before it is linked
 #     lib            what tools/library/library.sh makes
-# What is built was proved for that architecture: the crates below `lldpa` and `lldpa_c` are proved once for all. The
-# name of FOLDER goes to standard output.
+# What is built was proved for that architecture: the crates below `lldpa` and `lldpa_c` are proved once for all. Prints
+# the name of FOLDER.
 set -eu
 cd "$(dirname "$0")/../.."
 fail() {
@@ -28,7 +28,7 @@ mkdir -p "$folder"
 room=$(mktemp -d)
 trap 'rm -rf "$room"' EXIT
 
-# The crates that crates.txt names behind a crate, and those below them.
+# Lists the crates that crates.txt names behind a crate, and those below them.
 named_by() {
     sed -n "s/^$1\( [a-z]*\)*: *//p" crates.txt
 }
@@ -41,7 +41,7 @@ below() {
     done
 }
 
-# rt links what it compiles for this machine alone, so the program is compiled by the command that rt runs.
+# rt links only for this machine, so the program is compiled by the command that rt runs.
 compile_program() {
     (cd crates/lldpa && rt check) || return
     set -- --crate-name lldpa src/main.rt --extern "std=$kit/rlibs/std.rlib" -L "dependency=$kit/rlibs"
@@ -62,14 +62,20 @@ compile_program() {
     (cd crates/lldpa && "$kit/bin/rattle" build "$@")
 }
 
-compile_program > "$room/said" 2>&1 || fail "the program is not built: $(tail -n 5 "$room/said")"
+# The library is built beside the program. It says by itself why it is not.
+set -- --arch "$arch"
+[ -z "$cpu" ] || set -- "$@" --cpu "$cpu"
+tools/library/library.sh "$@" "$folder/lib" > /dev/null &
+library=$!
+compile_program > "$room/said" 2>&1 || {
+    wait "$library" || true
+    fail "the program is not built: $(tail -n 5 "$room/said")"
+}
 for source in tools/release/platform.c crates/lldpa_c/front/memory.c; do
     "${tools}gcc" -std=gnu99 -O2 -fPIE -Wall -Wextra -Werror -c "$source" -o "$room/$(basename "$source").o"
 done
 "${tools}gcc" -pie -Wl,-z,relro,-z,now "$folder/lldpa.o" "$room"/*.o -o "$folder/lldpa"
 "${tools}gcc" -static-pie "$folder/lldpa.o" "$room"/*.o -o "$folder/lldpa-static"
 "${tools}strip" "$folder/lldpa" "$folder/lldpa-static"
-set -- --arch "$arch"
-[ -z "$cpu" ] || set -- "$@" --cpu "$cpu"
-tools/library/library.sh "$@" "$folder/lib" > /dev/null
+wait "$library"
 echo "$folder"

@@ -1,15 +1,16 @@
 #!/bin/sh
 # Installs lldpa under a prefix, /usr/local unless given: the program, those of bin/ with the Python package that they
-# stand on, the manual pages, completions for bash and zsh, the service with its configuration, a timer that writes its
-# metrics, alerts for Prometheus, and the documents.
+# need, the manual pages, completions for bash and zsh, the service with its configuration, a timer that writes its
+# metrics, alerts for Prometheus, and the pages for operators.
 #     tools/release/install.sh [--list] [--uninstall] [--python FOLDER] [--library] [PREFIX]
 # With --list it only lists what it would install, and nothing need be built for that: mode, name and source of each
-# file, and where each link leads. With --uninstall it takes away what it installs, but for a configuration that was
-# changed. `import lldpa` works for the python3 that looks into FOLDER, by itself the first one below the prefix where
-# python3 looks. DESTDIR, where it is set, is put in front. LLDPA names the program, crates/lldpa/out/lldpa unless it is
-# set.
-# With --library it installs the library for C in place of all that: the header, the archive and what pkg-config tells of
-# it. LLDPA_LIB_DIR, where it is set, names the folder that tools/library/library.sh made, crates/lldpa_c/out/lib unless it is set.
+# file, and where each link leads. With --uninstall it removes what it installs, except a configuration that was
+# changed. `import lldpa` works for the python3 that looks into FOLDER, by default the first folder below the prefix
+# into which python3 looks. If DESTDIR is set, it is put in front. LLDPA names the program, crates/lldpa/out/lldpa
+# unless it is set.
+# With --library it installs the library for C instead: the header, the archive, the shared object and
+# their description for pkg-config.
+# LLDPA_LIB_DIR names the folder that tools/library/library.sh made, crates/lldpa_c/out/lib unless it is set.
 # tools/release/package.sh makes its packages of what this installs under /usr.
 set -eu
 usage() {
@@ -44,22 +45,29 @@ umask 022
 root=${DESTDIR:-}
 packages=$prefix/lib/lldpa
 documents=$prefix/share/doc/lldpa
-# Debian's own folders stand below /usr, and the configuration of what is below /usr and /usr/local in /etc.
+# Debian's own folders are below /usr, and the configuration of what is below /usr and /usr/local is in /etc.
 case $prefix in
     /usr) etc=/etc zsh=vendor-completions interpreter='/usr/bin/python3 -I' ;;
     /usr/local) etc=/etc zsh=site-functions interpreter='/usr/bin/env -S python3 -I' ;;
     *) etc=$prefix/etc zsh=site-functions interpreter='/usr/bin/env -S python3 -I' ;;
 esac
 
-# Where archives stand: below /usr in the folder of the architecture.
+# The folder of archives: below /usr it is that of the architecture.
 archives=$prefix/lib
 [ "$prefix" != /usr ] || archives=$prefix/lib/$(dpkg-architecture -qDEB_HOST_MULTIARCH 2> /dev/null || true)
 archives=${archives%/}
 
-# The files of the library for C.
+# The pages for operators. The others of docs stay in the sources.
+pages="README.md SECURITY.md docs/OPERATORS.md docs/PROGRAMS.md docs/CAPTURES.md docs/LLDPD.md audit/README.md"
+others=$(for file in docs/*.md; do
+    case " $pages " in *" $file "*) ;; *) basename "$file" .md ;; esac
+done | paste -sd '|')
+
+# Lists the files of the library for C.
 library_files() {
     echo "plain $built/lldpa.h $prefix/include/lldpa.h"
     echo "plain $built/liblldpa.a $archives/liblldpa.a"
+    echo "plain $built/liblldpa.so.1 $archives/liblldpa.so.1"
     echo "told share/pkgconfig/lldpa.pc $archives/pkgconfig/lldpa.pc"
     echo "packed crates/lldpa_c/include/lldpa.3 $prefix/share/man/man3/lldpa.3.gz"
     echo "plain docs/LIBRARY.md $documents-dev/LIBRARY.md"
@@ -68,7 +76,7 @@ library_files() {
     done
 }
 
-# Each file: how it is installed, where it is, and where it goes. The programs of bin/ stay beside their package.
+# Lists each file: how it is installed, its source and its place. The programs of bin/ stay beside their package.
 files() {
     if [ -n "$library" ]; then
         library_files
@@ -100,19 +108,22 @@ files() {
     echo "configuration share/default/lldpa $etc/default/lldpa"
     echo "configuration share/settings/lldpa.conf $etc/lldpa.conf"
     echo "configuration share/settings/README $etc/lldpa.d/README"
-    for file in README.md SECURITY.md docs/*.md audit/README.md; do
+    for file in $pages; do
         echo "page $file $documents/$file"
     done
     echo "packed CHANGELOG.md $documents/changelog.gz"
-    find docs audit/worked audit/*.schema.json -type f ! -name '*.md' | while read -r file; do
+    find docs audit/worked audit/*.schema.json -type f ! -name '*.md' ! -name 'bench.*' | while read -r file; do
         echo "plain $file $documents/$file"
     done
 }
 
-# Each link: where it leads, and where it stands. lldpctl and lldpcli are beside their package alone, since lldpd has
-# programs of those names.
+# Lists each link: where it leads, and its place. lldpctl and lldpcli are only beside their package, since lldpd has
+# programs of those names. The linker looks for the shared object by its name without a number.
 links() {
-    [ -z "$library" ] || return 0
+    if [ -n "$library" ]; then
+        echo "liblldpa.so.1 $archives/liblldpa.so"
+        return
+    fi
     for file in bin/lldpa-*; do
         echo "../lib/lldpa/$file $prefix/$file"
     done
@@ -132,8 +143,9 @@ put() {
             chmod 755 "$3"
             ;;
         plain) install -m 644 "$2" "$3" ;;
-        page) # of a link to what is not installed only the text stays
-            sed -zE 's,\[([^]]*)\]\((\.\./)?(crates|examples|man|tools|share|python|CONTRIBUTING|CHANGELOG|lldpa-audit\.1)[^)]*\),\1,g' \
+        page) # a link to a page that is not installed becomes its name; of other links only the text stays
+            sed -zE "s,\[([^]]*)\]\((\.\./)?(docs/)?($others)\.md[^)]*\),\1 (docs/\4.md in the sources),g
+                s,\[([^]]*)\]\((\.\./)?(crates|examples|man|tools|share|python|CONTRIBUTING|CHANGELOG|lldpa-audit\.1)[^)]*\),\1,g" \
                 "$2" > "$3"
             chmod 644 "$3"
             ;;
@@ -160,7 +172,7 @@ put() {
     esac
 }
 
-# Takes a file away; a configuration that was changed stays.
+# Removes a file; a configuration that was changed stays.
 take_away() {
     if [ "$1" = configuration ] && [ -e "$3" ] && ! cmp -s "$2" "$3"; then
         echo "$3 was changed, and stays"

@@ -1,15 +1,16 @@
 #!/bin/sh
-# Makes a Debian package, lldpa_VERSION-REVISION_ARCH.deb, of what tools/release/install.sh installs under /usr; or with --library
-# lldpa-dev_VERSION-REVISION_ARCH.deb, of what tools/release/install.sh --library does.
-#     tools/release/package.sh [--library] [--arch ARCH] [--revision N] [FOLDER]
-# The package is written to FOLDER, the one where this is called unless given, and its name to standard output. VERSION is
-# the newest of CHANGELOG.md and must be what the program says of itself. N, 1 unless given, is for a second package of
-# one version. LLDPA names the program, crates/lldpa/out/lldpa unless it is set. With --arch, amd64 or
-# arm64, it takes what tools/release/build.sh --arch ARCH made; a program for another machine says its version by qemu. Who makes it is named by DEBFULLNAME
-# and DEBEMAIL, and else is who made the last commit. It needs dpkg-deb, dpkg and binutils, and no root.
+# Makes a Debian package, lldpa_VERSION-REVISION_ARCH.deb, of what tools/release/install.sh installs under /usr; or of
+# what tools/release/install.sh --library installs: with --shared lldpa1_VERSION-REVISION_ARCH.deb, which has the shared
+# object, and with --library lldpa-dev_VERSION-REVISION_ARCH.deb, which has the rest.
+#     tools/release/package.sh [--library | --shared] [--arch ARCH] [--revision N] [FOLDER]
+# The package is written to FOLDER, the present one unless given, and its name to standard output. VERSION is the newest
+# of CHANGELOG.md and must be what the program says of itself. N, 1 unless given, is for a second package of one
+# version. LLDPA names the program, crates/lldpa/out/lldpa unless it is set. With --arch, amd64 or arm64, it takes what
+# tools/release/build.sh --arch ARCH made, and asks a program for another machine for its version by qemu. DEBFULLNAME
+# and DEBEMAIL name the maker, by default who made the last commit. It needs dpkg-deb, dpkg and binutils, but not root.
 set -eu
 usage() {
-    echo "usage: tools/release/package.sh [--library] [--arch ARCH] [--revision N] [FOLDER]" >&2
+    echo "usage: tools/release/package.sh [--library | --shared] [--arch ARCH] [--revision N] [FOLDER]" >&2
     exit 2
 }
 
@@ -35,6 +36,7 @@ while [ $# -gt 0 ]; do
             shift
             ;;
         --library) name=lldpa-dev ;;
+        --shared) name=lldpa1 ;;
         -*) usage ;;
         *) folder=$1 ;;
     esac
@@ -64,7 +66,7 @@ said=$($emulator "$program" --version)
 [ "$said" = "lldpa $version" ] || fail "CHANGELOG.md begins with $version, and the program says: $said"
 version=$version-$revision
 maker="${DEBFULLNAME:-$(git log -1 --format=%an)} <${DEBEMAIL:-$(git log -1 --format=%ae)}>"
-# The same sources give the same package: its moment is that of the last commit.
+# The same sources give the same package: its time is that of the last commit.
 SOURCE_DATE_EPOCH=${SOURCE_DATE_EPOCH:-$(git log -1 --format=%ct)}
 export SOURCE_DATE_EPOCH
 umask 022
@@ -72,9 +74,9 @@ room=$(mktemp -d)
 trap 'rm -rf "$room"' EXIT
 tree=$room/tree
 
-# The newest GNU C library that the program asks for.
+# Prints the oldest GNU C library that a program or a shared object can run with.
 c_library() {
-    "${tools}objdump" -T "$program" | grep -o 'GLIBC_[0-9.]*' | sort -uV | tail -n 1 | sed 's/GLIBC_//'
+    "${tools}objdump" -T "$1" | grep -o 'GLIBC_[0-9.]*' | sort -uV | tail -n 1 | sed 's/GLIBC_//'
 }
 
 control() {
@@ -84,7 +86,7 @@ Version: $version
 Architecture: $architecture
 Maintainer: $maker
 Installed-Size: $(du -sk --apparent-size "$tree" | cut -f 1)
-Depends: libc6 (>= $(c_library)), python3:any (>= 3.9)
+Depends: libc6 (>= $(c_library "$program")), python3:any (>= 3.9)
 Suggests: graphviz
 Section: net
 Priority: optional
@@ -106,14 +108,33 @@ Version: $version
 Architecture: $architecture
 Maintainer: $maker
 Installed-Size: $(du -sk --apparent-size "$tree" | cut -f 1)
-Depends: libc6-dev
+Depends: libc6-dev, lldpa1 (= $version)
 Section: libdevel
 Priority: optional
 Description: agent for the Link Layer Discovery Protocol (LLDP) - library for C
  With these files a program in C, or in a language that calls C, reads and
  builds LLDPDUs, and runs an agent of its own. Every call of the library is
- proved to do what its definition says. It is a static archive with a header
- and a file for pkg-config.
+ proved to do what its definition says. The package has a header, a static
+ archive, a file for pkg-config and examples.
+END
+}
+
+# The package of the shared object.
+shared_control() {
+    cat << END
+Package: lldpa1
+Version: $version
+Architecture: $architecture
+Multi-Arch: same
+Maintainer: $maker
+Installed-Size: $(du -sk --apparent-size "$tree" | cut -f 1)
+Depends: libc6 (>= $(c_library "$(find "$tree" -name liblldpa.so.1)"))
+Section: libs
+Priority: optional
+Description: agent for the Link Layer Discovery Protocol (LLDP) - shared library
+ Programs that are linked with the library of lldpa load it from this package.
+ They read and build LLDPDUs, or run an agent of their own. Every call of the
+ library is proved to do what its definition says.
 END
 }
 
@@ -132,17 +153,31 @@ if [ "$name" = lldpa ]; then
     "${tools}strip" --remove-section=.comment --remove-section=.note "$tree/usr/bin/lldpa"
 else
     DESTDIR=$tree tools/release/install.sh --library /usr > /dev/null
-    find "$tree" -name '*.a' -exec "${tools}strip" -D --strip-debug --remove-section=.comment --remove-section=.note {} +
+    if [ "$name" = lldpa1 ]; then
+        find "$tree" ! -type d ! -name liblldpa.so.1 -delete
+        find "$tree" -type d -empty -delete
+        strip=--strip-unneeded
+    else
+        find "$tree" -name liblldpa.so.1 -delete
+        strip=--strip-debug
+    fi
+    find "$tree" '(' -name '*.a' -o -name '*.so.1' ')' -exec \
+        "${tools}strip" -D $strip --remove-section=.comment --remove-section=.note {} +
 fi
+mkdir -p "$tree/usr/share/doc/$name"
 changelog | gzip -9n > "$tree/usr/share/doc/$name/changelog.Debian.gz"
 install -m 644 share/debian/copyright "$tree/usr/share/doc/$name/copyright"
 mkdir -p "$tree/usr/share/lintian/overrides"
-sed "s/^lldpa:/$name:/" share/debian/lintian-overrides > "$tree/usr/share/lintian/overrides/$name"
+sed "s/^lldpa:/$name:/; /^lldpa1:/{/^$name:/!d}" share/debian/lintian-overrides > "$tree/usr/share/lintian/overrides/$name"
 mkdir "$room/DEBIAN"
 if [ "$name" = lldpa ]; then
     control > "$room/DEBIAN/control"
     printf '%s\n' /etc/default/lldpa /etc/lldpa.conf /etc/lldpa.d/README > "$room/DEBIAN/conffiles"
     install -m 755 share/debian/postinst share/debian/prerm share/debian/postrm "$room/DEBIAN"
+elif [ "$name" = lldpa1 ]; then
+    shared_control > "$room/DEBIAN/control"
+    echo "liblldpa 1 lldpa1 (>= ${version%-*})" > "$room/DEBIAN/shlibs"
+    echo "activate-noawait ldconfig" > "$room/DEBIAN/triggers"
 else
     library_control > "$room/DEBIAN/control"
 fi

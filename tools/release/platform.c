@@ -1,5 +1,5 @@
 /*
- * What the program asks of C on a platform for which the toolchain has no archive, beside memory: its arguments, and
+ * What the program needs of C on a platform for which the toolchain has no archive, besides memory: its arguments, and
  * the number of the last error.
  */
 #include <errno.h>
@@ -8,14 +8,14 @@
 static size_t argument_count;
 static char **arguments;
 
-/* The C library gives a constructor what it gives main. */
+/* The C library passes a constructor the arguments of main. */
 __attribute__((constructor)) static void keep_arguments(int count, char **words)
 {
     argument_count = (size_t)count;
     arguments = words;
 }
 
-/* Copies the argument at a place. Answers its length, -1 if there is none, or -2 if it has more than `most` octets. */
+/* Copies the argument at a place. Returns its length, -1 if there is none, or -2 if it has more than `most` octets. */
 long rattle_arg(size_t at, char *room, size_t most)
 {
     if (at >= argument_count) {

@@ -1,7 +1,7 @@
 #!/bin/sh
 # Makes a wheel of the Python packages that holds the program lldpa too, so that pip installs all of it at once.
 #     tools/release/wheel.sh [FOLDER]
-# The wheel is written to FOLDER, the one where this is called unless given, and its name to standard output. It is for
+# The wheel is written to FOLDER, the present one unless given, and its name to standard output. It is for
 # the machine that the program was built for, linux_x86_64 or linux_aarch64. LLDPA names the program,
 # crates/lldpa/out/lldpa unless it is set. `pip install ./python` makes a wheel for any machine, without the program.
 set -eu

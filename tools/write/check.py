@@ -20,8 +20,7 @@ from counts import Counts  # noqa: E402
 # each file, and what writes it when the name of a file is put behind
 WRITTEN_BY = {
     "crates/lldpa/proofs/Transcripts.antt": "tools/write/transcripts.py",
-    "crates/lldp_pdu/proofs/Vectors/Rows.antt": "tools/write/vectors.py --proofs",
-    "crates/lldp_tests/src/rows.rt": "tools/write/vectors.py --tables",
+    "crates/lldp_pdu/proofs/Vectors/Rows.antt": "tools/write/vectors.py",
     "docs/bench.svg": "tools/bench/bench.py --saved docs/bench.json --svg",
     "docs/DECISIONS.md": "tools/bench/bench.py --saved docs/bench.json --table",
 }

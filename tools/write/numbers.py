@@ -19,7 +19,10 @@ import subprocess
 import sys
 
 TOP = pathlib.Path(__file__).resolve().parents[2]
-WRITTEN = ("*/Transcripts.antt", "*/Rows.antt", "*/rows.rt", "*/REFERENCE.md", "*/bench.json", "*.svg",
+sys.path.append(str(TOP / "tools" / "gate"))
+from counts import Counts  # noqa: E402
+
+WRITTEN = ("*/Transcripts.antt", "*/Rows.antt", "*/REFERENCE.md", "*/bench.json", "*.svg",
            "*.expect", "*.pcap", "*/Cargo.lock", "*/judged.json", "*/tests/lldpd/*", "*/leaf1.json",
            "*/host01.xml")
 PARTS = (("proved code", "crates/*/src/*"), ("definitions", "crates/*/specs/*"),
@@ -35,28 +38,28 @@ FUNCTION = r"^\s*(?:pub(?:\(\w+\))? )?(?:const )?fn \w+"
 
 
 def files(pattern, without="lldp_tests"):
-    """The files of the crates with that pattern, in no path of which the other text stands."""
+    """Returns the files of the crates with that pattern whose paths do not contain the other text."""
     found = sorted(CRATES.glob(pattern))
     return [path for path in found if without not in path.relative_to(CRATES).as_posix()]
 
 
 def lines(paths):
-    """How many lines the files have that are not blank."""
+    """Returns how many lines of the files are not blank."""
     return sum(bool(line.strip()) for path in paths for line in path.read_text(errors="replace").splitlines())
 
 
 def occurrences(pattern, paths):
-    """How often the pattern stands in the files."""
+    """Returns how often the pattern occurs in the files."""
     return sum(len(re.findall(pattern, path.read_text(), re.M)) for path in paths)
 
 
 def traces_of_fixed_seeds():
-    """How many traces the gate compares each time, by the call in tools/gate/check.sh."""
+    """Returns how many traces the gate compares each time, by the call in tools/gate/check.sh."""
     return int(re.search(r"fuzz\.py .*--traces (\d+)", (TOP / "tools" / "gate" / "check.sh").read_text())[1])
 
 
 def numbers():
-    """What is counted, and how much it is."""
+    """Returns what is counted, and how much it is."""
     sources = files("*/src/**/*.rt")
     tests = sorted([*TOP.glob("python/tests/test_*.py"), *TOP.glob("audit/tests/test_*.py")])
     return {
@@ -79,14 +82,14 @@ def numbers():
 
 
 def part_of(name):
-    """The part that a file is of."""
+    """Returns the part that a file belongs to."""
     if "lldp_tests" in name:
         return "tests of the crates"
     return next(part for part, pattern in PARTS if fnmatch.fnmatch(name, pattern))
 
 
 def kept_by_hand(top):
-    """How many lines of each part people keep by hand, in a checkout."""
+    """Returns how many lines of each part people keep by hand, in a checkout."""
     names = subprocess.run(["git", "ls-files", "-z"], cwd=top, stdout=subprocess.PIPE, text=True,
                            check=True).stdout
     found = collections.Counter()
@@ -106,7 +109,7 @@ def print_parts(top):
 
 
 def said():
-    """The numbers of the page by what they count."""
+    """Returns the numbers of the page by what they count."""
     rows = re.findall(r"^\| ([\d,]+) \| (.*) \|$", (TOP / "docs" / "TESTING.md").read_text(), re.M)
     return {what: int(number.replace(",", "")) for number, what in rows}
 
@@ -122,14 +125,11 @@ def main():
         for what, number in counted.items():
             print(f"| {number:,} | {what} |")
         return 0
-    told, failed = said(), 0
+    told, counts = said(), Counts()
     for what, number in counted.items():
         is_near = what in told and abs(told[what] - number) * 20 <= number
-        failed += not is_near
-        if not is_near:
-            print(f"docs/TESTING.md: {what}: {told.get(what, 'not told')}, counted {number}")
-    print(f"{len(counted) - failed} passed, {failed} failed")
-    return 1 if failed else 0
+        counts.judge(None if is_near else f"{told.get(what, 'missing')}, counted {number}", f"docs/TESTING.md: {what}")
+    return counts.end()
 
 
 if __name__ == "__main__":

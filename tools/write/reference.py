@@ -3,8 +3,8 @@
 
     tools/write/reference.py
 
-The last line is `N passed, M failed`, with one for each call, law and file of definitions, which must have a comment. A
-law is a public function without arguments and with an empty body, wherever it stands.
+The last line is `N passed, M failed`, with one for each call, law and file of definitions. Each must have a comment,
+which may not name a clause of another call. A law is a public function without arguments and with an empty body.
 """
 import dataclasses
 import pathlib
@@ -22,9 +22,10 @@ CRATES = [line.split(":")[0].split()[0] for line in (TOP / "crates.txt").read_te
 WITHOUT_CLAIMS = ("lldp_tests",)
 # a definition is found below its crate, its file and its name
 Place = tuple[str, str, str]
-# a definition that more laws cite is of their language, and not what they are about
+# a definition that more laws cite belongs to their language, and is not what they are about
 MOST_LAWS = 6
-CLAUSE = re.compile(r"^\s*(?:ensures|requires)\b", re.M)
+KEYWORD = "(?:ensures|requires)"
+CLAUSE = re.compile(rf"^\s*{KEYWORD}\b", re.M)
 
 HEAD = """# Reference
 
@@ -51,6 +52,7 @@ class Item:
     clauses: list[str]
     cites: list[Place]
     is_law: bool
+    named: set[str]
 
 
 @dataclasses.dataclass
@@ -61,17 +63,17 @@ class Definition:
 
 
 def clause_names(found: list[str]) -> str:
-    """Names of clauses, one after another."""
+    """Returns names of clauses, one after another."""
     return ", ".join(f"`{name}`" if name else "one unnamed" for name in dict.fromkeys(found))
 
 
 def joined(lines: list[str], mark: str) -> str:
-    """The text of some lines of a comment, without their marks, on one line."""
+    """Returns the text of some lines of a comment, without their marks, on one line."""
     return " ".join(" ".join(line.strip().removeprefix(mark) for line in lines).split())
 
 
 def comment_above(lines: list[str], at: int, mark: str) -> str:
-    """The comment that ends above a line, attributes left out."""
+    """Returns the comment that ends above a line, without attributes."""
     first = at
     while first > 0 and re.match(rf"\s*({mark}(?! ----)|#\[|infix)", lines[first - 1]):
         first -= 1
@@ -79,7 +81,7 @@ def comment_above(lines: list[str], at: int, mark: str) -> str:
 
 
 def comment_of_file(path: pathlib.Path, mark: str) -> str:
-    """The first paragraph of the comment that a file begins with."""
+    """Returns the first paragraph of the comment that a file begins with."""
     found: list[str] = []
     for line in path.read_text().splitlines():
         if not line.startswith(mark) or line.strip() == mark:
@@ -92,7 +94,7 @@ def comment_of_file(path: pathlib.Path, mark: str) -> str:
 
 
 def imports(text: str) -> dict[str, Place]:
-    """The definitions that a source imports, by the name that it gives them."""
+    """Returns the definitions that a source imports, by the name that it gives them."""
     found = {}
     for crate, module, names in re.findall(r"ghost use Rattle\.(\w+)\.specs\.([\w.]+?)\.\{([^}]*)\}", text):
         for name in re.split(r",\s*", names):
@@ -104,13 +106,13 @@ def imports(text: str) -> dict[str, Place]:
 
 
 def is_definition(place: Place) -> bool:
-    """Whether a file of the crates has it, not the library, and not what is declared of the code."""
+    """Returns whether a file of the crates has it, not the library, and not what is declared of the code."""
     crate, module, _ = place
     return (TOP / "crates" / crate / "specs" / f"{module}.antt").is_file()
 
 
 def contract(lines: list[str], at: int) -> str:
-    """The lines of a function from its first to the one that opens its body, or that ends it in a trait."""
+    """Returns the lines of a function from its first to the one that opens its body, or that ends it in a trait."""
     for end in range(at, len(lines)):
         text = "\n".join(lines[at:end + 1])
         opens = lines[end].strip() in ("{", "{}") or lines[end].endswith("{") and not CLAUSE.search(text)
@@ -120,25 +122,27 @@ def contract(lines: list[str], at: int) -> str:
 
 
 def clauses(text: str, word: str) -> list[str]:
-    """The names of a contract's lines of that kind, in their order, nothing for one that has none."""
+    """Returns the names of a contract's lines of that kind, in their order, and an empty text for one without a
+    name."""
     return re.findall(rf"^\s*{word}\*? (\w*) ?\{{", text, re.M)
 
 
 def cited(text: str, known: dict[str, Place]) -> list[Place]:
-    """The definitions that a contract cites, in their order."""
+    """Returns the definitions that a contract cites, in their order."""
     body = CLAUSE.split(text, maxsplit=1)
     words = re.findall(r"[A-Za-z_]\w*", body[1]) if len(body) > 1 else []
     return list(dict.fromkeys(known[word] for word in words if word in known))
 
 
 def item(path: pathlib.Path, lines: list[str], at: int, owner: str, found: re.Match[str]) -> Item:
-    """The item whose first line is at a place."""
+    """Returns the item whose first line is at a place."""
     kind, name = found["kind"], found["name"]
     text = contract(lines, at) if kind == "fn" else ""
     comment = comment_above(lines, at, "///")
     is_law = f"fn {name}()\n" in text and text.endswith("\n{}")
+    named = {name, *clauses(text or "\n".join(lines), KEYWORD), *re.findall(r"\b(\w+): ", text)}
     return Item(f"{owner}::{name}" if owner else name, path, kind, comment, clauses(text, "requires"),
-                clauses(text, "ensures"), cited(text, imports("\n".join(lines))), is_law)
+                clauses(text, "ensures"), cited(text, imports("\n".join(lines))), is_law, named)
 
 
 PUBLIC = re.compile(r"\s*pub (?:const |unsafe )*(?:extern \"C\" )?(?P<kind>fn|struct|enum|trait|const|type) (?P<name>\w+)")
@@ -146,7 +150,7 @@ OF_TRAIT = re.compile(r"    (?P<kind>fn) (?P<name>\w+)")
 
 
 def items_of_file(path: pathlib.Path) -> Iterator[Item]:
-    """The public items of a source, those of tests left out, with the types that own them."""
+    """Returns the public items of a source, except those of tests, with the types that own them."""
     lines, owner, is_trait = path.read_text().splitlines(), "", False
     for at, line in enumerate(lines):
         block = re.match(r"(?:pub )?(impl(?:<.*?>)?|trait) (?:.* for )?(\w+)", line)
@@ -162,14 +166,14 @@ def items_of_file(path: pathlib.Path) -> Iterator[Item]:
 
 
 def exported(crate: str) -> set[str]:
-    """The names that lib.rt of a crate exports."""
+    """Returns the names that lib.rt of a crate exports."""
     text = (TOP / "crates" / crate / "src" / "lib.rt").read_text()
     used = " ".join(re.findall(r"^pub use ([^;]*);", text, re.M | re.S))
     return set(re.findall(r"\w+", used))
 
 
 def is_public(path: pathlib.Path, crate: str) -> bool:
-    """Whether all that is public in a file can be reached by its path."""
+    """Returns whether all that is public in a file can be reached by its path."""
     if path.stem == "lib":
         return True
     parts = path.relative_to(TOP / "crates" / crate / "src").with_suffix("").parts
@@ -178,14 +182,13 @@ def is_public(path: pathlib.Path, crate: str) -> bool:
 
 
 
-
 def sources(crate: str) -> list[pathlib.Path]:
-    """The sources of a crate, main.rt left out."""
+    """Returns the sources of a crate, except main.rt."""
     return [path for path in sorted((TOP / "crates" / crate / "src").rglob("*.rt")) if path.stem != "main"]
 
 
 def calls(crate: str) -> list[Item]:
-    """The public calls of a crate, with the types and constants that have a comment."""
+    """Returns the public calls of a crate, with the types and constants that have a comment."""
     shown, found = exported(crate) if (TOP / "crates" / crate / "src" / "lib.rt").is_file() else set(), []
     for path in sources(crate):
         for one in items_of_file(path):
@@ -197,7 +200,7 @@ def calls(crate: str) -> list[Item]:
 
 
 def laws(crate: str) -> list[Item]:
-    """The laws of a crate."""
+    """Returns the laws of a crate."""
     return [one for path in sources(crate) for one in items_of_file(path) if one.is_law]
 
 
@@ -205,7 +208,7 @@ def laws(crate: str) -> list[Item]:
 
 
 def definitions(path: pathlib.Path) -> list[Definition]:
-    """The definitions of a file, in their order."""
+    """Returns the definitions of a file, in their order."""
     lines = path.read_text().splitlines()
     pattern = re.compile(r"(?:\w+ )*pub (?:record |data |abbrev )?([^\s:(]+)")
     places = [(at, pattern.match(line)) for at, line in enumerate(lines) if not re.match(r"(use|pub mod|pub use|\s)", line)]
@@ -213,7 +216,7 @@ def definitions(path: pathlib.Path) -> list[Definition]:
 
 
 def spec_files(crate: str) -> list[str]:
-    """The files of definitions of a crate, without those that only name others."""
+    """Returns the files of definitions of a crate, without those that only name others."""
     specs = TOP / "crates" / crate / "specs"
     found = [path.relative_to(specs).with_suffix("").as_posix() for path in sorted(specs.rglob("*.antt"))]
     return [name for name in found if definitions(specs / f"{name}.antt")]
@@ -223,54 +226,54 @@ def spec_files(crate: str) -> list[str]:
 
 
 def row(*cells: str) -> str:
-    """A row of a table."""
+    """Returns a row of a table."""
     return "| " + " | ".join(cell.replace("|", "\\|") for cell in cells) + " |"
 
 
 def table(heads: list[str], rows: list[str]) -> list[str]:
-    """The lines of a table, or none if it has no rows."""
+    """Returns the lines of a table, or none if it has no rows."""
     return [row(*heads), "|" + "---|" * len(heads), *rows, ""] if rows else []
 
 
 def linked(path: pathlib.Path, text: str) -> str:
-    """A link from the page to a file."""
+    """Returns a link from the page to a file."""
     return f"[{text}](../{path.relative_to(TOP).as_posix()})"
 
 
 def linked_definitions(one: Item, own: str) -> str:
-    """Links to the files of the definitions that an item cites, those of other crates by their crate too."""
+    """Returns links to the files of the definitions that an item cites, with the crate of those of other crates."""
     files = dict.fromkeys((crate, module) for crate, module, _ in one.cites)
     return ", ".join(linked(TOP / "crates" / crate / "specs" / f"{module}.antt",
                             module if crate == own else f"{crate}/{module}") for crate, module in files)
 
 
 def clauses_told(one: Item) -> str:
-    """The names of an item's clauses."""
+    """Returns the names of an item's clauses."""
     asked = f"asks {clause_names(one.asks)}" if one.asks else ""
     return "; ".join(text for text in (clause_names(one.clauses), asked) if text)
 
 
 def laws_about(one: Item, all_laws: list[Item], crate: str) -> str:
-    """The laws that cite a definition of the crate which the item cites too, and which few laws cite."""
+    """Returns the laws that cite a definition of the crate which the item cites too, and which few laws cite."""
     citing = [[law for law in all_laws if place in law.cites] for place in one.cites if place[0] == crate]
     found = [law for laws_of_place in citing if len(laws_of_place) <= MOST_LAWS for law in laws_of_place]
     return ", ".join(f"`{law.name}`" for law in all_laws if law in found)
 
 
 def rows_of_calls(crate: str, all_laws: list[Item]) -> list[str]:
-    """A row for each public call."""
+    """Returns a row for each public call."""
     return [row(f"`{one.name}`", one.comment, clauses_told(one), linked_definitions(one, crate),
                 laws_about(one, all_laws, crate), linked(one.path, one.path.name)) for one in calls(crate)]
 
 
 def rows_of_laws(crate: str) -> list[str]:
-    """A row for each law."""
+    """Returns a row for each law."""
     return [row(f"`{one.name}`", one.comment, clauses_told(one), linked_definitions(one, crate),
                 linked(one.path, one.path.name)) for one in laws(crate)]
 
 
 def rows_of_definitions(crate: str, cited_names: set[Place]) -> list[str]:
-    """A row for each file of definitions and, below it, for each of them."""
+    """Returns a row for each file of definitions and, below it, for each of them."""
     rows = []
     for file in spec_files(crate):
         path = TOP / "crates" / crate / "specs" / f"{file}.antt"
@@ -282,7 +285,7 @@ def rows_of_definitions(crate: str, cited_names: set[Place]) -> list[str]:
 
 
 def section(crate: str, all_laws: list[Item], cited_names: set[Place]) -> list[str]:
-    """The section of a crate, or none if it has nothing to say."""
+    """Returns the section of a crate, or none if it has nothing to say."""
     parts = (("Calls", ["Call", "What it promises", "Clauses", "Definitions", "Laws", "File"], rows_of_calls(crate, all_laws)),
              ("Laws", ["Law", "What it says", "Clauses", "Definitions", "File"], rows_of_laws(crate)),
              ("Definitions", ["File", "Definition", "What it says"], rows_of_definitions(crate, cited_names)))
@@ -293,12 +296,12 @@ def section(crate: str, all_laws: list[Item], cited_names: set[Place]) -> list[s
 
 
 def told_crates() -> list[str]:
-    """The crates that the page tells of."""
+    """Returns the crates on the page."""
     return [crate for crate in CRATES if crate not in WITHOUT_CLAIMS]
 
 
 def page() -> str:
-    """The page."""
+    """Returns the page."""
     all_laws = [law for crate in told_crates() for law in laws(crate)]
     public = all_laws + [call for crate in told_crates() for call in calls(crate)]
     cited_names = {place for one in public for place in one.cites}
@@ -306,14 +309,17 @@ def page() -> str:
     return HEAD + "\n" + "\n".join(lines).rstrip() + "\n"
 
 
-def without_comment() -> Iterator[tuple[str, bool]]:
-    """What has to have a comment, and whether it lacks one."""
+def faults() -> Iterator[tuple[str, str | None]]:
+    """Returns what must have a comment, and what is wrong with it, or None."""
     for crate in told_crates():
+        known = {name for path in sources(crate) for name in clauses(path.read_text(), KEYWORD)}
         for one in calls(crate) + laws(crate):
-            yield f"{crate}: {one.name}", not one.comment
+            strange = known & set(re.findall(r"`(\w+)`", one.comment)) - one.named
+            fault = f"names clauses that are not its own: {strange}" if strange else None
+            yield f"{crate}: {one.name}", fault if one.comment else "has no comment"
         for file in spec_files(crate):
             path = TOP / "crates" / crate / "specs" / f"{file}.antt"
-            yield f"{crate}: {file}", not comment_of_file(path, "--")
+            yield f"{crate}: {file}", None if comment_of_file(path, "--") else "has no comment"
 
 
 def main() -> int:
@@ -321,8 +327,8 @@ def main() -> int:
     PAGE.parent.mkdir(exist_ok=True)
     PAGE.write_text(page())
     counts = Counts()
-    for name, is_lacking in without_comment():
-        counts.judge("has no comment" if is_lacking else None, name)
+    for name, fault in faults():
+        counts.judge(fault, name)
     return counts.end()
 
 

@@ -2,12 +2,12 @@
 """Writes the transcripts of examples/ as theorems over the definitions alone, which the check of lldpa computes: from
 the words of the program to the options that they ask for, and from the octets of the input to those of the output, or
 to its lines that pass the filter of the transcript. Each row of receive-counters.rows is a theorem too, of the options
-and the input of its transcript: which lines of its counters `show statistics` behind that input gives.
+and the input of its transcript: which lines of its counters `show statistics` writes after that input.
 
     python3 tools/write/transcripts.py [FILE]
 
 They are written to FILE, crates/lldpa/proofs/Transcripts.antt unless given. A transcript of more than MOST_TICKS ticks
-is left out: of each moment the definitions ask for all before it.
+is left out: for each moment the definitions look at all before it.
 """
 import pathlib
 import re
@@ -19,7 +19,7 @@ from examples import ROWS, rows, transcripts  # noqa: E402
 
 FILE = TOP / "crates/lldpa/proofs/Transcripts.antt"
 MOST_TICKS = 60
-WIDTH = 105  # columns of a line of texts, but for what stands between two
+WIDTH = 105  # columns of a line of texts, without what is between two
 
 HEAD = """\
 -- The transcripts of examples/, computed from the definitions alone. tools/write/transcripts.py writes this file.
@@ -131,7 +131,7 @@ unfolding digits encode_with decode_pairs
 computed = tt
 """
 
-# what a row says of its transcript, of the counters that stand between
+# what a row says of its transcript, of the counters between
 COUNTED = f"""
 -- the counters that {ROWS.name} looks at
 abbrev counters : List Text
@@ -159,7 +159,7 @@ def octets(values):
 
 
 def codes(line):
-    """A line as antt has it: its printable octets and LF in quotes, each other octet by itself."""
+    """Returns a line as antt has it: its printable octets and LF in quotes, each other octet by itself."""
     parts = []
     for part in re.findall(rb"[ -~\n]+|[^ -~\n]+", line):
         quoted = part.decode("latin-1").replace("\\", "\\\\").replace('"', '\\"').replace("\n", "\\n")
@@ -168,12 +168,12 @@ def codes(line):
 
 
 def joined(lines):
-    """Lines as one text."""
+    """Joins lines into one text."""
     return packed(" ++ ", map(codes, lines)) or "[]"
 
 
 def packed(between, terms):
-    """Terms with an operator between them: as many on a line of the file as fit."""
+    """Returns terms with an operator between them: as many on a line of the file as fit."""
     rows = []
     for term in terms:
         if rows and "\n" not in rows[-1] + term and len(rows[-1]) + len(term) < WIDTH:
@@ -184,12 +184,12 @@ def packed(between, terms):
 
 
 def written_by(lines):
-    """What a line writes; several lines stand below one another."""
+    """Returns what a line writes; several lines are below one another."""
     return f"({joined(lines)})" if len(lines) > 1 else joined(lines)
 
 
 def options(words):
-    """The options of some words, as what differs from the usual ones, and the management address among them."""
+    """Returns the options of some words, as what differs from the usual ones, and the management address among them."""
     names, fields, management, words = [], [], None, iter(words)
     for word in words:
         name, equals, value = word.removeprefix("--").partition("=")
@@ -214,12 +214,13 @@ def options(words):
 
 
 def listed(texts):
-    """Texts as a list."""
+    """Returns texts as a list."""
     return "".join(codes(text) + " ∷ " for text in texts) + "[]"
 
 
 def asked(name, words):
-    """A theorem that the words ask for their options: all is computed but for the digits of a management address."""
+    """Returns a theorem that the words ask for their options: all is computed but the digits of a management
+    address."""
     given, management = options(words)
     dotted = "refl"
     if management:
@@ -239,12 +240,12 @@ unfolding clap_on_literals decode_pairs digits
 
 
 def list_of_words(words):
-    """The program's name and its words as antt has them."""
+    """Returns the program's name and its words as antt has them."""
     return f"({listed([b'lldpa', *(word.encode() for word in words)])})"
 
 
 def theorem(name, words, sought, trace, steps, asks):
-    """A transcript as a theorem and its proof, of words that ask for their options by a theorem before it."""
+    """Returns a transcript as a theorem and its proof, of words that ask for their options by a theorem before it."""
     if isinstance(steps, str):
         sys.exit(f"{name}: {steps}")
     lines = re.findall(rb"[^\n]*\n|[^\n]+", trace)
@@ -261,7 +262,7 @@ unfolding computed
 
 
 def theorems(shown):
-    """The theorems of some transcripts, each list of words before the first transcript that has it."""
+    """Returns the theorems of some transcripts, each list of words before the first transcript that has it."""
     names = {}
     for name, words, sought, trace, steps in shown:
         name = name.replace("-", "_")
@@ -272,7 +273,7 @@ def theorems(shown):
 
 
 def theorems_of_rows():
-    """The theorems of the rows, behind what they say of their transcripts."""
+    """Returns the theorems of the rows, behind what they say of their transcripts."""
     table = list(rows([]))
     yield COUNTED % listed(f"lldp.eth0.{counter}=".encode() for counter, _ in table[0][1])
     for name, values, found in table:
@@ -283,7 +284,7 @@ def theorems_of_rows():
 
 
 def theorem_of_row(name, values):
-    """A row as a theorem and its proof."""
+    """Returns a row as a theorem and its proof."""
     return f"""
 counters_of_{name} : counted {name} ≡ valued counters ({octets(values)})
 unfolding computed {name}
@@ -292,7 +293,7 @@ counters_of_{name} = refl
 
 
 def ticks(trace):
-    """How many ticks a trace has; a line of more than 65,535 is refused."""
+    """Returns how many ticks a trace has; a line of more than 65,535 is refused."""
     numbers = [int(n or 1) for n in re.findall(rb"^tick *(\d*)$", trace, re.M)]
     return sum(n for n in numbers if n <= 65535)
 

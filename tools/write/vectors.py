@@ -1,34 +1,136 @@
 #!/usr/bin/env python3
-"""Writes examples/vectors.rows as theorems of lldp_pdu and as tables of lldp_tests.
+"""Writes the rows of examples/vectors.rows that are about LLDPDUs as theorems of lldp_pdu.
 
-    tools/write/vectors.py                               both
-    tools/write/vectors.py (--proofs | --tables) FILE    one of them, into FILE
+    tools/write/vectors.py [FILE]
+
+FILE is crates/lldp_pdu/proofs/Vectors/Rows.antt unless given.
 """
 from __future__ import annotations
 
 import pathlib
+import re
 import sys
+from itertools import groupby
 
-sys.dont_write_bytecode = True
-from vector_proofs import proofs  # noqa: E402
-from vector_rows import TOP  # noqa: E402
-from vector_tables import tables  # noqa: E402
+TOP = pathlib.Path(__file__).resolve().parents[2]
+ROWS = TOP / "examples" / "vectors.rows"
+FILE = TOP / "crates" / "lldp_pdu" / "proofs" / "Vectors" / "Rows.antt"
+# So many equal octets are written as so many times one.
+LONG_RUN = 8
+FAULTS = ("Truncated", "NoChassis", "ChassisLength", "NoPort", "PortLength", "NoTtl", "TtlLength", "Repeated")
+UNFOLDED = ("cut_within cut extent ended_incomplete ttl_of msap_of later_tlvs is_well_formed fault_of kept_of "
+            "discarded_of")
 
-PROOFS = TOP / "crates" / "lldp_pdu" / "proofs" / "Vectors" / "Rows.antt"
-TABLES = TOP / "crates" / "lldp_tests" / "src" / "rows.rt"
+HEAD = """-- The rows of examples/vectors.rows, written by tools/write/vectors.py: each is computed from the definitions alone.
+use Rattle.std.proofs.Common.{◌≡◌, [], ◌∷◌, ◌++◌, length, Some, None, refl}
+use Rattle.std.specs.Prelude.{replicate}
+use Rattle.lldp_pdu.specs.declared.fault.PduFault.TheVariants.{Truncated, NoChassis, ChassisLength, NoPort, PortLength, NoTtl, TtlLength, Repeated}
+use Rattle.lldp_pdu.specs.Cut.{cut_within, cut}
+use Rattle.lldp_pdu.specs.Lldpdu.{extent, ended_incomplete, ttl_of, msap_of, later_tlvs}
+use Rattle.lldp_pdu.specs.WellFormed.{is_well_formed}
+use Rattle.lldp_pdu.specs.Fault.{fault_of}
+use Rattle.lldp_pdu.specs.Kept.{kept_of, discarded_of}
+use Rattle.lldp_pdu.specs.Capabilities.{caps_of}
+use Rattle.lldp_pdu.specs.ManagementAddress.{address_of}
+use Rattle.lldp_pdu.specs.Draft.{put_fault, lldpdu_octets}
+use Rattle.lldp_pdu.proofs.Vectors.Parts.{Gives, Tells, ShutsDown, tlv, begun, answers, given}
+"""
 
 
-def main() -> int:
-    """Writes both files, or one of them into another."""
-    written = {"--proofs": (proofs, PROOFS), "--tables": (tables, TABLES)}
-    if sys.argv[1:]:
-        write, _ = written[sys.argv[1]]
-        pathlib.Path(sys.argv[2]).write_text(write())
-        return 0
-    for write, file in written.values():
-        file.write_text(write())
-    return 0
+def rows_of(kind: str) -> list[list[str]]:
+    """Returns the rows of a kind, each as its fields behind the kind."""
+    rows = [line.split("\t") for line in ROWS.read_text().splitlines() if not line.startswith("#")]
+    return [row[1:] for row in rows if row[0] == kind]
+
+
+def listed(digits: str) -> str:
+    """Writes octets, `-` for none, as a list, long runs of one octet as replicate."""
+    parts, single = [], ""
+    for octet, run in groupby(bytes.fromhex(digits.strip("-"))):
+        count = len(list(run))
+        if count >= LONG_RUN:
+            parts += [f"{single}replicate {count} 0x{octet:02x}"]
+            single = ""
+        else:
+            single += f"0x{octet:02x} ∷ " * count
+    return " ++ ".join([*parts, f"{single}[]"] if single or not parts else parts)
+
+
+def chained(items: list[str]) -> str:
+    """Writes a list of its items."""
+    return "".join(f"{item} ∷ " for item in items) + "[]"
+
+
+def tlvs_of(fields: list[str]) -> str:
+    """Writes the list of TLVs that fields KIND:BODY say."""
+    pairs = [field.split(":")[:2] for field in fields]
+    return chained([f"tlv {kind} ({listed(body)})" for kind, body in pairs])
+
+
+def name_of(prefix: str, name: str) -> str:
+    """Returns a name of a row as one of a theorem."""
+    return f"{prefix}_" + re.sub(r"\W+", "_", name).strip("_")
+
+
+def table_of(name: str, function: str, rows: list[tuple[str, str, str]]) -> str:
+    """Writes rows, each a name, an argument and what the function gives."""
+    lines = [f"({given}, {gives})  -- {row}" for row, given, gives in rows]
+    return f"\n{name} : Gives {function}\n    (" + "\n    ∷ ".join(lines) + "\n    ∷ [])\n"
+
+
+def faults_theorem() -> str:
+    """Writes the LLDPDUs that are refused."""
+    rows = [(row[0], listed(row[1]), f"Some {FAULTS[int(row[3]) - 1]}") for row in rows_of("examine")
+            if row[2] == "fault"]
+    return table_of("faults", "fault_of", rows) + f"unfolding {UNFOLDED}\nfaults = refl\n"
+
+
+def told_theorem(row: list[str]) -> str:
+    """Writes what a sound LLDPDU tells."""
+    name, lldpdu, _, ttl, chassis, port, extent, discarded, unrecognized, *kept = row
+    msap = f"(record {{ chassis = {listed(chassis)}; port = {listed(port)} }})"
+    known = name_of("told", name)
+    if ttl == "0":
+        said = f"ShutsDown ({listed(lldpdu)}) {msap}"
+    else:
+        said = f"Tells ({listed(lldpdu)}) {msap} {ttl} {extent} ({tlvs_of(kept)}) {discarded} {unrecognized}"
+    return f"\n{known} : {said}\nunfolding {UNFOLDED}\n{known} = {'(refl, refl, refl)' if ttl == '0' else '(refl, refl)'}\n"
+
+
+def bodies_theorems() -> str:
+    """Writes the bodies of System Capabilities and Management Addresses."""
+    caps = [(name, listed(body), f"Some (record {{ available = {told[0]}; enabled = {told[1]} }})" if told else "None")
+            for name, body, *told in rows_of("caps")]
+    addresses = []
+    for name, body, *told in rows_of("mgmt"):
+        gives = "None"
+        if told:
+            family, address, numbering, interface, oid = told
+            gives = (f"Some (record {{ family = {family}; address = {listed(address)}; numbering = {numbering}; "
+                     f"interface = {interface}; oid = {listed(oid)} }})")
+        addresses.append((name, listed(body), gives))
+    return (table_of("capabilities", "caps_of", caps) + "capabilities = refl\n"
+            + table_of("management_addresses", "address_of", addresses) + "management_addresses = refl\n")
+
+
+def built_theorem(row: list[str]) -> str:
+    """Writes what a builder answers and gives."""
+    name, ttl, chassis, port, length, lldpdu, *puts = row
+    draft = f"(begun (record {{ chassis = {listed(chassis)}; port = {listed(port)} }}) {ttl}) ({tlvs_of(puts)})"
+    wanted = chained([put.split(":")[2] for put in puts])
+    octets = f"lldpdu_octets (given {draft})"
+    built = f"{octets} ≡ {listed(lldpdu)}" if lldpdu != "-" else f"length ({octets}) ≡ {length}"
+    known = name_of("built", name)
+    return (f"\n{known} : (answers {draft} ≡ {wanted}) × ({built})\n"
+            f"unfolding is_well_formed put_fault\n{known} = (refl, refl)\n")
+
+
+def proofs() -> str:
+    """Returns the theorems."""
+    told = [told_theorem(row) for row in rows_of("examine") if row[2] == "told"]
+    built = [built_theorem(row) for row in rows_of("build")]
+    return HEAD + faults_theorem() + "".join(told) + bodies_theorems() + "".join(built)
 
 
 if __name__ == "__main__":
-    sys.exit(main())
+    pathlib.Path(sys.argv[1] if sys.argv[1:] else FILE).write_text(proofs())

@@ -8,7 +8,7 @@ use Rattle.lldp_engine.specs.declared.port.counters.Counters.{Counters}
 use Rattle.lldp_engine.specs.Configuration.{Configuration}
 use Rattle.lldp_engine.specs.Event.{Event, tick, frame, link, set, Setting, limit, status, IsInRange}
 
--- a port: whether its link is up stands in its transmit machine
+-- a port; its transmit machine has whether its link is up
 pub record PortState : Type 0 where
   pub name : List ℕ
   pub status : Status

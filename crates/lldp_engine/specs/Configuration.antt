@@ -38,7 +38,7 @@ configuration_at_opening o =
       limit = o.max_neighbors;
     }
 
--- a command sets what it names, and nothing else
+-- a command sets only what it names
 abbrev pub with_setting : Setting → Configuration → Configuration
 with_setting (hostname text) c = record c { hostname = text }
 with_setting (description text) c = record c { description = text }

@@ -19,7 +19,7 @@ abbrev pub is_refused : Heard → Bool
 is_refused refused = true
 is_refused heard = false
 
--- how many of its TLVs were discarded, if it tells of a neighbor that lives
+-- how many of its TLVs were discarded, if it is about a neighbor that lives
 abbrev pub discarded_tlvs : Heard → ℕ
 discarded_tlvs (tells info) = info.discarded
 discarded_tlvs heard = 0
@@ -37,7 +37,7 @@ is_error (tells info) = nat_lt 0 info.discarded
 
 -- ## Of one table event
 
--- a frame that was dropped for want of room
+-- a frame that was dropped for lack of room
 abbrev pub is_dropped : TableEvent → Bool
 is_dropped (learned msap ttl octets Dropped) = true
 is_dropped event = false
@@ -49,12 +49,12 @@ all_aged_out (event ∷ past) = (if is_tick event then aged_out past else 0) + a
 
 -- ## Of what is sent at one event
 
--- an ordinary frame went
+-- an ordinary frame was sent
 abbrev pub is_ordinary : Mark → Bool
 is_ordinary Ordinary = true
 is_ordinary mark = false
 
--- a shutdown frame went
+-- a shutdown frame was sent
 abbrev pub is_shutdown : Mark → Bool
 is_shutdown Shutdown = true
 is_shutdown mark = false

@@ -26,7 +26,8 @@ IsInRange (interval seconds) = (1 ≤ seconds) × (seconds ≤ 3600)
 IsInRange (hold times) = (1 ≤ times) × (times ≤ 100)
 IsInRange setting = Unit {0}
 
--- a second has passed; these octets came on this port; the link of this port came or went; a command was accepted
+-- a second has passed; this port received these octets; the link of this port came up or went down; a command was
+-- accepted
 pub data Event : Type 0 where
   tick : Event
   frame : (port : ℕ) (octets : List ℕ) → Event

@@ -69,7 +69,7 @@ abbrev pub and_left : Result Form CommandFault → List Form → List Form
 and_left (Ok next) others = next ∷ others
 and_left (Err fault) others = others
 
--- the fault of one form more, if it is told before the others'
+-- the fault of one form more, if it counts before the others'
 abbrev pub fault_or : Result Form CommandFault → CommandFault → CommandFault
 fault_or (Ok next) others = others
 fault_or (Err Extra) others = others

@@ -42,8 +42,8 @@ sent_tlvs c name =
     unit 4 name ∷ unit 5 c.hostname ∷ unit 6 c.description ∷ unit 7 (capabilities_of c.role)
     ∷ management_tlvs c.management
 
--- What a frame of a port says: an ordinary one the configuration, a shutdown one that the port leaves. At Quiet, where no
--- frame goes, the same stands here as at Shutdown.
+-- What a frame of a port says: an ordinary one the configuration, a shutdown one that the port leaves. At Quiet no
+-- frame is sent; the value is the same as at Shutdown.
 abbrev pub draft_of : Configuration → List ℕ → Mark → Draft
 draft_of c name Ordinary = record { msap = sent_msap c name; ttl = sent_ttl c; tlvs = sent_tlvs c name }
 draft_of c name Shutdown = record { msap = sent_msap c name; ttl = 0; tlvs = [] }
@@ -53,13 +53,13 @@ draft_of c name Quiet = record { msap = sent_msap c name; ttl = 0; tlvs = [] }
 unfoldable pub frame_of : Configuration → List ℕ → Mark → List ℕ
 frame_of c name mark = nearest_bridge ++ c.mac ++ lldp_ethertype ++ lldpdu_octets (draft_of c name mark)
 
--- a frame goes
+-- a frame is sent
 abbrev pub IsSent : Mark → Type 0
 IsSent Quiet = ⊥
 IsSent Ordinary = Unit {0}
 IsSent Shutdown = Unit {0}
 
--- These octets are an LLDP frame, whose LLDPDU is examined back to what was to be said.
+-- These octets are an LLDP frame, and examining its LLDPDU returns what was to be said.
 pub record SaysBack (draft : Draft) (octets : List ℕ) : Type 0 where
   pub lldpdu : List ℕ
   pub has : lldpdu_of octets ≡ Some lldpdu

@@ -22,7 +22,7 @@ unless_in_use ports said = said
 abbrev pub command_said : AgentState → List (List ℕ) → Result Command CommandFault
 command_said agent words = unless_in_use agent.ports (said_by agent words)
 
--- What a line asks of an agent: what its words do, and one with a bad quote has none.
+-- What a line asks of an agent: what its words ask. A line with a bad quote has no words.
 abbrev pub command_given : AgentState → List ℕ → Result Command CommandFault
 command_given agent line = or_fault (words_of line) Quote >>= command_said agent
 
@@ -33,7 +33,7 @@ Reads names left words (Ok a) then_left words_left =
     read_forms names (Ok left) words ≡ read_forms names (Ok (then_left a)) words_left
 Reads names left words (Err fault) then_left words_left = read_forms names (Ok left) words ≡ Err fault
 
--- The words were read but for their end: they say this command if none is left, or this is their fault.
+-- The words were read except their end: they say this command if none is left, or this is their fault.
 abbrev pub Says : {A : Type 0} → AgentState → List (List ℕ) → Result A CommandFault → (A → Command) → List (List ℕ) →
     Type 0
 Says agent words (Ok a) command words_left =

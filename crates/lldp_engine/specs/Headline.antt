@@ -15,7 +15,7 @@ pub record Promised (past : Past) (agent : AgentState) : Type 0 where
       HoldsLastStored past.options (past_of past i) port.table
   pub sending : (i : ℕ) → i < length past.options.names → HasSentExactly past.options (past_of past i)
 
--- the port of the first stands before that of the second
+-- the port of the first comes before that of the second
 abbrev pub IsEarlierPort : Sending → Sending → Type 0
 IsEarlierPort a b = a.0 < b.0
 
@@ -28,9 +28,9 @@ DueAndOpenNow past event i =
 abbrev pub StopsNow : Past → Event → ℕ → Type 0
 StopsNow past event i = Stops past.options (happened past.options i event past.events) (past_of past i)
 
--- What is answered at an event is what the definitions say is sent: port i stands there with an ordinary frame exactly
--- if one is due and its credit window is open, and with a shutdown frame exactly if it stops; nothing else stands
--- there, and the ports rise.
+-- The answer at an event is what the definitions say is sent: it has port i with an ordinary frame exactly if one is
+-- due and its credit window is open, and with a shutdown frame exactly if it stops. It has nothing else, and its ports
+-- ascend.
 pub record AnswersExactly (past : Past) (event : Event) (marks : List Sending) : Type 0 where
   pub are : marks ≡ marks_of (with_event past event)
   pub ordinary : (i : ℕ) → i < length past.options.names → Contains marks (i, Ordinary) ↔ DueAndOpenNow past event i

@@ -10,7 +10,7 @@ use Rattle.lldp_engine.specs.declared.port.status.Status.{Status}
 use Rattle.lldp_engine.specs.Status.{receives}
 
 -- what an LLDPDU says: it is refused, as it is not sound; or the neighbor of this name leaves, as its TTL is 0; or it
--- tells of a neighbor that lives
+-- is about a neighbor that lives
 pub data Heard : Type 0 where
   refused : Heard
   leaves : (msap : MsapId) → Heard

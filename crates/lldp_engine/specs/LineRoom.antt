@@ -4,13 +4,13 @@ use Rattle.std.specs.Borrow.{Fml, RattleType, MutBor, LendsSo}
 use Rattle.lldp_text.specs.contracts.writing.Writer.{the_row as writer_row}
 use Rattle.lldp_text.specs.Text.{ended}
 
--- From a lent writer a sink takes the line that is written behind what stands there, with its LF at most 2,049 octets.
+-- From a lent writer a sink takes the line that is appended to what it held, with its LF at most 2,049 octets.
 abbrev pub TakesWritten : {S : Type 0} → (S → S → List ℕ → Type 0) → S → Option (MutBor (List ℕ)) → S → List ℕ → Type 0
 TakesWritten takes old lent new text =
     (writer : MutBor (List ℕ)) (line : List ℕ) → lent ≡ Some writer → text ≡ writer.now ++ ended line
     → length text ≤ length writer.now + 2049 → takes old new line
 
--- A sink that lends none takes whatever line.
+-- A sink that lends no writer takes any line.
 abbrev pub TakesAny : {S : Type 0} → (S → S → List ℕ → Type 0) → S → Option (MutBor (List ℕ)) → S → Type 0
 TakesAny takes old lent new = (line : List ℕ) → lent ≡ None → takes old new line
 

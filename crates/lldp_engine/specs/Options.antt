@@ -75,7 +75,7 @@ checks o =
 abbrev pub fault_of : Options → Option OpenFault
 fault_of o = first_fault (checks o)
 
--- An opening is refused for the first check that fails, and for want of memory only if none does.
+-- An opening is refused for the first check that fails, and for lack of memory only if none does.
 abbrev pub IsRefusal : Options → OpenFault → Type 0
 IsRefusal o Memory = fault_of o ≡ None
 IsRefusal o NoPorts = fault_of o ≡ Some NoPorts

@@ -69,7 +69,7 @@ AreAllowed o (event ∷ events) =
 abbrev pub Sending : Type 0
 Sending = ℕ × Mark
 
--- a port that sends stands before the others that do, and one that is quiet does not
+-- a port that sends comes before the others that do, and a quiet one is left out
 abbrev pub sending : ℕ → Mark → List Sending → List Sending
 sending i Quiet others = others
 sending i Ordinary others = (i, Ordinary) ∷ others
@@ -80,6 +80,6 @@ abbrev pub sent_from : Options → List Event → ℕ → List (List ℕ) → Li
 sent_from o events i [] = []
 sent_from o events i (name ∷ names) = sending i (mark_after o (port_past o i events)) (sent_from o events (i + 1) names)
 
--- which ports sent at the last event, rising, each with what it sent
+-- which ports sent at the last event, in ascending order, each with what it sent
 abbrev pub marks_of : Past → List Sending
 marks_of past = sent_from past.options past.events 0 past.options.names

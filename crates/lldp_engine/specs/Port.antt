@@ -1,5 +1,5 @@
--- One port: what happens to it, and what that makes of it. No number of a port stands here, but where an event of the
--- agent is said for one port (Event, EventView).
+-- One port: what happens to it, and what that makes of it. A port has no number here, except in Event and EventView,
+-- which say what an event of the agent is for one port.
 pub mod Event
 pub mod EventView
 pub mod Effects

@@ -3,13 +3,14 @@ ghost use Rattle.std.specs.Prelude.{◌≡◌, ℕ, ◌<◌, ◌≤◌, length, 
 ghost use Rattle.std.specs.List.{AllByRecursion};
 ghost use Rattle.std.specs.Option.{option_map};
 ghost use Rattle.lldp_table.specs.Standing.{Stands as TableStands};
+ghost use Rattle.lldp_transmit.specs.Standing.{machine_of};
 ghost use Rattle.lldp_engine.specs.Options.{options_of, InRange, IsRefusal, fault_of};
 ghost use Rattle.lldp_engine.specs.Event.{event_of};
 ghost use Rattle.lldp_engine.specs.AgentState.{names_of, name_of, IsPort, Allows};
 ghost use Rattle.lldp_engine.specs.Configuration.{configured};
 ghost use Rattle.lldp_engine.specs.Place.{place_of};
-ghost use Rattle.lldp_engine.specs.Past.{Past, opened, with_event, past_of, marks_of};
-ghost use Rattle.lldp_engine.specs.Port.Past.{port_after, status_after, up_after, calls_after, counters_after};
+ghost use Rattle.lldp_engine.specs.Past.{Past, opened, with_event, past_of, marks_of, configuration_after};
+ghost use Rattle.lldp_engine.specs.Port.Past.{port_after, status_after, up_after, calls_after, counters_after, settings_of, causes_after};
 ghost use Rattle.lldp_engine.specs.Frames.{IsSent};
 ghost use Rattle.lldp_engine.specs.Sound.{AreSound};
 ghost use Rattle.lldp_engine.specs.Standing.{Stands};
@@ -33,6 +34,7 @@ use crate::port::Port;
 use crate::port::counters::Counters;
 use crate::port::status::Status;
 use lldp_table::{Room, Table};
+use lldp_transmit::Transmit;
 use std::alloc::{Allocator, Global};
 use std::marker::Model;
 
@@ -56,13 +58,14 @@ impl<A: Allocator> Model for Agent<A> {
 }
 
 impl<A: Allocator> Agent<A> {
-    /// Opens an agent, which stands for the options and no events. The four numbers are in their
-    /// ranges, as `Options::in_range` tells.
+    /// Opens an agent, which stands for the options and no events. The four numbers must be in
+    /// their ranges (`Options::in_range`).
+    ///
     ///
     /// The options are checked first, each check over the whole list of ports: NoPorts,
     /// TooManyPorts, PortName, SamePort or Text says exactly that this check is the first that
-    /// fails. Then memory is taken for the room of every neighbor, and none after that; Memory is
-    /// answered only if no check failed.
+    /// fails. Then memory is taken for every neighbor, and none after that. The fault is Memory
+    /// only if no check failed.
     pub fn open(alloc: A, options: &Options<'_>) -> Result<Self, OpenFault>
     where
         A: Clone,
@@ -81,14 +84,16 @@ impl<A: Allocator> Agent<A> {
         })
     }
 
-    /// How it is configured.
-    pub(crate) fn configuration(&self) -> &Configuration
-        ensures { result.now ≡ self.now.configuration }
+    /// Returns its configuration: each part by the last command that set it, else as it was opened.
+    pub fn configuration(&self) -> &Configuration
+        ensures value { result.now ≡ self.now.configuration }
+        ensures past { (past : Past) → Stands past self.now →
+            result.now ≡ configuration_after past.options past.events }
     {
         &self.configuration
     }
 
-    /// Its ports.
+    /// Returns its ports.
     pub(crate) fn all_ports(&self) -> &[Port<A>]
         ensures value { result.now ≡ self.now.ports }
         ensures sound { AreSound self.now.configuration.capacity self.now.ports }
@@ -96,7 +101,7 @@ impl<A: Allocator> Agent<A> {
         self.ports.as_slice()
     }
 
-    /// The port of this number.
+    /// Returns the port of this number.
     fn port(&self, port: u8) -> &Port<A>
         requires { IsPort self.now port }
         ensures value { slice_get self.now.ports port ≡ Some result.now }
@@ -109,7 +114,7 @@ impl<A: Allocator> Agent<A> {
         self.ports.at(port as usize)
     }
 
-    /// How many ports it has, at most 64: as many as the options named.
+    /// Returns how many ports it has, at most 64: as many as the options named.
     pub fn ports(&self) -> u8
         ensures value { result ≡ length self.now.ports }
         ensures few { result ≤ 64 }
@@ -118,7 +123,7 @@ impl<A: Allocator> Agent<A> {
         self.ports.len() as u8
     }
 
-    /// The name of a port, 1 to 15 octets, as the options gave it.
+    /// Returns the name of a port, 1 to 15 octets, as the options gave it.
     pub fn port_name(&self, port: u8) -> &[u8]
         requires { IsPort self.now port }
         ensures value { slice_get (names_of self.now) port ≡ Some result.now }
@@ -131,7 +136,7 @@ impl<A: Allocator> Agent<A> {
         self.port(port).name()
     }
 
-    /// The place of the port of that name, from 0. None if there is none.
+    /// Returns the place of the port of that name, from 0, or None if no port has it.
     pub fn find_port(&self, name: &[u8]) -> Option<u8>
         ensures place { result ≡ place_of (names_of self.now) name.now }
         ensures exists { IfSome result (λ port. IsPort self.now port) }
@@ -141,7 +146,7 @@ impl<A: Allocator> Agent<A> {
         find_place(self.ports.as_slice(), name)
     }
 
-    /// The status of a port, by its last status command, else as it was opened.
+    /// Returns the status of a port: that of its last status command, or else that of opening.
     pub fn status(&self, port: u8) -> Status
         requires { IsPort self.now port }
         ensures value { option_map (λ p. p.status) (slice_get self.now.ports port) ≡ Some result }
@@ -151,7 +156,7 @@ impl<A: Allocator> Agent<A> {
         self.port(port).status()
     }
 
-    /// Whether the link of a port is up, by its last link event, else it is.
+    /// Returns whether the link of a port is up: as its last link event says, or else true.
     pub fn is_up(&self, port: u8) -> bool
         requires { IsPort self.now port }
         ensures value { option_map (λ p. p.machine.up) (slice_get self.now.ports port)
@@ -162,7 +167,7 @@ impl<A: Allocator> Agent<A> {
         self.port(port).is_up()
     }
 
-    /// The neighbors of a port: a table that stands for the calls that the past gives the port.
+    /// Returns the neighbors of a port: a table that stands for the calls that the past makes.
     pub fn table(&self, port: u8) -> &Table<A>
         requires { IsPort self.now port }
         ensures value { option_map (λ p. p.table) (slice_get self.now.ports port)
@@ -174,7 +179,19 @@ impl<A: Allocator> Agent<A> {
         self.port(port).table()
     }
 
-    /// The counters of a port: the definitions' numbers over its whole past, modulo 2^32.
+    /// Returns the transmit machine of a port: the one that the past's events leave.
+    pub fn machine(&self, port: u8) -> &Transmit
+        requires { IsPort self.now port }
+        ensures value { option_map (λ p. p.machine) (slice_get self.now.ports port)
+            ≡ Some result.now }
+        ensures past { (past : Past) → Stands past self.now →
+            result.now ≡ machine_of (settings_of past.options)
+            (causes_after past.options (past_of past port)) }
+    {
+        self.port(port).machine()
+    }
+
+    /// Returns the counters of a port: the definitions' numbers over its past, modulo 2^32.
     pub fn counters(&self, port: u8) -> &Counters
         requires { IsPort self.now port }
         ensures value { option_map (λ p. p.counters) (slice_get self.now.ports port)
@@ -185,8 +202,8 @@ impl<A: Allocator> Agent<A> {
         self.port(port).counters()
     }
 
-    /// Whether it accepts an event: its port exists, its value is in the range, its text has at
-    /// most 255 printable octets, and if it sets a limit no port holds more neighbors.
+    /// Returns whether it accepts an event: the port exists, the value is in its range, the text
+    /// has at most 255 printable octets, and no port holds more neighbors than a limit that is set.
     pub fn allows(&self, event: &Event<'_>) -> bool
         ensures { IsTrue result ↔ Allows self.now (event_of event.now) }
     {
@@ -215,11 +232,12 @@ impl<A: Allocator> Agent<A> {
             && all_fit(self.ports.as_slice(), neighbors)
     }
 
-    /// Takes an event that it allows, and tells which ports send, rising, each with what it sends.
-    /// It never refuses and takes no memory.
+    /// Takes an event that it allows, and returns which ports send, in ascending order, each with
+    /// what it sends. It never refuses and takes no memory.
     ///
-    /// For every past that it stood for it then stands for that past with the event, and the ports
-    /// told are exactly those that send by the definitions; the headline holds of it
+    ///
+    /// For every past that it stood for it then stands for that past with the event. The ports
+    /// returned are exactly those that send by the definitions, and the headline holds of it
     /// (`PromisedStep`).
     pub fn step(&mut self, event: Event<'_>) -> Marks
         requires { Allows self.old (event_of event) }

@@ -35,13 +35,13 @@ pub enum Show {
 /// A command that was read.
 #[derive(Clone, Copy, Debug, PartialEq, Eq)]
 pub enum Command<'l> {
-    /// Something is to be changed.
+    /// It changes something.
     Set(Setting<'l>),
-    /// Lines are to be shown.
+    /// It shows lines.
     Show(Show),
 }
 
-/// What follows `show`.
+/// Reads what follows `show`.
 fn read_show(words: &mut Words<'_>) -> Result<Show, CommandFault>
     ensures { (agent : AgentState) →
         Says agent (codes "show" ∷ words.old) result (λ what. show what) words.new }
@@ -60,7 +60,7 @@ fn read_show(words: &mut Words<'_>) -> Result<Show, CommandFault>
     }
 }
 
-/// A command of this first word and those behind it, but for the end of the words.
+/// Reads a command of this first word and those behind it, and does not look for further words.
 fn read_form<'l, A: Allocator>(
     agent: &Agent<A>,
     first: &[u8],
@@ -80,7 +80,7 @@ fn read_form<'l, A: Allocator>(
     }
 }
 
-/// The command that these words say.
+/// Returns the command that these words say.
 fn read_whole<'l, A: Allocator>(
     agent: &Agent<A>,
     first: &[u8],
@@ -94,7 +94,7 @@ fn read_whole<'l, A: Allocator>(
     Ok(command)
 }
 
-/// The command, unless it sets a limit below what a port holds.
+/// Returns the command, unless it sets a limit below what a port holds.
 fn refuse_in_use<'l, A: Allocator>(
     agent: &Agent<A>,
     command: Command<'l>,
@@ -113,9 +113,9 @@ fn refuse_in_use<'l, A: Allocator>(
 }
 
 impl<A: Allocator> Agent<A> {
-    /// The command that words give, the first and those behind it, or the first fault: the words
-    /// from left to right, then a word too many, then a limit below what a port holds. The agent
-    /// allows what was read.
+    /// Returns the command that words give, the first and those behind it, or the first fault: the
+    /// words from left to right, then a word too many, then a limit below what a port holds. The
+    /// agent allows the command.
     pub fn read_words<'l>(
         &self,
         first: &[u8],
@@ -129,8 +129,8 @@ impl<A: Allocator> Agent<A> {
         refuse_in_use(self, command)
     }
 
-    /// The command that a line gives, or the first fault: a bad quote anywhere, then those of
-    /// `read_words`. A line without words is `Unknown`. The agent allows what was read.
+    /// Returns the command that a line gives, or the first fault: a bad quote anywhere, then those
+    /// of `read_words`. A line without words is `Unknown`. The agent allows the command.
     pub fn read_command<'l>(&self, line: &'l [u8]) -> Result<Command<'l>, CommandFault>
         ensures read { on_ok command_of result ≡ command_given self.now line.now }
         ensures allowed { IfOk result (λ command. AllowsCommand self.now (command_of command)) }

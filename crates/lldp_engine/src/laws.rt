@@ -26,8 +26,8 @@ pub mod shows;
 pub mod tables;
 pub mod whose;
 
-/// An event that is allowed carries standing from each past to that past with the event, and its
-/// marks are those of that past.
+/// An allowed event carries standing from each past to that past with the event, and its marks are
+/// those of that past.
 pub fn steps_carry_standing()
     ensures marks { (past : Past) (event : Event) (agent : AgentState) → Stands past agent →
         Allows agent event → HasOctets event →
@@ -37,23 +37,23 @@ pub fn steps_carry_standing()
         Stands (with_event past event) (agent_after event agent) }
 {}
 
-/// Each port's table holds the last stored frames that have not expired, and nothing else; and each
+/// Each port's table holds the last stored frames that have not expired, and nothing else. Each
 /// port has sent exactly what was due while its credit window was open, by the right of its status,
 /// and no other choice has sent more up to any event.
 pub fn standing_agents_are_promised()
     ensures { (past : Past) (agent : AgentState) → Stands past agent → Promised past agent }
 {}
 
-/// Whatever a port has seen, by what its events were for its transmitting it has the right to
-/// transmit exactly if its status gives it, so that a status that gives the right gives it back;
-/// and its link is up exactly if its last link event says so.
+/// Whatever a port has seen, its transmit machine has the right to transmit exactly if the port's
+/// status gives it, so a status that gives the right again is enough. The link is up exactly if the
+/// last link event says so.
 pub fn rights_follow_statuses()
     ensures { (options : Options) (past : List Happened) → FollowsStatus options past }
 {}
 
-/// The status and the link of a port and the configuration, said of positions: each is what the
-/// last event that set it set, and no event after that one sets it; if none does, it is as it
-/// was opened.
+/// The status and the link of a port and the configuration, in terms of positions: each is what the
+/// last event that set it set, and no later event sets it. If no event set it, it is as it was
+/// opened.
 pub fn last_events_decide()
     ensures status { (options : Options) (port : ℕ) (events : List Event) (status : Status) →
         (status ≡ status_after options (port_past options port events))

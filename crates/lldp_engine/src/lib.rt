@@ -1,5 +1,5 @@
-//! The agent of the Link Layer Discovery Protocol: its ports, what they hear, its commands and its
-//! shows (IEEE 802.1AB-2009, clause 9).
+//! The agent of the Link Layer Discovery Protocol: its ports, what they receive, its commands and
+//! its shows (IEEE 802.1AB-2009, clause 9).
 #![tactic(auto)]
 
 mod agent;
@@ -9,6 +9,7 @@ mod port;
 mod show;
 
 pub use agent::Agent;
+pub use agent::configuration::Configuration;
 pub use agent::event::{Event, MOST_HOLD, MOST_INTERVAL, Setting};
 pub use agent::frame::Frame;
 pub use agent::open_fault::OpenFault;
@@ -25,3 +26,4 @@ pub use port::counters::Counters;
 pub use port::status::Status;
 pub use show::line::LineSink;
 pub use show::lines::MOST_LINES;
+pub use show::one_line::OneLine;

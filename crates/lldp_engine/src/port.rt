@@ -57,7 +57,7 @@ fn name_of(octets: &[u8]) -> ArrayVec<u8, 15>
 }
 
 impl<A: Allocator> Port<A> {
-    /// A port that has seen nothing. Takes the memory of its table.
+    /// Opens a port that has seen nothing. Takes the memory of its table.
     pub(crate) fn open(alloc: A, name: &[u8], options: &Options<'_>) -> Result<Port<A>, AllocError>
         requires name { length name.now ≤ 15 }
         requires range { InRange (options_of options.now) }
@@ -104,13 +104,19 @@ impl<A: Allocator> Port<A> {
         &self.table
     }
 
+    pub(crate) fn machine(&self) -> &Transmit
+        ensures { result.now ≡ self.now.machine }
+    {
+        &self.transmit
+    }
+
     pub(crate) fn counters(&self) -> &Counters
         ensures { result.now ≡ self.now.counters }
     {
         &self.counters
     }
 
-    /// Takes an event, with the tx-interval in force after it. Tells what it sends.
+    /// Takes an event, with the tx-interval in force after it. Returns what the port sends.
     #[inline(always)]
     pub(crate) fn take(&mut self, event: &PortEvent<'_>, interval: u16) -> Mark
         requires { FitsLimit (port_event_of event.now) self.old.table }
@@ -123,7 +129,7 @@ impl<A: Allocator> Port<A> {
         mark
     }
 
-    /// A second has passed for its neighbors.
+    /// Ages its neighbors by a second.
     #[inline(always)]
     fn age(&mut self)
         ensures { self.new ≡ port_after_event tick self.old }
@@ -132,7 +138,8 @@ impl<A: Allocator> Port<A> {
         self.counters.count_aged_out(aged_out);
     }
 
-    /// Takes an event but for its transmitting, and tells what it is for that.
+    /// Applies an event to the table and the counters. Returns what it means to the transmit
+    /// machine.
     #[inline(always)]
     fn apply(&mut self, event: &PortEvent<'_>) -> Cause
         requires { FitsLimit (port_event_of event.now) self.old.table }
@@ -155,7 +162,7 @@ impl<A: Allocator> Port<A> {
         }
     }
 
-    /// Another status: if it takes receiving away, the table is emptied.
+    /// Sets the status. If the new one does not receive, the table is emptied.
     fn set_status(&mut self, given: Status) -> Cause
         ensures after { self.new ≡ port_after_event (status given) self.old }
         ensures cause { result ≡ port_cause (status given) self.old }

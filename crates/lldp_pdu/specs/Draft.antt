@@ -83,7 +83,7 @@ pub record CanBuild (d : Draft) : Type 0 where
   pub ttl : d.ttl < 2 ^ 16
   pub puts : CanPutEach (record { msap = d.msap; ttl = d.ttl; tlvs = [] }) d.tlvs
 
--- what the finished LLDPDU tells
+-- what the finished LLDPDU says
 abbrev pub info_of_draft : Draft → LldpInfo
 info_of_draft d =
     record {
@@ -95,7 +95,7 @@ info_of_draft d =
       unrecognized = count_unrecognized d.tlvs;
     }
 
--- The LLDPDU is sound, and examining it gives back what was begun and put.
+-- The LLDPDU is sound, and examining it returns what was begun and put.
 pub record IsReadBack (d : Draft) (lldpdu : List ℕ) : Type 0 where
   pub sound : fault_of lldpdu ≡ None
   pub msap : msap_of lldpdu ≡ d.msap

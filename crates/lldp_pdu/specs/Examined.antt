@@ -6,7 +6,7 @@ use Rattle.lldp_pdu.specs.Lldpdu.{ttl_of, msap_of}
 use Rattle.lldp_pdu.specs.Info.{info_of}
 use Rattle.lldp_pdu.specs.View.{msap_view}
 
--- with a TTL of 0 the neighbor's name, else all that the octets tell
+-- with a TTL of 0 the neighbor's name, else all that the octets say
 abbrev pub Answers : List ℕ → Examined → Type 0
 Answers octets (Shutdown msap) = (ttl_of octets ≡ 0) × (msap_view msap ≡ msap_of octets)
 Answers octets (Info info) = (0 < ttl_of octets) × (info ≡ info_of octets)

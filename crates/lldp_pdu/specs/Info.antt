@@ -1,4 +1,4 @@
--- What a sound LLDPDU with a TTL above 0 tells.
+-- What a sound LLDPDU with a TTL above 0 says.
 use Rattle.std.specs.Prelude.{◌≡◌, ℕ, ◌+◌, ◌*◌, ◌<◌, ◌≤◌, List, length, None}
 use Rattle.std.specs.List.{AllByRecursion}
 use Rattle.lldp_pdu.specs.Tlv.{TlvUnit, AreOctets}
@@ -17,7 +17,7 @@ pub record LldpInfo : Type 0 where
   pub discarded : ℕ
   pub unrecognized : ℕ
 
--- what these octets tell, part by part
+-- what these octets say, part by part
 abbrev pub info_of : List ℕ → LldpInfo
 info_of octets =
     record {
@@ -40,7 +40,7 @@ pub record IsInfo (info : LldpInfo) : Type 0 where
   pub few_discarded : 10 + 2 * info.discarded ≤ length info.octets
   pub few_unrecognized : info.unrecognized ≤ length info.kept
 
--- Its octets alone are a sound LLDPDU that tells the same, but for a TLV that is not complete.
+-- Its octets alone are a sound LLDPDU that says the same, except for a TLV that is not complete.
 pub record TellsItself (info : LldpInfo) : Type 0 where
   pub are_octets : AreOctets info.octets
   pub sound : fault_of info.octets ≡ None

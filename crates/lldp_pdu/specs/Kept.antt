@@ -20,7 +20,7 @@ has_well_formed kind us = list_any (λ u. (u.kind == kind) && is_well_formed u) 
 abbrev pub is_kept : List TlvUnit → TlvUnit → Bool
 is_kept earlier u = is_well_formed u && not (is_single u.kind && has_well_formed u.kind earlier)
 
--- those of the TLVs that are kept, in order, if these others stand before them
+-- those of the TLVs that are kept, in order, if these others come before them
 abbrev pub kept_after : List TlvUnit → List TlvUnit → List TlvUnit
 kept_after earlier [] = []
 kept_after earlier (u ∷ us) = if is_kept earlier u then u ∷ kept_after (u ∷ earlier) us else kept_after (u ∷ earlier) us

@@ -23,7 +23,7 @@ extent_tlvs octets = before_end (cut octets).tlvs
 unfoldable pub extent : List ℕ → List ℕ
 extent octets = spellings (extent_tlvs octets)
 
--- no End Of LLDPDU came, and octets are left that are no complete TLV
+-- no End Of LLDPDU came, and octets are left that are not a complete TLV
 unfoldable pub ended_incomplete : List ℕ → Bool
 ended_incomplete octets = not (list_any is_end (cut octets).tlvs) && nat_lt 0 (length (cut octets).rest)
 
@@ -35,7 +35,7 @@ tlv_at us i = slice_index_or us i (record { kind = end_of_lldpdu_type; body = []
 abbrev pub seconds : List ℕ → ℕ
 seconds body = 256 * slice_index body 0 + slice_index body 1
 
--- the TTL stands in the third TLV
+-- the TTL is in the third TLV
 unfoldable pub ttl_of : List ℕ → ℕ
 ttl_of octets = seconds (tlv_at (cut octets).tlvs 2).body
 

@@ -21,7 +21,7 @@ GivesFirstTlv octets given left =
     (λ t. (cut octets ≡ record { tlvs = tlv_view t ∷ (cut left).tlvs; rest = (cut left).rest })
     × (left ≡ drop (2 + length t.body.now) octets))
 
--- a management address likewise
+-- a management address, seen in the same way
 abbrev pub address_view : Mgmt → Address
 address_view a = record {
   family = a.family;
@@ -31,6 +31,6 @@ address_view a = record {
   oid = a.oid.now;
 }
 
--- an MSAP identifier likewise
+-- an MSAP identifier, seen in the same way
 abbrev pub msap_view : Msap → MsapId
 msap_view m = record { chassis = m.chassis.now; port = m.port.now }

@@ -14,8 +14,8 @@ use crate::tlv_type::{
     SYSTEM_CAPABILITIES, SYSTEM_DESCRIPTION, TIME_TO_LIVE,
 };
 
-/// The fields of System Capabilities. None exactly if the body is not well formed: it does not
-/// have four octets, or a bit is enabled that is not available (IEEE 802.1AB-2009, 8.5.8).
+/// Reads the fields of System Capabilities. Returns None exactly if the body is not well formed: it
+/// does not have four octets, or a bit is enabled that is not available (IEEE 802.1AB-2009, 8.5.8).
 pub fn caps(body: &[u8]) -> Option<Caps>
     ensures { result ≡ caps_of body.now }
 {
@@ -27,9 +27,9 @@ pub fn caps(body: &[u8]) -> Option<Caps>
     (enabled & available == enabled).then_some(Caps { available, enabled })
 }
 
-/// The fields of a Management Address. None exactly if the body is not well formed: `m`, its
-/// first octet, is not 2 to 32, the OID has more than 128 octets, or the body is longer or shorter
-/// than these say (IEEE 802.1AB-2009, 8.5.9).
+/// Reads the fields of a Management Address. Returns None exactly if the body is not well formed:
+/// `m`, its first octet, is not 2 to 32, the OID has more than 128 octets, or the body is longer or
+/// shorter than these say (IEEE 802.1AB-2009, 8.5.9).
 pub fn mgmt(body: &[u8]) -> Option<Mgmt<'_>>
     ensures { option_map address_view result ≡ address_of body.now }
 {
@@ -50,7 +50,7 @@ pub fn mgmt(body: &[u8]) -> Option<Mgmt<'_>>
     })
 }
 
-/// Whether the body is well formed for the type.
+/// Returns whether the body is well formed for the type.
 #[tactic(auto, unfolding(crate::specs::WellFormed::is_well_formed))]
 pub(crate) fn body_is_well_formed(tlv: &Tlv<'_>) -> bool
     ensures { result ≡ is_well_formed (tlv_view tlv.now) }

@@ -22,7 +22,7 @@ use crate::tlv_type::{
 use arrayvec::ArrayVec;
 use std::marker::Model;
 
-/// An LLDPDU that is built: at most 1,500 octets, the End Of LLDPDU among them.
+/// An LLDPDU under construction: at most 1,500 octets, the End Of LLDPDU among them.
 #[derive(Drop)]
 pub struct Builder {
     octets: ArrayVec<u8, MOST_OCTETS>,
@@ -42,7 +42,7 @@ impl Model for Builder {
     ghost invariant = { λ b. Builds b.octets.items b.met.types b.lives };
 }
 
-/// Whether TLVs of the type stand behind the mandatory ones.
+/// Returns whether TLVs of the type belong behind the mandatory ones.
 fn is_optional_type(kind: u8) -> bool
     ensures { result ≡ is_between port_description_type kind organizationally_specific_type }
 {
@@ -61,9 +61,9 @@ impl Builder {
     ghost use Rattle.std.specs.Prelude.{◌≡◌, ◌==◌, ◌<◌, ◌≤◌, [], length, None, OnOk, OnErr};
     ghost use Rattle.lldp_pdu.specs.Msap.{IsIdentifier};
 
-    /// Begins one with the mandatory TLVs: the bodies of the Chassis ID and the Port ID, of 2 to
-    /// 256 octets each, and the TTL in seconds. A TTL of 0 makes it a shutdown LLDPDU, which has no
-    /// other TLVs.
+    /// Begins an LLDPDU with the mandatory TLVs: the bodies of the Chassis ID and the Port ID, of 2
+    /// to 256 octets each, and the TTL in seconds. A TTL of 0 makes it a shutdown LLDPDU, which has
+    /// no other TLVs.
     pub fn begin(chassis: &[u8], port: &[u8], ttl: u16) -> Builder
         requires chassis { IsIdentifier chassis.now }
         requires port { IsIdentifier port.now }
@@ -85,7 +85,7 @@ impl Builder {
         }
     }
 
-    /// Whether the TTL is 0.
+    /// Returns whether the TTL is 0.
     #[tactic(auto, using(crate::proofs::Drafts::tells_shutdown))]
     fn is_shutdown(&self) -> bool
         ensures { result ≡ (self.now.ttl == 0) }
@@ -93,7 +93,7 @@ impl Builder {
         !self.lives
     }
 
-    /// Why a TLV can't be put next.
+    /// Returns why a TLV can't be put next, if it can't.
     fn refusal(&self, tlv: &Tlv<'_>) -> Option<BuildFault>
         ensures { result ≡ put_fault self.now (tlv_view tlv.now) }
     {
@@ -120,10 +120,11 @@ impl Builder {
 
     /// Puts a TLV behind those before it.
     ///
-    /// Err, with nothing changed, is the first of these checks that fails. Kind: the kind is not 4
-    /// to 127, or one of 4 to 7 that was put before, or the TTL is 0. Body: the body has more than
-    /// 511 octets or is not well formed for its kind. Full: the TLV and the End Of LLDPDU do not
-    /// fit in 1,500 octets.
+    ///
+    /// If a check fails, nothing changes, and Err is the first of these that fails. Kind: the kind
+    /// is not 4 to 127, or one of 4 to 7 that was put before, or the TTL is 0. Body: the body has
+    /// more than 511 octets or is not well formed for its kind. Full: the TLV and the End Of LLDPDU
+    /// do not fit in 1,500 octets.
     pub fn put(&mut self, kind: u8, body: &[u8]) -> Result<(), BuildFault>
         ensures fault { result_err result
             ≡ put_fault self.old (record { kind = kind; body = body.now }) }
@@ -139,8 +140,9 @@ impl Builder {
         Ok(())
     }
 
-    /// The LLDPDU, with its End Of LLDPDU: the spelling of what was begun and put. Examining it
-    /// gives back exactly that: it is sound, every TLV put is kept, and none is discarded.
+    /// Returns the LLDPDU, with its End Of LLDPDU: the spelling of what was begun and put.
+    /// Examining it returns exactly that: it is sound, every TLV put is kept, and none is
+    /// discarded.
     pub fn finish(self) -> ArrayVec<u8, MOST_OCTETS>
         ensures octets { result.items ≡ lldpdu_octets self }
         ensures sound { fault_of result.items ≡ None }

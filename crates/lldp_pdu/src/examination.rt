@@ -84,7 +84,7 @@ fn mandatory_tlvs(pdu: &[u8]) -> Result<Mandatory<'_>, PduFault>
     })
 }
 
-/// A TLV that is not complete is one that is discarded; those before it stay.
+/// Counts the octets left over: a TLV that is not complete is discarded, and those before it stay.
 fn incomplete_tlvs(rest: &[u8]) -> usize
     ensures { result ≡ (if nat_lt 0 (length rest.now) then 1 else 0) }
 {
@@ -127,13 +127,14 @@ fn optional_tlvs(after: &[u8]) -> Result<Optional<'_>, PduFault>
     })
 }
 
-/// Examines an LLDPDU of any length. Ok is Shutdown with the neighbor's name if the TTL is 0, else
-/// an Info of exactly what the definition tells. The answer borrows from the LLDPDU, and the octets
-/// of an Info are a front of it.
+/// Examines an LLDPDU of any length. Ok is Shutdown with the neighbor's name if the TTL is 0, and
+/// else an Info of exactly what the definition says. The answer borrows from the LLDPDU, and the
+/// octets of an Info are a front of it.
 ///
-/// Err is the first check that fails, in the order of `PduFault`, Truncated being checked at each
-/// of the three places. With a TTL of 0 nothing behind the third TLV is read (IEEE 802.1AB-2009,
-/// 8.2 and 9.2.7.7).
+///
+/// Err is the first check that fails, in the order of `PduFault`; Truncated is checked at each of
+/// the three places. If the TTL is 0, nothing behind the third TLV is read (IEEE 802.1AB-2009, 8.2
+/// and 9.2.7.7).
 pub fn examine(pdu: &[u8]) -> Result<Examined<'_>, PduFault>
     ensures fault { result_err result ≡ fault_of pdu.now }
     ensures answer { IfOk result (Answers pdu.now) }

@@ -1,4 +1,4 @@
-//! Why an LLDPDU, or a TLV of one that is built, is refused.
+//! Why an LLDPDU, or a TLV put into one, is refused.
 ghost use Rattle.std.specs.Prelude.{◌≡◌};
 ghost use Rattle.lldp_pdu.specs.FaultNumber.{pdu_fault_number, build_fault_number};
 
@@ -7,24 +7,24 @@ ghost use Rattle.lldp_pdu.specs.FaultNumber.{pdu_fault_number, build_fault_numbe
 pub enum PduFault {
     /// No complete TLV where a mandatory one belongs.
     Truncated = 1,
-    /// The first TLV is no Chassis ID.
+    /// The first TLV is not a Chassis ID.
     NoChassis = 2,
-    /// The Chassis ID has not 2 to 256 octets.
+    /// The Chassis ID does not have 2 to 256 octets.
     ChassisLength = 3,
-    /// The second TLV is no Port ID.
+    /// The second TLV is not a Port ID.
     NoPort = 4,
-    /// The Port ID has not 2 to 256 octets.
+    /// The Port ID does not have 2 to 256 octets.
     PortLength = 5,
-    /// The third TLV is no Time To Live.
+    /// The third TLV is not a Time To Live.
     NoTtl = 6,
     /// The Time To Live has fewer than 2 octets.
     TtlLength = 7,
-    /// A mandatory TLV stands again behind the third.
+    /// A mandatory TLV occurs again behind the third.
     Repeated = 8,
 }
 
 impl PduFault {
-    /// Its number, 1 to 8: the faults in the order in which they are first checked for.
+    /// Returns its number, 1 to 8: the faults in the order in which they are first checked for.
     pub fn number(self) -> u8
         ensures { result ≡ pdu_fault_number self }
     {
@@ -37,14 +37,15 @@ impl PduFault {
 pub enum BuildFault {
     /// The TLV and the End Of LLDPDU do not fit in 1,500 octets.
     Full = 1,
-    /// No type for this LLDPDU: not 4 to 127, one of 4 to 7 that was put before, or the TTL is 0.
+    /// Not a type for this LLDPDU: not 4 to 127, one of 4 to 7 that was put before, or the TTL is
+    /// 0.
     Kind = 2,
     /// The body is not well formed.
     Body = 3,
 }
 
 impl BuildFault {
-    /// Its number, 1 to 3.
+    /// Returns its number, 1 to 3.
     pub fn number(self) -> u8
         ensures { result ≡ build_fault_number self }
     {

@@ -9,8 +9,7 @@ pub struct Msap<'a> {
     pub port: &'a [u8],
 }
 
-/// System Capabilities: the bits that stand for what a system can do, and for what of it is
-/// enabled.
+/// System Capabilities: the bits for what a system can do, and those for what is enabled of it.
 #[derive(Clone, Copy, Debug, PartialEq, Eq)]
 pub struct Caps {
     pub available: u16,

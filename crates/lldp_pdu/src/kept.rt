@@ -32,7 +32,7 @@ impl<'a> Model for Kept<'a> {
     ghost view = { λ k. kept_seen k.seen.types (cut k.tlvs).tlvs };
 }
 
-/// The octets behind the first TLV.
+/// Returns the octets behind the first TLV.
 fn behind_first(octets: &[u8]) -> &[u8]
     ensures { (cut result.now).tlvs ≡ drop 1 (cut octets.now).tlvs }
 {
@@ -44,9 +44,9 @@ fn behind_first(octets: &[u8]) -> &[u8]
 }
 
 impl<'a> Kept<'a> {
-    /// Those of an extent, as `Info::octets` gives it: octets that are, alone, a sound LLDPDU with
-    /// a TTL above 0 and whole its extent. They are of the types, lengths and number that
-    /// `Info::kept` says.
+    /// Returns those of an extent, as `Info::octets` returns it: octets that, by themselves, are a
+    /// sound LLDPDU with a TTL above 0 and are its whole extent. Their types, lengths and number
+    /// are as `Info::kept` says.
     pub fn of_extent(octets: &'a [u8]) -> Kept<'a>
         requires sound { fault_of octets.now ≡ None }
         requires lives { 0 < ttl_of octets.now }
@@ -58,7 +58,7 @@ impl<'a> Kept<'a> {
         Kept::of(behind_first(behind_first(behind_first(octets))))
     }
 
-    /// Those of the TLVs of the octets.
+    /// Returns those of the TLVs of the octets.
     pub(crate) fn of(octets: &'a [u8]) -> Kept<'a>
         ensures { result ≡ kept_seen none_seen (cut octets.now).tlvs }
     {

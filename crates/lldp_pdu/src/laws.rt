@@ -30,7 +30,7 @@ pub fn octets_have_one_cut()
         c ≡ cut octets }
 {}
 
-/// `Tlvs`, asked until it has no more, gives the TLVs of the cut, and is left with its rest.
+/// `Tlvs`, called until it has no more, returns the TLVs of the cut, and is left with its rest.
 pub fn tlvs_give_the_cut()
     ensures tlvs { (octets left : List ℕ) (given : List Tlv) →
         YieldsThen GivesFirstTlv octets given None left → map tlv_view given ≡ (cut octets).tlvs }
@@ -40,23 +40,23 @@ pub fn tlvs_give_the_cut()
 
 /// An LLDPDU is sound exactly if it begins with a Chassis ID and a Port ID of 2 to 256 octets each
 /// and a Time To Live of 2 or more, and its TTL is 0 or no other TLV before its End Of LLDPDU is of
-/// these types. Any other has the fault of the first of these three that is not as it should be, or
-/// else Repeated.
+/// these types. Any other has the fault of the first of these three that is wrong, or else
+/// Repeated.
 pub fn sound_lldpdus_have_their_form()
     ensures sound { (octets : List ℕ) → (fault_of octets ≡ None) ↔ IsSound octets }
     ensures faults { (octets chassis port ttl : List ℕ) (u : TlvUnit) (us : List TlvUnit) →
         HasFaults octets chassis port ttl u us }
 {}
 
-/// A later TLV is kept exactly if it is well formed and, if its type is 4 to 7, no earlier one is well
-/// formed and of its type. The kept ones stand in their order; all others are discarded, and so is
-/// a TLV that is not complete.
+/// A later TLV is kept exactly if it is well formed and, if its type is 4 to 7, no earlier one is
+/// well formed and of its type. The kept ones stay in their order; all others are discarded, and so
+/// is a TLV that is not complete.
 pub fn later_tlvs_are_kept_once()
     ensures kept { (earlier us : List TlvUnit) (u : TlvUnit) → AreKeptOnce earlier u us }
     ensures counted { (octets : List ℕ) → AreCounted octets }
 {}
 
-/// The extent of a sound LLDPDU with a TTL above 0 tells the same as the LLDPDU, with no more
+/// The extent of a sound LLDPDU with a TTL above 0 says the same as the LLDPDU, with no more
 /// discarded TLVs.
 pub fn extents_tell_the_same()
     ensures info { (octets : List ℕ) → AreOctets octets → fault_of octets ≡ None →
@@ -88,7 +88,7 @@ pub fn checked_tlvs_are_put()
     ensures { (draft : Draft) (tlv : TlvUnit) → CanPut draft tlv ↔ (put_fault draft tlv ≡ None) }
 {}
 
-/// What a `Builder` can build has at most 1,500 octets and is examined back to what was begun and
+/// What a `Builder` can build has at most 1,500 octets, and examining it returns what was begun and
 /// put, however its octets were written.
 pub fn drafts_are_read_back()
     ensures short { (draft : Draft) → CanBuild draft → length (lldpdu_octets draft) ≤ 1500 }
@@ -125,10 +125,10 @@ pub fn capabilities_are_spelled()
         (caps_of body ≡ Some caps) ↔ AreSpelled body caps }
 {}
 
-/// Which bodies are well formed, and no others: those of a Chassis ID and a Port ID have 2 to 256
-/// octets, a Time To Live has 2 or more, the three texts have at most 255, System Capabilities and a
-/// Management Address are spelled as their laws say, an organizationally specific body has 4 octets
-/// or more, and those of an End Of LLDPDU and of the reserved types, 9 to 126, may be any.
+/// Exactly these bodies are well formed: those of a Chassis ID and a Port ID with 2 to 256 octets,
+/// of a Time To Live with 2 or more, of the three texts with at most 255, of System Capabilities
+/// and of a Management Address as their laws spell them, organizationally specific ones with 4
+/// octets or more, and all of an End Of LLDPDU and of the reserved types, 9 to 126.
 pub fn types_decide_which_bodies_are_well_formed()
     ensures end { (body : List ℕ) → is_well_formed (record { kind = 0; body = body }) ≡ true }
     ensures identifiers { (kind : ℕ) (body : List ℕ) → 1 ≤ kind → kind ≤ 2 →
@@ -149,7 +149,7 @@ pub fn types_decide_which_bodies_are_well_formed()
         (is_well_formed (record { kind = 127; body = body }) ≡ true) ↔ 4 ≤ length body }
 {}
 
-/// An LLDPDU that is built has at most 1,500 octets: this is the room of a `Builder`.
+/// A built LLDPDU has at most 1,500 octets: this is the room of a `Builder`.
 pub fn lldpdus_have_at_most_1500_octets()
     ensures { MOST_OCTETS ≡ 1500 }
 {}

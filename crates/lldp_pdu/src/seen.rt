@@ -8,15 +8,15 @@ use crate::bodies::body_is_well_formed;
 use crate::tlv::Tlv;
 use crate::tlv_type::{PORT_DESCRIPTION, SYSTEM_CAPABILITIES};
 
-/// Whether one TLV of the type counts: Port Description to System Capabilities.
+/// Returns whether one TLV of the type counts: Port Description to System Capabilities.
 fn counts_once(kind: u8) -> bool
     ensures { result ≡ is_single kind }
 {
     (PORT_DESCRIPTION..=SYSTEM_CAPABILITIES).contains(&kind)
 }
 
-/// Of which of the types that count once a well-formed TLV was met. Who walks over the TLVs of an
-/// LLDPDU without a `Kept`, as in parts, keeps it between them.
+/// For each type that counts once, whether a well-formed TLV of it was met. A walk over the TLVs of
+/// an LLDPDU without a `Kept`, for instance in parts, keeps it between them.
 #[derive(Clone, Copy, Debug)]
 pub struct Seen {
     /// One for each of the types from Port Description to System Capabilities.
@@ -27,7 +27,7 @@ impl Seen {
     /// None was met.
     pub const NONE: Seen = Seen { types: [false; 4] };
 
-    /// Whether a TLV of the type was met, if one of the type counts.
+    /// Returns whether a TLV of the type was met, if one of the type counts.
     #[tactic(auto, unfolding(crate::specs::Code::Seen::has_flag))]
     pub(crate) fn has(&self, kind: u8) -> bool
         ensures { result ≡ has_flag self.now.types kind }
@@ -35,7 +35,7 @@ impl Seen {
         counts_once(kind) && self.types[usize::from(kind - PORT_DESCRIPTION)]
     }
 
-    /// A TLV of the type is met.
+    /// Notes that a TLV of the type was met.
     #[tactic(auto, unfolding(crate::specs::Code::Seen::with_flag))]
     pub(crate) fn add(&mut self, kind: u8)
         ensures { self.new.types ≡ with_flag self.old.types kind }
@@ -45,7 +45,7 @@ impl Seen {
         }
     }
 
-    /// Whether the next TLV is kept. It counts as met from then on if it is well formed.
+    /// Returns whether the next TLV is kept. It counts as met from then on if it is well formed.
     pub fn keeps(&mut self, tlv: &Tlv<'_>) -> bool
         ensures kept { result ≡ is_kept_seen self.old.types (tlv_view tlv.now) }
         ensures met { self.new.types ≡ seen_after self.old.types (tlv_view tlv.now) }

@@ -20,8 +20,8 @@ pub struct Tlv<'a> {
 }
 
 /// The complete TLVs of some octets, from the front. An End Of LLDPDU is a TLV like any other, and
-/// does not end them. Each `next` gives the first TLV of the cut of the octets left, and leaves
-/// those behind it; if no complete TLV is left it gives None and leaves the rest as it is.
+/// does not end them. Each `next` returns the first TLV of the cut of the octets left, and leaves
+/// those behind it; if no complete TLV is left it returns None and leaves the rest as it is.
 #[derive(Debug, Drop)]
 pub struct Tlvs<'a> {
     rest: &'a [u8],
@@ -36,14 +36,14 @@ impl<'a> Model for Tlvs<'a> {
 }
 
 impl<'a> Tlvs<'a> {
-    /// The TLVs of these octets, of which there may be any number.
+    /// Begins with these octets, which may hold any number of TLVs.
     pub fn new(octets: &'a [u8]) -> Tlvs<'a>
         ensures { result ≡ octets.now }
     {
         Tlvs { rest: octets }
     }
 
-    /// The octets not yet read: once no TLV is left, those that are no complete TLV.
+    /// Returns the octets not yet read: once no TLV is left, those that are not a complete TLV.
     pub fn rest(&self) -> &'a [u8]
         ensures { result.now ≡ self.now }
     {
@@ -65,7 +65,7 @@ impl<'a> Iterator for Tlvs<'a> {
     }
 }
 
-/// The TLV at the front, and the octets after it.
+/// Returns the TLV at the front, and the octets after it.
 fn first(octets: &[u8]) -> Option<(Tlv<'_>, &[u8])>
     ensures { option_map (λ x. (tlv_view x.0, x.1.now)) result ≡ first_tlv octets.now }
 {
@@ -79,8 +79,8 @@ fn first(octets: &[u8]) -> Option<(Tlv<'_>, &[u8])>
 }
 
 /// Appends a TLV of this type, below 128, with this body, of at most 511 octets (IEEE 802.1AB-2009,
-/// 8.4). It is what a `Builder` puts, for whoever writes an LLDPDU where it goes; the law
-/// `drafts_are_read_back` says what such an LLDPDU tells.
+/// 8.4), as a `Builder` does. Use it to write an LLDPDU directly into a frame; the law
+/// `drafts_are_read_back` says what such an LLDPDU says.
 pub fn append_tlv<const N: usize>(octets: &mut ArrayVec<u8, N>, kind: u8, body: &[u8])
     requires kind { kind < 128 }
     requires body { length body.now < 512 }

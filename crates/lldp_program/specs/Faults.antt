@@ -1,4 +1,4 @@
--- Faults: their numbers, lines and statuses, and how they are told.
+-- Faults: their numbers, lines and statuses, and how they are reported.
 pub mod FaultNumber
 pub mod ProgramFault
 pub mod Told

@@ -18,7 +18,7 @@ use Rattle.lldp_program.specs.declared.fault.ProgramFault.TheVariants as program
 use Rattle.lldp_program.specs.declared.trace.RunFault.{RunFault}
 
 -- The agent ran the trace that came, and what was written was flushed: with status 0 all of it, and with another status
--- it may have stopped at a fault. The status is that of the first fault of the two, which was told.
+-- it may have stopped at a fault. The status is that of the first fault of the two, which was reported.
 pub record RanStreams (to_come left old new told_before told_after : Option (List ℕ)) (before after : AgentState)
     (status : ℕ) : Type 0 where
   pub result : Result (Unit {0}) RunFault
@@ -40,7 +40,7 @@ pub record Ran (options : Options) (to_come left old new : Option (List ℕ)) (r
   pub agent : AgentState
   pub ends : Ends (opened options) input left old new agent result
 
--- the same by the status of the program and the line that it told
+-- the same by the status of the program and the line that it wrote
 pub record RanBy (options : Options) (to_come left old new told_before told_after : Option (List ℕ)) (status : ℕ) :
     Type 0 where
   pub result : Result (Unit {0}) RunFault
@@ -49,8 +49,8 @@ pub record RanBy (options : Options) (to_come left old new told_before told_afte
   pub flushed : Result (Unit {0}) DeviceFault
   pub ended : EndsBy (ended_by result flushed) told_before told_after status
 
--- What became of reader and writer, by the text of `--listen`: if there is none, the trace of the reader was run;
--- if there is one, nothing was read and nothing written, and the status is 0 or that of a socket, which was told.
+-- What became of reader and writer, by the text of `--listen`: if there is none, the trace of the reader was run; if
+-- there is one, nothing was read and nothing written, and the status is 0 or that of a socket, which was reported.
 abbrev pub RanBut : Option Text → Options → Option (List ℕ) → Option (List ℕ) → Option (List ℕ) → Option (List ℕ) →
     Option (List ℕ) → Option (List ℕ) → ℕ → Type 0
 RanBut None options to_come left old new told_before told_after status =
@@ -75,20 +75,20 @@ pub record HasRunWords (words : List Text) (to_come left old new told_before tol
   pub sound : fault_of options ≡ None
   pub ran : RanAs rows options to_come left old new told_before told_after status
 
--- What a status other than 2 means: the words ask for help or the version, nothing was read, and the status is 0 or that
--- of a write, which was told; or they were run.
+-- What a status other than 2 means: the words ask for help or the version, nothing was read, and the status is 0 or
+-- that of a write, which was reported; or they were run.
 abbrev pub HasAnswered : List Text → Option (List ℕ) → Option (List ℕ) → Option (List ℕ) → Option (List ℕ) →
     Option (List ℕ) → Option (List ℕ) → ℕ → Type 0
 HasAnswered words to_come left old new told_before told_after status =
     (AskForHelp words × Keeps to_come left × EndsWellOr program.Write told_before told_after status)
     ⊎ HasRunWords words to_come left old new told_before told_after status
 
--- An address among the words cannot be read, and that was told.
+-- An address among the words cannot be read, and that was reported.
 abbrev pub RefusesAddress : List Row → Option (List ℕ) → Option (List ℕ) → Type 0
 RefusesAddress rows told_before told_after =
     (fault : AddressFault) × HasBadAddress rows fault × IsTold (fault_of_address fault) told_before told_after
 
--- The options of the words open no agent, for the first check that fails or for want of memory, and that was told.
+-- The options of the words open no agent, for the first check that fails or for lack of memory, and that was reported.
 abbrev pub RefusesOpening : List Row → Option (List ℕ) → Option (List ℕ) → Type 0
 RefusesOpening rows told_before told_after =
     (options : Options) × (fault : OpenFault) × Asks rows options × IsRefusal options fault
@@ -98,8 +98,8 @@ RefusesOpening rows told_before told_after =
 abbrev pub AreWrong : List Text → Type 0
 AreWrong words = (kind : ErrorKind) × MayFail words kind × (kind ≢ DisplayHelp) × (kind ≢ DisplayVersion)
 
--- What status 2 means: the words are wrong; there was no memory to read them, and that was told; or they were read, and
--- an address or the opening was refused.
+-- What status 2 means: the words are wrong; there was no memory to read them, and that was reported; or they were read,
+-- and an address or the opening was refused.
 abbrev pub HasRefused : List Text → Option (List ℕ) → Option (List ℕ) → Type 0
 HasRefused words told_before told_after =
     AreWrong words

@@ -19,7 +19,7 @@ abbrev pub faults_of : List (Result (Unit {0}) RunFault) → ℕ
 faults_of [] = 0
 faults_of (result ∷ earlier) = faults_of earlier + faults_in result
 
--- What the answer tells of the runs. Ok: all were made, and so many of them ended with a fault. Err: fewer were.
+-- What the answer says of the runs. Ok: all were made, and so many of them ended with a fault. Err: fewer were.
 abbrev pub Tells : ℕ → List (Result (Unit {0}) RunFault) → Result ℕ ServeFault → Type 0
 Tells connections results (Ok faulty) = (length results ≡ connections) × (faulty ≡ faults_of results)
 Tells connections results (Err fault) = length results < connections
@@ -34,12 +34,12 @@ abbrev pub calls_of : {C : Type 0} → List (Visit C) → List (Call C)
 calls_of [] = []
 calls_of (visit ∷ earlier) = ran visit ∷ accepted visit.connection ∷ calls_of earlier
 
--- the same with the refusal that an answer Err tells of, behind all of them
+-- the same with the refusal that an answer Err reports, behind all of them
 abbrev pub calls_with : {C : Type 0} → List (Visit C) → Result ℕ ServeFault → List (Call C)
 calls_with visits (Ok faulty) = calls_of visits
 calls_with visits (Err fault) = refused ∷ calls_of visits
 
--- a trace was run over each connection, the agent going from one to the next as it is
+-- a trace was run over each connection, and the agent passed from one to the next as it was
 abbrev pub AreRun : {C : Type 0} → (C → Option (List ℕ)) → (C → Option (List ℕ)) → List (Visit C) → AgentState → AgentState →
     Type 0
 AreRun to_come taken [] before after = after ≡ before
@@ -47,8 +47,8 @@ AreRun to_come taken (visit ∷ earlier) before after =
     (between : AgentState) × AreRun to_come taken earlier before between
     × HasRun (to_come visit.connection) visit.left (taken visit.connection) visit.new between after visit.result
 
--- What an acceptor was asked, if it tells that: so many connections were accepted and each was run over once, and the
--- answer tells how many of the runs ended with a fault; or fewer were, and then accepting was refused.
+-- What an acceptor was asked, if it reports that: so many connections were accepted and each was run over once, and the
+-- answer says how many of the runs ended with a fault; or fewer were, and then accepting was refused.
 pub record HasAsked {C : Type 0} (to_come taken : C → Option (List ℕ)) (old new : Option (List (Call C)))
     (connections : ℕ) (before after : AgentState) (result : Result ℕ ServeFault) : Type 0 where
   pub visits : List (Visit C)
@@ -60,7 +60,7 @@ pub record HasAsked {C : Type 0} (to_come taken : C → Option (List ℕ)) (old 
 abbrev pub this_host : List ℕ
 this_host = 127 ∷ 0 ∷ 0 ∷ 1 ∷ []
 
--- Ok if serving ended with no fault, of which the answer counts none
+-- Ok if serving ended without a fault and the answer counts no run with one
 abbrev pub without_fault : Result ℕ ServeFault → Result (Unit {0}) DeviceFault
 without_fault (Ok faulty) = if faulty == 0 then Ok tt else Err Failed
 without_fault (Err fault) = Err Failed

@@ -1,4 +1,4 @@
-//! Where connections come from, and an adapter that makes an acceptor of std's listener.
+//! Where connections come from, and adapters for std's listener.
 ghost use Rattle.std.specs.Prelude.{◌≡◌, [], ◌∷◌, ℕ, List, Option};
 ghost use Rattle.lldp_engine.specs.Past.{Past};
 ghost use Rattle.lldp_engine.specs.Standing.{Stands};
@@ -14,11 +14,11 @@ use std::net::{Ipv4Addr, Net, TcpListener, TcpStream};
 pub trait Acceptor {
     type Connection;
 
-    /// What it was asked so far, the last call first, or None if the acceptor tells none.
+    /// The calls made so far, the last one first, or None if the acceptor does not report them.
     ghost asked: { Self → Option (List (Call Self.Connection)) };
-    /// The octets to come over a connection, or None if it tells none.
+    /// The octets that a connection will bring, or None if it does not report them.
     ghost to_come: { Self.Connection → Option (List ℕ) };
-    /// The octets that a connection has taken, or None if it tells none.
+    /// The octets that a connection has taken, or None if it does not report them.
     ghost taken: { Self.Connection → Option (List ℕ) };
 
     /// Waits for the next connection.
@@ -34,7 +34,7 @@ pub trait Acceptor {
 
 /// An acceptor that is bound before it accepts.
 pub trait Bind: Acceptor {
-    /// Binds a port of an address, at which connections are accepted from then on.
+    /// Binds a port of an address, where connections are accepted from then on.
     fn bind(&mut self, address: [u8; 4], port: u16) -> Result<(), DeviceFault>
         ensures asked { Self.asked self.new
             ≡ logged (binding address port result ∷ []) (Self.asked self.old) };
@@ -67,7 +67,7 @@ impl Acceptor for AtListener<'_> {
     }
 }
 
-/// An acceptor at a port of a network, once it was bound.
+/// An acceptor at a port of a network, once it is bound.
 #[derive(Drop)]
 pub struct AtPort<'a, N> {
     pub network: &'a N,
@@ -107,13 +107,13 @@ impl<N: Net<Listener = TcpListener, Stream = TcpStream>> Bind for AtPort<'_, N> 
     }
 }
 
-/// Runs the trace that comes over a connection of the system's, which tells no octets.
+/// Runs the trace that comes over a connection of the system's, which does not report its octets.
 fn run_connection(connection: TcpStream, agent: &mut Agent) -> Result<(), RunFault>
     ensures run { HasRun Option.None Option.None Option.None Option.None
         agent.old agent.new result }
     ensures headline { (past : Past) → Stands past agent.old → KeepsOn past agent.new }
 {
-    // An answer does not wait until the client has acknowledged the one before it.
+    // An answer need not wait until the client has acknowledged the one before it.
     let _ = connection.set_nodelay(true);
     let (mut input, mut output) = (&connection, &connection);
     run_trace(

@@ -5,8 +5,8 @@ ghost use Rattle.lldp_program.specs.CommandLine.Addresses.{IsMac};
 
 use std::net::Ipv4Addr;
 
-/// Six pairs of hexadecimal digits of either case, joined by `:`. None if the text is nothing of
-/// the kind.
+/// Reads six pairs of hexadecimal digits of either case, joined by `:`. Returns None if the text is
+/// anything else.
 pub fn read_mac(text: &str) -> Option<[u8; 6]>
     ensures { MatchOption result ((mac : List ℕ) → ¬ (IsMac text.now mac)) (IsMac text.now) }
 {
@@ -37,8 +37,8 @@ pub fn read_mac(text: &str) -> Option<[u8; 6]>
     Some(mac)
 }
 
-/// Four numbers from 0 to 255 without leading zeros, joined by `.`. None if the text is nothing
-/// of the kind.
+/// Reads four numbers from 0 to 255 without leading zeros, joined by `.`. Returns None if the text
+/// is anything else.
 pub fn read_ipv4(text: &str) -> Option<[u8; 4]>
     ensures { MatchOption result ((octets : List ℕ) →
         ¬ (IsDotted text.now octets)) (IsDotted text.now) }

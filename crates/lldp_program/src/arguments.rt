@@ -55,8 +55,8 @@ const CONNECTIONS_HELP: &str = "Connections to serve, 1 to 65535";
 
 const ROLES: &[&str] = &["station", "bridge", "router"];
 
-/// Where traces come over connections: a TCP port of 127.0.0.1, and how many connections are
-/// served. Both are from 1 on.
+/// Where to listen for connections that bring traces: a TCP port of 127.0.0.1, and how many
+/// connections to serve. Both are at least 1.
 #[derive(Clone, Copy, Debug, PartialEq, Eq)]
 pub struct Listening {
     pub port: u16,
@@ -70,7 +70,7 @@ pub enum AddressFault {
     Management,
 }
 
-/// An option that takes a whole number from 1 on.
+/// Declares an option that takes a whole number from 1 on.
 fn number<'a>(
     alloc: Global,
     name: &'a str,
@@ -86,7 +86,7 @@ fn number<'a>(
         .help(help)
 }
 
-/// An option that takes a text.
+/// Declares an option that takes a text.
 fn text<'a>(
     alloc: Global,
     name: &'a str,
@@ -99,7 +99,7 @@ fn text<'a>(
     valued(alloc, name, default).value_name(value).help(help)
 }
 
-/// An option that takes a value, or has this one.
+/// Declares an option that takes a value, and this one by default.
 fn valued<'a>(alloc: Global, name: &'a str, default: &'a str) -> Arg<'a>
     ensures { rule_of result ≡ valued_rule name.entry.now default.entry.now }
 {
@@ -154,7 +154,7 @@ fn ports<'a>(alloc: Global) -> Arg<'a>
 }
 
 /// Reads the words, of which the first is the program's name, by `clap`'s own specification. Fails
-/// with an error of a kind that it names, or of memory; also if they ask for help or the
+/// with an error of a kind that it names, or of memory, and also if they ask for help or the
 /// version.
 pub fn parse<'a, S: AsStr>(alloc: Global, words: &'a [S]) -> Result<ArgMatches<'a>, Error>
     ensures options { IfOk result IsProgramParse }
@@ -165,7 +165,7 @@ pub fn parse<'a, S: AsStr>(alloc: Global, words: &'a [S]) -> Result<ArgMatches<'
     command(alloc)?.try_get_matches_from(words)
 }
 
-/// The program's options and ports.
+/// Declares the program's options and ports.
 fn command<'a>(alloc: Global) -> Result<Command<'a>, AllocError>
     ensures { IfOk result (λ c. (roles : Bor (List (Bor (List ℕ)))) × AreRoles roles
         × (app_of c ≡ program roles)) }
@@ -214,8 +214,8 @@ fn command<'a>(alloc: Global) -> Result<Command<'a>, AllocError>
         .arg(ports(alloc))
 }
 
-/// The options that the words gave, each number in its range. Mac exactly if the MAC cannot be
-/// read; Management exactly if it can and the management address cannot.
+/// Reads the options that the words give, each number in its range. The fault is Mac exactly if the
+/// MAC cannot be read, and Management exactly if the MAC can and the management address cannot.
 pub fn read_options<'m>(matches: &'m ArgMatches<'_>) -> Result<Options<'m>, AddressFault>
     requires parse { IsProgramParse matches.now }
     ensures range { IfOk result (λ options. InRange (options_of options)) }
@@ -240,8 +240,8 @@ pub fn read_options<'m>(matches: &'m ArgMatches<'_>) -> Result<Options<'m>, Addr
     })
 }
 
-/// The port and the number of connections that the words write, if they ask to listen. None
-/// if they do not.
+/// Returns the port and the number of connections that the words give, or None if they do not ask
+/// to listen.
 pub fn listening_of(matches: &ArgMatches<'_>) -> Option<Listening>
     requires parse { IsProgramParse matches.now }
     ensures { AsksListening (one_text (found_of matches.now) (codes "listen"))
@@ -256,7 +256,7 @@ pub fn listening_of(matches: &ArgMatches<'_>) -> Option<Listening>
     }
 }
 
-/// The number of connections.
+/// Returns the number of connections.
 fn connections_of(matches: &ArgMatches<'_>) -> u16
     requires given { GivesNumber 65535 (codes "connections") matches.now }
     ensures { WritesNumber (one_text (found_of matches.now) (codes "connections")) result }
@@ -264,7 +264,7 @@ fn connections_of(matches: &ArgMatches<'_>) -> u16
     matches.get_one::<u16>(CONNECTIONS).unwrap()
 }
 
-/// The text of an option that has a default.
+/// Returns the text of an option that has a default.
 fn given<'a>(matches: &ArgMatches<'a>, name: &str) -> &'a str
     requires given { GivesText name.now matches.now }
     ensures value { first_value (found_of matches.now) name.now ≡ Some result.now }
@@ -272,7 +272,7 @@ fn given<'a>(matches: &ArgMatches<'a>, name: &str) -> &'a str
     matches.get_str(name).unwrap()
 }
 
-/// The number of an option that has a default.
+/// Returns the number of an option that has a default.
 fn number_of(matches: &ArgMatches<'_>, name: &str) -> u8
     requires given { (greatest : ℕ) × (greatest ≤ 255) × GivesNumber greatest name.now matches.now }
     ensures range { (greatest : ℕ) → greatest ≤ 255 → GivesNumber greatest name.now matches.now →

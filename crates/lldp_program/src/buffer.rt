@@ -1,5 +1,5 @@
-//! The buffer that a trace is read into. Its first octets are held: what has come of the line that
-//! isn't ended.
+//! The buffer that a trace is read into. Its first octets are held: what was read of the line that
+//! is not yet ended.
 ghost use Rattle.std.specs.Prelude.{◌≡◌, ◌<◌, ◌≤◌, ◌+◌, ◌-◌, length, take, drop, IfOk, min};
 ghost use Rattle.lldp_program.specs.Devices.Counts.{one_more, failures_after, ends_after, ReadsMore};
 
@@ -25,9 +25,8 @@ pub fn read_more<S: Source>(
     source.read(&mut buffer[held..])
 }
 
-/// Moves the octets from start to end to the front, and holds them. Of a line that is too long
-/// already it holds one octet more than the longest line has, which is all that has to be known of
-/// it.
+/// Moves the octets from start to end to the front, and holds them. Of a line that is already too
+/// long it holds one octet more than the longest line has, which is enough to know that.
 pub fn hold(buffer: &mut [u8], start: usize, end: usize) -> usize
     requires order { start ≤ end }
     requires within { end ≤ length buffer.old }

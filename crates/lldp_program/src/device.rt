@@ -1,5 +1,4 @@
-//! Devices that a trace is read from and written to, and the adapters that make them of std's
-//! readers and writers.
+//! Devices that a trace is read from and written to, and adapters for std's readers and writers.
 ghost use Rattle.std.specs.Prelude.{◌≡◌, ◌<◌, ◌≤◌, ℕ, Bool, true, List, Option, length, IfOk};
 ghost use Rattle.std.specs.Io.KnownBytes.{ReadConsumes, WriteAppends, Keeps};
 ghost use Rattle.std.specs.Borrow.{GName};
@@ -13,21 +12,21 @@ pub enum DeviceFault {
     Failed,
 }
 
-/// What octets come from. Its counts stop at the greatest u64. A device may tell no octets; a
+/// A source of octets. Its counts stop at the greatest u64. A device need not report its octets; a
 /// clause then says nothing of them.
 pub trait Source {
-    /// The octets still to come, or None if the device tells none.
+    /// The octets still to come, or None if the device does not report them.
     ghost to_come: { Self → Option (List ℕ) };
     /// How often it was read.
     ghost calls: { Self → ℕ };
     /// How many reads failed.
     ghost failures: { Self → ℕ };
-    /// How many reads answered the end, which is 0 octets.
+    /// How many reads returned the end, which is 0 octets.
     ghost ends: { Self → ℕ };
     /// Where it reads from, which no call changes: for an adapter the reference that it was lent.
     ghost place: { Self → GName };
 
-    /// Moves octets into the front of the room, and answers how many; 0 means that none are to
+    /// Moves octets into the front of the room, and returns how many; 0 means that no more will
     /// come. A read that fails moves none.
     fn read(&mut self, room: &mut [u8]) -> Result<usize, DeviceFault>
         requires { 0 < length room.old }
@@ -39,17 +38,17 @@ pub trait Source {
         ensures place { place self.new ≡ place self.old };
 }
 
-/// What takes octets. Its count stops at the greatest u64. A device may tell no octets; a clause
-/// then says nothing of them.
+/// A sink for octets. Its count stops at the greatest u64. A device need not report its octets; a
+/// clause then says nothing of them.
 pub trait Sink {
-    /// The octets taken, or None if the device tells none.
+    /// The octets taken, or None if the device does not report them.
     ghost taken: { Self → Option (List ℕ) };
     /// How many writes failed.
     ghost failures: { Self → ℕ };
     /// Where it writes to, which no call changes: for an adapter the reference that it was lent.
     ghost place: { Self → GName };
 
-    /// Takes octets from the front, at least one, and answers how many. A write that fails takes
+    /// Takes octets from the front, at least one, and returns how many. A write that fails takes
     /// none.
     fn write(&mut self, octets: &[u8]) -> Result<usize, DeviceFault>
         requires { 0 < length octets.now }
@@ -60,9 +59,9 @@ pub trait Sink {
         ensures place { place self.new ≡ place self.old };
 }
 
-/// What takes octets and can be told to pass them on.
+/// A sink that can be asked to pass its octets on.
 pub trait Flush: Sink {
-    /// Whether it was told to pass on all that it has taken.
+    /// Whether it was asked to pass on all that it has taken.
     ghost is_flushed: { Self → Bool };
 
     /// Passes on what was taken. A flush that fails counts as a failed write.
@@ -73,7 +72,7 @@ pub trait Flush: Sink {
         ensures place { Self.place self.new ≡ Self.place self.old };
 }
 
-/// A source of any reader, which it is lent.
+/// A source that reads from a borrowed reader.
 #[derive(Drop)]
 pub struct FromReader<'a, R> {
     reader: &'a mut R,
@@ -86,7 +85,7 @@ impl<'a, R: Read> FromReader<'a, R> {
     ghost use Rattle.std.specs.Prelude.{◌≡◌};
     ghost use Rattle.lldp_program.specs.Devices.Adapters.{source_to_come, source_calls, source_failures, source_ends, source_place};
 
-    /// A source that tells what the reader tells, with no call, no failure and no end yet.
+    /// Returns a source that reports what the reader reports, with no call, failure or end yet.
     pub fn new(reader: &'a mut R) -> Self
         ensures octets { source_to_come R.remaining result ≡ R.remaining reader.old }
         ensures calls { source_calls result ≡ 0 }
@@ -130,8 +129,7 @@ impl<R: Read> Source for FromReader<'_, R> {
     }
 }
 
-/// A sink of any writer, which it is lent. A write of the writer that takes no octet is a failed
-/// one.
+/// A sink that writes to a borrowed writer. If the writer takes no octet, the write has failed.
 #[derive(Drop)]
 pub struct ToWriter<'a, W> {
     writer: &'a mut W,
@@ -143,7 +141,7 @@ impl<'a, W: Write> ToWriter<'a, W> {
     ghost use Rattle.std.specs.Prelude.{◌≡◌};
     ghost use Rattle.lldp_program.specs.Devices.Adapters.{sink_taken, sink_failures, sink_place};
 
-    /// A sink that tells what the writer tells, with no failure yet.
+    /// Returns a sink that reports what the writer reports, with no failure yet.
     pub fn new(writer: &'a mut W) -> Self
         ensures octets { sink_taken W.contents result ≡ W.contents writer.old }
         ensures failures { sink_failures result ≡ 0 }

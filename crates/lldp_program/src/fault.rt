@@ -1,4 +1,4 @@
-//! Why the program ends with another status than 0, and the line that tells it.
+//! Why the program ends with a status other than 0, and the line that reports it.
 ghost use Rattle.std.specs.Prelude.{◌≡◌};
 ghost use Rattle.lldp_program.specs.Faults.ProgramFault.{fault_of_address, fault_of_opening, fault_of_run, line_of, status_of};
 
@@ -6,14 +6,14 @@ use crate::arguments::AddressFault;
 use crate::trace::RunFault;
 use lldp_engine::OpenFault;
 
-/// Why the program ends with another status than 0.
+/// Why the program ends with a status other than 0.
 #[derive(Clone, Copy, Debug, PartialEq, Eq)]
 pub enum ProgramFault {
     /// A read failed.
     Read,
     /// A write or a flush failed.
     Write,
-    /// The trace did not end in as many reads as a run makes at most.
+    /// The trace did not end within the most reads that a run makes.
     InputTooLong,
     /// The port could not be bound, accepting failed, or a connection ended with a fault.
     Socket,
@@ -23,20 +23,20 @@ pub enum ProgramFault {
     NoPorts,
     /// More than 64 ports were named.
     TooManyPorts,
-    /// A port's name is not one.
+    /// A port's name is not the name of a port.
     PortName,
     /// Two ports have the same name.
     SamePort,
-    /// The hostname is no text.
+    /// The hostname is not a text.
     Text,
-    /// `--mac` gives no MAC.
+    /// `--mac` does not give a MAC.
     Mac,
-    /// `--management` gives no IPv4 address.
+    /// `--management` does not give an IPv4 address.
     Management,
 }
 
 impl ProgramFault {
-    /// The line that tells it, with its LF.
+    /// Returns the line that reports it, with its LF.
     pub fn line(self) -> &'static [u8]
         ensures { result.now ≡ line_of self }
     {
@@ -56,7 +56,7 @@ impl ProgramFault {
         }
     }
 
-    /// The status that the program ends with, 1 or 2.
+    /// Returns the status that the program ends with, 1 or 2.
     pub fn status(self) -> u8
         ensures { result ≡ status_of self }
     {
@@ -69,7 +69,7 @@ impl ProgramFault {
         }
     }
 
-    /// The fault of a run; its status is 1.
+    /// Returns the fault of a run; its status is 1.
     pub fn of_run(fault: RunFault) -> ProgramFault
         ensures fault { result ≡ fault_of_run fault }
         ensures status { status_of result ≡ 1 }
@@ -81,7 +81,7 @@ impl ProgramFault {
         }
     }
 
-    /// The refusal of an opening; its status is 2.
+    /// Returns the refusal of an opening; its status is 2.
     pub fn of_opening(fault: OpenFault) -> ProgramFault
         ensures fault { result ≡ fault_of_opening fault }
         ensures status { status_of result ≡ 2 }
@@ -96,7 +96,7 @@ impl ProgramFault {
         }
     }
 
-    /// The fault of an address among the words; its status is 2.
+    /// Returns the fault of an address among the words; its status is 2.
     pub fn of_address(fault: AddressFault) -> ProgramFault
         ensures fault { result ≡ fault_of_address fault }
         ensures status { status_of result ≡ 2 }

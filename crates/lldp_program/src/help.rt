@@ -1,4 +1,4 @@
-//! What the program's help says beside its options. Its lines have at most 80 columns.
+//! What the program's help says besides its options. Its lines have at most 80 columns.
 
 pub const VERSION: &str = "1.0.0";
 

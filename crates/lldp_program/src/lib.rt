@@ -1,4 +1,4 @@
-//! The program but for its `main`: words and streams in, the lines of a trace, frames and shows out.
+//! The program except its `main`: words and streams in, the lines of a trace, frames and shows out.
 #![tactic(auto)]
 
 pub mod acceptor;

@@ -13,7 +13,7 @@ use lldp_engine::{
     split, split_at_bare,
 };
 
-/// How many octets a line has at most, its LF left out.
+/// How many octets a line has at most, without its LF.
 pub const LONGEST: usize = 4096;
 
 /// Why a line is refused.
@@ -34,7 +34,7 @@ pub enum Work<'l> {
     Skip,
     /// So many ticks, at least one.
     Ticks(u16),
-    /// A frame came on a port.
+    /// A frame was received on a port.
     Frame { port: u8, octets: &'l [u8] },
     /// The link of a port came up, or went down.
     Link { port: u8, up: bool },
@@ -53,7 +53,7 @@ impl From<CommandFault> for LineFault {
 }
 
 impl LineFault {
-    /// The number of the fault, 1 to 3.
+    /// Returns the number of the fault, 1 to 3.
     pub fn number(self) -> u8
         ensures { result ≡ number_of_line_fault self }
     {
@@ -64,7 +64,7 @@ impl LineFault {
         }
     }
 
-    /// The line that tells the fault, without LF.
+    /// Returns the line that reports the fault, without LF.
     pub fn text(self) -> &'static [u8]
         ensures text { result.now ≡ fault_text self }
         ensures short { length result.now ≤ 2048 }
@@ -77,7 +77,7 @@ impl LineFault {
     }
 }
 
-/// Whether a line has nothing but spaces and tabs, or `#` as the first other octet.
+/// Returns whether a line has only spaces and tabs, or `#` as the first other octet.
 fn is_skipped_line(line: &[u8]) -> bool
     ensures { result ≡ is_skipped line.now }
 {
@@ -89,7 +89,7 @@ fn is_skipped_line(line: &[u8]) -> bool
     true
 }
 
-/// `tick` and `tick N`, behind their first word.
+/// Reads `tick` and `tick N`, behind their first word.
 #[tactic(auto, unfolding(crate::specs::Trace::Forms::tick_form))]
 fn read_tick<'l>(mut words: Words<'_>) -> Result<Work<'l>, LineFault>
     ensures read { on_ok work_of result ≡ tick_form words.entry }
@@ -104,7 +104,7 @@ fn read_tick<'l>(mut words: Words<'_>) -> Result<Work<'l>, LineFault>
     Ok(Work::Ticks(ticks))
 }
 
-/// The octets that hexadecimal digits spell, at the front of the room.
+/// Decodes hexadecimal digits into the front of the room, and returns these octets.
 fn decode<'l>(digits: &[u8], room: &'l mut [u8]) -> Result<&'l [u8], LineFault>
     requires { length digits.now ≤ 2 * length room.old }
     ensures octets { IfOk result (λ octets. or_hex (decode_of digits.now) ≡ Ok octets.now) }
@@ -114,14 +114,14 @@ fn decode<'l>(digits: &[u8], room: &'l mut [u8]) -> Result<&'l [u8], LineFault>
     if digits.len() % 2 == 0 && decode_digits(digits, octets) {
         return Ok(octets);
     }
-    // Few digits, and whatever is to be refused.
+    // Few digits, or digits to be refused.
     match hex::decode_to_slice(digits, octets) {
         Ok(()) => Ok(octets),
         Err(_) => Err(LineFault::Hex),
     }
 }
 
-/// `rx PORT HEX`, behind its first word. The octets go into the room.
+/// Reads `rx PORT HEX`, behind its first word. The octets are written into the room.
 #[tactic(auto, unfolding(crate::specs::Trace::Forms::frame_form))]
 fn read_frame<'l>(
     agent: &Agent,
@@ -139,7 +139,7 @@ fn read_frame<'l>(
     Ok(Work::Frame { port, octets })
 }
 
-/// `up PORT` and `down PORT`, behind their first word.
+/// Reads `up PORT` and `down PORT`, behind their first word.
 #[tactic(auto, unfolding(crate::specs::Trace::Forms::link_form))]
 fn read_link<'l>(agent: &Agent, mut words: Words<'_>, up: bool) -> Result<Work<'l>, LineFault>
     ensures read { on_ok work_of result ≡ link_form agent.now up words.entry }
@@ -150,7 +150,7 @@ fn read_link<'l>(agent: &Agent, mut words: Words<'_>, up: bool) -> Result<Work<'
     Ok(Work::Link { port, up })
 }
 
-/// What follows this front, if the text begins with it.
+/// Returns what follows this front, if the text begins with it.
 fn behind<'l>(text: &'l [u8], front: &[u8]) -> Option<&'l [u8]>
     ensures { MatchOption result
         ((rest : List ℕ) → text.now ≢ front.now ++ rest)
@@ -159,8 +159,8 @@ fn behind<'l>(text: &'l [u8], front: &[u8]) -> Option<&'l [u8]>
     text.strip_prefix(front)
 }
 
-/// The port and the digits of `rx PORT HEX` as it is mostly written, with one space between words
-/// and no quotes. A line that gives None is read word by word, so it may be any.
+/// Reads the port and the digits of `rx PORT HEX` in its usual form, with one space between words
+/// and no quotes. A line that is not in this form gives None, and is then read word by word.
 fn plain_frame<'l>(agent: &Agent, line: &'l [u8]) -> Option<(u8, &'l [u8])>
     requires { length line.now ≤ 4096 }
     ensures reads { IfSome result (λ x. (octets : List ℕ) → decode_of x.1.now ≡ Ok octets →
@@ -185,8 +185,9 @@ fn plain_frame<'l>(agent: &Agent, line: &'l [u8]) -> Option<(u8, &'l [u8])>
     }
 }
 
-/// What a line, without its LF, asks of the agent, or its first fault. The agent accepts the events
-/// of what was read. The octets of a frame stand in the room; else nothing is promised of the room.
+/// Reads what a line, without its LF, asks of the agent, or its first fault. The agent accepts the
+/// events of what was read. The octets of a frame are in the room; for other lines nothing is
+/// promised of the room.
 #[tactic(auto, unfolding(crate::specs::Trace::Forms::work_given, crate::specs::Trace::Forms::form_of))]
 pub fn read_line<'l>(
     agent: &Agent,
@@ -199,7 +200,7 @@ pub fn read_line<'l>(
     if line.len() > LONGEST {
         return Err(LineFault::TooLong);
     }
-    // Most lines are such frames. One with a bad digit is refused where every other line is read.
+    // Most lines are such frames. One with a bad digit is refused below, like every other line.
     if let Some((port, digits)) = plain_frame(agent, line) {
         let count = digits.len() / 2;
         if decode_digits(digits, &mut room[..count]) {

@@ -1,4 +1,4 @@
-//! Text on its way to a sink. It is gathered, and goes out in large pieces.
+//! Text on its way to a sink. It is gathered, and written in large pieces.
 ghost use Rattle.std.specs.Prelude.{◌≡◌, ◌≤◌, ◌<◌, ◌+◌, ◌*◌, [], length, OnOk};
 ghost use Rattle.std.specs.List.{flat_map, AllByRecursion};
 ghost use Rattle.lldp_engine.specs.AgentState.{names_of, IsPort};
@@ -27,7 +27,7 @@ pub fn send<W: Sink>(sink: &mut W, octets: &[u8]) -> Result<(), DeviceFault>
     Ok(())
 }
 
-/// Writes text to a borrowed sink. A text is gathered, and none of it waits once it is written.
+/// Writes text to a borrowed sink. A text is gathered, and once it is written none of it waits.
 #[derive(Drop)]
 pub struct Output<'w, W> {
     sink: &'w mut W,
@@ -36,7 +36,7 @@ pub struct Output<'w, W> {
 }
 
 impl<'w, W: Sink> Output<'w, W> {
-    /// An output that tells what the sink tells.
+    /// Returns an output that reports what the sink reports.
     pub fn new(sink: &'w mut W) -> Self
         ensures taken { W.taken result.sink.now ≡ W.taken sink.old }
         ensures failures { W.failures result.sink.now ≡ W.failures sink.old }
@@ -52,7 +52,7 @@ impl<'w, W: Sink> Output<'w, W> {
 }
 
 impl<W: Sink> Output<'_, W> {
-    /// Begins a text. What a write that failed left is forgotten.
+    /// Begins a text. What a failed write left over is dropped.
     fn begin(&mut self)
         ensures { output_state W.taken W.failures W.place self.new
             ≡ begun (output_state W.taken W.failures W.place self.old) }
@@ -91,7 +91,7 @@ impl<W: Sink> Output<'_, W> {
         self.answer
     }
 
-    /// Puts the line that tells which port sent a frame behind what waits.
+    /// Appends the line for a frame that a port sent to what waits.
     fn put_frame(&mut self, name: &[u8], frame: &[u8])
         requires name { length name.now ≤ 15 }
         requires frame { length frame.now ≤ 1514 }
@@ -108,7 +108,7 @@ impl<W: Sink> Output<'_, W> {
         }
     }
 
-    /// Puts the lines of what ports send behind what waits.
+    /// Appends the lines of what ports send to what waits.
     fn put_frames(&mut self, agent: &Agent, marks: &Marks)
         requires { AllByRecursion (λ mark. IsPort agent.now mark.0
             × IsSent mark.1) marks.now.items }
@@ -123,7 +123,7 @@ impl<W: Sink> Output<'_, W> {
         }
     }
 
-    /// Puts a line and its LF behind what waits.
+    /// Appends a line and its LF to what waits.
     fn put_line(&mut self, line: &[u8])
         requires { length line.now ≤ 2048 }
         ensures { Between W.taken W.failures W.place self.old self.new (Puts (ended line.now)) }
@@ -164,7 +164,7 @@ impl<W: Sink> Output<'_, W> {
             (Writes (flat_map (mark_line (names_of agent.now) agent.now.configuration)
             marks.now.items) result) }
     {
-        // Most events send nothing, and touch nothing here.
+        // Most events send nothing, and change nothing here.
         if marks.is_empty() {
             return Ok(());
         }
@@ -178,7 +178,7 @@ impl<W: Sink> LineSink for Output<'_, W> {
     ghost takes = { λ old new line.
         Between W.taken W.failures W.place old new (Puts (ended line)) };
 
-    /// Lends what waits, behind which the next line is written.
+    /// Lends what waits, so that the next line is written behind it.
     fn begin_line(&mut self) -> Option<&mut Writer> {
         self.make_room(LINE_ROOM);
         if self.answer.is_err() {

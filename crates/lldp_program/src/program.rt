@@ -1,4 +1,4 @@
-//! The program, over arguments and streams that are handed in.
+//! The program, over arguments and streams that its caller passes.
 ghost use Rattle.std.specs.Prelude.{◌≡◌, ◌≢◌, ◌≤◌, ◌⊎◌, true, false, None, Ok, Err, map, if◌then◌else◌};
 ghost use Rattle.std.specs.Io.KnownBytes.{Keeps};
 ghost use Rattle.clap.specs.Values.{kind_of};
@@ -33,29 +33,32 @@ const DONE: u8 = 0;
 /// The words are bad, an opening was refused, or there was no memory.
 const REFUSED: u8 = 2;
 
-/// Runs the program on its arguments, of which the first is its name, and answers its status, 0, 1
-/// or 2. Of the public calls of this crate it and `arguments::parse`, which it calls, take memory:
-/// for the arguments and for opening.
+/// Runs the program on its arguments, of which the first is its name, and returns its status, 0, 1
+/// or 2. It and `arguments::parse`, which it calls, are the only public calls of this crate that
+/// take memory: for the arguments and for opening.
+///
 ///
 /// The clauses say: with status 2 nothing was read and nothing written. Then the arguments are
 /// wrong by `clap`'s own specification of the command line, or there was no memory for them, or an
 /// address cannot be read, or opening refuses the options, for the first check that fails or for
-/// want of memory; and the line of that fault was told on `faults`, but for wrong arguments, whose
-/// text is `clap`'s. With another status the arguments ask for help or the version, and nothing was
+/// lack of memory. The line of that fault was written to `faults`; for wrong arguments the text is
+/// `clap`'s instead. With another status the arguments ask for help or the version, and nothing was
 /// read; or they have no fault, each option, the MAC and the management address included, is the
 /// value of its argument or its default and in its range, and opening finds no fault in them.
 /// Without `--listen` the trace of the reader was then run over an agent so opened, as `run_trace`
-/// says, all of it if the status is 0. With `--listen` nothing was read and nothing written; what
-/// is listened to is the port given by it, and the number of connections given by `--connections`,
-/// or its default 1. The status is 0 and nothing was told on `faults`, or it is that of the fault
-/// whose line was told: of the run, else of the flush behind it; of the socket with `--listen`; of
-/// the write of help or the version.
+/// says, all of it if the status is 0. With `--listen` nothing was read and nothing written; it
+/// listens at the port that `--listen` gives, for as many connections as `--connections` gives, 1
+/// by default. The status is 0 and nothing was written to `faults`, or it is that of the fault
+/// whose line was written: of the run, or else of the flush behind it; of the socket with
+/// `--listen`; of the write of help or the version.
 ///
-/// Of a line that was told all was written, or what comes before a write that failed.
 ///
-/// What is meant besides, and seen by tests: that a write, a flush, a socket or memory whose fault
-/// is told did fail; the texts of help, of the version and of wrong arguments; and that the traces
-/// of those who listen come over connections to 127.0.0.1.
+/// The whole line of a fault is written, or what comes before a write that failed.
+///
+///
+/// No clause says the following, and tests see it: that a write, a flush, a socket or memory whose
+/// fault is reported did fail; the texts of help, of the version and of wrong arguments; and that
+/// with `--listen` the traces come over connections to 127.0.0.1.
 pub fn run_program<S: AsStr, R: Read, W: Write, E: Write>(
     rt: &impl Net<Listener = TcpListener, Stream = TcpStream>,
     alloc: Global,
@@ -71,7 +74,7 @@ pub fn run_program<S: AsStr, R: Read, W: Write, E: Write>(
         (R.remaining reader.old) (R.remaining reader.new)
         (W.contents writer.old) (W.contents writer.new)
         (E.contents faults.old) (E.contents faults.new) result }
-    // Refused, it has told why, and has read nothing and written nothing.
+    // If it refuses, it has said why, and has read nothing and written nothing.
     ensures refused { result ≡ 2 → HasRefused (map S.text words.now)
         (E.contents faults.old) (E.contents faults.new) }
     ensures silent { result ≡ 2 →
@@ -84,7 +87,7 @@ pub fn run_program<S: AsStr, R: Read, W: Write, E: Write>(
     }
 }
 
-/// Runs the program with the options that its words gave.
+/// Runs the program with the options that its words give.
 fn run_matches<R: Read, W: Write, E: Write>(
     rt: &impl Net<Listener = TcpListener, Stream = TcpStream>,
     alloc: Global,
@@ -124,7 +127,7 @@ fn run_matches<R: Read, W: Write, E: Write>(
     }
 }
 
-/// Writes the help or version that was asked for, or tells what is wrong with the words.
+/// Writes the help or version that was asked for, or reports what is wrong with the words.
 fn answer_words<W: Write, E: Write>(error: &Error, writer: &mut W, faults: &mut E) -> u8
     ensures refused { (kind_of error.now ≢ ErrorKind.DisplayHelp) →
         (kind_of error.now ≢ ErrorKind.DisplayVersion) →
@@ -150,7 +153,7 @@ fn answer_words<W: Write, E: Write>(error: &Error, writer: &mut W, faults: &mut 
     finish(writer.flush().is_ok(), faults)
 }
 
-/// Runs the trace that comes from the reader, and flushes the writer also if the run failed.
+/// Runs the trace that comes from the reader, and flushes the writer even if the run failed.
 fn run_streams<R: Read, W: Write, E: Write>(
     agent: &mut Agent,
     reader: &mut R,
@@ -167,8 +170,8 @@ fn run_streams<R: Read, W: Write, E: Write>(
     run_devices(agent, &mut source, &mut sink, faults)
 }
 
-/// Runs the trace that comes from a source, and flushes the sink behind the last write, also if
-/// the run failed. Status 0 says that no read, write or flush failed, status 1 that one did or that
+/// Runs the trace that comes from a source, and flushes the sink behind the last write, even if the
+/// run failed. Status 0 means that no read, write or flush failed, status 1 that one did or that
 /// the trace was too long.
 fn run_devices<S: Source, W: Flush, E: Write>(
     agent: &mut Agent,
@@ -189,7 +192,7 @@ fn run_devices<S: Source, W: Flush, E: Write>(
         FailedBy (S.failures source.new) (W.failures sink.new) (S.calls source.new) }
     ensures places { (S.place source.new ≡ S.place source.old)
         × (W.place sink.new ≡ W.place sink.old) }
-    // It was told to pass on all that was written, whatever became of the run.
+    // It was asked to pass on all that was written, even if the run failed.
     ensures flushed { W.is_flushed sink.new ≡ true }
 {
     let ran = run_trace(agent, source, sink);
@@ -221,7 +224,7 @@ fn run_sockets<E: Write>(
     }
 }
 
-/// The status behind a flush at the end, of which a fault is told.
+/// Returns the status after a flush at the end. If the flush failed, writes the line of that fault.
 fn finish<E: Write>(flushed: bool, faults: &mut E) -> u8
     ensures status { result ≡ (if flushed then 0 else 1) }
     ensures well { flushed ≡ true → EndsBy (Ok tt)
@@ -235,7 +238,7 @@ fn finish<E: Write>(flushed: bool, faults: &mut E) -> u8
     tell(ProgramFault::Write, faults)
 }
 
-/// Tells that there was no memory, and answers the status 2.
+/// Reports that there was no memory, and returns the status 2.
 pub fn no_memory<E: Write>(faults: &mut E) -> u8
     ensures status { result ≡ 2 }
     ensures told { IsTold ProgramFault.Memory (E.contents faults.old) (E.contents faults.new) }
@@ -243,7 +246,8 @@ pub fn no_memory<E: Write>(faults: &mut E) -> u8
     tell(ProgramFault::Memory, faults)
 }
 
-/// The status of a fault, whose line is told. That it cannot be written changes no status.
+/// Writes the line of a fault, and returns its status. If the line cannot be written, the status is
+/// the same.
 fn tell<E: Write>(fault: ProgramFault, faults: &mut E) -> u8
     ensures status { result ≡ status_of fault }
     ensures told { IsTold fault (E.contents faults.old) (E.contents faults.new) }

@@ -1,4 +1,4 @@
-//! Traces that come over connections, one after the other.
+//! Traces that come over connections, one after another.
 ghost use Rattle.std.specs.Prelude.{◌≡◌, ◌≤◌, IfOk};
 ghost use Rattle.lldp_engine.specs.Past.{Past};
 ghost use Rattle.lldp_engine.specs.Standing.{Stands};
@@ -23,7 +23,7 @@ pub enum ServeFault {
 }
 
 impl ServeFault {
-    /// The number of the fault, 1.
+    /// Returns the number of the fault, 1.
     pub fn number(self) -> u8
         ensures { result ≡ number_of_serve_fault self }
     {
@@ -31,7 +31,7 @@ impl ServeFault {
     }
 }
 
-/// How many faults a run ended with: one or none.
+/// Returns how many faults a run ended with: one or none.
 fn count_fault(ran: Result<(), RunFault>) -> u16
     ensures { result ≡ faults_in ran }
 {
@@ -41,12 +41,12 @@ fn count_fault(ran: Result<(), RunFault>) -> u16
     }
 }
 
-/// Runs a trace on so many connections of an acceptor, each accepted and then run over once before the
-/// next, and the next one also after a fault; answers how many ended with a fault, at most that
-/// many. The agent goes from one connection to the next as it is. If accepting is refused it fails,
-/// and the agent stands for the fewer connections served so far. Nothing else is asked of the acceptor,
-/// if the acceptor tells what it was asked. Either way the agent is promised for its past and some more
-/// allowed events.
+/// Runs a trace on so many connections of an acceptor. Each is accepted and then run once before
+/// the next, and a fault of one does not keep the next from being served. Returns how many ended
+/// with a fault, at most that many. The agent keeps its state from one connection to the next. If
+/// accepting is refused it fails, and the agent stands for the fewer connections served so far. The
+/// acceptor is asked for nothing else, if it reports its calls. Either way the agent is promised
+/// for its past and some more allowed events.
 pub fn serve_connections<D: Acceptor>(
     agent: &mut Agent,
     acceptor: &mut D,
@@ -70,9 +70,9 @@ pub fn serve_connections<D: Acceptor>(
 }
 
 /// Binds a port of this host, 127.0.0.1, before anything else, and serves so many connections
-/// there. Ok exactly if all were served and none ended with a fault. Fails if it is not bound,
-/// and then nothing else is asked; if accepting failed; and if a connection ended with a
-/// fault. The agent is promised either way.
+/// there. Ok exactly if all were served and none ended with a fault. Fails if it cannot bind, and
+/// then asks for nothing else; if accepting failed; and if a connection ended with a fault. The
+/// agent is promised either way.
 pub fn listen<D: Bind>(
     agent: &mut Agent,
     acceptor: &mut D,
@@ -91,9 +91,10 @@ pub fn listen<D: Bind>(
     }
 }
 
-/// Serves so many connections to a listener, as `serve_connections` does at an acceptor, and answers how
-/// many ended with a fault, at most that many. The toolchain's sockets do not tell their octets,
-/// and a listener does not tell what it was asked, so no clause says that anybody is served.
+/// Serves so many connections to a listener, as `serve_connections` does at an acceptor, and
+/// returns how many ended with a fault, at most that many. The toolchain's sockets do not report
+/// their octets, and a listener does not report its calls, so no clause says that any client is
+/// served.
 pub fn serve(agent: &mut Agent, listener: &TcpListener, connections: u16) -> Result<u16, ServeFault>
     ensures few { IfOk result (λ faulty. faulty ≤ connections) }
     // Whatever came over the connections, and also if accepting failed.

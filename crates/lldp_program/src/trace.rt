@@ -22,7 +22,7 @@ use thiserror::Error;
 
 const LF: u8 = b'\n';
 
-/// How many octets of the trace are held at most.
+/// How many octets of the trace the buffer holds.
 const BUFFER: usize = 16384;
 
 /// How often a run reads at most.
@@ -37,13 +37,13 @@ pub enum RunFault {
     /// A write failed.
     #[error("lldpa: write failed")]
     Write = 2,
-    /// The end was not reached in as many reads as a run makes at most.
+    /// The end was not reached within the most reads that a run makes.
     #[error("lldpa: input too long")]
     InputTooLong = 3,
 }
 
 impl RunFault {
-    /// The number of the fault, 1 to 3.
+    /// Returns the number of the fault, 1 to 3.
     pub fn number(self) -> u8
         ensures { result ≡ number_of_run_fault self }
     {
@@ -51,7 +51,7 @@ impl RunFault {
     }
 }
 
-/// An event, which the agent allows: what ports send is written.
+/// Takes an event that the agent allows, and writes what ports send.
 fn run_event<W: Sink>(
     agent: &mut Agent,
     output: &mut Output<'_, W>,
@@ -65,7 +65,7 @@ fn run_event<W: Sink>(
     output.write_marks(agent, &marks)
 }
 
-/// Some ticks.
+/// Takes some ticks.
 fn run_ticks<W: Sink>(
     agent: &mut Agent,
     output: &mut Output<'_, W>,
@@ -80,7 +80,7 @@ fn run_ticks<W: Sink>(
     Ok(())
 }
 
-/// What a line was read as.
+/// Does what a line was read as.
 fn run_work<W: Sink>(
     agent: &mut Agent,
     output: &mut Output<'_, W>,
@@ -103,7 +103,7 @@ fn run_work<W: Sink>(
     }
 }
 
-/// A run over a trace: its agent, where its text goes, and room for the octets of a frame.
+/// A run over a trace: its agent, where its text is written, and room for the octets of a frame.
 #[derive(Drop)]
 struct Run<'a, 'w, W> {
     agent: &'a mut Agent,
@@ -114,7 +114,7 @@ struct Run<'a, 'w, W> {
 impl<W: Sink> Run<'_, '_, W> {
     ghost use Rattle.lldp_program.specs.Code.Parts.{Performs};
 
-    /// What one line asks for.
+    /// Does what one line asks for.
     fn line(&mut self, line: &[u8]) -> Result<(), DeviceFault>
         ensures { Performs W.taken W.failures W.place self.old self.new (λ past.
             items_of past line.now) result }
@@ -123,8 +123,8 @@ impl<W: Sink> Run<'_, '_, W> {
         run_work(self.agent, &mut self.output, read)
     }
 
-    /// Each line whose LF is among the octets, of which the first were searched before. Answers
-    /// where the rest begins.
+    /// Does what each line asks for whose LF is among the octets. The first octets were searched
+    /// before. Returns where the rest begins.
     fn lines(&mut self, octets: &[u8], searched: usize) -> Result<usize, DeviceFault>
         requires within { searched ≤ length octets.now }
         requires no_line { ended_lines (take searched octets.now) ≡ [] }
@@ -144,7 +144,7 @@ impl<W: Sink> Run<'_, '_, W> {
         Ok(start)
     }
 
-    /// The last line, if it is not empty.
+    /// Does what the last line asks for, if it is not empty.
     fn rest(&mut self, rest: &[u8]) -> Result<(), DeviceFault>
         ensures { Performs W.taken W.failures W.place self.old self.new
             (λ past. items_of_lines past (if_any rest.now)) result }
@@ -156,27 +156,30 @@ impl<W: Sink> Run<'_, '_, W> {
     }
 }
 
-/// Runs a trace over the agent: reads it to its end, works on each line as soon as its LF was read,
-/// and writes what the lines ask to see, however the octets were split over reads. It does not
-/// flush. Every failed read or write ends it. A last line without LF is a line too; one over 4,096
-/// octets is passed over and refused.
+/// Runs a trace over the agent: reads it to its end, does what each line asks for as soon as its LF
+/// was read, and writes the answers, however the octets were split over reads. It does not flush.
+/// Every failed read or write ends it. A last line without LF is a line too; one over 4,096 octets
+/// is skipped and refused.
+///
 ///
 /// For every past that the agent stood for. Ok: the end was reached, what was written is the text
 /// of the trace, and the agent stands for the past plus the events of the input. Read and
 /// InputTooLong: each line whose LF was read was done, and nothing else was written. Write: the
 /// agent stands for the events up to and including the item whose output failed; the text of the
-/// items before it was written, and of its own text a part, but not all. Each time the agent is
+/// items before it was written, and a part of its own text, but not all. Each time the agent is
 /// promised for what it stands for. What was read, that the end was reached, and how many octets
-/// there were is said without any past. `headline` holds over any devices, even those that tell
-/// nothing.
+/// there were is said without any past. `headline` holds over any devices, even those that report
+/// no octets.
 ///
-/// It reads at most 4,294,967,295 times, and exactly so often if it answers InputTooLong, of a
-/// source that was read fewer than 2^63 times before; at least as many octets were then read.
-/// Failed reads rise by one exactly if the answer is Read, failed writes exactly if it is Write; a
-/// count stops at 2^64 - 1. At Ok the end was answered once, at Read and InputTooLong by none of
-/// the reads. The devices are still those that were lent.
 ///
-/// It takes no memory: it and all that it calls are handed no allocator, and its buffers have fixed
+/// It reads at most 4,294,967,295 times. If it returns InputTooLong, and the source was read fewer
+/// than 2^63 times before, it has read exactly so often, and at least as many octets. Failed reads
+/// rise by one exactly if the answer is Read, failed writes exactly if it is Write; a count stops
+/// at 2^64 - 1. At Ok the end was returned once, at Read and InputTooLong by none of the reads. The
+/// devices are still those that were lent.
+///
+///
+/// It takes no memory: it and all that it calls are given no allocator, and its buffers have fixed
 /// sizes: 16,384 octets read, 8,192 to be written, 2,048 for a received frame, 1,514 for a sent
 /// one.
 pub fn run_trace<S: Source, W: Sink>(
@@ -188,7 +191,7 @@ pub fn run_trace<S: Source, W: Sink>(
     // promise for.
     ensures run { HasRun (S.to_come reader.old) (S.to_come reader.new)
         (W.taken writer.old) (W.taken writer.new) agent.old agent.new result }
-    // Over any devices, also those that tell nothing: the agent stands for its past and some more
+    // Over any devices, even those that report no octets: the agent stands for its past and some more
     // events. Then each table holds the last stored frames that have not expired, and each port has
     // sent exactly what was due while its credit window was open; no run of events has more frames,
     // nor more stops, than its bound, and no other choice has sent more up to any event.

@@ -24,8 +24,8 @@ is_named name neighbor = same_msap name neighbor.msap
 abbrev pub holds_name : Contents → MsapId → Bool
 holds_name table name = list_any (is_named name) table.neighbors
 
--- what a learned frame told: at most 1,500 octets, which alone are a sound LLDPDU with this MSAP identifier and this
--- TTL, not 0, and are whole its extent
+-- what a learned frame said: at most 1,500 octets, which alone are a sound LLDPDU with this MSAP identifier and this
+-- TTL, not 0, and are its whole extent
 pub record IsExtent (msap : MsapId) (ttl : ℕ) (octets : List ℕ) : Type 0 where
   pub short : length octets ≤ 1500
   pub lives : 0 < ttl
@@ -37,7 +37,7 @@ pub record IsExtent (msap : MsapId) (ttl : ℕ) (octets : List ℕ) : Type 0 whe
   pub ttl_is : ttl_of octets ≡ ttl
   pub extent_is : extent octets ≡ octets
 
--- a neighbor as a table holds it: so many ticks are left as its TTL at most, and at least one
+-- a neighbor as a table holds it: at least one tick is left, and at most as many as its TTL
 pub record IsHeld (neighbor : Neighbor) : Type 0 where
   pub extent : IsExtent neighbor.msap neighbor.ttl neighbor.octets
   pub lives : 0 < neighbor.left

@@ -1,12 +1,12 @@
 -- The calls that were made on a table, and what they leave live (IEEE 802.1AB-2009, 9.2.7.7). Each list is newest
--- first, so that what stands behind a call in its list is what came before it.
+-- first, so the calls behind one in its list came before it.
 use Rattle.std.specs.Prelude.{ℕ, suc, ◌-◌, Bool, true, false, not, ◌&&◌, if◌then◌else◌, nat_lt, max, List, [], ◌∷◌, ◌++◌, length, filter, find, filter_map, Option, Some, None, is_some, option_and_then, count_by, is_none}
 use Rattle.lldp_pdu.specs.Msap.{MsapId}
 use Rattle.lldp_table.specs.Msap.{same_msap}
 use Rattle.lldp_table.specs.declared.learned.Learned.{Learned}
 use Rattle.lldp_table.specs.declared.learned.Learned.TheVariants.{New, Refreshed, Dropped}
 
--- a call on a table; a learned frame is told by its MSAP identifier, its TTL and its extent
+-- a call on a table; a learned frame is given by its MSAP identifier, its TTL and its extent
 pub data Call : Type 0 where
   learn : (msap : MsapId) (ttl : ℕ) (octets : List ℕ) → Call
   forget : (msap : MsapId) → Call
@@ -65,14 +65,14 @@ decides_on name _ = false
 
 -- ## Who is live
 
--- what is live of a name whose last deciding event is this one, n ticks ago: its TTL less n is left
+-- what is live of a name if its last deciding event is this one, n ticks ago: its TTL less n is left
 abbrev pub live_after : ℕ → TableEvent → Option Neighbor
 live_after n (learned msap ttl octets answer) =
     if nat_lt n ttl then Some (record { msap = msap; octets = octets; ttl = ttl; left = ttl - n }) else None
 live_after n _ = None
 
--- The neighbor of this name, if it is live: of the events that stored it, forgot it or purged the table the last one
--- stored it, and fewer ticks than its TTL came since.
+-- The neighbor of this name, if it is live: the last of the events that stored it, forgot it or purged the table stored
+-- it, and fewer ticks than its TTL came since.
 unfoldable pub live : MsapId → List TableEvent → Option Neighbor
 live name events = option_and_then (live_after (ticks (since (decides_on name) events))) (find (decides_on name) events)
 

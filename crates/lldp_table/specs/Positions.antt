@@ -1,5 +1,5 @@
--- The definitions of who is live, in which order, and whether too many came, in the words of positions: by splits of a
--- list of events at one of them, whose front part came later.
+-- Which neighbors are live, in which order, and whether too many came, in terms of positions: by splits of a list of
+-- events at one of them, whose front part came later.
 use Rattle.std.specs.Prelude.{◌≡◌, ℕ, ◌+◌, ◌<◌, Bool, false, List, ◌∷◌, ◌++◌, length, IsTrue}
 use Rattle.std.specs.List.{AllByRecursion, list_any}
 use Rattle.lldp_pdu.specs.Msap.{MsapId}
@@ -8,8 +8,8 @@ use Rattle.lldp_table.specs.declared.learned.Learned.{Learned}
 use Rattle.lldp_table.specs.declared.learned.Learned.TheVariants.{New, Dropped}
 use Rattle.lldp_table.specs.Events.{TableEvent, learned, Neighbor, neighbors, limit_after, is_purge, is_stored, decides_on, ticks}
 
--- The neighbor is its name's last stored frame that hasn't expired: since that frame was stored nothing stored another
--- of the name, forgot the name or purged the table, and the ticks since with those left, one at least, are its TTL.
+-- The neighbor is its name's last stored frame that hasn't expired: no later event stored another of the name, forgot
+-- the name or purged the table, and the ticks since then plus those left, at least one, are its TTL.
 pub record IsLastStored (events : List TableEvent) (neighbor : Neighbor) : Type 0 where
   pub later : List TableEvent
   pub answer : Learned
@@ -33,8 +33,8 @@ abbrev pub makes_new : MsapId → TableEvent → Bool
 makes_new name (learned other ttl octets New) = same_msap other name
 makes_new name _ = false
 
--- One neighbor's name was last new before another's: at some moment the one had been new and the other came to be new
--- later, and the one was not new again since.
+-- One neighbor's name was last new before another's: at some moment the first had been new, the second became new
+-- later, and the first did not become new again after that.
 pub record IsNewBefore (events : List TableEvent) (one other : Neighbor) : Type 0 where
   pub later : List TableEvent
   pub earlier : List TableEvent

@@ -1,10 +1,10 @@
-//! A count that only clauses see.
+//! A count that exists for clauses only.
 ghost use Rattle.std.specs.Prelude.{◌≡◌, ℕ, ◌+◌};
 ghost use Rattle.std.specs.Borrow.{ftrue};
 
 use std::marker::Model;
 
-/// A count that takes no bytes, and that nothing but `add` changes.
+/// A count that takes no bytes, and that only `add` changes.
 #[derive(Drop)]
 pub(crate) struct Count {
     ghost number: { ℕ },
@@ -15,15 +15,15 @@ impl Model for Count {
 }
 
 impl Count {
-    /// A count that begins at some number. Which one is not said, so that nobody can begin anew and
-    /// claim that less was counted.
+    /// Begins a count at some number. No clause says which, so that nobody can begin anew and claim
+    /// that less was counted.
     pub(crate) fn new() -> Count
         ensures { result ≡ result }
     {
         Count {}
     }
 
-    /// One more.
+    /// Adds one.
     pub(crate) fn add(&mut self)
         ensures { self.new.number ≡ self.old.number + 1 }
     {}

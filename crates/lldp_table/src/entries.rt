@@ -1,4 +1,4 @@
-//! The neighbors of a table, one after the other.
+//! The neighbors of a table, one after another.
 ghost use Rattle.std.specs.Iterator.{YieldsFirst, item_count};
 
 use crate::entry::Entry;
@@ -10,7 +10,7 @@ use std::marker::Model;
 #[derive(Drop)]
 pub struct Entries<'a> {
     pub(crate) slots: &'a [Slot],
-    /// The indices of the slots whose neighbors are still to come.
+    /// The indices of the slots whose neighbors are not yet returned.
     pub(crate) order: &'a [u8],
     /// The ticks left of each slot.
     pub(crate) ticks: [u16; MOST_NEIGHBORS],

@@ -31,7 +31,7 @@ impl<'a> Model for Entry<'a> {
 }
 
 impl<'a> Entry<'a> {
-    /// Its name: both bodies have 2 to 256 octets.
+    /// Returns its name: both bodies have 2 to 256 octets.
     pub fn msap(&self) -> Msap<'a>
         ensures value { msap_view result ≡ self.now.msap }
         ensures chassis { IsIdentifier self.now.msap.chassis }
@@ -40,7 +40,7 @@ impl<'a> Entry<'a> {
         self.slot.msap()
     }
 
-    /// The time to live that was received, in seconds, at least 1.
+    /// Returns the time to live that was received, in seconds, at least 1.
     pub fn ttl(&self) -> u16
         ensures value { result ≡ self.now.ttl }
         ensures lives { 0 < result }
@@ -48,7 +48,7 @@ impl<'a> Entry<'a> {
         self.slot.ttl()
     }
 
-    /// The ticks that are left of it, at least 1 and no more than its TTL.
+    /// Returns the ticks left of it, at least 1 and no more than its TTL.
     pub fn left(&self) -> u16
         ensures value { result ≡ self.now.left }
         ensures lives { 0 < result }
@@ -57,8 +57,8 @@ impl<'a> Entry<'a> {
         self.left
     }
 
-    /// The kept TLVs of its frame, in order, each well formed, read again from the stored octets:
-    /// exactly theirs, at most one for every two octets past the first 12.
+    /// Returns the kept TLVs of its frame, in order, each well formed, read again from the stored
+    /// octets: exactly theirs, at most one for every two octets past the first 12.
     pub fn kept(&self) -> Kept<'a>
         ensures value { result ≡ kept_of self.now.octets }
         ensures each { AllByRecursion IsKeptTlv (kept_of self.now.octets) }
@@ -67,7 +67,7 @@ impl<'a> Entry<'a> {
         Kept::of_extent(self.octets())
     }
 
-    /// The stored octets, the extent of its last stored LLDPDU: at most 1,500.
+    /// Returns the stored octets, the extent of its last stored LLDPDU: at most 1,500.
     pub fn octets(&self) -> &'a [u8]
         ensures value { result.now ≡ self.now.octets }
         ensures extent { IsExtent self.now.msap self.now.ttl self.now.octets }

@@ -16,16 +16,16 @@ ghost use Rattle.lldp_table.specs.Standing.{Stands, ForEachCalls, IsPossible, Ar
 ghost use Rattle.lldp_table.specs.Positions.{IsLastStored, IsLive, HasRoom, IsNewBefore, WasDropped};
 ghost use Rattle.lldp_table.specs.declared.limits.TheConstants.{MOST_NEIGHBORS};
 
-/// What a table that stands for a list of calls makes of one more call stands for the list with it,
-/// if that call is possible (`IsPossible`).
+/// A table that stands for a list of calls stands, after one more call, for the list with that
+/// call, if the call is possible (`IsPossible`).
 pub fn calls_carry_standing()
     ensures { (table : Contents) (call : Call) → IsPossible table call →
         ForEachCalls table (λ opened calls. Stands opened (call ∷ calls) (table_after table call)) }
 {}
 
 /// A table opened with a limit of 1 to 128 stands for no calls. A table that stands for a list of
-/// calls answers as the definitions do of the list. Each call is one event more, and a tick ages out
-/// as many neighbors as are live before it and not after it.
+/// calls answers what the definitions say of the list. Each call is one event more, and a tick ages
+/// out as many neighbors as are live before it and not after it.
 pub fn calls_tell_standing_tables()
     ensures opened { (opened : ℕ) → 0 < opened → opened ≤ 128 →
         Stands opened [] (newly_opened opened) }
@@ -59,8 +59,8 @@ pub fn extents_can_be_stored()
 {}
 
 /// A table that stands for a list of calls holds for each name its last stored frame that has not
-/// expired, and nothing else: a frame since which nothing stored another of its name, forgot it or
-/// purged the table, and fewer ticks than its TTL came. They stand in the order in which the names
+/// expired, and nothing else: since that frame no call stored another of its name, forgot it or
+/// purged the table, and fewer ticks than its TTL came. They are in the order in which the names
 /// were last new, never more than the limit, nor more than 1,500 octets for each.
 pub fn tables_hold_last_stored_frames()
     ensures held { (table : Contents) (neighbor : Neighbor) → ForEachCalls table (λ opened calls.
@@ -71,7 +71,7 @@ pub fn tables_hold_last_stored_frames()
 {}
 
 /// The same of the list of calls itself. If the table was opened with a limit of 1 to 128 and each
-/// call was possible, the table that they leave is sound and stands for the list.
+/// call was possible, the resulting table is sound and stands for the list.
 pub fn calls_leave_last_stored_frames()
     ensures held { (opened : ℕ) (calls : List Call) (neighbor : Neighbor) →
         Contains (neighbors (events_of opened calls)) neighbor
@@ -84,8 +84,8 @@ pub fn calls_leave_last_stored_frames()
         ArePossible opened calls → Stands opened calls (table_of opened calls) }
 {}
 
-/// A frame is a refresh exactly if a neighbor of its name is live, new exactly if none is and
-/// fewer than the limit in force are live, and else it is dropped.
+/// A frame is a refresh exactly if a neighbor of its name is live, new exactly if none is and fewer
+/// than the limit in force are live, and else it is dropped.
 pub fn live_neighbors_decide_answers()
     ensures refreshed { (opened : ℕ) (calls : List Call) (name : MsapId) →
         (answer opened name (events_of opened calls) ≡ Refreshed)
@@ -100,7 +100,7 @@ pub fn live_neighbors_decide_answers()
 {}
 
 /// What is left of the too-many timer is the most that any frame dropped since the last purge has
-/// left of its TTL, and 0 if none has anything left.
+/// left of its TTL, and 0 if no such frame has anything left.
 pub fn timers_keep_the_greatest_dropped()
     ensures one { (events : List TableEvent) → 0 < too_many_left events →
         WasDropped events (too_many_left events) }
@@ -113,8 +113,8 @@ pub fn timers_keep_the_greatest_dropped()
         WasDropped (events_of opened calls) left → left ≤ table.too_many_left) }
 {}
 
-/// A name that is forgotten, as by a frame with a TTL of 0, goes and no other does; nothing else
-/// changes.
+/// If a name is forgotten, for instance by a frame with a TTL of 0, that name is removed and no
+/// other; nothing else changes.
 pub fn forgotten_names_go_alone()
     ensures held { (opened : ℕ) (calls : List Call) (name : MsapId) (neighbor : Neighbor) →
         Contains (table_of opened (forget name ∷ calls)).neighbors neighbor
@@ -124,8 +124,8 @@ pub fn forgotten_names_go_alone()
         ≡ table_of opened calls }
 {}
 
-/// At a tick exactly those neighbors go that had one tick left. The others, and the too-many timer,
-/// have one tick less, and the limit stays.
+/// A tick removes exactly those neighbors that had one tick left. The others, and the too-many
+/// timer, have one tick less, and the limit stays.
 pub fn ticks_take_expired_neighbors_alone()
     ensures held { (opened : ℕ) (calls : List Call) (neighbor : Neighbor) →
         Contains (table_of opened (tick ∷ calls)).neighbors neighbor
@@ -137,8 +137,8 @@ pub fn ticks_take_expired_neighbors_alone()
         (table_of opened (tick ∷ calls)).limit ≡ (table_of opened calls).limit }
 {}
 
-/// A frame with a TTL above 0 that is not dropped is held with all of its TTL left, in place of what
-/// its name had; nothing else changes.
+/// A frame with a TTL above 0 that is not dropped is held with all of its TTL left, in place of
+/// what its name had; nothing else changes.
 pub fn stored_frames_replace_their_name_alone()
     ensures held { (opened : ℕ) (calls : List Call) (name : MsapId) (ttl : ℕ) (octets : List ℕ)
         (neighbor : Neighbor) → 0 < ttl → ¬ (answer opened name (events_of opened calls) ≡ Dropped) →
@@ -151,7 +151,7 @@ pub fn stored_frames_replace_their_name_alone()
         ≡ table_of opened calls }
 {}
 
-/// A dropped frame has the too-many timer run at least as long as its TTL; nothing else changes.
+/// A dropped frame makes the too-many timer run at least as long as its TTL; nothing else changes.
 pub fn dropped_frames_change_the_timer_alone()
     ensures { (opened : ℕ) (calls : List Call) (name : MsapId) (ttl : ℕ) (octets : List ℕ) →
         answer opened name (events_of opened calls) ≡ Dropped →
@@ -159,15 +159,15 @@ pub fn dropped_frames_change_the_timer_alone()
         ≡ record (table_of opened calls) { too_many_left = max (table_of opened calls).too_many_left ttl } }
 {}
 
-/// A purge leaves no neighbor and ends the too-many timer, and the limit stays.
+/// A purge removes all neighbors and ends the too-many timer, and the limit stays.
 pub fn purges_end_timers_too()
     ensures { (opened : ℕ) (calls : List Call) → table_of opened (purge ∷ calls)
         ≡ record (table_of opened calls) { neighbors = []; too_many_left = 0 } }
 {}
 
-/// A limit is in force from the call that sets it until another one does, the limit of opening
-/// until the first: a frame of a name that is not live is dropped exactly if as many neighbors
-/// are held. Setting it changes nothing else.
+/// A limit is in force from the call that sets it until another call sets one, and the limit of
+/// opening until the first such call: a frame of a name that is not live is dropped exactly if as
+/// many neighbors are held. Setting it changes nothing else.
 pub fn limits_last_until_the_next()
     ensures set { (opened limit : ℕ) (later calls : List Call) →
         AllByRecursion (λ call. sets_limit call ≡ false) later →
@@ -183,8 +183,8 @@ pub fn limits_last_until_the_next()
         table_of opened (set_limit limit ∷ calls) ≡ record (table_of opened calls) { limit = limit } }
 {}
 
-/// Two names whose octets, those of the chassis ID before those of the port ID, differ in one place
-/// have different tags. Only speed depends on the tag.
+/// If the octets of two names, the chassis ID's followed by the port ID's, differ in one place,
+/// their tags differ. The tag affects only speed.
 pub fn names_one_octet_apart_have_tags_apart()
     ensures { (one other : MsapId) (front back : List ℕ) (a b : ℕ) →
         one.chassis ++ one.port ≡ front ++ a ∷ back → other.chassis ++ other.port ≡ front ++ b ∷ back →

@@ -16,7 +16,7 @@ use arrayvec::ArrayVec;
 use lldp_pdu::{MOST_OCTETS, Msap};
 use std::alloc::Allocator;
 
-/// The place of the slot whose frame has this MSAP identifier, whose tag is given.
+/// Returns the place of the slot whose frame has this MSAP identifier. The tag is the name's.
 pub(crate) fn place_of(slots: &[Slot], order: &[u8], name: &Msap<'_>, tag: u32) -> Option<usize>
     requires tag { tag ≡ tag_of (msap_view name.now) }
     requires within { AllByRecursion (λ i. i < length slots.now) order.now }
@@ -34,7 +34,7 @@ pub(crate) fn place_of(slots: &[Slot], order: &[u8], name: &Msap<'_>, tag: u32) 
     None
 }
 
-/// Writes one more slot if all that were written are in use. The room was made at opening.
+/// Writes one more slot if all that were written are in use. Opening made the room for it.
 pub(crate) fn write_next<A: Allocator>(
     slots: &mut Room<Slot, A>,
     order: &mut ArrayVec<u8, MOST_NEIGHBORS>,
@@ -54,8 +54,8 @@ pub(crate) fn write_next<A: Allocator>(
     }
 }
 
-/// A tick. Takes the slots whose neighbors expire out of the queue, and puts them behind the others
-/// in the order. Tells how many slots are still in use.
+/// Takes a tick: moves the slots whose neighbors expire out of the queue, and behind the others in
+/// the order. Returns how many slots are still in use.
 #[inline(always)]
 pub(crate) fn age_out(
     queue: &mut Queue,
@@ -86,7 +86,7 @@ pub(crate) fn age_out(
     kept
 }
 
-/// How many octets these slots store.
+/// Returns how many octets these slots store.
 pub(crate) fn octets_of(slots: &[Slot], order: &[u8]) -> u32
     requires within { AllByRecursion (λ i. i < length slots.now) order.now }
     requires few { length order.now ≤ MOST_NEIGHBORS }

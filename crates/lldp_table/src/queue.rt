@@ -9,7 +9,7 @@ use arrayvec::ArrayVec;
 use memchr::memchr;
 use std::marker::Model;
 
-/// The place of a slot among these.
+/// Returns the place of a slot among these.
 pub(crate) fn place_in(slots: &[u8], slot: u8) -> usize
     requires { list_any (nat_eq slot) slots.now ≡ true }
     ensures within { result < length slots.now }
@@ -21,8 +21,7 @@ pub(crate) fn place_in(slots: &[u8], slot: u8) -> usize
     }
 }
 
-/// The place at which a neighbor with so many ticks left enters, and the difference that it has
-/// there.
+/// Returns the place at which a neighbor with so many ticks left enters, and its difference there.
 fn place_for(slots: &[u8], times: &mut Times, left: u16) -> (usize, u16)
     requires { AllByRecursion (λ i. i < MOST_NEIGHBORS) slots.now }
     ensures within { result.0 ≤ length slots.now }
@@ -45,7 +44,7 @@ fn place_for(slots: &[u8], times: &mut Times, left: u16) -> (usize, u16)
     (slots.len(), rest)
 }
 
-/// Takes so much from the difference at a place, if a slot stands there.
+/// Takes so much from the difference at a place, if a slot is there.
 fn lessen(times: &mut Times, slots: &[u8], at: usize, less: u16)
     requires queue { IsQueue times.old.shown slots.now }
     requires most { at < length slots.now →
@@ -62,7 +61,7 @@ fn lessen(times: &mut Times, slots: &[u8], at: usize, less: u16)
     times.set(slot, gap - less);
 }
 
-/// Adds so much to the difference at a place, if a slot stands there.
+/// Adds so much to the difference at a place, if a slot is there.
 fn raise(times: &mut Times, slots: &[u8], at: usize, more: u16)
     requires queue { IsQueue times.old.shown slots.now }
     requires fits { at < length slots.now →
@@ -79,7 +78,7 @@ fn raise(times: &mut Times, slots: &[u8], at: usize, more: u16)
     times.set(slot, more + gap);
 }
 
-/// A slot whose neighbor has so many ticks left enters.
+/// Enters a slot whose neighbor has so many ticks left.
 fn enter_into(slots: &mut ArrayVec<u8, MOST_NEIGHBORS>, times: &mut Times, slot: u8, left: u16)
     requires queue { IsQueue times.old.shown slots.old.items }
     requires room { length slots.old.items < MOST_NEIGHBORS }
@@ -95,7 +94,7 @@ fn enter_into(slots: &mut ArrayVec<u8, MOST_NEIGHBORS>, times: &mut Times, slot:
     slots.insert(at, slot);
 }
 
-/// A slot enters as the last, so many ticks behind the one that was last before.
+/// Enters a slot as the last, so many ticks behind the one that was last before.
 fn enter_last(slots: &mut ArrayVec<u8, MOST_NEIGHBORS>, times: &mut Times, slot: u8, gap: u16)
     requires queue { IsQueue times.old.shown slots.old.items }
     requires room { length slots.old.items < MOST_NEIGHBORS }
@@ -111,8 +110,8 @@ fn enter_last(slots: &mut ArrayVec<u8, MOST_NEIGHBORS>, times: &mut Times, slot:
     slots.push(slot);
 }
 
-/// A slot leaves, and the one behind it has its difference too. Tells how much less is left of the
-/// last slot now.
+/// Removes a slot, and adds its difference to the one behind it. Returns how much less is left of
+/// the last slot now.
 fn leave_from(slots: &mut ArrayVec<u8, MOST_NEIGHBORS>, times: &mut Times, slot: u8) -> u16
     requires queue { IsQueue times.old.shown slots.old.items }
     requires there { holds slot (dues times.old.shown slots.old.items) ≡ true }
@@ -136,8 +135,8 @@ fn leave_from(slots: &mut ArrayVec<u8, MOST_NEIGHBORS>, times: &mut Times, slot:
 #[derive(Drop)]
 pub(crate) struct Queue {
     slots: ArrayVec<u8, MOST_NEIGHBORS>,
-    /// The ticks left of the last: the sum of the differences. A slot that expires no earlier enters
-    /// behind it at once.
+    /// The ticks left of the last: the sum of the differences. A slot that expires no earlier is
+    /// entered behind it at once.
     last: u16,
     times: Times,
 }
@@ -175,7 +174,7 @@ impl Queue {
         self.last = 0;
     }
 
-    /// A slot whose neighbor has so many ticks left enters, behind those that expire no later.
+    /// Enters a slot whose neighbor has so many ticks left, behind those that expire no later.
     pub(crate) fn enter(&mut self, slot: u8, left: u16)
         requires room { length self.old.shown < MOST_NEIGHBORS }
         requires within { slot < MOST_NEIGHBORS }
@@ -191,7 +190,7 @@ impl Queue {
         enter_into(&mut self.slots, &mut self.times, slot, left);
     }
 
-    /// A slot leaves.
+    /// Removes a slot.
     pub(crate) fn leave(&mut self, slot: u8)
         requires { holds slot self.old.shown ≡ true }
         ensures { self.new.shown ≡ leave slot self.old.shown }
@@ -199,7 +198,8 @@ impl Queue {
         self.last -= leave_from(&mut self.slots, &mut self.times, slot);
     }
 
-    /// A tick: one less for the first, and so for all. Tells whether the first has nothing left.
+    /// Takes a tick: one less for the first, and so for all. Returns whether the first has none
+    /// left.
     pub(crate) fn pass(&mut self) -> bool
         requires { IsRunning self.old.shown }
         ensures after { self.new.shown ≡ less_first 1 self.old.shown }
@@ -216,7 +216,7 @@ impl Queue {
         left == 0
     }
 
-    /// Takes the first slot, which has nothing left, out of the queue.
+    /// Removes the first slot, which has no ticks left, and returns it.
     pub(crate) fn pop(&mut self) -> u8
         requires { is_spent self.old.shown ≡ true }
         ensures after { self.old.shown ≡ due result 0 ∷ self.new.shown }
@@ -225,7 +225,7 @@ impl Queue {
         self.slots.remove(0)
     }
 
-    /// Whether the first has nothing left.
+    /// Returns whether the first has no ticks left.
     pub(crate) fn is_spent(&mut self) -> bool
         ensures same { self.new.shown ≡ self.old.shown }
         ensures spent { result ≡ is_spent self.old.shown }
@@ -237,7 +237,7 @@ impl Queue {
         self.times.get(self.slots[0]) == 0
     }
 
-    /// The ticks left of each slot.
+    /// Returns the ticks left of each slot.
     pub(crate) fn lefts(&self) -> [u16; MOST_NEIGHBORS]
         ensures { (slot : ℕ) → holds slot self.now.shown ≡ true →
             slice_index result slot ≡ ticks_left self.now.shown slot }

@@ -1,4 +1,4 @@
-//! Room for a number of items, all of which is taken at opening.
+//! Room for a number of items, all taken at opening.
 ghost use Rattle.std.specs.Prelude.{◌≡◌, ◌<◌, [], ◌∷◌, ◌++◌, length, slice_index_or, IfOk};
 ghost use Rattle.std.specs.Borrow.{sem};
 ghost use Rattle.lldp_table.specs.Code.Lent.{LendsItem, LendsItems};
@@ -6,9 +6,9 @@ ghost use Rattle.lldp_table.specs.Code.Lent.{LendsItem, LendsItems};
 use std::alloc::{AllocError, Allocator};
 use std::marker::Model;
 
-/// Room for a number of items. `open` takes the memory for all of them, and no other call takes any.
-/// No call hands out the allocator, or the `Vec` that has it: so whoever holds a room cannot take
-/// memory by it.
+/// Room for a number of items. `open` takes the memory for all of them, and no other call takes
+/// any. No call hands out the allocator, or the `Vec` that has it, so a room cannot be used to take
+/// memory.
 #[derive(Drop)]
 pub struct Room<T, A: Allocator> {
     items: Vec<T, A>,
@@ -24,7 +24,7 @@ impl<T, A: Allocator> Model for Room<T, A> {
 }
 
 impl<T, A: Allocator> Room<T, A> {
-    /// Room for so many items, and none yet; an error says that there was no memory.
+    /// Takes room for so many items, and holds none yet. An error means that there was no memory.
     pub fn open(alloc: A, capacity: usize) -> Result<Room<T, A>, AllocError>
         ensures items { IfOk result (λ room. room.items ≡ []) }
         ensures capacity { IfOk result (λ room. room.capacity ≡ capacity) }
@@ -34,28 +34,28 @@ impl<T, A: Allocator> Room<T, A> {
         })
     }
 
-    /// How many items there are.
+    /// Returns how many items there are.
     pub fn len(&self) -> usize
         ensures { result ≡ length self.now.items }
     {
         self.items.len()
     }
 
-    /// For how many items there is room.
+    /// Returns how many items there is room for.
     pub fn capacity(&self) -> usize
         ensures { result ≡ self.now.capacity }
     {
         self.items.capacity()
     }
 
-    /// The items, in the order in which they came.
+    /// Returns the items, in the order in which they were pushed.
     pub fn as_slice(&self) -> &[T]
         ensures { result.now ≡ self.now.items }
     {
         self.items.as_slice()
     }
 
-    /// The item at this index, from 0.
+    /// Returns the item at this index, from 0.
     pub fn at(&self, i: usize) -> &T
         requires { i < length self.now.items }
         ensures { result.now ≡ slice_index_or self.now.items i result.now }
@@ -63,7 +63,7 @@ impl<T, A: Allocator> Room<T, A> {
         &self.items[i]
     }
 
-    /// The item at this index, from 0, to be changed; nothing else of the room changes meanwhile.
+    /// Lends the item at this index, from 0, for changes; nothing else of the room changes.
     pub fn at_mut(&mut self, i: usize) -> &mut T
         requires { i < length self.old.items }
         ensures* lent { sem 𝓛 (LendsItem T.row A.row A.Allocator self.entry i result) }
@@ -72,7 +72,7 @@ impl<T, A: Allocator> Room<T, A> {
         &mut self.items[i]
     }
 
-    /// The items, to be changed; nothing else of the room changes meanwhile.
+    /// Lends the items for changes; nothing else of the room changes.
     pub fn as_mut_slice(&mut self) -> &mut [T]
         ensures* lent { sem 𝓛 (LendsItems T.row A.row A.Allocator self.entry result) }
         ensures value { result.now ≡ self.old.items }
@@ -80,7 +80,7 @@ impl<T, A: Allocator> Room<T, A> {
         self.items.as_mut_slice()
     }
 
-    /// One more item, behind the others, for which there is room.
+    /// Adds an item behind the others. There must be room for it.
     pub fn push(&mut self, item: T)
         requires { length self.old.items < self.old.capacity }
         ensures items { self.new.items ≡ self.old.items ++ item ∷ [] }

@@ -14,13 +14,13 @@ use std::marker::Model;
 /// The room for one neighbor, which stores the extent of its frame.
 #[derive(Drop)]
 pub(crate) struct Slot {
-    /// The tag of its name, which tells most names apart at once. It stands before the octets, whose
-    /// first are the name, since both are looked at together.
+    /// The tag of its name, which decides most comparisons of names. It precedes the octets, which
+    /// begin with the name, since both are read together.
     tag: u32,
     ttl: u16,
     /// How many octets are stored.
     length: u16,
-    /// Its first octets are stored. Those behind them are left of earlier frames.
+    /// Its first octets are stored. Those behind them are left from earlier frames.
     room: [u8; MOST_OCTETS],
 }
 
@@ -35,7 +35,7 @@ impl Model for Slot {
     ghost invariant = { λ s. IsSlot s.room s.length s.tag };
 }
 
-/// The body of the next TLV, or no octets if there is none.
+/// Returns the body of the next TLV, or no octets if there is none.
 fn next_body<'a>(tlvs: &mut Tlvs<'a>) -> &'a [u8]
     ensures first { result.now ≡ (tlv_at (cut tlvs.old).tlvs 0).body }
     ensures second { tlv_at (cut tlvs.new).tlvs 0 ≡ tlv_at (cut tlvs.old).tlvs 1 }
@@ -46,14 +46,14 @@ fn next_body<'a>(tlvs: &mut Tlvs<'a>) -> &'a [u8]
     }
 }
 
-/// The chassis ID in an LLDPDU: the body of its first TLV.
+/// Returns the chassis ID in an LLDPDU: the body of its first TLV.
 fn chassis_in(octets: &[u8]) -> &[u8]
     ensures { result.now ≡ (msap_of octets.now).chassis }
 {
     next_body(&mut Tlvs::new(octets))
 }
 
-/// The MSAP identifier in an LLDPDU: the bodies of its first two TLVs.
+/// Returns the MSAP identifier in an LLDPDU: the bodies of its first two TLVs.
 fn msap_in(octets: &[u8]) -> Msap<'_>
     ensures { msap_view result ≡ msap_of octets.now }
 {
@@ -63,7 +63,7 @@ fn msap_in(octets: &[u8]) -> Msap<'_>
     Msap { chassis, port }
 }
 
-/// By what a tag is multiplied for each octet that is mixed into it.
+/// The factor by which a tag is multiplied for each octet that is mixed into it.
 const FACTOR: u32 = 16_777_619;
 
 /// The same for two octets at once: the power of the factor, modulo 2^32.
@@ -72,14 +72,14 @@ const FACTOR_OF_TWO: u32 = 637_696_617;
 /// The same for four octets at once.
 const FACTOR_OF_FOUR: u32 = 1_345_077_009;
 
-/// Two octets mixed into 0.
+/// Returns two octets mixed into 0.
 fn pair(a: u8, b: u8) -> u32
     ensures { result ≡ a * FACTOR + b }
 {
     u32::from(a) * FACTOR + u32::from(b)
 }
 
-/// Four octets mixed into a tag. Only one multiplication waits for the tag.
+/// Mixes four octets into a tag. Only one multiplication waits for the tag.
 fn mix_four(tag: u32, four: [u8; 4]) -> u32
     ensures { result ≡ mixed tag four }
 {
@@ -90,7 +90,7 @@ fn mix_four(tag: u32, four: [u8; 4]) -> u32
     tag.wrapping_mul(FACTOR_OF_FOUR).wrapping_add(new)
 }
 
-/// These octets mixed into a tag, one after the other.
+/// Mixes these octets into a tag, one after another.
 fn mix_singly(tag: u32, octets: &[u8]) -> u32
     ensures { result ≡ mixed tag octets.now }
 {
@@ -101,7 +101,7 @@ fn mix_singly(tag: u32, octets: &[u8]) -> u32
     mix
 }
 
-/// These octets mixed into a tag: four at a time, and then the few that are left.
+/// Mixes these octets into a tag: four at a time, and then the few that are left.
 fn mix_octets(tag: u32, octets: &[u8]) -> u32
     ensures { result ≡ mixed tag octets.now }
 {
@@ -114,14 +114,14 @@ fn mix_octets(tag: u32, octets: &[u8]) -> u32
     mix_singly(mix, rest)
 }
 
-/// The tag of a name: a mix of all its octets.
+/// Returns the tag of a name: a mix of all its octets.
 pub(crate) fn mix_name(name: &Msap<'_>) -> u32
     ensures { result ≡ tag_of (msap_view name.now) }
 {
     mix_octets(mix_octets(0, name.chassis), name.port)
 }
 
-/// Whether these may be the same octets, by their number and the last eight of them.
+/// Returns whether these may be the same octets, by their number and the last eight of them.
 fn may_be_same(one: &[u8], other: &[u8]) -> bool
     ensures { bytes_eq one.now other.now ≡ true → result ≡ true }
 {
@@ -146,7 +146,7 @@ impl Slot {
         }
     }
 
-    /// The octets that it stores.
+    /// Returns the octets that it stores.
     pub(crate) fn octets(&self) -> &[u8]
         ensures value { result.now ≡ self.now.octets }
         ensures short { length result.now ≤ MOST_OCTETS }
@@ -166,7 +166,7 @@ impl Slot {
         msap_in(self.octets())
     }
 
-    /// Whether its frame has this name, whose tag is given.
+    /// Returns whether its frame has this name. The tag is the name's.
     pub(crate) fn is_named(&self, name: &Msap<'_>, tag: u32) -> bool
         requires { tag ≡ tag_of (msap_view name.now) }
         ensures { result ≡ same_msap (msap_view name.now) (msap_of self.now.octets) }

@@ -23,16 +23,17 @@ use lldp_pdu::{Info, Msap};
 use std::alloc::{AllocError, Allocator};
 use std::marker::Model;
 
-/// The neighbors of one port. Only `open` is handed an allocator, and no other call is ever
-/// refused. The others keep the capacity, which is that of the room itself, and cannot reach an
-/// allocator: `Room` hands out none, and no other field has one.
+/// The neighbors of one port. Only `open` is given an allocator, and no other call is ever refused.
+/// The others keep the capacity, which is that of the room itself, and cannot reach an allocator:
+/// `Room` hands out none, and no other field has one.
+///
 ///
 /// What a call says of a list of calls holds for every list on a table that was opened with a limit
-/// from 1 to 128, each call made within its condition.
+/// from 1 to 128, if each call met its condition.
 #[derive(Drop)]
 pub struct Table<A: Allocator> {
-    /// The slots that were ever used. The room for all that may be held is taken at opening, and no
-    /// slot is ever moved.
+    /// The slots that were ever used. The room for all neighbors is taken at opening, and no slot
+    /// is ever moved.
     slots: Room<Slot, A>,
     /// The index of each of these: first those in use, in the order in which their neighbors were
     /// last new.
@@ -66,8 +67,8 @@ impl<A: Allocator> Model for Table<A> {
 }
 
 impl<A: Allocator> Table<A> {
-    /// An empty table, which stands for the limit and no calls. Takes the memory for `limit`
-    /// neighbors, 1 to 128, of 1,500 octets each, at once; an error says that there was none.
+    /// Opens an empty table, which stands for the limit and no calls. Takes the memory for `limit`
+    /// neighbors, 1 to 128, of 1,500 octets each, at once. An error means that there was none.
     pub fn open(alloc: A, limit: u8) -> Result<Table<A>, AllocError>
         requires least { 0 < limit }
         requires most { limit ≤ 128 }
@@ -115,7 +116,7 @@ impl<A: Allocator> Table<A> {
         Learned::Dropped
     }
 
-    /// The place in the order of the neighbor of this name, whose tag is given.
+    /// Returns the place in the order of the neighbor of this name. The tag is the name's.
     fn place(&self, name: &Msap<'_>, tag: u32) -> Option<usize>
         requires { tag ≡ tag_of (msap_view name.now) }
         ensures { MatchOption result (holds_name self.now.shown (msap_view name.now) ≡ false)
@@ -125,7 +126,7 @@ impl<A: Allocator> Table<A> {
         place_of(self.slots.as_slice(), order, name, tag)
     }
 
-    /// The neighbor at this place, whose name is that of the frame, has the frame and its time.
+    /// Gives the neighbor at this place, which has the frame's name, the frame and its time.
     fn refresh(&mut self, at: usize, octets: &[u8], ttl: u16, tag: u32)
         requires extent { IsExtent (msap_of octets.now) ttl octets.now }
         requires tag { tag ≡ tag_of (msap_of octets.now) }
@@ -138,7 +139,7 @@ impl<A: Allocator> Table<A> {
         self.queue.enter(slot, ttl);
     }
 
-    /// A new neighbor stands behind the others, with this frame and its time. There is room for it.
+    /// Adds a new neighbor behind the others, with this frame and its time. There is room for it.
     fn admit(&mut self, octets: &[u8], ttl: u16, tag: u32)
         requires extent { IsExtent (msap_of octets.now) ttl octets.now }
         requires tag { tag ≡ tag_of (msap_of octets.now) }
@@ -154,14 +155,14 @@ impl<A: Allocator> Table<A> {
         self.used += 1;
     }
 
-    /// Whether fewer neighbors are held than the limit in force.
+    /// Returns whether fewer neighbors are held than the limit in force.
     fn has_room(&self) -> bool
         ensures { result ≡ nat_lt (length self.now.shown.neighbors) self.now.shown.limit }
     {
         self.used < self.limit
     }
 
-    /// Gives up the neighbor of this name, and tells whether it was held, which is whether the name
+    /// Removes the neighbor of this name. Returns whether it was held, that is, whether the name
     /// was live.
     pub fn forget(&mut self, msap: &Msap<'_>) -> bool
         ensures answer { result ≡ holds_name self.old.shown (msap_view msap.now) }
@@ -183,7 +184,7 @@ impl<A: Allocator> Table<A> {
         }
     }
 
-    /// Gives up all neighbors, and ends the too-many condition.
+    /// Removes all neighbors, and ends the too-many condition.
     pub fn purge(&mut self)
         ensures after { self.new.shown ≡ after_purge self.old.shown }
         ensures stands { ForEachCalls self.old.shown (λ opened calls.
@@ -194,10 +195,11 @@ impl<A: Allocator> Table<A> {
         self.too_many = 0;
     }
 
-    /// A second has passed: one tick less is left of each neighbor and of the too-many timer. Tells
-    /// how many neighbors aged out: names that were live before and are not after. It gets and sets
-    /// stored times at most twice for each of them, and twice more. It stands with what it calls in
-    /// the caller's loop, since most ticks look at the first neighbor alone.
+    /// Takes a tick: a second has passed, and one tick less is left of each neighbor and of the
+    /// too-many timer. Returns how many neighbors aged out: names that were live before and are not
+    /// after. It gets and sets stored times at most twice for each of them, and twice more. It is
+    /// inlined into the caller's loop with what it calls, since most ticks look at the first
+    /// neighbor only.
     #[inline(always)]
     pub fn tick(&mut self) -> u8
         ensures answer { result + length self.new.shown.neighbors ≡ length self.old.shown.neighbors }
@@ -217,8 +219,8 @@ impl<A: Allocator> Table<A> {
         gone
     }
 
-    /// Changes the limit in force, to one from 1 to that of opening and to no less than the number
-    /// of neighbors held, so it removes nobody.
+    /// Sets the limit in force: 1 to that of opening, and no less than the number of neighbors
+    /// held, so it removes no neighbor.
     pub fn set_limit(&mut self, limit: u8)
         requires least { 0 < limit }
         requires most { limit ≤ self.old.shown.capacity }
@@ -230,7 +232,7 @@ impl<A: Allocator> Table<A> {
         self.limit = limit;
     }
 
-    /// How many neighbors are held: no more than the limit in force, and no two of one name.
+    /// Returns how many neighbors are held: no more than the limit in force, and each name once.
     pub fn len(&self) -> u8
         ensures value { result ≡ length self.now.shown.neighbors }
         ensures sound { IsSound self.now.shown }
@@ -238,7 +240,7 @@ impl<A: Allocator> Table<A> {
         self.used
     }
 
-    /// How many neighbors may be held now: the limit in force.
+    /// Returns how many neighbors may be held now: the limit in force.
     pub fn limit(&self) -> u8
         ensures value { result ≡ self.now.shown.limit }
         ensures sound { IsSound self.now.shown }
@@ -246,7 +248,7 @@ impl<A: Allocator> Table<A> {
         self.limit
     }
 
-    /// How many neighbors may ever be held: the limit of opening.
+    /// Returns how many neighbors may ever be held: the limit of opening.
     pub fn capacity(&self) -> u8
         ensures value { result ≡ self.now.shown.capacity }
         ensures sound { IsSound self.now.shown }
@@ -254,7 +256,7 @@ impl<A: Allocator> Table<A> {
         self.slots.capacity() as u8
     }
 
-    /// How many octets are stored, for all neighbors together: at most 1,500 for each.
+    /// Returns how many octets are stored, for all neighbors together: at most 1,500 for each.
     pub fn octets(&self) -> u32
         ensures sum { result ≡ sum_by (λ neighbor. length neighbor.octets) self.now.shown.neighbors }
         ensures most { result ≤ 1500 * length self.now.shown.neighbors }
@@ -262,15 +264,15 @@ impl<A: Allocator> Table<A> {
         octets_of(self.slots.as_slice(), &self.order[..self.used as usize])
     }
 
-    /// Whether a frame was dropped for want of room, of whose time to live some is left.
+    /// Returns whether the time to live of some frame that was dropped for lack of room still runs.
     pub fn too_many(&self) -> bool
         ensures { IsTrue result ↔ (0 < self.now.shown.too_many_left) }
     {
         self.too_many > 0
     }
 
-    /// The neighbors in the order in which they were last new, each with its ticks left, one a
-    /// second. It goes over all of them once.
+    /// Returns the neighbors in the order in which they were last new, each with its ticks left,
+    /// one a second. It goes over all of them once.
     pub fn entries(&self) -> Entries<'_>
         ensures value { result ≡ self.now.shown.neighbors }
         ensures sound { IsSound self.now.shown }
@@ -282,8 +284,8 @@ impl<A: Allocator> Table<A> {
         }
     }
 
-    /// The neighbor at place `i` of the order, from 0. It goes over all neighbors: whoever reads
-    /// each of them calls `entries`.
+    /// Returns the neighbor at place `i` of the order, from 0. It goes over all neighbors; to read
+    /// each of them, call `entries`.
     pub fn entry(&self, i: u8) -> Entry<'_>
         requires { i < length self.now.shown.neighbors }
         ensures value { slice_get self.now.shown.neighbors i ≡ Some result }

@@ -1,6 +1,6 @@
-//! The stored times. A time is reached by a get or a set, which are counted; or all at once, to be
-//! shown, which through a shared reference cannot be counted. The sum of all differences, which the
-//! queue keeps, is no stored time.
+//! The stored times. A time is reached by a get or a set, which are counted, or by a look at all of
+//! them for a show, which is not counted since the reference is shared. The sum of all differences,
+//! which the queue keeps, is not a stored time.
 ghost use Rattle.std.specs.Prelude.{◌≡◌, ℕ, ◌+◌, ◌<◌, length, slice_index, slice_set};
 ghost use Rattle.std.specs.List.{AllByRecursion};
 ghost use Rattle.lldp_table.specs.Code.Queue.{dues, ticks_left, IsQueue};
@@ -68,7 +68,7 @@ impl Times {
     }
 }
 
-/// The ticks left of each slot, for whoever shows them. This alone looks at times uncounted.
+/// Returns the ticks left of each slot, for shows. Only this looks at times uncounted.
 pub(crate) fn lefts_in(slots: &[u8], times: &Times) -> [u16; MOST_NEIGHBORS]
     requires { IsQueue times.now.shown slots.now }
     ensures { AllByRecursion (λ i. slice_index result i

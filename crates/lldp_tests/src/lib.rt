@@ -1,5 +1,5 @@
-//! Tests of the other crates over what those make public. They stand in a crate of their own, since
-//! a crate with tests is proved twice, with them and without.
+//! Tests of the other crates through their public calls. They are in a crate of their own, since a
+//! crate with tests is proved twice, with them and without.
 #![tactic(auto)]
 
 #[cfg(test)]
@@ -9,10 +9,4 @@ mod pdu;
 #[cfg(test)]
 mod program;
 #[cfg(test)]
-mod row;
-#[cfg(test)]
-mod rows;
-#[cfg(test)]
 mod table;
-#[cfg(test)]
-mod transmit;

@@ -1,4 +1,4 @@
-//! What no transcript of `examples/` can show: devices that give and take little at a time and
+//! What no transcript of `examples/` can show: devices that read and write little at a time and
 //! fail, and connections.
 
 mod devices;

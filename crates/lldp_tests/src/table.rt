@@ -8,8 +8,8 @@ use std::alloc::Allocator;
 use std::process::Abort;
 use std::test::Fail;
 
-/// A Chassis ID with the MAC 00:11:22:33:44:55, a Port ID with the interface name `eth` and this
-/// octet, a TTL and an End.
+/// Returns a Chassis ID with the MAC 00:11:22:33:44:55, a Port ID with the interface name `eth` and
+/// this octet, a TTL and an End.
 fn lldpdu(port: u8, ttl: u8) -> [u8; 22] {
     [
         0x02, 0x07, 0x04, 0x00, 0x11, 0x22, 0x33, 0x44, 0x55, 0x04, 0x05, 0x05, b'e', b't', b'h',
@@ -28,7 +28,7 @@ fn told<'a>(rt: &impl Abort, pdu: &'a [u8]) -> Info<'a>
     }
 }
 
-/// The neighbor at place `i` has this frame, with so many ticks left.
+/// Checks that the neighbor at place `i` has this frame, with so many ticks left.
 fn expect_entry<A: Allocator>(rt: &impl Abort, table: &Table<A>, i: u8, pdu: &[u8; 22], left: u16) {
     assert!(rt; i < table.len());
     let entry = table.entry(i);
@@ -41,31 +41,31 @@ fn expect_entry<A: Allocator>(rt: &impl Abort, table: &Table<A>, i: u8, pdu: &[u
     assert!(rt; entry.kept().next().is_none());
 }
 
-/// A frame comes, and this becomes of it.
+/// Gives the table a frame, and checks what it does with it.
 fn learns<A: Allocator>(rt: &impl Abort, table: &mut Table<A>, pdu: &[u8; 22], answer: Learned) {
     assert_eq!(rt; table.learn(&told(rt, pdu)), answer);
 }
 
-/// The neighbor of the frame takes leave, and was held or not.
+/// Withdraws the neighbor of the frame, and checks whether it was held.
 fn forgets<A: Allocator>(rt: &impl Abort, table: &mut Table<A>, pdu: &[u8; 22], held: bool) {
     assert_eq!(rt; table.forget(&told(rt, pdu).msap()), held);
 }
 
-/// So many ticks come, at each of which so many neighbors age out.
+/// Takes so many ticks, and checks that so many neighbors age out at each.
 fn ticks<A: Allocator>(rt: &impl Abort, table: &mut Table<A>, count: u8, gone: u8) {
     for _ in 0..count {
         assert_eq!(rt; table.tick(), gone);
     }
 }
 
-/// Another limit, which the table can be given.
+/// Sets another limit, which the table allows.
 fn limits<A: Allocator>(rt: &impl Abort, table: &mut Table<A>, limit: u8) {
     assert!(rt; 0 < limit && limit <= table.capacity() && table.len() <= limit);
     table.set_limit(limit);
     assert_eq!(rt; table.limit(), limit);
 }
 
-/// How many neighbors and octets the table holds, and whether too many came.
+/// Checks how many neighbors and octets the table holds, and whether too many came.
 fn expect_held<A: Allocator>(rt: &impl Abort, table: &Table<A>, held: (u8, u32, bool)) {
     assert_eq!(rt; (table.len(), table.octets(), table.too_many()), held);
 }
@@ -121,8 +121,8 @@ fn equal_expiries(rt: HostRuntime) -> Result<(), Fail> {
     Ok(())
 }
 
-/// The one allocation is for all neighbors, and is refused if there is less room. No call after
-/// it takes any, if none is left.
+/// Checks that the one allocation is for all neighbors, and is refused if there is less room, and
+/// that no call after it takes any, even if none is left.
 #[test]
 fn memory(rt: HostRuntime) -> Result<(), Fail> {
     for limit in [1u8, 32, 128] {

@@ -1,7 +1,7 @@
 -- Answers that may be a fault.
 use Rattle.std.specs.Prelude.{Option, Some, None, Result, Ok, Err}
 
--- what is there, or this fault
+-- this value, or this fault
 abbrev pub or_fault : {A E : Type 0} → Option A → E → Result A E
 or_fault (Some a) fault = Ok a
 or_fault None fault = Err fault

@@ -3,7 +3,7 @@ use Rattle.std.specs.Prelude.{ℕ, List, codes}
 use Rattle.lldp_text.specs.declared.fault.CommandFault.{CommandFault}
 use Rattle.lldp_text.specs.declared.fault.CommandFault.TheVariants.{Unknown, NoSuchPort, Number, Range, Text, Extra, Quote, InUse}
 
--- The line that tells a fault, without its end.
+-- The line that reports a fault, without its end.
 abbrev pub text_of : CommandFault → List ℕ
 text_of Unknown = codes "error: unknown command"
 text_of NoSuchPort = codes "error: no such port"

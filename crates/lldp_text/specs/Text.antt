@@ -7,12 +7,12 @@ use Rattle.hex.specs.Hex.{encode_lower}
 abbrev pub is_text : List ℕ → Bool
 is_text text = nat_le (length text) 255 && list_all (λ c. nat_le 32 c && nat_le c 126) text
 
--- what stands as it is in escaped text: an octet from the space to the tilde that is no backslash
+-- what is unchanged in escaped text: an octet from the space to the tilde, except the backslash
 abbrev pub is_plain : ℕ → Bool
 is_plain octet = nat_le 32 octet && (nat_le octet 126 && not (octet == 92))
 
--- An octet of escaped text: a backslash is written twice, one from the space to the tilde stands as it is, and
--- every other is written as a backslash, `x` and two hexadecimal digits.
+-- An octet of escaped text: a backslash is written twice, one from the space to the tilde is unchanged, and every other
+-- is written as a backslash, `x` and two hexadecimal digits.
 abbrev pub escape : ℕ → List ℕ
 escape octet =
     if octet == 92 then codes "\\\\"
@@ -23,7 +23,7 @@ escape octet =
 abbrev pub escaped : List ℕ → List ℕ
 escaped octets = flat_map escape octets
 
--- What stands before an item of a list that has so many items before it: nothing before the first.
+-- What precedes an item of a list that has so many items before it: nothing before the first.
 abbrev pub separator : ℕ → ℕ → List ℕ
 separator octet zero = []
 separator octet (suc before) = octet ∷ []

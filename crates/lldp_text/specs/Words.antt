@@ -19,19 +19,19 @@ is_unquote c = not (is_quote c)
 abbrev pub is_bare : ℕ → Bool
 is_bare c = not (is_separator c) && not (is_quote c)
 
--- How a word is spelled: as its octets, of which there is one at least and none is a separator or a quote;
--- or as any octets but quotes between two quotes.
+-- How a word is spelled: as its octets, at least one, none of them a separator or a quote; or as any octets except
+-- quotes between two quotes.
 abbrev pub IsSpelling : List ℕ → List ℕ → Type 0
 IsSpelling text word =
     ((0 < length word) × AllPass is_bare word × (text ≡ word))
     ⊎ (AllPass is_unquote word × (text ≡ 34 ∷ word ++ 34 ∷ []))
 
--- Whether a word may end before this: the line ends, or a separator stands there.
+-- Whether a word may end before this: the line ends, or a separator follows.
 abbrev pub may_end_word : List ℕ → Bool
 may_end_word [] = true
 may_end_word (c ∷ _) = is_separator c
 
--- Whether a separator stands here.
+-- Whether a separator comes next.
 abbrev pub begins_gap : List ℕ → Bool
 begins_gap [] = false
 begins_gap (c ∷ _) = is_separator c
@@ -41,23 +41,23 @@ abbrev pub begins_bare : List ℕ → Bool
 begins_bare [] = false
 begins_bare (c ∷ _) = is_bare c
 
--- The line is these words and no others: separators alone if there is none; else separators, a spelling of
--- the first, its end, and the words that follow.
+-- The line is these words and no others: only separators if there is none; else separators, a spelling of the first,
+-- its end, and the words that follow.
 abbrev pub AreWords : List ℕ → List (List ℕ) → Type 0
 AreWords line [] = AllPass is_separator line
 AreWords line (word ∷ words) =
     (gap : List ℕ) × (text : List ℕ) × (rest : List ℕ) × AllPass is_separator gap × IsSpelling text word
     × IsTrue (may_end_word rest) × (line ≡ gap ++ text ++ rest) × AreWords rest words
 
--- Where a reader of the line stands: between words, in an unquoted or a quoted word with its octets so far, or
--- behind a closing quote.
+-- Where a reader of the line is: between words, in an unquoted or a quoted word with its octets so far, or behind a
+-- closing quote.
 pub data Place : Type 0 where
   between : Place
   bare : List ℕ → Place
   quoted : List ℕ → Place
   closed : Place
 
--- The words of what is left of a line, None if a quote stands wrongly.
+-- The words of what is left of a line, None if a quote is misplaced.
 unfoldable pub words_from : Place → List ℕ → Option (List (List ℕ))
 words_from between [] = Some []
 words_from (bare word) [] = Some (word ∷ [])
@@ -76,6 +76,6 @@ words_from (quoted word) (c ∷ cs) =
     else words_from (quoted (word ++ c ∷ [])) cs
 words_from closed (c ∷ cs) = if is_separator c then words_from between cs else None
 
--- The words of a line, None if a quote stands wrongly.
+-- The words of a line, None if a quote is misplaced.
 abbrev pub words_of : List ℕ → Option (List (List ℕ))
 words_of line = words_from between line

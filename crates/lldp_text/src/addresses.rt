@@ -5,7 +5,7 @@ ghost use Rattle.lldp_text.specs.Addresses.{mac_text, ipv4_text, ipv6_text, addr
 
 use crate::writing::Writer;
 
-/// What a network address is.
+/// The kind of a network address.
 #[derive(Clone, Copy, Debug, PartialEq, Eq)]
 pub(crate) enum AddressKind {
     Ipv4,
@@ -18,7 +18,7 @@ const FAMILY_IPV4: u8 = 1;
 
 const FAMILY_IPV6: u8 = 2;
 
-/// What an address of so many octets is.
+/// Returns the kind of an address of so many octets.
 pub(crate) fn kind_of_address(family: u8, len: usize) -> AddressKind
     ensures { result ≡ address_kind family len }
 {

@@ -9,7 +9,7 @@ use lldp_pdu::Caps;
 /// How many bits there are.
 const BITS: u8 = 16;
 
-/// The name of a bit.
+/// Returns the name of a bit.
 fn name_of_bit(bit: u8) -> &'static [u8]
     requires { bit < 16 }
     ensures value { result.now ≡ capability_name bit }

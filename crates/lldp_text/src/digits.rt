@@ -1,12 +1,12 @@
 //! Hexadecimal digits, sixteen octets at a time and without a branch for each.
 //!
-//! What is read and written is said by the definitions of the crate `hex`. This module is fast and
-//! nothing else: if it answers no, and wherever fewer than sixteen octets are to be read or
-//! written, `hex` itself decides and does the work.
+//! The definitions of the crate `hex` say what is read and written. This module only makes it fast:
+//! if it returns false, or if there are fewer than sixteen octets to read or write, `hex` itself
+//! decides and does the work.
 //!
-//! **Reading.** Thirty-two digits `c` stand in the lanes of one vector, and each lane becomes the
-//! value of its digit, or 16 or more if `c` is no digit. Lanes wrap round at 256. Two values are
-//! computed, and the lesser one is taken:
+//! **Reading.** Thirty-two digits `c` are in the lanes of one vector, and each lane becomes the
+//! value of its digit, or 16 or more if `c` is not a digit. Lanes wrap around at 256. Two values
+//! are computed, and the lesser one is taken:
 //!
 //! | `c` | `c - 58` | less 6, never below 0 | less 240 |
 //! |---|---|---|---|
@@ -23,17 +23,18 @@
 //! + 256 * low`; times 4097 it is `high + 256 * (16 * high + low)` and what is cut off, so its
 //! upper half is the octet.
 //!
-//! **What was met.** The values of all blocks are joined by `|`, lane by lane. The union is below
-//! 16 exactly if each part is, so one look at the end tells whether there was any octet that is
-//! no digit. Until then wrong octets may have been written, which nobody reads.
+//! **What was met.** The values of all blocks are joined by `
 //!
-//! **Writing.** A value up to 9 is its distance from `0`, a greater one that and 39 more, which is
-//! its distance from `a`. The digits of the upper and of the lower four bits are put by turns.
+//! `, lane by lane. The union is below 16 exactly if each part is, so one comparison at the end
+//! shows whether any octet was not a digit. Until then wrong octets may have been written, which
+//! nobody reads.
 //!
-//! **The last block** begins sixteen octets before the end, wherever that is, and so may lie over
-//! the one before it. The octets under both are read from the same digits, or written from the same
-//! octets, a second time, with the same result. So nothing is left over that would have to be done
-//! octet by octet.
+//! **Writing.** The digit of a value up to 9 is the value plus `0`. For a greater one 39 more are
+//! added, so that 10 becomes `a`. The digits of the upper and of the lower four bits alternate.
+//!
+//! **The last block** begins sixteen octets before the end, wherever that is, so it may overlap the
+//! one before it. The octets under both are read from the same digits, or written from the same
+//! octets, a second time, with the same result. So nothing is left to do octet by octet.
 ghost use Rattle.std.specs.Prelude.{◌≡◌, ℕ, ◌↔◌, ◌<◌, ◌≤◌, ◌+◌, ◌*◌, length, true, slice_index, IsOk, IsTrue};
 ghost use Rattle.std.specs.List.{AllPass};
 ghost use Rattle.hex.specs.Hex.{decode_pairs, encode_lower, is_hex_digit, lower_digits};
@@ -44,7 +45,7 @@ use std::simd::prelude::*;
 /// How many octets are read or written at a time.
 const BLOCK: usize = 16;
 
-/// The value of each digit, and 16 or more for any other octet.
+/// Returns the value of each digit, and 16 or more for any other octet.
 #[inline(always)]
 fn values_of(digits: u8x32) -> u8x32
     ensures len { length result ≡ 32 }
@@ -57,7 +58,7 @@ fn values_of(digits: u8x32) -> u8x32
     numeral.simd_min(letter)
 }
 
-/// The octets of pairs of values.
+/// Returns the octets of pairs of values.
 #[inline(always)]
 fn octets_of(values: u8x32) -> u8x16
     ensures len { length result ≡ 16 }
@@ -69,7 +70,7 @@ fn octets_of(values: u8x32) -> u8x16
     (pairs >> u16x16::splat(8)).cast::<u8>()
 }
 
-/// The bits that either has.
+/// Returns the bits that either has.
 #[inline(always)]
 fn either(a: u8x32, b: u8x32) -> u8x32
     ensures { AreSmall result ↔ (AreSmall a × AreSmall b) }
@@ -77,7 +78,7 @@ fn either(a: u8x32, b: u8x32) -> u8x32
     a | b
 }
 
-/// Whether each lane is the value of a digit.
+/// Returns whether each lane is the value of a digit.
 #[inline(always)]
 fn are_small(values: u8x32) -> bool
     ensures { IsTrue result ↔ AreSmall values }
@@ -85,7 +86,7 @@ fn are_small(values: u8x32) -> bool
     values.simd_ge(u8x32::splat(16)).to_bitmask() == 0
 }
 
-/// Reads sixteen octets, of the digits from there on. Gives the values that were met.
+/// Reads sixteen octets, of the digits from there on. Returns the values that were met.
 #[inline(always)]
 fn decode_block(digits: &[u8], octets: &mut [u8], at: usize) -> u8x32
     requires fits { at + 16 ≤ length octets.old }
@@ -101,8 +102,8 @@ fn decode_block(digits: &[u8], octets: &mut [u8], at: usize) -> u8x32
     values
 }
 
-/// Reads pairs of digits into the octets, as `hex` reads them, and answers whether it did: exactly
-/// if there are sixteen octets or more and each digit is one. If it answers no, nothing is
+/// Reads pairs of digits into the octets, as `hex` reads them, and returns whether it did: exactly
+/// if there are sixteen octets or more and each digit is one. If it returns false, nothing is
 /// promised of the octets.
 pub fn decode_digits(digits: &[u8], octets: &mut [u8]) -> bool
     requires { length digits.now ≡ 2 * length octets.old }
@@ -122,7 +123,7 @@ pub fn decode_digits(digits: &[u8], octets: &mut [u8]) -> bool
     are_small(either(met, decode_block(digits, octets, last)))
 }
 
-/// The digits of values.
+/// Returns the digits of values.
 #[inline(always)]
 fn digits_of(values: u8x16) -> u8x16
     ensures { (k : ℕ) → k < 16 → slice_index values k < 16 →
@@ -133,7 +134,7 @@ fn digits_of(values: u8x16) -> u8x16
     values + u8x16::splat(b'0') + more
 }
 
-/// One of the first and one of the second, by turns.
+/// Returns one of the first and one of the second, alternately.
 #[inline(always)]
 fn by_turns(first: u8x16, second: u8x16) -> u8x32
     ensures len { length result ≡ 32 }

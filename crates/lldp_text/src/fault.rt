@@ -2,9 +2,9 @@
 ghost use Rattle.std.specs.Prelude.{◌≡◌, ◌≤◌, length};
 ghost use Rattle.lldp_text.specs.Fault.{text_of, number_of_fault};
 
-/// Why a command is refused. Of several faults of a line the first in reading order is told: a bad
-/// quote anywhere, then the first word from the left that no form has, then a word too many, then a
-/// limit in use.
+/// Why a command is refused. If a line has several faults, the first in reading order is reported:
+/// a bad quote anywhere, then the first word from the left that no form has, then a word too many,
+/// then a limit in use.
 #[derive(Clone, Copy, Debug, PartialEq, Eq)]
 pub enum CommandFault {
     /// A word is missing, or no form has it there.
@@ -19,21 +19,21 @@ pub enum CommandFault {
     Text = 5,
     /// A word follows a complete form.
     Extra = 6,
-    /// A quote stands inside a word, is not closed, or is closed with no separator behind it.
+    /// A quote is inside a word, is not closed, or is closed with no separator behind it.
     Quote = 7,
     /// Some port holds more neighbors than the limit.
     InUse = 8,
 }
 
 impl CommandFault {
-    /// The number of the fault, 1 to 8.
+    /// Returns the number of the fault, 1 to 8.
     pub fn number(self) -> u8
         ensures { result ≡ number_of_fault self }
     {
         self as u8
     }
 
-    /// The line that tells the fault, without its end.
+    /// Returns the line that reports the fault, without its end.
     pub fn text(self) -> &'static [u8]
         ensures text { result.now ≡ text_of self }
         ensures short { length result.now ≤ 2048 }

@@ -8,7 +8,7 @@ ghost use Rattle.lldp_text.specs.Identifier.{chassis_kind, port_kind, unhandled_
 use crate::addresses::{AddressKind, kind_of_address, write_ipv4, write_ipv6, write_mac};
 use crate::writing::Writer;
 
-/// What an identifier is.
+/// The kind of an identifier.
 #[derive(Clone, Copy, Debug, PartialEq, Eq)]
 pub(crate) enum IdentifierKind {
     Component,

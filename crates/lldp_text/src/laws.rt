@@ -1,4 +1,4 @@
-//! Laws of the definitions of text: what they say by literal octets, both ways, and of no two alike.
+//! Laws of the definitions of text: octet by octet, both ways, and that no two are written alike.
 pub mod alike;
 pub mod fixed;
 pub mod forms;

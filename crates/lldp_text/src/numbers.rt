@@ -23,7 +23,7 @@ fn writes_number(word: &[u8]) -> bool
     !word.is_empty() && all_digits(word)
 }
 
-/// The value of the digits, or `TOO_LARGE` if it is greater.
+/// Returns the value of the digits, or `TOO_LARGE` if it is greater.
 fn value_of(digits: &[u8]) -> u32
     requires { IsTrue (is_number digits.now) }
     ensures { result ≡ min (digits_value 10 digits.now) 65536 }
@@ -35,8 +35,8 @@ fn value_of(digits: &[u8]) -> u32
     value
 }
 
-/// The number that a word of one or more decimal digits writes, however many they are, if it lies
-/// in the range; else the fault Range, and of any other word the fault Number.
+/// Returns the number that a word of one or more decimal digits writes, however many they are, if
+/// it is in the range. Otherwise the fault is Range, and for any other word Number.
 pub fn number(word: &[u8], least: u16, greatest: u16) -> Result<u16, CommandFault>
     ensures value { result ≡ number_of word.now least greatest }
     ensures in_range { IfOk result (λ n. (least ≤ n) × (n ≤ greatest)) }

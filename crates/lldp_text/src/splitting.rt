@@ -1,4 +1,4 @@
-//! The words of a line, which spaces and tabs separate, plain or between quotes.
+//! The words of a line, separated by spaces and tabs, plain or between quotes.
 ghost use Rattle.std.specs.Prelude.{◌≡◌, ℕ, ◌<◌, ◌≤◌, List, [], ◌∷◌, ◌++◌, length, false, is_some, is_ok, IsTrue, IsSomeAnd, IfOk, IfErr, IfSome, IfNone, MatchResult, MatchOption, Some, None};
 ghost use Rattle.std.specs.Option.{option_map};
 ghost use Rattle.std.specs.List.{AllPass, AllByRecursion};
@@ -16,7 +16,7 @@ fn separates(octet: u8) -> bool
     octet == b' ' || octet == b'\t'
 }
 
-/// A word and what follows it, if the line ends there or a separator stands there.
+/// Returns a word and what follows it, if a separator or the end of the line does.
 fn ended_word<'l>(
     word: &'l [u8],
     rest: &'l [u8],
@@ -32,7 +32,7 @@ fn ended_word<'l>(
     }
 }
 
-/// The separators at the front, and what follows them.
+/// Returns the separators at the front, and what follows them.
 fn split_at_word(line: &[u8]) -> (&[u8], &[u8])
     ensures gap { AllPass is_separator result.0.now }
     ensures whole { line.now ≡ result.0.now ++ result.1.now }
@@ -45,7 +45,7 @@ fn split_at_word(line: &[u8]) -> (&[u8], &[u8])
     line.split_at(start)
 }
 
-/// The octets before the next quote, and what follows that quote.
+/// Returns the octets before the next quote, and what follows that quote.
 fn split_at_quote(text: &[u8]) -> Option<(&[u8], &[u8])>
     ensures found { IfSome result (λ x. AllPass is_unquote x.0.now
         × (text.now ≡ x.0.now ++ 34 ∷ x.1.now)) }
@@ -55,8 +55,8 @@ fn split_at_quote(text: &[u8]) -> Option<(&[u8], &[u8])>
     Some((&text[..end], &text[end + 1..]))
 }
 
-/// The octets before the next space, tab or `"`, and what follows them: the first word and the rest
-/// of a text that begins with an unquoted word.
+/// Returns the octets before the next space, tab or `"`, and what follows them: the first word and
+/// the rest of a text that begins with an unquoted word.
 pub fn split_at_bare(text: &[u8]) -> (&[u8], &[u8])
     ensures bare { AllPass is_bare result.0.now }
     ensures whole { text.now ≡ result.0.now ++ result.1.now }
@@ -68,7 +68,7 @@ pub fn split_at_bare(text: &[u8]) -> (&[u8], &[u8])
     }
 }
 
-/// The first word, without its quotes, and what follows it.
+/// Returns the first word, without its quotes, and what follows it.
 fn first_word(line: &[u8]) -> Result<Option<(&[u8], &[u8])>, CommandFault>
     ensures first { MatchResult result
         (λ found. MatchOption found (words_of line.now ≡ Some [])
@@ -126,12 +126,12 @@ impl<'l> Iterator for Words<'l> {
     }
 }
 
-/// Whether the quotes of a line stand rightly.
+/// Checks that each quote of a line is in its place.
 fn check_quotes(line: &[u8]) -> Result<(), CommandFault>
     ensures ok { is_ok result ≡ is_some (words_of line.now) }
     ensures err { IfErr result (λ fault. fault ≡ CommandFault.Quote) }
 {
-    // Most lines have no quote, and need no look at each word.
+    // Most lines have no quote, so their words need no check.
     if memchr(b'"', line).is_none() {
         return Ok(());
     }
@@ -142,12 +142,13 @@ fn check_quotes(line: &[u8]) -> Result<(), CommandFault>
     Ok(())
 }
 
-/// The words of a line, in order, a quoted one as its content.
+/// Splits a line into its words, in order, a quoted one as its content.
+///
 ///
 /// Spaces and tabs separate words. A word is a longest run of octets other than space, tab and `"`,
 /// or the octets between two `"`; there are no escapes. A `"` inside an unquoted word, one that is
-/// not closed, and a closing one that neither a separator nor the end of the line follows are the
-/// fault `Quote`. No word is longer than its line.
+/// not closed, and a closing one that is followed by anything but a separator or the end of the
+/// line are the fault `Quote`. No word is longer than its line.
 pub fn split(line: &[u8]) -> Result<Words<'_>, CommandFault>
     ensures words { result ≡ or_fault (words_of line.now) CommandFault.Quote }
     ensures short { IfOk result (λ words.

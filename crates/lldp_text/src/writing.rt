@@ -1,4 +1,4 @@
-//! Lines that are written piece by piece, one behind another.
+//! Lines that are written piece by piece, one after another.
 ghost use Rattle.std.specs.Prelude.{◌≡◌, ◌+◌, ◌*◌, ◌≤◌, ◌∷◌, ◌++◌, [], length, decimal};
 ghost use Rattle.hex.specs.Hex.{encode_lower};
 ghost use Rattle.std.specs.List.{list_all};
@@ -14,14 +14,14 @@ pub type Line = ArrayVec<u8, 2048>;
 /// The room that a line takes at most, with its line feed.
 pub const LINE_ROOM: usize = 2049;
 
-/// The room that a value takes at most. With what stands before it, at most 64 octets, it fits in a line.
+/// The room that a value takes at most. It fits in a line behind at most 64 octets.
 pub const VALUE_ROOM: usize = 1050;
 
-/// How many octets stand in a writer at most.
+/// How many octets a writer holds at most.
 pub const ROOM: usize = 8192;
 
-/// Octets that are written one behind another. Each method asks for the room that it needs, so no
-/// octet is cut off. Clearing leaves the octets where they are, which an `ArrayVec` would blank.
+/// Octets that are written one after another. Each method requires the room that it needs, so no
+/// octet is cut off. Clearing leaves the octets as they are, which an `ArrayVec` would overwrite.
 #[derive(Drop)]
 pub struct Writer {
     room: [u8; ROOM],
@@ -38,8 +38,8 @@ impl Model for Writer {
     ghost invariant = { λ w. w.len ≤ 8192 };
 }
 
-/// Whether each of these octets stands as it is in escaped text. All are looked at, since without a
-/// branch for each they are looked at many at a time.
+/// Returns whether each of these octets is unchanged in escaped text. All are checked, since
+/// without a branch for each many are checked at a time.
 fn are_plain(octets: &[u8]) -> bool
     ensures { result ≡ list_all is_plain octets.now }
 {
@@ -51,7 +51,7 @@ fn are_plain(octets: &[u8]) -> bool
 }
 
 impl Writer {
-    /// One in which nothing stands.
+    /// Begins with no octets.
     pub fn new() -> Self
         ensures { result ≡ [] }
     {
@@ -61,7 +61,7 @@ impl Writer {
         }
     }
 
-    /// How many octets more there is room for.
+    /// Returns how many more octets there is room for.
     pub fn room_left(&self) -> usize
         ensures { length self.now + result ≡ ROOM }
     {
@@ -84,7 +84,7 @@ impl Writer {
         self.text(b"\n");
     }
 
-    /// Octets that stand as they are.
+    /// Writes octets as they are.
     pub fn text(&mut self, octets: &[u8])
         requires { length self.old + length octets.now ≤ ROOM }
         ensures value { self.new ≡ self.old ++ octets.now }
@@ -95,7 +95,7 @@ impl Writer {
         self.len = end;
     }
 
-    /// What stands between the items of a list: nothing before the first.
+    /// Writes the separator between the items of a list: nothing before the first.
     pub fn separator(&mut self, between: u8, before: usize)
         requires { length self.old + 1 ≤ ROOM }
         ensures value { self.new ≡ self.old ++ separator between before }
@@ -106,7 +106,7 @@ impl Writer {
         }
     }
 
-    /// Octets in hexadecimal.
+    /// Writes octets in hexadecimal.
     pub fn hex(&mut self, octets: &[u8])
         requires { length self.old + 2 * length octets.now ≤ ROOM }
         ensures value { self.new ≡ self.old ++ encode_lower octets.now }
@@ -132,7 +132,7 @@ impl Writer {
         }
     }
 
-    /// Escaped text. Most texts stand as they are, and are written at once.
+    /// Writes escaped text. Most texts need no escape, and are written at once.
     pub fn escaped(&mut self, octets: &[u8])
         requires { length self.old + 4 * length octets.now ≤ ROOM }
         ensures value { self.new ≡ self.old ++ escaped octets.now }
@@ -146,7 +146,7 @@ impl Writer {
         }
     }
 
-    /// A number in decimal.
+    /// Writes a number in decimal.
     pub fn decimal(&mut self, n: u32)
         requires { length self.old + 10 ≤ ROOM }
         ensures value { self.new ≡ self.old ++ decimal n }
@@ -156,7 +156,7 @@ impl Writer {
         self.text(digits.format(n).as_bytes());
     }
 
-    /// A key and escaped text.
+    /// Writes a key and escaped text.
     pub fn escaped_value(&mut self, key: &[u8], text: &[u8])
         requires { length self.old + length key.now + 4 * length text.now ≤ ROOM }
         ensures value { self.new ≡ self.old ++ (key.now ++ escaped text.now) }
@@ -166,7 +166,7 @@ impl Writer {
         self.escaped(text);
     }
 
-    /// All that was written.
+    /// Returns all that was written.
     pub fn as_slice(&self) -> &[u8]
         ensures { result.now ≡ self.now }
     {

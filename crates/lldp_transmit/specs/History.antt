@@ -28,7 +28,7 @@ settings credit_max fast_init reinit allowed = record {
 abbrev pub event : Cause → ℕ → Event
 event cause interval = record { cause = cause; interval = interval }
 
--- all events so far: the newest stands first, and none is the port as it was opened
+-- all events so far, the newest first; none is the port as it was opened
 abbrev pub History : Type 0
 History = List Event
 

@@ -1,6 +1,6 @@
 -- When a port transmits (IEEE 802.1AB-2009, clause 9, with this project's choices of credit, signals, bursts and
--- distance). Each event of the history becomes a moment: the event, and what it was for the port. Each label is said by
--- the moments before it: by the last one of some kind, by the ticks since then, by the runs that end now.
+-- distance). Each event of the history becomes a moment: the event, and what it was for the port. Each label depends on
+-- the moments before it: on the last one of some kind, the ticks since then, the runs that end now.
 use Rattle.std.specs.Prelude.{ℕ, ◌+◌, ◌-◌, Bool, true, false, not, ◌&&◌, ◌||◌, ◌==◌, nat_le, nat_lt, if◌then◌else◌, List, [], ◌∷◌}
 use Rattle.std.specs.List.{list_any, list_all}
 use Rattle.lldp_transmit.specs.declared.event.Cause.{Cause}
@@ -26,7 +26,7 @@ pub record Moment : Type 0 where
 abbrev pub ticks : List Moment → ℕ
 ticks ms = count (λ m. is_tick m.cause) ms
 
--- how many ordinary frames go in it
+-- how many ordinary frames are sent in it
 abbrev pub frames : List Moment → ℕ
 frames ms = count (λ m. m.sent) ms
 
@@ -162,11 +162,11 @@ abbrev pub moments : Settings → History → List Moment
 moments s [] = []
 moments s (e ∷ past) = let before = moments s past in moment s before e ∷ before
 
--- the frame that goes at a moment: a shutdown frame at a stop, an ordinary one if one is sent; both never meet
+-- the frame that is sent at a moment: a shutdown frame at a stop, an ordinary one if one is sent; never both
 abbrev pub mark_of : Moment → Mark
 mark_of m = if m.stop then Shutdown else (if m.sent then Ordinary else Quiet)
 
--- the frame that goes at the last event
+-- the frame that is sent at the last event
 abbrev pub mark_at : Settings → History → Mark
 mark_at s [] = Quiet
 mark_at s (e ∷ past) = mark_of (moment s (moments s past) e)

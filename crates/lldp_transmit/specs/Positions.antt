@@ -1,11 +1,11 @@
--- The labels said of positions in the list of moments, for whoever wants to believe them without computing.
+-- The labels in terms of positions in the list of moments, for readers who want to check them without computing.
 use Rattle.std.specs.Prelude.{false, ◌≡◌, ℕ, ◌+◌, ◌-◌, ◌≤◌, ◌⊎◌, IsTrue, List, ◌∷◌, ◌++◌}
 use Rattle.lldp_transmit.specs.declared.event.Cause.TheVariants.{Tick, Change, Neighbor}
 use Rattle.lldp_transmit.specs.Fronts.{Position, count, after_first}
 use Rattle.lldp_transmit.specs.History.{Settings, Event, History}
 use Rattle.lldp_transmit.specs.Moments.{Moment, moment, moments, ticks, frames, is_allowed, is_up, spends}
 
--- how many starts stand in a run
+-- how many starts are in a run
 abbrev pub starts_in : List Moment → ℕ
 starts_in ms = count (λ m. m.start) ms
 

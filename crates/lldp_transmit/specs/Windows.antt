@@ -56,12 +56,12 @@ pub record WindowsHold (s : Settings) (h : History) : Type 0 where
 
 -- ---- the same of one event, with what a machine answered there
 
--- how many ordinary frames go in a run and, by the answer, now
+-- how many ordinary frames are sent in a run and, by the answer, now
 abbrev pub frames_with : Mark → List Moment → ℕ
 frames_with Ordinary run = 1 + frames run
 frames_with _ run = frames run
 
--- how many stops stand in a run and, if the answer is a shutdown frame, now
+-- how many stops are in a run and, if the answer is a shutdown frame, now
 abbrev pub stops_with : Mark → List Moment → ℕ
 stops_with Shutdown run = 1 + count (λ m. m.stop) run
 stops_with _ run = count (λ m. m.stop) run

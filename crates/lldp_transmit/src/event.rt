@@ -1,6 +1,6 @@
-//! What comes to a port, and what it answers.
+//! What happens to a port, and what it sends.
 
-/// What an event is for one port.
+/// What an event means to the transmit machine of a port.
 #[derive(Clone, Copy, Debug, PartialEq, Eq)]
 pub enum Cause {
     /// One second has passed.
@@ -21,7 +21,7 @@ pub enum Cause {
     Nothing,
 }
 
-/// The frame that goes at an event.
+/// The frame that is sent at an event.
 #[derive(Clone, Copy, Debug, Default, PartialEq, Eq)]
 pub enum Mark {
     /// None.

@@ -1,5 +1,4 @@
-//! Laws over the definitions alone, for whoever composes with the machine or wants to believe the
-//! definitions.
+//! Laws of the definitions alone, for proofs over the machine and for readers of the definitions.
 
 ghost use Rattle.std.specs.Prelude.{◌≡◌, ◌≤◌, ◌↔◌, Bool, IsTrue, ℕ, List, [], ◌∷◌, map};
 ghost use Rattle.lldp_transmit.specs.History.{Settings, Event, History, settings, event};
@@ -19,7 +18,7 @@ pub fn opened_machines_stand()
     ensures { (s : Settings) → AreSettings s → Stands s [] (opened s) }
 {}
 
-/// A step carries standing from every history to that history and the event, and answers the mark
+/// A step carries standing from every history to that history with the event, and its mark is that
 /// of the event.
 pub fn steps_carry_standing()
     ensures stands { (s : Settings) (past : History) (t : Machine) (e : Event) →
@@ -28,8 +27,8 @@ pub fn steps_carry_standing()
         Stands s past t → (stepped t e.cause e.interval).1 ≡ mark_at s (e ∷ past) }
 {}
 
-/// If nothing concerns a port, its machine needs no call: it stands for that event too, and no
-/// frame goes.
+/// An event that means nothing to the machine needs no call: the machine stands for that event too,
+/// and no frame is sent.
 pub fn causeless_events_change_nothing()
     ensures stands { (s : Settings) (past : History) (t : Machine) (interval : ℕ) →
         Stands s past t → Stands s (event Cause.Nothing interval ∷ past) t }
@@ -37,23 +36,23 @@ pub fn causeless_events_change_nothing()
         Stands s past t → mark_at s (event Cause.Nothing interval ∷ past) ≡ Mark.Quiet }
 {}
 
-/// Whatever a port has seen, if its settings are in their ranges, its windows hold: no run of events
-/// has more ordinary frames than txCreditMax and the ticks after its first event, nor more stops than
-/// one and one for each reinitDelay ticks; and up to no event has another choice of due and open
-/// events had more frames.
+/// Whatever a port has seen, if its settings are in their ranges, its windows hold: no run of
+/// events has more ordinary frames than txCreditMax plus the ticks after its first event, nor more
+/// stops than one plus one for each reinitDelay ticks; and up to no event has another choice of due
+/// and open events had more frames.
 pub fn windows_hold()
     ensures { (s : Settings) (h : History) → AreSettings s → WindowsHold s h }
 {}
 
-/// The ordinary frames are themselves a choice of due and open events, so that none that is earlier
-/// can be better.
+/// The ordinary frames are themselves a choice of due and open events, so none that is earlier can
+/// be better.
 pub fn frames_are_timely()
     ensures { (s : Settings) (h : History) →
         AreTimely s (map (λ m. m.sent) (moments s h)) (moments s h) }
 {}
 
-/// Active, rested, start and stop, said of positions: an active port has a start with no stop and
-/// no lost link since; it has rested if each stop is long enough ago.
+/// Active, rested, start and stop, in terms of positions: an active port has a start with no stop
+/// and no lost link since; it has rested if each stop is long enough ago.
 pub fn positions_tell_activity()
     ensures active { (s : Settings) (h : History) →
         IsTrue (is_active (moments s h)) ↔ HasStarted (moments s h) }
@@ -66,8 +65,8 @@ pub fn positions_tell_activity()
         IsTrue (moment s (moments s h) e).stop ↔ IsStop s (moments s h) (moment s (moments s h) e) }
 {}
 
-/// Signals, bursts, distances and the end of the timer, said of positions: of the last signal and
-/// the last opening of a burst.
+/// Signals, bursts, distances and the end of the timer, in terms of positions: of the last signal
+/// and the last opening of a burst.
 pub fn positions_tell_signals()
     ensures signal { (s : Settings) (h : History) (e : Event) →
         IsTrue (moment s (moments s h) e).signal
@@ -83,12 +82,12 @@ pub fn positions_tell_signals()
         IsTrue (timer_ends s past m) ↔ IsTimerEnd s past m }
 {}
 
-/// Waiting, due, open, sent and the credit, said of positions: a frame waits if a signal since
-/// the start has had none, and is due if the port is active too, also by the frames of another
-/// choice (`chosen`) whose marks are timely. If the settings are in their ranges, a window is open if,
-/// with one frame more, each run that ends now is within its bound; the credit is the least that any
-/// run leaves of its bound, and no other number is; and a frame goes if it is due and the window
-/// open.
+/// Waiting, due, open, sent and the credit, in terms of positions. A frame waits if a signal since
+/// the start has had none, and is due if the port is also active, with respect to the frames of any
+/// other choice (`chosen`) whose marks are timely as well. If the settings are in their ranges, a
+/// window is open if, with one frame more, each run that ends now is within its bound; the credit
+/// is the least that any run leaves of its bound, and no other number is; and a frame is sent if it
+/// is due and the window is open.
 pub fn positions_tell_sending()
     ensures waiting { (ms : List Moment) → IsTrue (is_waiting ms) ↔ HasWanted ms }
     ensures due { (s : Settings) (h : History) (e : Event) →
@@ -119,14 +118,14 @@ pub fn causes_tell_allowed_and_up()
     ensures up { (s : Settings) (h : History) → IsTrue (is_up (moments s h)) ↔ IsLinked h }
 {}
 
-/// If the settings are in their ranges, ordinary frames go at ticks, local changes and new neighbors
-/// alone, on a port that is active, may transmit and has its link up.
+/// If the settings are in their ranges, ordinary frames are sent only at ticks, local changes and
+/// new neighbors, by a port that is active, may transmit and has its link up.
 pub fn ordinary_frames_go_on_active_ports()
     ensures { (s : Settings) (past : History) (e : Event) → AreSettings s →
         mark_at s (e ∷ past) ≡ Mark.Ordinary → CanSend s e past }
 {}
 
-/// Shutdown frames go where a port that was active is told to stop, and nowhere else.
+/// Shutdown frames are sent exactly when a port that was active is told to stop.
 pub fn shutdown_frames_go_at_stops()
     ensures { (s : Settings) (past : History) (e : Event) →
         (mark_at s (e ∷ past) ≡ Mark.Shutdown) ↔ CanStop s e past }

@@ -1,9 +1,9 @@
 //! When a port sends: the transmit machine of one port (IEEE 802.1AB-2009, clause 9). No call takes
 //! memory or refuses.
 //!
-//! A port is told its events one by one and answers the frame that goes. What it answers is said by
-//! the whole list of events, without a counter: an ordinary frame goes exactly if one is due and
-//! its window is open, a shutdown frame exactly if an active port loses the right to transmit.
+//! A port is given its events one by one and returns the frame to send. The whole list of events
+//! decides it, without a counter: an ordinary frame is sent exactly if one is due and its window is
+//! open, a shutdown frame exactly if an active port loses the right to transmit.
 #![tactic(auto)]
 
 mod event;

@@ -22,7 +22,7 @@ pub struct Transmit {
     credit_max: u8,
     fast_init: u8,
     reinit: u8,
-    /// Ordinary frames that may go before the next tick.
+    /// Ordinary frames that may be sent before the next tick.
     credit: u8,
     /// Ticks until the port may start again.
     wait: u8,
@@ -73,12 +73,12 @@ impl Model for Transmit {
 }
 
 impl Transmit {
-    /// A machine with full credit, on a port whose link is up and that is not active: it stands for
-    /// no events.
+    /// Makes a machine with full credit, on a port whose link is up and that is not active: it
+    /// stands for no events.
+    ///
     ///
     /// `credit_max` is txCreditMax, 1 to 10; `fast_init` is txFastInit, 1 to 8; `reinit` is
-    /// reinitDelay in seconds, 1 to 10; `allowed` tells whether the port may transmit from the
-    /// start.
+    /// reinitDelay in seconds, 1 to 10; `allowed` is whether the port may transmit from the start.
     pub fn new(credit_max: u8, fast_init: u8, reinit: u8, allowed: bool) -> Self
         requires { AreSettings (settings credit_max fast_init reinit allowed) }
         ensures value { result ≡ opened (settings credit_max fast_init reinit allowed) }
@@ -99,7 +99,7 @@ impl Transmit {
         }
     }
 
-    /// Its fields.
+    /// Returns its fields.
     pub fn parts(&self) -> Parts
         ensures { machine_of_parts result ≡ self.now }
     {
@@ -118,8 +118,8 @@ impl Transmit {
         }
     }
 
-    /// The machine with these fields. None exactly if the credit is above `credit_max`, as no
-    /// machine's is.
+    /// Returns the machine with these fields, or None exactly if the credit is above `credit_max`,
+    /// which no machine has.
     pub fn of_parts(parts: &Parts) -> Option<Transmit>
         ensures some { IfSome result (λ machine. machine ≡ machine_of_parts parts.now) }
         ensures exists { IsSome result ↔ (parts.now.credit ≤ parts.now.credit_max) }
@@ -142,19 +142,21 @@ impl Transmit {
         })
     }
 
-    /// Takes one event, with the tx-interval in force after it (1 to 3600 seconds), and tells which
-    /// frame goes. The machine then stands for its history with the event.
+    /// Takes one event, with the tx-interval in force after it (1 to 3600 seconds), and returns
+    /// which frame is sent. The machine then stands for its history with the event.
+    ///
     ///
     /// Ordinary exactly if a frame is due and the window open: the port is active, some signal
     /// since its start has had no frame yet, and no run of events that ends here would hold more
     /// ordinary frames than txCreditMax plus the ticks after its first event. Shutdown exactly if
-    /// an active port loses the right to transmit. Quiet if neither goes. With this answer no run
-    /// that ends here has more ordinary frames than that bound, nor more stops than one plus one
-    /// for each reinitDelay ticks in it; and no other choice of due events with open windows has
-    /// had more frames up to here.
+    /// an active port loses the right to transmit. Quiet if neither is sent. With this answer no
+    /// run that ends here has more ordinary frames than that bound, nor more stops than one plus
+    /// one for each reinitDelay ticks in it; and no other choice of due events with open windows
+    /// has had more frames up to here.
     ///
-    /// On a port that is not active only a tick can send. An `Allow`, a `Down`, an `Up` and
-    /// `Nothing` never do.
+    ///
+    /// If the port is not active, only a tick can send. An `Allow`, a `Down`, an `Up` and `Nothing`
+    /// never do.
     pub fn event(&mut self, cause: Cause, interval: u16) -> Mark
         // What the machine is after the event, and its answer, computed from what it was.
         ensures next { self.new ≡ (stepped self.old cause interval).0 }
@@ -242,7 +244,7 @@ impl Transmit {
         }
     }
 
-    /// A tick adds one credit, at most to txCreditMax.
+    /// Adds a credit for a tick, up to txCreditMax.
     fn refill(&mut self)
         ensures { self.new
             ≡ record self.old { credit = min self.old.credit_max (self.old.credit + 1) } }
@@ -252,7 +254,7 @@ impl Transmit {
         }
     }
 
-    /// Both clocks run down.
+    /// Runs both clocks down.
     fn run_down(&mut self)
         ensures { self.new
             ≡ record self.old { wait = self.old.wait - 1; timer = self.old.timer - 1 } }
@@ -276,7 +278,7 @@ impl Transmit {
         Mark::Shutdown
     }
 
-    /// Chooses the distance to the next signal, and wants a frame.
+    /// Chooses the distance to the next signal, and requests a frame.
     fn signal(&mut self, interval: u16) -> Mark
         ensures next { self.new ≡ (signalled self.old interval).0 }
         ensures answer { result ≡ (signalled self.old interval).1 }
@@ -285,7 +287,7 @@ impl Transmit {
         self.serve()
     }
 
-    /// Sends the wanted frame if credit is left, else it waits.
+    /// Sends the requested frame if credit is left. Otherwise it waits.
     fn serve(&mut self) -> Mark
         ensures next { self.new ≡ (served self.old).0 }
         ensures answer { result ≡ (served self.old).1 }
@@ -298,8 +300,8 @@ impl Transmit {
         Mark::Ordinary
     }
 
-    /// How many ordinary frames may go before the next tick: the least of txCreditMax and of what
-    /// each run that ends now leaves of its bound.
+    /// Returns how many ordinary frames may be sent before the next tick: the least of txCreditMax
+    /// and of what each run that ends now leaves of its bound.
     pub fn credit(&self) -> u8
         ensures value { result ≡ self.now.credit }
         ensures most { self.now.credit ≤ self.now.credit_max }
@@ -309,7 +311,7 @@ impl Transmit {
         self.credit
     }
 
-    /// Whether the port has started, and has neither stopped nor lost its link since.
+    /// Returns whether the port has started, and has neither stopped nor lost its link since.
     pub fn is_active(&self) -> bool
         ensures value { result ≡ self.now.active }
         ensures active { ForEachHistory self.now (λ s past. result ≡ is_active (moments s past)) }
@@ -317,7 +319,8 @@ impl Transmit {
         self.active
     }
 
-    /// Whether the port may transmit: by the last `Stop` or `Allow`, else as it was opened.
+    /// Returns whether the port may transmit: by the last `Stop` or `Allow`, or else as it was
+    /// opened.
     pub fn is_allowed(&self) -> bool
         ensures value { result ≡ self.now.allowed }
         ensures allowed { ForEachHistory self.now (λ s past. result
@@ -326,7 +329,7 @@ impl Transmit {
         self.allowed
     }
 
-    /// Whether the link is up: by the last `Down` or `Up`, else it is.
+    /// Returns whether the link is up: by the last `Down` or `Up`, or else true.
     pub fn is_up(&self) -> bool
         ensures value { result ≡ self.now.up }
         ensures up { ForEachHistory self.now (λ s past. result ≡ is_up (moments s past)) }

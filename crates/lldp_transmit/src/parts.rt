@@ -1,6 +1,6 @@
 //! The fields of a transmit machine.
 
-/// The fields of a transmit machine, for who keeps one in a struct of C's.
+/// The fields of a transmit machine, to keep one in a struct of C's.
 #[repr(C)]
 #[derive(Clone, Copy)]
 pub struct Parts {
@@ -9,7 +9,7 @@ pub struct Parts {
     pub credit_max: u8,
     pub fast_init: u8,
     pub reinit: u8,
-    /// Ordinary frames that may go before the next tick.
+    /// Ordinary frames that may be sent before the next tick.
     pub credit: u8,
     /// Ticks until the port may start again.
     pub wait: u8,

@@ -2,6 +2,9 @@
  * The functions that programs call. Each looks whether a pointer is NULL that must not be, and says so. Else it calls
  * the proved function, with the same arguments; for NULL with a length of 0 that one is given an address, as its
  * contract asks. tools/library/library.sh puts `proved_` before the names of the proved functions.
+ *
+ * A proved function takes the agent out of its handle and puts it back. One that only reads is given a copy of the handle
+ * for that, so that nothing is written where the caller has a `const`.
  */
 #include "lldpa.h"
 
@@ -19,11 +22,15 @@ PROVED(lldpa_transmit_credit);
 PROVED(lldpa_open);
 PROVED(lldpa_tick);
 PROVED(lldpa_ticks);
+PROVED(lldpa_due);
 PROVED(lldpa_link);
 PROVED(lldpa_neighbor_count);
 PROVED(lldpa_neighbor);
+PROVED(lldpa_statistics);
+PROVED(lldpa_configuration);
 PROVED(lldpa_command);
 PROVED(lldpa_command_text);
+PROVED(lldpa_fault_text);
 PROVED(lldpa_show_lines);
 PROVED(lldpa_show_line);
 PROVED(lldpa_frame_of);
@@ -34,6 +41,46 @@ extern uint8_t proved_lldpa_frame(lldpa_agent *agent, uint32_t port, const uint8
                                   lldpa_marks *marks);
 extern uint8_t proved_lldpa_frame_news(lldpa_agent *agent, uint32_t port, const uint8_t *octets, size_t length,
                                        lldpa_marks *marks, lldpa_news *news);
+
+/* ---- The structs, as the proved functions have them on each platform ---------------------------------------------- */
+
+#define SIZE(name, octets) _Static_assert(sizeof(lldpa_##name) == (octets), "the size of lldpa_" #name);
+#define AT(name, field, place) \
+    _Static_assert(offsetof(lldpa_##name, field) == (place), "the place of " #field " in lldpa_" #name);
+
+SIZE(place, 16) AT(place, start, 0) AT(place, length, 8)
+SIZE(examined, 64) AT(examined, chassis, 0) AT(examined, port, 16) AT(examined, extent, 32)
+    AT(examined, discarded, 40) AT(examined, unrecognized, 48) AT(examined, ttl, 56)
+SIZE(kept, 32) AT(kept, next, 0) AT(kept, body, 8) AT(kept, met, 24) AT(kept, kind, 28)
+SIZE(capabilities, 4) AT(capabilities, available, 0) AT(capabilities, enabled, 2)
+SIZE(management, 40) AT(management, address, 0) AT(management, oid, 16) AT(management, interface, 32)
+    AT(management, family, 36) AT(management, numbering, 37)
+SIZE(tlv, 24) AT(tlv, body, 0) AT(tlv, length, 8) AT(tlv, kind, 16)
+SIZE(machine, 12) AT(machine, timer, 0) AT(machine, credit_max, 2) AT(machine, fast_init, 3) AT(machine, reinit, 4)
+    AT(machine, credit, 5) AT(machine, wait, 6) AT(machine, left, 7) AT(machine, waiting, 8) AT(machine, active, 9)
+    AT(machine, allowed, 10) AT(machine, up, 11)
+SIZE(text, 16) AT(text, octets, 0) AT(text, length, 8)
+SIZE(options, 72) AT(options, size, 0) AT(options, ports, 8) AT(options, port_count, 16) AT(options, hostname, 24)
+    AT(options, mac, 40) AT(options, management, 46) AT(options, managed, 50) AT(options, receive_only, 51)
+    AT(options, role, 52) AT(options, max_neighbors, 56) AT(options, credit_max, 60) AT(options, fast_init, 64)
+    AT(options, reinit, 68)
+SIZE(agent, 16) AT(agent, held, 0) AT(agent, open, 8)
+SIZE(mark, 2) AT(mark, port, 0) AT(mark, mark, 1)
+SIZE(marks, 129) AT(marks, items, 0) AT(marks, count, 128)
+SIZE(ticks_taken, 8) AT(ticks_taken, taken, 0) AT(ticks_taken, aged_out, 4)
+SIZE(news, 40) AT(news, chassis, 0) AT(news, port, 16) AT(news, what, 32) AT(news, fault, 36)
+SIZE(held, 72) AT(held, pdu, 0) AT(held, left, 64)
+SIZE(statistics_told, 36) AT(statistics_told, sent, 0) AT(statistics_told, shutdowns, 4)
+    AT(statistics_told, received, 8) AT(statistics_told, discarded, 12) AT(statistics_told, errors, 16)
+    AT(statistics_told, tlvs_discarded, 20) AT(statistics_told, unrecognized, 24) AT(statistics_told, ageouts, 28)
+    AT(statistics_told, drops, 32)
+SIZE(configuration_told, 96) AT(configuration_told, interval, 0) AT(configuration_told, hold, 4)
+    AT(configuration_told, ttl, 8) AT(configuration_told, reinit, 12) AT(configuration_told, fast_init, 16)
+    AT(configuration_told, credit_max, 20) AT(configuration_told, max_neighbors, 24) AT(configuration_told, ports, 28)
+    AT(configuration_told, status, 32)
+SIZE(lines, 16) AT(lines, length, 0) AT(lines, next, 8) AT(lines, done, 12)
+
+/* ---- NULL ---------------------------------------------------------------------------------------------------------- */
 
 /* Of more names of ports the proved function does not look at the others. */
 #define MOST_NAMES 65
@@ -62,6 +109,14 @@ static uint8_t *room_at(uint8_t *at)
 uint32_t lldpa_version(void)
 {
     return LLDPA_VERSION;
+}
+
+uint8_t lldpa_fault_text(uint32_t fault, uint8_t *room, size_t room_length, size_t *length)
+{
+    if (is_missing(room, room_length) || length == NULL) {
+        return LLDPA_NULL;
+    }
+    return proved_lldpa_fault_text(fault, room_at(room), room_length, length);
 }
 
 /* ---- Reading ---------------------------------------------------------------------------------------------------- */
@@ -158,7 +213,7 @@ uint8_t lldpa_transmit_credit(const lldpa_machine *machine)
 
 /* ---- The agent -------------------------------------------------------------------------------------------------- */
 
-/* Copies a text, where it is not missing. */
+/* Copies a text, if it is not missing. */
 static bool is_copied(lldpa_text *to, const lldpa_text *from)
 {
     if (is_missing(from->octets, from->length)) {
@@ -211,6 +266,15 @@ uint8_t lldpa_ticks(lldpa_agent *agent, uint32_t count, lldpa_marks *marks, lldp
                                                           : proved_lldpa_ticks(agent, count, marks, told);
 }
 
+uint8_t lldpa_due(const lldpa_agent *agent, uint32_t *seconds)
+{
+    if (agent == NULL || seconds == NULL) {
+        return LLDPA_NULL;
+    }
+    lldpa_agent copy = *agent;
+    return proved_lldpa_due(&copy, seconds);
+}
+
 uint8_t lldpa_frame(lldpa_agent *agent, uint32_t port, const uint8_t *frame, size_t length, lldpa_marks *marks,
                     lldpa_news *news)
 {
@@ -226,18 +290,41 @@ uint8_t lldpa_link(lldpa_agent *agent, uint32_t port, bool up, lldpa_marks *mark
     return agent == NULL || marks == NULL ? LLDPA_NULL : proved_lldpa_link(agent, port, up, marks);
 }
 
-uint8_t lldpa_neighbor_count(lldpa_agent *agent, uint32_t port, uint32_t *count)
+uint8_t lldpa_neighbor_count(const lldpa_agent *agent, uint32_t port, uint32_t *count)
 {
-    return agent == NULL || count == NULL ? LLDPA_NULL : proved_lldpa_neighbor_count(agent, port, count);
+    if (agent == NULL || count == NULL) {
+        return LLDPA_NULL;
+    }
+    lldpa_agent copy = *agent;
+    return proved_lldpa_neighbor_count(&copy, port, count);
 }
 
-uint8_t lldpa_neighbor(lldpa_agent *agent, uint32_t port, uint32_t index, uint8_t *room, size_t room_length,
+uint8_t lldpa_neighbor(const lldpa_agent *agent, uint32_t port, uint32_t index, uint8_t *room, size_t room_length,
                        lldpa_held *told)
 {
     if (agent == NULL || is_missing(room, room_length) || told == NULL) {
         return LLDPA_NULL;
     }
-    return proved_lldpa_neighbor(agent, port, index, room_at(room), room_length, told);
+    lldpa_agent copy = *agent;
+    return proved_lldpa_neighbor(&copy, port, index, room_at(room), room_length, told);
+}
+
+uint8_t lldpa_statistics(const lldpa_agent *agent, uint32_t port, lldpa_statistics_told *told)
+{
+    if (agent == NULL || told == NULL) {
+        return LLDPA_NULL;
+    }
+    lldpa_agent copy = *agent;
+    return proved_lldpa_statistics(&copy, port, told);
+}
+
+uint8_t lldpa_configuration(const lldpa_agent *agent, lldpa_configuration_told *told)
+{
+    if (agent == NULL || told == NULL) {
+        return LLDPA_NULL;
+    }
+    lldpa_agent copy = *agent;
+    return proved_lldpa_configuration(&copy, told);
 }
 
 uint8_t lldpa_command(lldpa_agent *agent, const uint8_t *line, size_t length, uint32_t *show, lldpa_marks *marks)
@@ -256,31 +343,34 @@ uint8_t lldpa_command_text(uint32_t fault, uint8_t *room, size_t room_length, si
     return proved_lldpa_command_text(fault, room_at(room), room_length, length);
 }
 
-uint8_t lldpa_show_lines(lldpa_agent *agent, uint32_t show, uint32_t from, uint8_t *room, size_t room_length,
+uint8_t lldpa_show_lines(const lldpa_agent *agent, uint32_t show, uint32_t from, uint8_t *room, size_t room_length,
                          lldpa_lines *told)
 {
     if (agent == NULL || is_missing(room, room_length) || told == NULL) {
         return LLDPA_NULL;
     }
-    return proved_lldpa_show_lines(agent, show, from, room_at(room), room_length, told);
+    lldpa_agent copy = *agent;
+    return proved_lldpa_show_lines(&copy, show, from, room_at(room), room_length, told);
 }
 
-uint8_t lldpa_show_line(lldpa_agent *agent, uint32_t show, uint32_t line, uint8_t *room, size_t room_length,
+uint8_t lldpa_show_line(const lldpa_agent *agent, uint32_t show, uint32_t line, uint8_t *room, size_t room_length,
                         size_t *length)
 {
     if (agent == NULL || is_missing(room, room_length) || length == NULL) {
         return LLDPA_NULL;
     }
-    return proved_lldpa_show_line(agent, show, line, room_at(room), room_length, length);
+    lldpa_agent copy = *agent;
+    return proved_lldpa_show_line(&copy, show, line, room_at(room), room_length, length);
 }
 
-uint8_t lldpa_frame_of(lldpa_agent *agent, uint32_t port, uint32_t mark, uint8_t *room, size_t room_length,
+uint8_t lldpa_frame_of(const lldpa_agent *agent, uint32_t port, uint32_t mark, uint8_t *room, size_t room_length,
                        size_t *length)
 {
     if (agent == NULL || is_missing(room, room_length) || length == NULL) {
         return LLDPA_NULL;
     }
-    return proved_lldpa_frame_of(agent, port, mark, room_at(room), room_length, length);
+    lldpa_agent copy = *agent;
+    return proved_lldpa_frame_of(&copy, port, mark, room_at(room), room_length, length);
 }
 
 void lldpa_close(lldpa_agent *agent)

@@ -1,22 +1,23 @@
 /*
  * lldpa: the proved LLDP reader, transmit machine and agent (IEEE 802.1AB-2009), for C and for what calls C.
  *
- * Link with liblldpa.a (`pkg-config --cflags --libs lldpa`), which takes memory by malloc and gives it back by free.
- * C99.
+ * Link with liblldpa.so.1 (`pkg-config --cflags --libs lldpa`), or with liblldpa.a (`-l:liblldpa.a` for `-llldpa`). It
+ * takes memory by malloc and gives it back by free. C99.
  *
  * What the caller must keep, everywhere:
  *  - A pointer that is not NULL points to memory of its type that is there and aligned. What a call reads is
  *    initialized; what it only writes need not be. A pointer and the length behind it are one thing: so many elements
  *    stand there. No length is over SIZE_MAX / 2.
- *  - What a call writes to overlaps nothing else that it is given, and nobody else reads or writes it meanwhile.
+ *  - What a call writes to overlaps nothing else that it is given, and nobody else reads or writes it during the call. It
+ *    writes nothing behind a pointer to const.
  *  - A bool is 0 or 1.
- * A number or a place out of its range is the caller's to give: the answer says so, and nothing is done.
+ * A number or a place may be out of its range: the answer says so, and nothing is done.
  *
- * NULL is the caller's to give, too. With a length of 0 it stands for no elements, also in a struct. Elsewhere the answer
- * is LLDPA_NULL, or false or 0 where a function answers a bool or a number of frames, whatever else is given; nothing is
+ * NULL is allowed, too. With a length of 0 it stands for no elements, even in a struct. Elsewhere the answer
+ * is LLDPA_NULL, or false or 0 if a function answers a bool or a number of frames, whatever else is given; nothing is
  * written, and lldpa_close does nothing.
  *
- * Stack: lldpa_show_line takes at most 28 KB, every other call at most 12.
+ * Stack: a call takes at most 12 KB.
  *
  * Memory: no function takes any but lldpa_open, and only lldpa_close gives it back. Nothing that a call was given is
  * kept once it has returned. Places are offsets in the octets that the caller gave.
@@ -43,7 +44,7 @@ extern "C" {
 uint32_t lldpa_version(void);
 
 /*
- * ---- Answers. 0 is well. Each kind of fault has numbers of its own, which stand at the function that answers them: 1 to
+ * ---- Answers. 0 is well. Each kind of fault has numbers of its own, listed at the function that answers them: 1 to
  * 8 of LLDPDUs, 11 to 13 of TLVs that are put, 21 to 26 of openings, 31 to 38 of commands.
  */
 
@@ -55,6 +56,14 @@ uint32_t lldpa_version(void);
 #define LLDPA_IS_OPEN 104      /* the agent is open already */
 #define LLDPA_NULL 105         /* a pointer is NULL that must not be */
 
+/*
+ * What a fault or a misuse is, in words, as "the first TLV is no Chassis ID".
+ *   fault   an answer other than 0: a number that stands in this header at a fault, or one of those above
+ *   length  how many octets it has, at most LLDPA_FAULT_ROOM
+ * Answers 0, LLDPA_OUT_OF_RANGE or LLDPA_NO_ROOM; only if it is 0 anything is written.
+ */
+uint8_t lldpa_fault_text(uint32_t fault, uint8_t *room, size_t room_length, size_t *length);
+
 /* ---- Rooms that are always large enough, in octets ----------------------------------------------------------------- */
 
 #define LLDPA_PDU_ROOM 1500      /* for lldpa_build */
@@ -62,6 +71,7 @@ uint32_t lldpa_version(void);
 #define LLDPA_NEIGHBOR_ROOM 1500 /* for lldpa_neighbor */
 #define LLDPA_LINE_ROOM 2049     /* for lldpa_show_line, and for one line of lldpa_show_lines */
 #define LLDPA_TEXT_ROOM 22       /* for lldpa_command_text */
+#define LLDPA_FAULT_ROOM 65      /* for lldpa_fault_text */
 
 /* ---- Reading ---------------------------------------------------------------------------------------------------- */
 
@@ -74,7 +84,7 @@ typedef struct lldpa_place {
 /*
  * Where the LLDPDU of an Ethernet frame lies.
  *   frame, length  the frame from its destination address on, without a VLAN tag and without the check sequence
- *   pdu            written where the answer is true: all that follows the EtherType, at most 1500 octets
+ *   pdu            written if the answer is true: all that follows the EtherType, at most 1500 octets
  * True exactly for an LLDP frame: 14 to 1514 octets, to 01-80-C2-00-00-0E, of EtherType 88-CC.
  */
 bool lldpa_frame_pdu(const uint8_t *frame, size_t length, lldpa_place *pdu);
@@ -89,10 +99,10 @@ bool lldpa_frame_pdu(const uint8_t *frame, size_t length, lldpa_place *pdu);
 #define LLDPA_TTL_LENGTH 7     /* the Time To Live has fewer than 2 octets */
 #define LLDPA_REPEATED 8       /* a mandatory TLV stands again behind the third */
 
-/* What a sound LLDPDU tells. */
+/* What a sound LLDPDU says. */
 typedef struct lldpa_examined {
     lldpa_place chassis; /* the body of the Chassis ID, 2 to 256 octets, its subtype first */
-    lldpa_place port;    /* the body of the Port ID, likewise */
+    lldpa_place port;    /* the body of the Port ID, in the same form */
     size_t extent;       /* how many octets count, from the front: those before the End Of LLDPDU */
     size_t discarded;    /* how many TLVs are discarded, one that is not complete among them */
     size_t unrecognized; /* how many kept TLVs are of the types 9 to 127 */
@@ -101,14 +111,14 @@ typedef struct lldpa_examined {
 
 /*
  * Examines an LLDPDU of any length.
- *   told  written where the answer is 0
+ *   told  written if the answer is 0
  * Answers 0, or the number of the first fault, 1 to 8.
  */
 uint8_t lldpa_examine(const uint8_t *pdu, size_t length, lldpa_examined *told);
 
 /* A walk over the kept TLVs. Begin with LLDPA_KEPT_INIT, which is all 0. */
 typedef struct lldpa_kept {
-    size_t next;      /* where the walk goes on; 0: at the first TLV behind the three mandatory ones */
+    size_t next;      /* where the walk continues; 0: at the first TLV behind the three mandatory ones */
     lldpa_place body; /* the body of the TLV that was given last */
     bool met[4];      /* of which of the types 4 to 7 a well-formed TLV was met */
     uint8_t kind;     /* the type of the TLV that was given last, 4 to 127 */
@@ -117,11 +127,11 @@ typedef struct lldpa_kept {
 #define LLDPA_KEPT_INIT { 0, { 0, 0 }, { false, false, false, false }, 0 }
 
 /*
- * The next kept TLV of an extent: well formed for its type, and the first of its type where that is 4 to 7.
+ * The next kept TLV of an extent: well formed for its type, and the first of its type if that is 4 to 7.
  *   extent, length  the first `extent` octets of an LLDPDU for which lldpa_examine answered 0, with a TTL above 0;
  *                   the same ones for a whole walk
- *   walk            told the TLV, and carried on; it stays as it was where no TLV is left
- * True with the next TLV, false where none is left. Of any other octets the answer is some TLV in them, or none.
+ *   walk            gets the TLV, and is advanced; it is unchanged if no TLV is left
+ * True with the next TLV, false if none is left. For any other octets the answer is some TLV in them, or none.
  */
 bool lldpa_next_kept(const uint8_t *extent, size_t length, lldpa_kept *walk);
 
@@ -133,8 +143,8 @@ typedef struct lldpa_capabilities {
 
 /*
  * The fields of the body of a System Capabilities TLV.
- *   told  written where the answer is true
- * True exactly where the body is well formed: four octets, and no bit enabled that is not available.
+ *   told  written if the answer is true
+ * True exactly if the body is well formed: four octets, and no bit enabled that is not available.
  */
 bool lldpa_caps(const uint8_t *body, size_t length, lldpa_capabilities *told);
 
@@ -149,8 +159,8 @@ typedef struct lldpa_management {
 
 /*
  * The fields of the body of a Management Address TLV.
- *   told  written where the answer is true
- * True exactly where the body is well formed.
+ *   told  written if the answer is true
+ * True exactly if the body is well formed.
  */
 bool lldpa_mgmt(const uint8_t *body, size_t length, lldpa_management *told);
 
@@ -173,11 +183,11 @@ typedef struct lldpa_tlv {
  *   chassis, port  the bodies of the Chassis ID and the Port ID, their subtypes first, 2 to 256 octets each
  *   ttl            in seconds; 0 makes a shutdown LLDPDU, which has no other TLVs
  *   tlvs           the TLVs to put, in their order, any number
- *   faults         one for each TLV (as many as tlvs has): 0 where it was put, else 11 to 13, and it is left out
+ *   faults         one for each TLV (as many as tlvs has): 0 if it was put, else 11 to 13, and it is left out
  *   room           LLDPA_PDU_ROOM octets are always enough
  *   length         how many octets the LLDPDU has, its End Of LLDPDU included
  * Answers the first of these: LLDPA_OUT_OF_RANGE for the length of an identifier; LLDPA_NO_ROOM if faults has fewer
- * elements than tlvs; LLDPA_NO_ROOM if the LLDPDU is longer than the room, and the faults are told; else 0. If it is not
+ * elements than tlvs; LLDPA_NO_ROOM if the LLDPDU is longer than the room, and faults are written; else 0. If it is not
  * 0, no more than that is written.
  */
 uint8_t lldpa_build(const uint8_t *chassis, size_t chassis_length, const uint8_t *port, size_t port_length,
@@ -228,7 +238,7 @@ uint8_t lldpa_transmit_new(lldpa_machine *machine, uint32_t credit_max, uint32_t
                            bool allowed);
 
 /*
- * Takes one event, and tells which frame goes.
+ * Takes one event, and writes which frame to send.
  *   cause     LLDPA_CAUSE_TICK to LLDPA_CAUSE_NOTHING
  *   interval  the tx-interval in force after the event, 1 to 3600 seconds
  *   mark      LLDPA_QUIET, LLDPA_ORDINARY or LLDPA_SHUTDOWN
@@ -261,7 +271,7 @@ typedef struct lldpa_options {
     lldpa_text hostname;     /* at most 255 octets, printable ASCII */
     uint8_t mac[6];          /* the source address of every frame */
     uint8_t management[4];   /* the IPv4 address under which the agent can be managed */
-    bool managed;            /* whether there is one; where not, management may hold anything */
+    bool managed;            /* whether there is one; if not, management may hold anything */
     bool receive_only;       /* whether each port begins with the status rx-only */
     uint32_t role;           /* LLDPA_STATION, LLDPA_BRIDGE or LLDPA_ROUTER */
     uint32_t max_neighbors;  /* how many neighbors each port may hold, 1 to 128 */
@@ -334,8 +344,20 @@ typedef struct lldpa_ticks_taken {
  */
 uint8_t lldpa_ticks(lldpa_agent *agent, uint32_t count, lldpa_marks *marks, lldpa_ticks_taken *told);
 
+#define LLDPA_NEVER UINT32_MAX /* at no tick */
+
+/*
+ * At which tick, from 1, a port sends or a neighbor ages out, if no other call comes before it. Answers 0 or
+ * LLDPA_NOT_OPEN.
+ *   seconds  1 to 65535, or LLDPA_NEVER, if the answer is 0
+ * A caller may sleep so many seconds, and then give all of them to lldpa_ticks, which takes just so many before it stops.
+ * At the ticks before that one only clocks go on: seconds that are left, the credit of a port, what shows tell of these.
+ * Any other call may bring it nearer or put it off, so ask again behind it.
+ */
+uint8_t lldpa_due(const lldpa_agent *agent, uint32_t *seconds);
+
 /* What a frame does. */
-#define LLDPA_NEWS_NOT_LLDP 1 /* it is no LLDP frame */
+#define LLDPA_NEWS_NOT_LLDP 1 /* it is not an LLDP frame */
 #define LLDPA_NEWS_DEAF 2     /* the port does not receive, or its link is down: nobody looked at the frame */
 #define LLDPA_NEWS_REFUSED 3  /* its LLDPDU has a fault */
 #define LLDPA_NEWS_NEW 4      /* a neighbor that was not held is stored */
@@ -351,13 +373,13 @@ uint8_t lldpa_ticks(lldpa_agent *agent, uint32_t count, lldpa_marks *marks, lldp
  */
 typedef struct lldpa_news {
     lldpa_place chassis; /* in the frame: the body of the Chassis ID, from LLDPA_NEWS_NEW on; else 0 and 0 */
-    lldpa_place port;    /* in the frame: the body of the Port ID, likewise */
+    lldpa_place port;    /* in the frame: the body of the Port ID, in the same form */
     uint32_t what;       /* LLDPA_NEWS_NOT_LLDP to LLDPA_NEWS_UNKNOWN */
     uint32_t fault;      /* of LLDPA_NEWS_REFUSED the fault of the LLDPDU, 1 to 8; else 0 */
 } lldpa_news;
 
 /*
- * A frame came on a port: any octets; what is no LLDP frame changes nothing. Answers 0, LLDPA_NOT_OPEN or
+ * A frame came on a port: any octets; if they are not an LLDP frame, nothing changes. Answers 0, LLDPA_NOT_OPEN or
  * LLDPA_NO_PORT.
  *   port   its number, from 0, in the order of the options
  *   marks  which ports send, if the answer is 0
@@ -370,11 +392,11 @@ uint8_t lldpa_frame(lldpa_agent *agent, uint32_t port, const uint8_t *octets, si
 uint8_t lldpa_link(lldpa_agent *agent, uint32_t port, bool up, lldpa_marks *marks);
 
 /* How many neighbors a port holds. Answers 0, LLDPA_NOT_OPEN or LLDPA_NO_PORT; count is written if it is 0. */
-uint8_t lldpa_neighbor_count(lldpa_agent *agent, uint32_t port, uint32_t *count);
+uint8_t lldpa_neighbor_count(const lldpa_agent *agent, uint32_t port, uint32_t *count);
 
 /* A neighbor that a port holds. */
 typedef struct lldpa_held {
-    lldpa_examined pdu; /* what its last stored LLDPDU tells; its places are in the octets that were written */
+    lldpa_examined pdu; /* what its last stored LLDPDU says; its places are in the octets that were written */
     uint32_t left;      /* seconds until it ages out */
 } lldpa_held;
 
@@ -386,8 +408,46 @@ typedef struct lldpa_held {
  *   told   written if the answer is 0
  * Answers the first of these: LLDPA_NOT_OPEN, LLDPA_NO_PORT, LLDPA_OUT_OF_RANGE for the index, LLDPA_NO_ROOM; else 0.
  */
-uint8_t lldpa_neighbor(lldpa_agent *agent, uint32_t port, uint32_t index, uint8_t *room, size_t room_length,
+uint8_t lldpa_neighbor(const lldpa_agent *agent, uint32_t port, uint32_t index, uint8_t *room, size_t room_length,
                        lldpa_held *told);
+
+/* What a port counted, each modulo 2^32. Nothing resets them. */
+typedef struct lldpa_statistics_told {
+    uint32_t sent;           /* ordinary frames sent */
+    uint32_t shutdowns;      /* shutdown frames sent */
+    uint32_t received;       /* LLDP frames that came while the port received and its link was up */
+    uint32_t discarded;      /* LLDPDUs that were refused */
+    uint32_t errors;         /* LLDPDUs that were refused or had a TLV discarded */
+    uint32_t tlvs_discarded; /* TLVs that were discarded */
+    uint32_t unrecognized;   /* kept TLVs of the types 9 to 127 */
+    uint32_t ageouts;        /* neighbors that aged out */
+    uint32_t drops;          /* LLDPDUs that were dropped for want of room */
+} lldpa_statistics_told;
+
+/* What a port counted. Answers 0, LLDPA_NOT_OPEN or LLDPA_NO_PORT; told is written if it is 0. */
+uint8_t lldpa_statistics(const lldpa_agent *agent, uint32_t port, lldpa_statistics_told *told);
+
+/* What a port may do. */
+#define LLDPA_RX_AND_TX 0
+#define LLDPA_RX_ONLY 1
+#define LLDPA_TX_ONLY 2
+#define LLDPA_DISABLED 3
+
+/* How an agent is configured: by the last command that set each, else as it was opened. */
+typedef struct lldpa_configuration_told {
+    uint32_t interval;      /* tx-interval, in seconds */
+    uint32_t hold;          /* tx-hold */
+    uint32_t ttl;           /* the time to live of an ordinary frame, in seconds */
+    uint32_t reinit;        /* reinitDelay, in seconds */
+    uint32_t fast_init;     /* txFastInit */
+    uint32_t credit_max;    /* txCreditMax */
+    uint32_t max_neighbors; /* the limit in force */
+    uint32_t ports;         /* how many ports there are */
+    uint8_t status[64];     /* LLDPA_RX_AND_TX to LLDPA_DISABLED of each port; behind the last port 0 */
+} lldpa_configuration_told;
+
+/* How an agent is configured. Answers 0 or LLDPA_NOT_OPEN; told is written if it is 0. */
+uint8_t lldpa_configuration(const lldpa_agent *agent, lldpa_configuration_told *told);
 
 /* What a command shows. */
 #define LLDPA_SHOW_NOTHING 0 /* the command changed something */
@@ -409,17 +469,17 @@ uint8_t lldpa_neighbor(lldpa_agent *agent, uint32_t port, uint32_t index, uint8_
 /*
  * Takes a line of a command, "configure ..", "update" or "show ..", without its line feed. A setting is carried out, a
  * show is only read: lldpa_show_lines gives its lines.
- *   show   LLDPA_SHOW_NOTHING, or which show it is, where the answer is 0
- *   marks  which ports send, where the answer is 0
+ *   show   LLDPA_SHOW_NOTHING, or which show it is, if the answer is 0
+ *   marks  which ports send, if the answer is 0
  * Answers 0; or 31 to 38, LLDPA_NOT_OPEN, and nothing is changed.
  */
 uint8_t lldpa_command(lldpa_agent *agent, const uint8_t *line, size_t length, uint32_t *show, lldpa_marks *marks);
 
 /*
- * The line that tells a refusal of a command, without its line feed, as "error: unknown command".
+ * The line that reports a refused command, without its line feed, as "error: unknown command".
  *   fault   31 to 38
  *   length  how many octets it has, at most LLDPA_TEXT_ROOM
- * Answers 0, LLDPA_OUT_OF_RANGE or LLDPA_NO_ROOM; only where it is 0 anything is written.
+ * Answers 0, LLDPA_OUT_OF_RANGE or LLDPA_NO_ROOM; if it is not 0, nothing is written.
  */
 uint8_t lldpa_command_text(uint32_t fault, uint8_t *room, size_t room_length, size_t *length);
 
@@ -435,33 +495,33 @@ typedef struct lldpa_lines {
  *   show  LLDPA_SHOW_NEIGHBORS to LLDPA_SHOW_CONFIGURATION
  *   from  the first line that is wanted, from 0
  *   room  of LLDPA_LINE_ROOM octets each line fits
- *   told  written where the answer is 0
+ *   told  written if the answer is 0
  * Answers the first of these: LLDPA_OUT_OF_RANGE for the show, LLDPA_NOT_OPEN, LLDPA_NO_ROOM if not even the first line
- * fits; else 0. If it is not 0, nothing is written. Who goes on with `next` gets all lines, as long as the agent is told
- * nothing meanwhile. A call goes through the lines before `from` too, so a room for the whole show costs least.
+ * fits; else 0. If it is not 0, nothing is written. To get all lines, go on with `next`, as long as the agent is given
+ * nothing in between. A call goes through the lines before `from` too, so a room for the whole show costs least.
  */
-uint8_t lldpa_show_lines(lldpa_agent *agent, uint32_t show, uint32_t from, uint8_t *room, size_t room_length,
+uint8_t lldpa_show_lines(const lldpa_agent *agent, uint32_t show, uint32_t from, uint8_t *room, size_t room_length,
                          lldpa_lines *told);
 
 /*
  * One line of a show, without its line feed.
  *   line    its number, from 0
  *   room    of LLDPA_LINE_ROOM octets each line fits
- *   length  how many octets it has, where the answer is 0
+ *   length  how many octets it has, if the answer is 0
  * Answers the first of these: LLDPA_OUT_OF_RANGE for the show, LLDPA_NOT_OPEN, LLDPA_OUT_OF_RANGE if the show has no such
  * line, LLDPA_NO_ROOM; else 0.
  */
-uint8_t lldpa_show_line(lldpa_agent *agent, uint32_t show, uint32_t line, uint8_t *room, size_t room_length,
+uint8_t lldpa_show_line(const lldpa_agent *agent, uint32_t show, uint32_t line, uint8_t *room, size_t room_length,
                         size_t *length);
 
 /*
  * The frame that a port sends, with the present configuration.
  *   mark    LLDPA_ORDINARY or LLDPA_SHUTDOWN
  *   room    LLDPA_FRAME_ROOM octets are always enough
- *   length  how many octets it has, where the answer is 0
+ *   length  how many octets it has, if the answer is 0
  * Answers the first of these: LLDPA_OUT_OF_RANGE for the mark, LLDPA_NOT_OPEN, LLDPA_NO_PORT, LLDPA_NO_ROOM; else 0.
  */
-uint8_t lldpa_frame_of(lldpa_agent *agent, uint32_t port, uint32_t mark, uint8_t *room, size_t room_length,
+uint8_t lldpa_frame_of(const lldpa_agent *agent, uint32_t port, uint32_t mark, uint8_t *room, size_t room_length,
                        size_t *length);
 
 /* Closes an agent, and gives its memory back. Of one that is not open nothing happens. */

@@ -19,7 +19,11 @@ neighbors_on (Some port) = port.table.neighbors
 abbrev pub neighbors_at : AgentState → ℕ → List Neighbor
 neighbors_at agent port = neighbors_on (slice_get agent.ports port)
 
--- Why a port's neighbors are not counted: the handle is not open, or there is no such port.
+-- why nothing is told of an agent: the handle is not open
+abbrev pub open_checks : LldpaAgent → List (Check ℕ)
+open_checks handle = record { fails = not handle.is_open; fault = NOT_OPEN } ∷ []
+
+-- Why nothing is told of a port: the handle is not open, or there is no such port.
 abbrev pub count_checks : LldpaAgent → ℕ → List (Check ℕ)
 count_checks handle port =
     record { fails = not handle.is_open; fault = NOT_OPEN }

@@ -19,4 +19,6 @@ pub mod Texts
 pub mod News
 pub mod Ticks
 pub mod Held
+pub mod Due
+pub mod Settings
 pub mod Numbers

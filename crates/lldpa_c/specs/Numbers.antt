@@ -8,13 +8,16 @@ use Rattle.lldp_transmit.specs.declared.event.Cause.TheVariants as cause
 use Rattle.lldp_transmit.specs.declared.event.Mark.TheVariants as mark
 use Rattle.lldp_engine.specs.declared.agent.options.Role.TheVariants as role
 use Rattle.lldp_engine.specs.declared.agent.open_fault.OpenFault.TheVariants as refusal
+use Rattle.lldp_engine.specs.declared.port.status.Status.TheVariants as status
 use Rattle.lldp_engine.specs.declared.command.Show.TheVariants as shown
 use Rattle.lldpa_c.specs.declared.answer.TheConstants.{OK, OUT_OF_RANGE, NO_ROOM, NOT_OPEN, NO_PORT, IS_OPEN}
 use Rattle.lldpa_c.specs.declared.news.TheConstants.{NOT_LLDP, DEAF, REFUSED, NEW, CHANGED, SAME, DROPPED, GONE, UNKNOWN}
+use Rattle.lldpa_c.specs.declared.due.TheConstants.{NEVER}
 use Rattle.lldpa_c.specs.Faults.{tlv_fault_number, refusal_number, command_fault_number}
 use Rattle.lldpa_c.specs.Machine.{cause_numbered, mark_number}
 use Rattle.lldpa_c.specs.Frame.{mark_numbered}
 use Rattle.lldpa_c.specs.Command.{show_number, show_numbered}
+use Rattle.lldpa_c.specs.Settings.{status_number}
 use Rattle.lldpa_c.specs.Opening.{role_numbered}
 use Rattle.lldpa_c.specs.Texts.{fault_numbered}
 
@@ -50,3 +53,5 @@ pub record AreTold : Type 0 where
   pub answers : OK ∷ OUT_OF_RANGE ∷ NO_ROOM ∷ NOT_OPEN ∷ NO_PORT ∷ IS_OPEN ∷ [] ≡ 0 ∷ 100 ∷ 101 ∷ 102 ∷ 103 ∷ 104 ∷ []
   pub news : NOT_LLDP ∷ DEAF ∷ REFUSED ∷ NEW ∷ CHANGED ∷ SAME ∷ DROPPED ∷ GONE ∷ UNKNOWN ∷ []
       ≡ 1 ∷ 2 ∷ 3 ∷ 4 ∷ 5 ∷ 6 ∷ 7 ∷ 8 ∷ 9 ∷ []
+  pub statuses : map status_number (status.RxAndTx ∷ status.RxOnly ∷ status.TxOnly ∷ status.Disabled ∷ []) ≡ 0 ∷ 1 ∷ 2 ∷ 3 ∷ []
+  pub never : NEVER ≡ 4294967295

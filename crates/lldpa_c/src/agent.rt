@@ -21,7 +21,7 @@ enum Happening<'a> {
 }
 
 impl<'a> Happening<'a> {
-    /// The same as an event of the port of this number.
+    /// Returns it as an event of the port of this number.
     fn on(self, port: u8) -> Event<'a>
         ensures { event_of result ≡ happening_on port self.entry }
     {
@@ -32,7 +32,7 @@ impl<'a> Happening<'a> {
     }
 }
 
-/// The agent takes what happens on a port, if it has that one, and the ports that send are told.
+/// Gives the agent what happens on a port, if it has that port. Returns which ports send.
 fn take_on(
     alloc: Global,
     handle: &mut LldpaAgent,
@@ -55,7 +55,7 @@ fn take_on(
     OK
 }
 
-/// One second has passed. Tells which ports send, and how many neighbors aged out.
+/// Takes a tick: one second has passed. Returns which ports send, and how many neighbors aged out.
 #[unsafe(no_mangle)]
 pub extern "C" fn lldpa_tick(
     alloc: Global,
@@ -78,7 +78,7 @@ pub extern "C" fn lldpa_tick(
     OK
 }
 
-/// These octets came on a port.
+/// Takes octets that a port received. Returns which ports send.
 #[unsafe(no_mangle)]
 pub extern "C" fn lldpa_frame(
     alloc: Global,
@@ -92,7 +92,7 @@ pub extern "C" fn lldpa_frame(
     take_on(alloc, agent, port, Happening::Frame(octets), marks)
 }
 
-/// These octets came on a port. Tells what they do, too.
+/// Takes octets that a port received. Returns which ports send, and what the frame does.
 #[unsafe(no_mangle)]
 pub extern "C" fn lldpa_frame_news(
     alloc: Global,
@@ -121,7 +121,7 @@ pub extern "C" fn lldpa_frame_news(
     OK
 }
 
-/// The link of a port came up, or went down.
+/// Takes a link event: the link of a port came up, or went down. Returns which ports send.
 #[unsafe(no_mangle)]
 pub extern "C" fn lldpa_link(
     alloc: Global,

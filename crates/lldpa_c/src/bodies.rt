@@ -27,8 +27,8 @@ pub struct LldpaManagement {
     pub numbering: u8,
 }
 
-/// The fields of the body of a System Capabilities TLV. False exactly if it is not well formed,
-/// and then the struct stays as it was.
+/// Reads the fields of the body of a System Capabilities TLV. Returns false exactly if it is not
+/// well formed, and then the struct is unchanged.
 #[unsafe(no_mangle)]
 pub extern "C" fn lldpa_caps(body: &[u8], told: &mut LldpaCapabilities) -> bool
     ensures value { (if result then Some (caps_told told.new) else None) ≡ caps_of body.now }
@@ -46,8 +46,8 @@ pub extern "C" fn lldpa_caps(body: &[u8], told: &mut LldpaCapabilities) -> bool
     }
 }
 
-/// Where the fields of a Management Address lie in its body: behind two octets the address, and the
-/// object identifier behind six more.
+/// Returns where the fields of a Management Address lie in its body: the address behind two octets,
+/// and the object identifier behind six more.
 fn management(fields: &Mgmt<'_>) -> LldpaManagement
     ensures { result ≡ management_of (address_view fields.now) }
 {
@@ -66,8 +66,8 @@ fn management(fields: &Mgmt<'_>) -> LldpaManagement
     }
 }
 
-/// The fields of the body of a Management Address TLV. False exactly if it is not well formed,
-/// and then the struct stays as it was.
+/// Reads the fields of the body of a Management Address TLV. Returns false exactly if it is not
+/// well formed, and then the struct is unchanged.
 #[unsafe(no_mangle)]
 pub extern "C" fn lldpa_mgmt(body: &[u8], told: &mut LldpaManagement) -> bool
     ensures value { (if result then Some (address_told body.now told.new) else None)

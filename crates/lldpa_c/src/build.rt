@@ -9,7 +9,7 @@ use crate::faults::tlv_fault_number;
 use crate::giving::give;
 use lldp_pdu::Builder;
 
-/// A TLV that is to be put.
+/// A TLV to put into an LLDPDU.
 #[repr(C)]
 #[derive(Clone, Copy)]
 pub struct LldpaTlv<'a> {
@@ -17,14 +17,14 @@ pub struct LldpaTlv<'a> {
     pub kind: u8,
 }
 
-/// Whether these octets are the body of a Chassis ID or a Port ID.
+/// Returns whether these octets are the body of a Chassis ID or a Port ID.
 fn is_identifier(body: &[u8]) -> bool
     ensures { IsTrue result ↔ IsIdentifier body.now }
 {
     2 <= body.len() && body.len() <= 256
 }
 
-/// Puts a TLV, and tells why not.
+/// Puts a TLV. Returns the number of its fault, or 0.
 fn put_one(builder: &mut Builder, tlv: &LldpaTlv<'_>) -> u8
     ensures put { builder.new ≡ put_all builder.old (tlv_of tlv.now ∷ []) }
     ensures fault { result ≡ fault_number (put_fault builder.old (tlv_of tlv.now)) }
@@ -35,7 +35,7 @@ fn put_one(builder: &mut Builder, tlv: &LldpaTlv<'_>) -> u8
     }
 }
 
-/// Puts each TLV that can be put behind those before it, and tells of each why it can't.
+/// Puts each TLV that can be put behind those before it, and writes for each TLV its fault or 0.
 fn put_each(builder: &mut Builder, tlvs: &[LldpaTlv<'_>], faults: &mut [u8])
     requires { length tlvs.now ≤ length faults.old }
     ensures put { builder.new ≡ put_all builder.old (map tlv_of tlvs.now) }
@@ -48,8 +48,8 @@ fn put_each(builder: &mut Builder, tlvs: &[LldpaTlv<'_>], faults: &mut [u8])
     }
 }
 
-/// Builds an LLDPDU in the caller's room, of those of the TLVs that can be put, and tells of each
-/// why it can't.
+/// Builds an LLDPDU in the caller's room, with those of the TLVs that can be put, and writes for
+/// each TLV its fault or 0.
 #[unsafe(no_mangle)]
 pub extern "C" fn lldpa_build(
     chassis: &[u8],

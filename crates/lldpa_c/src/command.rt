@@ -10,7 +10,7 @@ use crate::marks::{LldpaMarks, tell};
 use lldp_engine::{Agent, Command, Event, Marks, Show};
 use std::alloc::Global;
 
-/// The number of a show.
+/// Returns the number of a show.
 fn show_number(show: Show) -> u32
     ensures { result ≡ show_number show }
 {
@@ -22,7 +22,7 @@ fn show_number(show: Show) -> u32
     }
 }
 
-/// Does what a line asks for, if it is no show.
+/// Does what a line asks for. For a show it writes only the number.
 fn obey(agent: &mut Agent, line: &[u8], show: &mut u32, marks: &mut LldpaMarks) -> u8
     ensures { Obeys (command_given agent.old line.now) agent.old show.old marks.old result
         agent.new show.new marks.new }
@@ -43,7 +43,7 @@ fn obey(agent: &mut Agent, line: &[u8], show: &mut u32, marks: &mut LldpaMarks) 
     }
 }
 
-/// Takes a line of a command: carries a setting out, and tells which show is asked for.
+/// Takes the line of a command: carries out a setting, or writes which show is asked for.
 #[unsafe(no_mangle)]
 pub extern "C" fn lldpa_command(
     alloc: Global,

@@ -1,4 +1,4 @@
-//! What an LLDPDU tells.
+//! What an LLDPDU says.
 ghost use Rattle.std.specs.Prelude.{◌≡◌, ◌+◌, length, None, IsSome};
 ghost use Rattle.lldp_pdu.specs.Fault.{fault_of};
 ghost use Rattle.lldp_pdu.specs.View.{msap_view};
@@ -7,7 +7,7 @@ ghost use Rattle.lldpa_c.specs.Examined.{fault_number, Tells, chassis_place, por
 use crate::place::LldpaPlace;
 use lldp_pdu::{Examined, Info, Msap, examine};
 
-/// What a sound LLDPDU tells.
+/// What a sound LLDPDU says.
 #[repr(C)]
 #[derive(Clone, Copy)]
 pub struct LldpaExamined {
@@ -21,14 +21,14 @@ pub struct LldpaExamined {
     pub discarded: usize,
     /// How many kept TLVs are of the types 9 to 127. 0 if the TTL is 0.
     pub unrecognized: usize,
-    /// The time to live, in seconds. 0 says that the neighbor is gone.
+    /// The time to live, in seconds. 0 means that the neighbor is gone.
     pub ttl: u16,
 }
 
-/// How many octets of a TLV stand before its body.
+/// How many octets of a TLV precede its body.
 pub(crate) const TLV_HEADER: usize = 2;
 
-/// Where the body of the first TLV lies.
+/// Returns where the body of the first TLV lies.
 fn chassis_place(msap: &Msap<'_>) -> LldpaPlace
     ensures { result ≡ chassis_place (msap_view msap.now) }
 {
@@ -38,7 +38,7 @@ fn chassis_place(msap: &Msap<'_>) -> LldpaPlace
     }
 }
 
-/// Where the body of the second TLV lies.
+/// Returns where the body of the second TLV lies.
 fn port_place(msap: &Msap<'_>) -> LldpaPlace
     ensures { result ≡ port_place (msap_view msap.now) }
 {
@@ -48,7 +48,7 @@ fn port_place(msap: &Msap<'_>) -> LldpaPlace
     }
 }
 
-/// What an LLDPDU tells of a neighbor that is gone.
+/// Returns what an LLDPDU says of a neighbor that is gone.
 fn gone(msap: &Msap<'_>) -> LldpaExamined
     ensures { result
         ≡ record {
@@ -70,7 +70,7 @@ fn gone(msap: &Msap<'_>) -> LldpaExamined
     }
 }
 
-/// What an LLDPDU tells of a neighbor that lives.
+/// Returns what an LLDPDU says of a neighbor that lives.
 fn alive(info: &Info<'_>) -> LldpaExamined
     ensures { result
         ≡ record {
@@ -93,8 +93,8 @@ fn alive(info: &Info<'_>) -> LldpaExamined
     }
 }
 
-/// Tells what an LLDPDU of any length does, or answers the number of its fault, 1 to 8, and 0 if it
-/// has none. If it has one, the struct stays as it was.
+/// Writes what an LLDPDU of any length says, and returns 0. If it has a fault, returns the fault's
+/// number, 1 to 8, and leaves the struct unchanged.
 pub(crate) fn tell_examined(pdu: &[u8], told: &mut LldpaExamined) -> u8
     ensures fault { result ≡ fault_number (fault_of pdu.now) }
     ensures told { fault_of pdu.now ≡ None → Tells pdu.now told.new }
@@ -113,7 +113,8 @@ pub(crate) fn tell_examined(pdu: &[u8], told: &mut LldpaExamined) -> u8
     }
 }
 
-/// What an LLDPDU of any length tells, or the number of its fault, as `tell_examined`.
+/// Writes what an LLDPDU of any length says, or returns the number of its fault, as
+/// `tell_examined`.
 #[unsafe(no_mangle)]
 pub extern "C" fn lldpa_examine(pdu: &[u8], told: &mut LldpaExamined) -> u8
     ensures fault { result ≡ fault_number (fault_of pdu.now) }

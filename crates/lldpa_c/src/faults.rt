@@ -1,11 +1,11 @@
-//! The numbers by which C knows faults, of each kind in a range of its own.
+//! The numbers of faults for C, of each kind in a range of its own.
 ghost use Rattle.std.specs.Prelude.{◌≡◌};
 ghost use Rattle.lldpa_c.specs.Faults.{tlv_fault_number, refusal_number, command_fault_number};
 
 use lldp_engine::{CommandFault, OpenFault};
 use lldp_pdu::BuildFault;
 
-/// The number of a fault of a TLV that is put.
+/// Returns the number of a fault of putting a TLV.
 pub(crate) fn tlv_fault_number(fault: BuildFault) -> u8
     ensures { result ≡ tlv_fault_number fault }
 {
@@ -16,7 +16,7 @@ pub(crate) fn tlv_fault_number(fault: BuildFault) -> u8
     }
 }
 
-/// The number of a fault of opening.
+/// Returns the number of a fault of opening.
 pub(crate) fn refusal_number(fault: OpenFault) -> u8
     ensures { result ≡ refusal_number fault }
 {
@@ -30,7 +30,7 @@ pub(crate) fn refusal_number(fault: OpenFault) -> u8
     }
 }
 
-/// The number of a fault of a command.
+/// Returns the number of a fault of a command.
 pub(crate) fn command_fault_number(fault: CommandFault) -> u8
     ensures { result ≡ command_fault_number fault }
 {

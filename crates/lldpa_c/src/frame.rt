@@ -6,11 +6,11 @@ ghost use Rattle.lldpa_c.specs.Place.{octets_at};
 use crate::place::LldpaPlace;
 use lldp_pdu::frame_pdu;
 
-/// How many octets stand before the LLDPDU of a frame.
+/// How many octets precede the LLDPDU of a frame.
 pub(crate) const HEADER: usize = 14;
 
-/// Whether the octets are an LLDP frame, and where its LLDPDU lies. Where they are none, the place
-/// stays as it was.
+/// Returns whether the octets are an LLDP frame, and writes where its LLDPDU lies. If they are not,
+/// the place is unchanged.
 #[unsafe(no_mangle)]
 pub extern "C" fn lldpa_frame_pdu(frame: &[u8], pdu: &mut LldpaPlace) -> bool
     ensures value { (if result then Some (octets_at frame.now pdu.new) else None)

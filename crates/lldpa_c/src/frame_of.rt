@@ -14,7 +14,7 @@ use crate::holder::LldpaAgent;
 use lldp_engine::{Agent, Mark};
 use std::alloc::Global;
 
-/// The mark of that number, of a frame that goes.
+/// Returns the mark of that number, if it is that of a frame.
 fn mark_numbered(number: u32) -> Option<Mark>
     ensures value { result ≡ mark_numbered number }
     ensures sent { IfSome result IsSent }
@@ -27,8 +27,8 @@ fn mark_numbered(number: u32) -> Option<Mark>
 }
 
 /// Writes the frame of a port into the caller's room.
-// Its frame is over a page. Inlined, LLVM has moved a branch of the export before the loop that
-// probes the pages, which overwrote the register that it needed.
+// Its stack frame exceeds a page. When it was inlined, LLVM moved a branch of the export before
+// the loop that probes the pages, and the loop overwrote the register that the branch needed.
 #[inline(never)]
 fn write(agent: &Agent, port: u32, mark: Mark, room: &mut [u8], written: &mut usize) -> u8
     requires { IsSent mark }
@@ -49,7 +49,7 @@ fn write(agent: &Agent, port: u32, mark: Mark, room: &mut [u8], written: &mut us
     give(agent.frame(port as u8, mark).as_slice(), room, written)
 }
 
-/// The frame that a port sends, with the present configuration.
+/// Writes the frame that a port sends with the present configuration into the caller's room.
 #[unsafe(no_mangle)]
 pub extern "C" fn lldpa_frame_of(
     alloc: Global,

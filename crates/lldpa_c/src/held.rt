@@ -18,13 +18,13 @@ use std::alloc::Global;
 #[repr(C)]
 #[derive(Clone, Copy)]
 pub struct LldpaHeld {
-    /// What its last stored LLDPDU tells.
+    /// What its last stored LLDPDU says.
     pub pdu: LldpaExamined,
     /// The seconds until it ages out.
     pub left: u32,
 }
 
-/// How many neighbors a port holds.
+/// Writes how many neighbors a port holds.
 #[unsafe(no_mangle)]
 pub extern "C" fn lldpa_neighbor_count(
     alloc: Global,
@@ -49,7 +49,7 @@ pub extern "C" fn lldpa_neighbor_count(
     OK
 }
 
-/// Tells a neighbor, its octets in the front of the room.
+/// Writes what is known of a neighbor, with its octets in the front of the room.
 fn tell_entry(entry: &Entry<'_>, room: &mut [u8], told: &mut LldpaHeld) -> u8
     ensures fits { length entry.now.octets ≤ length room.old → result ≡ 0 }
     ensures over { length room.old < length entry.now.octets → result ≡ 101 }
@@ -69,7 +69,7 @@ fn tell_entry(entry: &Entry<'_>, room: &mut [u8], told: &mut LldpaHeld) -> u8
     OK
 }
 
-/// Tells the neighbor of a port at a place of its table.
+/// Writes what is known of the neighbor at a place of a port's table.
 fn tell_neighbor(agent: &Agent, port: u8, index: u32, room: &mut [u8], told: &mut LldpaHeld) -> u8
     requires { IsPort agent.now port }
     ensures none { slice_get (neighbors_at agent.now port) index ≡ None → result ≡ 100 }
@@ -93,8 +93,8 @@ fn tell_neighbor(agent: &Agent, port: u8, index: u32, room: &mut [u8], told: &mu
     tell_entry(&table.entry(index as u8), room, told)
 }
 
-/// The neighbor of a port at a place of its table, from 0: its LLDPDU into the caller's room, what
-/// that tells, and the seconds left.
+/// Writes what is known of the neighbor at a place of a port's table, from 0: its LLDPDU into the
+/// caller's room, what that says, and the seconds left.
 #[unsafe(no_mangle)]
 pub extern "C" fn lldpa_neighbor(
     alloc: Global,

@@ -1,4 +1,4 @@
-//! A handle of C's.
+//! C's handle of an agent.
 ghost use Rattle.std.specs.Prelude.{◌≡◌, true, false, IfSome, IfNone};
 
 use crate::handle::Held;
@@ -6,7 +6,7 @@ use lldp_engine::Agent;
 use std::alloc::Global;
 use std::mem::replace;
 
-/// A handle of C's.
+/// C's handle of an agent.
 #[repr(C)]
 #[derive(Drop)]
 pub struct LldpaAgent {
@@ -16,7 +16,7 @@ pub struct LldpaAgent {
 }
 
 impl LldpaAgent {
-    /// Takes the agent out, if there is one, and leaves none.
+    /// Takes the agent out, if there is one, and leaves the handle empty.
     pub(crate) fn take(&mut self, alloc: Global) -> Option<Box<Agent>>
         ensures closed { self.new.is_open ≡ false }
         ensures some { IfSome result (λ agent. (self.old.is_open ≡ true)

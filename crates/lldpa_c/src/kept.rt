@@ -14,13 +14,13 @@ use lldp_pdu::{Seen, Tlv, Tlvs};
 #[repr(C)]
 #[derive(Clone, Copy)]
 pub struct LldpaKept {
-    /// Where it goes on. 0: at the first TLV behind the mandatory ones.
+    /// Where it continues. 0: at the first TLV behind the mandatory ones.
     pub next: usize,
-    /// The body of the TLV that was given last.
+    /// The body of the last TLV.
     pub body: LldpaPlace,
-    /// Of which of the types 4 to 7 a well-formed TLV was met.
+    /// For each of the types 4 to 7, whether a well-formed TLV was met.
     pub met: [bool; 4],
-    /// The type of the TLV that was given last.
+    /// The type of the last TLV.
     pub kind: u8,
 }
 
@@ -32,7 +32,7 @@ struct Found<'a> {
     rest: &'a [u8],
 }
 
-/// The octets behind the first TLV.
+/// Returns the octets behind the first TLV.
 fn behind_first(octets: &[u8]) -> &[u8]
     ensures tlvs { (cut result.now).tlvs ≡ drop 1 (cut octets.now).tlvs }
     ensures place { EndsWith octets.now result.now }
@@ -44,7 +44,7 @@ fn behind_first(octets: &[u8]) -> &[u8]
     }
 }
 
-/// The octets where a walk goes on.
+/// Returns the octets at which a walk continues.
 fn rest_from(extent: &[u8], next: usize) -> &[u8]
     ensures tlvs { (cut result.now).tlvs ≡ tlvs_from extent.now next }
     ensures place { EndsWith extent.now result.now }
@@ -56,7 +56,7 @@ fn rest_from(extent: &[u8], next: usize) -> &[u8]
     }
 }
 
-/// The first kept TLV of these octets, if these types were met before.
+/// Returns the first kept TLV of these octets, if these types were met before.
 fn first_kept(octets: &[u8], met: Seen) -> Option<Found<'_>>
     ensures none { IfNone result (kept_seen met.types (cut octets.now).tlvs ≡ []) }
     ensures some { IfSome result (λ found. kept_seen met.types (cut octets.now).tlvs
@@ -78,8 +78,8 @@ fn first_kept(octets: &[u8], met: Seen) -> Option<Found<'_>>
     None
 }
 
-/// The next kept TLV of an extent, by a walk that is carried on. False if none is left, and then
-/// the walk stays as it was.
+/// Continues a walk with the next kept TLV of an extent. Returns false if no TLV is left, and then
+/// the walk is unchanged.
 #[unsafe(no_mangle)]
 pub extern "C" fn lldpa_next_kept(extent: &[u8], walk: &mut LldpaKept) -> bool
     ensures given { IsTrue result → left_of extent.now walk.old

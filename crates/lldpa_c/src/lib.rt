@@ -1,7 +1,7 @@
 //! The proved reader, the transmit machine and the agent for C, and for what calls C.
 //!
-//! Each export calls one function of the crates below and states its clauses again. `lldpa.h`
-//! declares them.
+//! Each export calls one function of the crates below and restates its clauses. `lldpa.h` declares
+//! them.
 #![tactic(auto)]
 
 mod agent;
@@ -9,6 +9,7 @@ mod answer;
 mod bodies;
 mod build;
 mod command;
+mod due;
 mod examine;
 mod faults;
 mod frame;
@@ -26,6 +27,7 @@ mod news;
 mod open;
 mod options;
 mod place;
+mod settings;
 mod show;
 mod texts;
 mod ticks;

@@ -17,15 +17,15 @@ use std::alloc::Global;
 #[repr(C)]
 #[derive(Clone, Copy)]
 pub struct LldpaLines {
-    /// How many octets, each line with its line feed.
+    /// How many octets were written, the line feed of each line among them.
     pub length: usize,
-    /// The line to go on with.
+    /// The line to continue with.
     pub next: u32,
     /// Whether no line is left.
     pub done: bool,
 }
 
-/// Writes a text behind what is used of the room, if it fits.
+/// Writes a text behind the used octets of the room, if it fits. Returns how many are then used.
 fn append(room: &mut [u8], used: usize, text: &[u8]) -> Option<usize>
     ensures end { IfSome result (λ end. end ≡ used + length text.now) }
     ensures within { IfSome result (λ end. end ≤ length room.new) }
@@ -44,7 +44,7 @@ fn append(room: &mut [u8], used: usize, text: &[u8]) -> Option<usize>
 }
 
 /// Lines of a show on their way into the caller's room. The line that was written last waits, and
-/// goes there if it is wanted and fits.
+/// is copied there if it is wanted and fits.
 #[derive(Drop)]
 struct Filling<'a> {
     room: &'a mut [u8],
@@ -57,7 +57,7 @@ struct Filling<'a> {
 }
 
 impl<'a> Filling<'a> {
-    /// Nothing is written yet. So many lines are not wanted.
+    /// Begins with nothing written. So many lines are not wanted.
     fn new(room: &'a mut [u8], from: u32) -> Filling<'a>
         ensures room { result.room.now ≡ room.old }
         ensures same { result.room.ghost_name ≡ room.entry.ghost_name }
@@ -75,7 +75,7 @@ impl<'a> Filling<'a> {
         }
     }
 
-    /// Writes the line that waits into the room, if it is wanted and fits.
+    /// Copies the line that waits into the room, if it is wanted and fits.
     fn settle(&mut self)
         ensures moved { settled self.new ≡ view self.old }
         ensures rest { LeavesRest self.old self.new }
@@ -88,7 +88,7 @@ impl<'a> Filling<'a> {
             match append(self.room, used, self.line.as_slice()) {
                 Some(end) => {
                     self.used = end;
-                    // No show has so many lines that it wraps.
+                    // No show has enough lines for this to wrap.
                     self.next = self.next.wrapping_add(1);
                 }
                 None => self.is_full = true,
@@ -121,9 +121,9 @@ impl LineSink for Filling<'_> {
         }
         if self.before > 0 {
             self.before -= 1;
-        } else {
-            self.is_wanted = true;
+            return None;
         }
+        self.is_wanted = true;
         self.line.clear();
         Some(&mut self.line)
     }
@@ -133,9 +133,9 @@ impl LineSink for Filling<'_> {
     }
 }
 
-/// Writes lines of a show from one of them on, as many whole ones as fit.
-// Its frame is over a page. Inlined, LLVM has moved a branch of the export before the loop that
-// probes the pages, which overwrote the register that it needed.
+/// Writes lines of a show from one of them on, as many whole lines as fit.
+// Its stack frame exceeds a page. When it was inlined, LLVM moved a branch of the export before
+// the loop that probes the pages, and the loop overwrote the register that the branch needed.
 #[inline(never)]
 fn fill(agent: &Agent, show: Show, from: u32, room: &mut [u8]) -> LldpaLines
     ensures within { result.length ≤ length room.new }
@@ -155,7 +155,7 @@ fn fill(agent: &Agent, show: Show, from: u32, room: &mut [u8]) -> LldpaLines
     }
 }
 
-/// Lines of a show from one of them on: as many whole ones as fit into the caller's room.
+/// Writes lines of a show from one of them on: as many whole lines as fit into the caller's room.
 #[unsafe(no_mangle)]
 pub extern "C" fn lldpa_show_lines(
     alloc: Global,

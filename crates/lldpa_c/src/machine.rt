@@ -16,7 +16,7 @@ use lldp_transmit::{Cause, MOST_CREDIT, MOST_FAST, MOST_REINIT, Mark, Parts, Tra
 /// The greatest tx-interval, in seconds.
 const MOST_INTERVAL: u32 = 3600;
 
-/// The cause of that number.
+/// Returns the cause of that number.
 fn cause_numbered(number: u32) -> Option<Cause>
     ensures { result ≡ cause_numbered number }
 {
@@ -33,7 +33,7 @@ fn cause_numbered(number: u32) -> Option<Cause>
     }
 }
 
-/// The number of a mark.
+/// Returns the number of a mark.
 pub(crate) fn mark_number(mark: Mark) -> u8
     ensures { result ≡ mark_number mark }
 {
@@ -44,7 +44,7 @@ pub(crate) fn mark_number(mark: Mark) -> u8
     }
 }
 
-/// Whether a machine can be opened with these.
+/// Returns whether a machine can be opened with these.
 fn are_settings(credit_max: u32, fast_init: u32, reinit: u32, allowed: bool) -> bool
     ensures { IsTrue result ↔ AreSettings (settings credit_max fast_init reinit allowed) }
 {
@@ -53,8 +53,8 @@ fn are_settings(credit_max: u32, fast_init: u32, reinit: u32, allowed: bool) -> 
         && (1..=u32::from(MOST_REINIT)).contains(&reinit)
 }
 
-/// Makes a machine with full credit, on a port whose link is up and that is not active. A number
-/// out of its range leaves it as it was.
+/// Makes a machine with full credit, on a port whose link is up and that is not active. If a number
+/// is out of its range, the machine is unchanged.
 #[unsafe(no_mangle)]
 pub extern "C" fn lldpa_transmit_new(
     machine: &mut Parts,
@@ -78,8 +78,8 @@ pub extern "C" fn lldpa_transmit_new(
     OK
 }
 
-/// Takes one event, with the tx-interval in force after it, and tells which frame goes. What is out
-/// of its range leaves all as it was.
+/// Takes one event, with the tx-interval in force after it, and writes which frame is sent. If a
+/// number is out of its range, nothing changes.
 #[unsafe(no_mangle)]
 pub extern "C" fn lldpa_transmit_event(
     machine: &mut Parts,
@@ -111,7 +111,8 @@ pub extern "C" fn lldpa_transmit_event(
     OK
 }
 
-/// How many ordinary frames may go before the next tick. 0 for what is no machine.
+/// Returns how many ordinary frames may be sent before the next tick, or 0 if this is not a
+/// machine.
 #[unsafe(no_mangle)]
 pub extern "C" fn lldpa_transmit_credit(machine: &Parts) -> u8
     ensures value { machine.now.credit ≤ machine.now.credit_max → result ≡ machine.now.credit }

@@ -1,4 +1,4 @@
-//! The ports that send, as C is told them.
+//! The ports that send, as C is passed them.
 ghost use Rattle.std.specs.Prelude.{◌≡◌, map};
 ghost use Rattle.lldpa_c.specs.Marks.{marks_told, numbered};
 
@@ -13,7 +13,7 @@ pub struct LldpaMark {
     pub mark: u8,
 }
 
-/// The ports that send: the first `count` of the items, rising.
+/// The ports that send: the first `count` of the items, in ascending order.
 #[repr(C)]
 #[derive(Clone, Copy)]
 pub struct LldpaMarks {
@@ -21,7 +21,7 @@ pub struct LldpaMarks {
     pub count: u8,
 }
 
-/// Tells C which ports send.
+/// Writes for C which ports send.
 pub(crate) fn tell(sent: &Marks, told: &mut LldpaMarks)
     ensures { marks_told told.new ≡ map numbered sent.now.items }
 {

@@ -19,7 +19,7 @@ use lldp_pdu::{Examined, Info, Msap, examine, frame_pdu};
 use lldp_table::Table;
 use std::alloc::Global;
 
-/// The octets are no LLDP frame.
+/// The octets are not an LLDP frame.
 pub const NOT_LLDP: u32 = 1;
 
 /// The port does not receive, or its link is down.
@@ -64,7 +64,7 @@ const NOWHERE: LldpaPlace = LldpaPlace {
     length: 0,
 };
 
-/// News that name nobody.
+/// Returns news that name no neighbor.
 fn unnamed(what: u32, fault: u32) -> LldpaNews
     ensures what { result.what ≡ what }
     ensures fault { result.fault ≡ fault }
@@ -78,7 +78,7 @@ fn unnamed(what: u32, fault: u32) -> LldpaNews
     }
 }
 
-/// News of the neighbor of this name.
+/// Returns news of the neighbor of this name.
 fn named(what: u32, name: &Msap<'_>) -> LldpaNews
     ensures what { result.what ≡ what }
     ensures fault { result.fault ≡ 0 }
@@ -111,7 +111,7 @@ fn is_same(one: &Msap<'_>, other: &Msap<'_>) -> bool
     one.chassis == other.chassis && one.port == other.port
 }
 
-/// The stored octets of the neighbor of this name, if it is held.
+/// Returns the stored octets of the neighbor of this name, if it is held.
 fn stored<'a>(table: &'a Table<Global>, name: &Msap<'_>) -> Option<&'a [u8]>
     ensures none { IfNone result (stored_of table.now.shown (msap_view name.now) ≡ None) }
     ensures some { IfSome result (λ octets. stored_of table.now.shown (msap_view name.now)
@@ -125,7 +125,7 @@ fn stored<'a>(table: &'a Table<Global>, name: &Msap<'_>) -> Option<&'a [u8]>
     None
 }
 
-/// What a neighbor that lives does to a table.
+/// Returns what an LLDPDU with a TTL above 0 does to a table.
 fn life_news(table: &Table<Global>, info: &Info<'_>) -> u32
     ensures { result ≡ life_news table.now.shown info.now.octets
         (stored_of table.now.shown info.now.msap) }
@@ -138,7 +138,7 @@ fn life_news(table: &Table<Global>, info: &Info<'_>) -> u32
     }
 }
 
-/// What a neighbor that leaves does to a table.
+/// Returns what an LLDPDU with a TTL of 0 does to a table.
 fn leave_news(table: &Table<Global>, name: &Msap<'_>) -> u32
     ensures { result ≡ leave_news (stored_of table.now.shown (msap_view name.now)) }
 {
@@ -148,7 +148,7 @@ fn leave_news(table: &Table<Global>, name: &Msap<'_>) -> u32
     }
 }
 
-/// What an LLDPDU that is heard does to a table.
+/// Returns what an LLDPDU that is heard does to a table.
 fn pdu_news(table: &Table<Global>, pdu: &[u8]) -> LldpaNews
     ensures what { result.what ≡ pdu_news table.now.shown pdu.now (fault_of pdu.now) }
     ensures refused { (fault : Fault) → fault_of pdu.now ≡ Some fault →
@@ -166,7 +166,7 @@ fn pdu_news(table: &Table<Global>, pdu: &[u8]) -> LldpaNews
     }
 }
 
-/// What octets that come on a port do.
+/// Returns what octets that a port receives do.
 pub(crate) fn news_of(agent: &Agent, port: u8, octets: &[u8]) -> LldpaNews
     requires { IsPort agent.now port }
     ensures { ReportsAt agent.now port octets.now result }

@@ -1,6 +1,6 @@
 //! What C opens an agent with.
 
-/// A text: octets, with no 0 behind them.
+/// A text: octets, not ended by a 0.
 #[repr(C)]
 #[derive(Clone, Copy)]
 pub struct LldpaText<'a> {
@@ -11,7 +11,7 @@ pub struct LldpaText<'a> {
 #[repr(C)]
 #[derive(Clone, Copy)]
 pub struct LldpaOptions<'a> {
-    /// How many octets the struct has. The front looks at it.
+    /// How many octets the struct has. The front checks it.
     pub size: usize,
     pub ports: &'a [LldpaText<'a>],
     pub hostname: LldpaText<'a>,

@@ -4,8 +4,8 @@
 #[repr(C)]
 #[derive(Clone, Copy)]
 pub struct LldpaPlace {
-    /// How many octets stand before them.
+    /// How many octets precede them.
     pub start: usize,
-    /// How many they are.
+    /// How many octets there are.
     pub length: usize,
 }

@@ -9,10 +9,10 @@ ghost use Rattle.lldpa_c.specs.Show.{IsLine, Shows, line_checks};
 use crate::answer::{NOT_OPEN, OUT_OF_RANGE};
 use crate::giving::give;
 use crate::holder::LldpaAgent;
-use lldp_engine::{Agent, Show};
+use lldp_engine::{Agent, OneLine, Show};
 use std::alloc::Global;
 
-/// The show of that number.
+/// Returns the show of that number.
 pub(crate) fn show_numbered(number: u32) -> Option<Show>
     ensures { result ≡ show_numbered number }
 {
@@ -26,8 +26,8 @@ pub(crate) fn show_numbered(number: u32) -> Option<Show>
 }
 
 /// Writes a line of a show into the caller's room.
-// Its frame is over a page. Inlined, LLVM has moved a branch of the export before the loop that
-// probes the pages, which overwrote the register that it needed.
+// Its stack frame exceeds a page. When it was inlined, LLVM moved a branch of the export before
+// the loop that probes the pages, and the loop overwrote the register that the branch needed.
 #[inline(never)]
 fn write(agent: &Agent, show: Show, line: u32, room: &mut [u8], written: &mut usize) -> u8
     ensures given { result ≡ 0 → IsLine agent.now show line (take written.new room.new) }
@@ -40,13 +40,15 @@ fn write(agent: &Agent, show: Show, line: u32, room: &mut [u8], written: &mut us
         length room.old < length octets → result ≡ 101 }
     ensures refused { ¬ (result ≡ 0) → (room.new ≡ room.old) × (written.new ≡ written.old) }
 {
-    match agent.show_line(&show, line) {
+    let mut one = OneLine::new();
+    agent.keep_line(&show, line, &mut one);
+    match one.line() {
         None => OUT_OF_RANGE,
-        Some(octets) => give(octets.as_slice(), room, written),
+        Some(octets) => give(octets, room, written),
     }
 }
 
-/// One line of a show, without its line feed.
+/// Writes one line of a show, without its line feed.
 #[unsafe(no_mangle)]
 pub extern "C" fn lldpa_show_line(
     alloc: Global,

@@ -1,13 +1,14 @@
-//! The texts of refused commands.
-ghost use Rattle.std.specs.Prelude.{◌≡◌, ◌≤◌, length, take, drop};
+//! The texts of refused commands, and of all faults.
+ghost use Rattle.std.specs.Prelude.{◌≡◌, ◌≤◌, Some, IfSome, length, take, drop};
+ghost use Rattle.std.specs.Option.{option_map};
 ghost use Rattle.lldpa_c.specs.Answer.{answer_of};
-ghost use Rattle.lldpa_c.specs.Texts.{fault_numbered, text_checks, IsText};
+ghost use Rattle.lldpa_c.specs.Texts.{fault_numbered, text_checks, IsText, words_of, words_checks};
 
 use crate::answer::OUT_OF_RANGE;
 use crate::giving::give;
 use lldp_engine::CommandFault;
 
-/// The fault of that number.
+/// Returns the fault of that number.
 fn fault_numbered(number: u32) -> Option<CommandFault>
     ensures { result ≡ fault_numbered number }
 {
@@ -24,7 +25,7 @@ fn fault_numbered(number: u32) -> Option<CommandFault>
     }
 }
 
-/// The line that tells a refusal of a command, without its line feed.
+/// Writes the line that reports a refused command, without its line feed.
 #[unsafe(no_mangle)]
 pub extern "C" fn lldpa_command_text(fault: u32, room: &mut [u8], written: &mut usize) -> u8
     ensures text { result ≡ 0 → IsText fault (take written.new room.new) }
@@ -37,4 +38,61 @@ pub extern "C" fn lldpa_command_text(fault: u32, room: &mut [u8], written: &mut 
         Some(fault) => give(fault.text(), room, written),
         None => OUT_OF_RANGE,
     }
+}
+
+/// Returns what a fault or a misuse is, by its number, in words.
+fn words_of(number: u32) -> Option<&'static [u8]>
+    ensures words { option_map (λ words. words.now) result ≡ words_of number }
+    ensures short { IfSome result (λ words. length words.now ≤ 65) }
+{
+    match number {
+        1 => Some(b"no complete TLV where a mandatory one belongs"),
+        2 => Some(b"the first TLV is no Chassis ID"),
+        3 => Some(b"the Chassis ID has not 2 to 256 octets"),
+        4 => Some(b"the second TLV is no Port ID"),
+        5 => Some(b"the Port ID has not 2 to 256 octets"),
+        6 => Some(b"the third TLV is no Time To Live"),
+        7 => Some(b"the Time To Live has fewer than 2 octets"),
+        8 => Some(b"a mandatory TLV stands again behind the third"),
+        11 => Some(b"it does not fit in 1500 octets"),
+        12 => Some(b"no TLV of its type may be put"),
+        13 => Some(b"its body is not well formed for its type"),
+        21 => Some(b"there was no memory"),
+        22 => Some(b"no port was named"),
+        23 => Some(b"more than 64 ports were named"),
+        24 => Some(b"the name of a port is none"),
+        25 => Some(b"two ports have the same name"),
+        26 => Some(b"the hostname is over 255 octets, or has one that is not printable"),
+        31 => Some(b"unknown command"),
+        32 => Some(b"no such port"),
+        33 => Some(b"not a number"),
+        34 => Some(b"out of range"),
+        35 => Some(b"bad text"),
+        36 => Some(b"extra word"),
+        37 => Some(b"bad quote"),
+        38 => Some(b"too many held"),
+        100 => Some(b"a number or a length is not in its range"),
+        101 => Some(b"the room is too small"),
+        102 => Some(b"the agent is not open"),
+        103 => Some(b"the agent has no port of that number"),
+        104 => Some(b"the agent is open already"),
+        105 => Some(b"a pointer is NULL"),
+        _ => None,
+    }
+}
+
+/// Writes what a fault or a misuse is, by its number, in words.
+#[unsafe(no_mangle)]
+pub extern "C" fn lldpa_fault_text(fault: u32, room: &mut [u8], written: &mut usize) -> u8
+    ensures words { result ≡ 0 → words_of fault ≡ Some (take written.new room.new) }
+    ensures within { result ≡ 0 → written.new ≤ length room.new }
+    ensures short { result ≡ 0 → written.new ≤ 65 }
+    ensures rest { result ≡ 0 → drop written.new room.new ≡ drop written.new room.old }
+    ensures answer { result ≡ answer_of (words_checks fault (length room.old)) }
+    ensures refused { ¬ (result ≡ 0) → (room.new ≡ room.old) × (written.new ≡ written.old) }
+{
+    let Some(words) = words_of(fault) else {
+        return OUT_OF_RANGE;
+    };
+    give(words, room, written)
 }

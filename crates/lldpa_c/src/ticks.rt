@@ -20,7 +20,7 @@ pub struct LldpaTicks {
     pub aged_out: u32,
 }
 
-/// How many neighbors the ports hold together.
+/// Returns how many neighbors the ports hold together.
 fn count_neighbors(agent: &Agent) -> u32
     ensures { result ≡ neighbors_held agent.now }
 {
@@ -31,7 +31,7 @@ fn count_neighbors(agent: &Agent) -> u32
     count
 }
 
-/// One tick. Tells which ports send, and how many neighbors aged out.
+/// Takes one tick. Returns which ports send, and how many neighbors aged out.
 pub(crate) fn tick_once(agent: &mut Agent) -> (Marks, u32)
     ensures steps { Steps agent.old tick agent.new result.0.items }
     ensures aged_out { AgesOut agent.old agent.new result.1 }
@@ -56,7 +56,7 @@ fn take_ticks(agent: &mut Agent, count: u32) -> (Marks, LldpaTicks)
     (sent, LldpaTicks { taken, aged_out })
 }
 
-/// So many seconds have passed: takes ticks up to the first at which a port sends or a neighbor ages
+/// Takes so many ticks, or fewer: it ends at the first at which a port sends or a neighbor ages
 /// out.
 #[unsafe(no_mangle)]
 pub extern "C" fn lldpa_ticks(

@@ -17,8 +17,9 @@ from .show import Counters, Neighbor, Show, read_show
 class AsyncAgent:
     """An agent for asyncio. Tasks may use it at the same time: they are answered one by one.
 
-    Frames that its ports send go to `on_frame(port, octets)`, before the call that made them ends.
-    Calls raise what those of Agent do; the seconds of `timeout` go by while others are answered.
+    Frames that its ports send are passed to `on_frame(port, octets)`, before the call that caused
+    them ends. Calls raise what those of Agent do. The seconds of `timeout` include those in which
+    others are answered.
     """
 
     def __init__(self, reader: asyncio.StreamReader, writer: asyncio.StreamWriter,
@@ -40,7 +41,7 @@ class AsyncAgent:
     async def start(cls, ports: Sequence[str], program: str = PROGRAM, *,
                     on_frame: Optional[FrameCallback] = None, timeout: Optional[float] = PATIENCE,
                     **options: Option) -> AsyncAgent:
-        """As Agent.start."""
+        """Starts an agent, as Agent.start does."""
         return await cls.of_child(Child(words_of(ports, program, options)), on_frame, timeout)
 
     @classmethod
@@ -53,21 +54,22 @@ class AsyncAgent:
     @classmethod
     async def connect(cls, number: int, *, on_frame: Optional[FrameCallback] = None,
                       timeout: Optional[float] = PATIENCE) -> AsyncAgent:
-        """As Agent.connect."""
+        """Connects to an agent, as Agent.connect does."""
         reader, writer = await asyncio.open_connection(HOST, number)
         return await cls(reader, writer, None, on_frame, timeout)._answering()
 
     @property
     def pid(self) -> Optional[int]:
-        """The number of the child's process, None for an agent that listens."""
+        """Returns the number of the child's process, or None for an agent that listens."""
         return None if self._child is None else self._child.pid
 
     async def ask(self, line: Line) -> List[str]:
-        """As Agent.ask."""
+        """Sends a line, as Agent.ask does."""
         return accepted(await self.tell([line]))
 
     async def tell(self, lines: Iterable[Line]) -> List[str]:
-        """As Agent.tell. A caller that is cancelled meanwhile has told the lines all the same."""
+        """Sends lines, as Agent.tell does. If the caller is cancelled, the lines are sent all the
+        same."""
         octets = with_mark(lines)
         if self.timeout is None:
             return await self._answer_to(octets)
@@ -91,40 +93,40 @@ class AsyncAgent:
                     return told
 
     async def frame(self, port: str, octets: bytes) -> None:
-        """As Agent.frame."""
+        """Reports a frame that a port received, as Agent.frame does."""
         await self.ask(rx(port, octets))
 
     async def tick(self, seconds: int = 1) -> None:
-        """As Agent.tick."""
+        """Lets seconds pass, as Agent.tick does."""
         for line in ticks(seconds):
             await self.ask(line)
 
     async def link(self, port: str, up: bool) -> None:
-        """As Agent.link."""
+        """Reports a link that came up or went down, as Agent.link does."""
         await self.ask(f"{'up' if up else 'down'} {port}")
 
     async def configure(self, *words: str) -> None:
-        """As Agent.configure."""
+        """Sends a command, as Agent.configure does."""
         await self.ask(command("configure", *words))
 
     async def update(self) -> None:
-        """As Agent.update."""
+        """Sends the present state of each port again, as Agent.update does."""
         await self.ask("update")
 
     async def show(self, what: str) -> Show:
-        """As Agent.show."""
+        """Reads a show, as Agent.show does."""
         return read_show(await self.ask(command("show", what)))
 
     async def neighbors(self) -> List[Neighbor]:
-        """As Agent.neighbors."""
+        """Returns the neighbors of all ports, as Agent.neighbors does."""
         return (await self.show("neighbors")).neighbors
 
     async def statistics(self) -> Mapping[str, Counters]:
-        """As Agent.statistics."""
+        """Returns the counters of each port, as Agent.statistics does."""
         return (await self.show("statistics")).counters
 
     async def close(self, patience: float = PATIENCE) -> None:
-        """As Agent.close. A child that has not ended after so many seconds is killed."""
+        """Closes the agent, as Agent.close does. A child that has not ended in time is killed."""
         self._over = Closed
         with suppress(OSError, RuntimeError, asyncio.TimeoutError):
             self._writer.write_eof()
@@ -133,7 +135,8 @@ class AsyncAgent:
         await self._ended(patience)
 
     def kill(self) -> None:
-        """Ends a child at once, and else the connection. Who waits for an answer gets Ended."""
+        """Ends a child at once, or else the connection. A caller that waits for an answer gets
+        Ended."""
         if self._child is not None:
             self._child.kill()
         self._writer.transport.abort()
@@ -145,7 +148,7 @@ class AsyncAgent:
         await self.close()
 
     async def _answering(self) -> AsyncAgent:
-        """Itself, once it answers."""
+        """Returns the agent as soon as it answers."""
         try:
             seconds = PATIENCE if self.timeout is None else self.timeout
             await asyncio.wait_for(self._answer_to(with_mark([])), seconds)
@@ -157,7 +160,7 @@ class AsyncAgent:
         return self
 
     async def _next_answer(self) -> List[bytes]:
-        """The next whole answer."""
+        """Returns the next whole answer."""
         with suppress(ConnectionError):
             while not self._whole:
                 octets = await self._reader.read(AT_ONCE)
@@ -176,7 +179,7 @@ class AsyncAgent:
             pass
 
     async def _ended(self, patience: float = PATIENCE) -> Ended:
-        """Waits for the child's end, and says how that was."""
+        """Waits for the child's end, and returns how it ended."""
         if self._child is None:
             return Ended(None, NO_CONNECTION)
         last = time.monotonic() + patience

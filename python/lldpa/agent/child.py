@@ -21,7 +21,7 @@ MOST_SAID = 64 * 1024  # octets of standard error that are kept
 
 
 def words_of(ports: Sequence[str], program: str, options: Mapping[str, Option]) -> List[str]:
-    """The words that start an agent: `max_neighbors=4` is `--max-neighbors=4`.
+    """Returns the words that start an agent: `max_neighbors=4` is `--max-neighbors=4`.
 
     Raises TypeError for a name in place of a list of names.
     """
@@ -38,7 +38,7 @@ def words_of(ports: Sequence[str], program: str, options: Mapping[str, Option]) 
 
 
 def path_of(program: str) -> str:
-    """Returns the program; that of a wheel if the search path has no `lldpa`.
+    """Returns the program, or that of the wheel if the search path has no `lldpa`.
 
     Raises FileNotFoundError if there is neither.
     """
@@ -52,12 +52,13 @@ def path_of(program: str) -> str:
 
 
 class Child:
-    """A process that was started with these words. Ctrl-C is not for it: it ends with its input."""
+    """A process that was started with these words. Ctrl-C does not reach it: it ends with its
+    input."""
 
     def __init__(self, words: List[str], environment: Optional[Mapping[str, str]] = None,
                  blocked: Sequence[signal.Signals] = ()) -> None:
-        """Starts it, with this environment unless it is to have that of its parent; the blocked
-        signals never reach it. Raises OSError if there is no such program."""
+        """Starts it, with the environment of its parent unless one is given. The blocked signals
+        never reach it. Raises OSError if there is no such program."""
         self.socket, theirs = socket.socketpair()
         mask = signal.pthread_sigmask(signal.SIG_BLOCK, blocked)
         try:
@@ -74,11 +75,11 @@ class Child:
 
     @property
     def pid(self) -> int:
-        """The number of the process."""
+        """Returns the number of the process."""
         return self._process.pid
 
     def is_running(self) -> bool:
-        """Whether it has not ended yet."""
+        """Returns whether it has not ended yet."""
         return self._process.poll() is None
 
     def kill(self) -> None:
@@ -86,7 +87,7 @@ class Child:
         self._process.kill()
 
     def end(self, patience: float = PATIENCE) -> Ended:
-        """Waits for its end, kills it if that does not come in time, and says how that was."""
+        """Waits for its end, kills it if that does not come in time, and returns how it ended."""
         if self._end is None:
             last = time.monotonic() + patience
             said = self._read_errors(last)
@@ -114,7 +115,7 @@ class Child:
 
 
 def told_end(status: int, said: str) -> Ended:
-    """How a process ended, by its status and what it said on standard error."""
+    """Returns how a process ended, by its status and what it wrote on standard error."""
     if status < 0:
         names = {one.value: one.name for one in signal.Signals}
         return Ended(status, f"the agent was killed by {names.get(-status, f'signal {-status}')}")

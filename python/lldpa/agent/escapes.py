@@ -4,12 +4,12 @@ from __future__ import annotations
 
 
 def shown_text(octets: bytes) -> str:
-    """Octets as the agent shows them."""
+    """Returns octets as the agent shows them."""
     return "".join(map(shown_octet, octets))
 
 
 def shown_octet(octet: int) -> str:
-    """An octet as the agent shows it."""
+    """Returns an octet as the agent shows it."""
     if octet == 0x5C:
         return "\\\\"
     return chr(octet) if 0x20 <= octet <= 0x7E else f"\\x{octet:02x}"

@@ -1,8 +1,8 @@
 """Lines for an agent, and whole answers from it: what its plain and its asyncio form share.
 
-The agent marks no end of an answer. So behind the lines a mark is written, a comment one octet too
-long. Their answer is what comes up to `error: line too long`, which nothing else can be answered
-since a line that is too long is never written.
+The agent does not mark the end of an answer. So a mark is written behind the lines: a comment one
+octet too long. The answer to the lines is what comes before `error: line too long`. Nothing else
+has this answer, since a line that is too long is never written.
 """
 from __future__ import annotations
 
@@ -26,7 +26,7 @@ FrameCallback = Callable[[str, bytes], object]
 
 
 class Ended(LldpaFault):
-    """An agent that is no more: its status (negative for a signal, None where unknown), and why."""
+    """An agent that has ended: its status (negative for a signal, None if unknown), and why."""
 
     def __init__(self, status: Optional[int], text: str) -> None:
         super().__init__(text)
@@ -50,30 +50,31 @@ class Refused(LldpaFault):
 
 
 def checked(line: Line) -> bytes:
-    """The octets of a line. Raises ValueError where they are no line, or one that is too long."""
+    """Returns the octets of a line. Raises ValueError if they are not a line, or if it is too
+    long."""
     octets = line.encode("latin-1") if isinstance(line, str) else bytes(line)
     if b"\n" in octets:
-        raise ValueError("a line has a line feed in it")
+        raise ValueError("a line contains a line feed")
     if len(octets) > LONGEST_LINE:
-        raise ValueError(f"a line of {len(octets)} octets, and {LONGEST_LINE} are the most")
+        raise ValueError(f"a line of {len(octets)} octets, and the limit is {LONGEST_LINE}")
     return octets
 
 
 def with_mark(lines: Iterable[Line]) -> bytes:
-    """What is written for these lines."""
+    """Returns what is written for these lines."""
     return b"".join(checked(line) + b"\n" for line in lines) + MARK + b"\n"
 
 
 def command(*words: str) -> str:
-    """The words as a line, each in quotes where it needs them. There is no way to write a quote."""
+    """Returns the words as a line, each in quotes if it needs them. A quote cannot be written."""
     for word in words:
         if '"' in word:
-            raise ValueError(f"a word with a double quote in it: {word}")
+            raise ValueError(f"a word contains a double quote: {word}")
     return " ".join(f'"{word}"' if not word or set(" \t#") & set(word) else word for word in words)
 
 
 def words_of(line: str) -> List[str]:
-    """The words of a line, what stands in quotes as one."""
+    """Returns the words of a line, with the text in quotes as one."""
     words: List[str] = []
     rest = line.strip(" \t")
     while rest:
@@ -87,12 +88,12 @@ def words_of(line: str) -> List[str]:
 
 
 def rx(port: str, octets: bytes) -> str:
-    """The line of a frame that came in at a port."""
+    """Returns the line of a frame that a port received."""
     return f'rx {port} {octets.hex()}' if octets else f'rx {port} ""'
 
 
 def ticks(seconds: int) -> List[str]:
-    """The lines of so many seconds."""
+    """Returns the lines of so many seconds."""
     if seconds < 0:
         raise ValueError(f"{seconds} seconds")
     whole, rest = divmod(seconds, MOST_TICKS)
@@ -106,12 +107,12 @@ class Answers:
     """Makes whole answers of the octets that an agent writes."""
 
     def __init__(self) -> None:
-        self._octets = bytearray(b"\n")  # so that each line, the first one too, stands behind an LF
+        self._octets = bytearray(b"\n")  # so that each line, even the first, follows an LF
 
     def feed(self, octets: bytes) -> List[List[bytes]]:
         """Returns the answers that end in these octets, each as its lines without the mark.
 
-        Raises Ended if more than 64 MB of an answer came and its end did not.
+        Raises Ended if more than 64 MB of an answer came without its end.
         """
         begin, whole = max(len(self._octets) - len(END), 0), []
         self._octets += octets
@@ -125,7 +126,7 @@ class Answers:
 
 
 def hand_over(answer: Sequence[bytes], on_frame: Optional[FrameCallback]) -> List[str]:
-    """The lines of an answer without those of sent frames, which the callback gets."""
+    """Returns the lines of an answer, and passes those of sent frames to the callback instead."""
     lines = []
     for line in answer:
         if not line.startswith(b"tx "):
@@ -137,7 +138,7 @@ def hand_over(answer: Sequence[bytes], on_frame: Optional[FrameCallback]) -> Lis
 
 
 def accepted(lines: List[str]) -> List[str]:
-    """The answer to one line, unless it was refused."""
+    """Returns the answer to one line. Raises Refused if it was refused."""
     if lines and lines[0].startswith(REFUSAL):
         raise Refused(lines[0][len(REFUSAL):])
     return lines

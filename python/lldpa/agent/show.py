@@ -1,4 +1,4 @@
-"""Reads the lines of lldpa's shows (`read_show`), and gives the very lines again (`lines_of`).
+"""Reads the lines of lldpa's shows (`read_show`), and writes the very same lines (`lines_of`).
 
 Each line is `KEY=VALUE`; the manual page lldpa(1) lists every key.
 """
@@ -27,27 +27,27 @@ ESCAPE = re.compile(r"\\(\\|x[0-9a-f]{2})".encode())
 
 
 class ShowFault(LldpaFault, ValueError):
-    """Lines that are no show: which line it is, and what was expected in its place."""
+    """Lines that are not a show: which line is wrong, and what was expected in its place."""
 
 
 def unescaped(text: str) -> bytes:
-    """The octets behind an escaped text."""
+    """Returns the octets of an escaped text."""
     def octet(found: re.Match[bytes]) -> bytes:
         return b"\\" if found[1] == b"\\" else bytes.fromhex(found[1][1:].decode())
     return ESCAPE.sub(octet, text.encode("ascii"))
 
 
 def read_show(lines: Iterable[str]) -> Show:
-    """What the lines tell of one show, or of several.
+    """Reads the lines of one show, or of several.
 
     The order of shows is neighbors, statistics, chassis, configuration. A line may end with its
-    line feed. Raises ShowFault, which names the line, where one is not known or out of place.
+    line feed. Raises ShowFault, which names the line, if one is not known or out of place.
     """
     return Reader(lines).show()
 
 
 class Reader:
-    """Takes lines one after the other, each as what is expected at its place."""
+    """Takes the lines one after another, each as what is expected at its place."""
 
     def __init__(self, lines: Iterable[str]) -> None:
         self.lines = [line[:-1] if line.endswith("\n") else line for line in lines]
@@ -59,19 +59,19 @@ class Reader:
             raise self.fault("a line of octets from the space to the tilde")
 
     def fault(self, expected: str) -> ShowFault:
-        """Tells what was expected in place of the next line."""
+        """Returns the fault that something else was expected in place of the next line."""
         found = repr(self.lines[self.at]) if self.at < len(self.lines) else "the end"
         return ShowFault(f"line {self.at + 1}: {found} where {expected} was expected")
 
     def next(self, further: int = 0) -> str:
-        """The next line, or one further on, or nothing behind the end."""
+        """Returns the next line, or one further on, or an empty text behind the end."""
         try:
             return self.lines[self.at + further]
         except IndexError:
             return ""
 
     def text(self, key: str) -> str:
-        """Takes the line of that key, and gives its value."""
+        """Takes the line of that key, and returns its value."""
         line = self.next()
         if not line.startswith(key + "="):
             raise self.fault(f"{key}=")
@@ -79,7 +79,7 @@ class Reader:
         return line[len(key) + 1:]
 
     def number(self, key: str) -> int:
-        """Takes the line of that key, and gives its number."""
+        """Takes the line of that key, and returns its number."""
         text = self.text(key)
         if not NUMBER.fullmatch(text):
             self.at -= 1
@@ -87,7 +87,7 @@ class Reader:
         return int(text)
 
     def show(self) -> Show:
-        """All lines."""
+        """Takes all lines."""
         ports = tuple(self.ports())
         counters = dict(self.counters())
         chassis = self.chassis() if self.next().startswith("local-chassis.") else None
@@ -98,7 +98,7 @@ class Reader:
         return Show(ports, counters, chassis, configuration)
 
     def ports(self) -> Iterator[Port]:
-        """The ports of `show neighbors`."""
+        """Takes the ports of `show neighbors`."""
         names = set()
         while found := PORT_BEGIN.fullmatch(self.next()):
             name, count = found[1], int(found[2])
@@ -115,7 +115,7 @@ class Reader:
             yield Port(name, count, octets, too_many == "yes", neighbors)
 
     def neighbor(self, port: str, place: int) -> Neighbor:
-        """One neighbor, with the lines of what it said."""
+        """Takes one neighbor, with the lines of what it said."""
         front = f"lldp.{port}.{place}."
         chassis = self.identifier(front + "chassis.", CHASSIS_KINDS)
         port_id = self.identifier(front + "port.", PORT_KINDS)
@@ -132,7 +132,7 @@ class Reader:
         return Neighbor(port, place, chassis, port_id, ttl, expires, tuple(said))
 
     def identifier(self, front: str, kinds: set[str]) -> Identifier:
-        """A chassis ID or port ID."""
+        """Takes a chassis ID or port ID."""
         line = self.next()
         kind, mark, text = line[len(front):].partition("=")
         if not line.startswith(front) or not mark or kind not in kinds:
@@ -141,7 +141,7 @@ class Reader:
         return Identifier(kind, text)
 
     def counters(self) -> Iterator[Tuple[str, Counters]]:
-        """The ports of `show statistics`."""
+        """Takes the ports of `show statistics`."""
         names = set()
         while found := COUNTERS_BEGIN.fullmatch(self.next()):
             if found[1] in names:
@@ -151,14 +151,14 @@ class Reader:
             yield found[1], Counters(*(self.number(key) for key in keys))
 
     def chassis(self) -> LocalChassis:
-        """The lines of `show chassis`."""
+        """Takes the lines of `show chassis`."""
         keys = [one.name for one in fields(LocalChassis)]
         if not self.next(4).startswith("local-chassis.mgmt="):
             keys.remove("mgmt")
         return LocalChassis(**{key: self.text(f"local-chassis.{key}") for key in keys})
 
     def configuration(self) -> Configuration:
-        """The lines of `show configuration`."""
+        """Takes the lines of `show configuration`."""
         names = [one.name for one in fields(Configuration) if one.name != "statuses"]
         numbers = {name: self.number(f"configuration.{shown_key(name)}") for name in names}
         begin, count, statuses = self.at, self.number("configuration.ports"), {}
@@ -171,12 +171,12 @@ class Reader:
 
 
 def shown_key(name: str) -> str:
-    """A field's name as the key of its line."""
+    """Returns a field's name as the key of its line."""
     return name.replace("_", "-")
 
 
 def lines_of(show: Show) -> List[str]:
-    """The lines of what was read, each without its line feed."""
+    """Returns the lines of a show that was read, each without its line feed."""
     lines = [line for port in show.ports for line in port_lines(port)]
     for name, counters in show.counters.items():
         lines += [f"lldp.{name}.{shown_key(one.name)}={getattr(counters, one.name)}"
@@ -190,7 +190,7 @@ def lines_of(show: Show) -> List[str]:
 
 
 def port_lines(port: Port) -> Iterator[str]:
-    """The lines of one port of `show neighbors`."""
+    """Returns the lines of one port of `show neighbors`."""
     yield f"lldp.{port.name}.neighbors={port.neighbors_held}"
     yield f"lldp.{port.name}.octets={port.octets}"
     yield f"lldp.{port.name}.too-many={'yes' if port.too_many else 'no'}"
@@ -199,7 +199,7 @@ def port_lines(port: Port) -> Iterator[str]:
 
 
 def neighbor_lines(neighbor: Neighbor) -> Iterator[str]:
-    """The lines of one neighbor."""
+    """Returns the lines of one neighbor."""
     front = f"lldp.{neighbor.port}.{neighbor.place}."
     yield f"{front}chassis.{neighbor.chassis}"
     yield f"{front}port.{neighbor.port_id}"
@@ -210,7 +210,7 @@ def neighbor_lines(neighbor: Neighbor) -> Iterator[str]:
 
 
 def configuration_lines(configuration: Configuration) -> Iterator[str]:
-    """The lines of `show configuration`."""
+    """Returns the lines of `show configuration`."""
     for one in fields(Configuration):
         if one.name != "statuses":
             yield f"configuration.{shown_key(one.name)}={getattr(configuration, one.name)}"
@@ -220,5 +220,5 @@ def configuration_lines(configuration: Configuration) -> Iterator[str]:
 
 
 def counted(number: int, what: str) -> str:
-    """A number with its noun: `no neighbors`, `1 neighbor`, `2 neighbors`."""
+    """Returns a number with its noun: `no neighbors`, `1 neighbor`, `2 neighbors`."""
     return f"{number or 'no'} {what}{'' if number == 1 else 's'}"

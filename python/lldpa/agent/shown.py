@@ -1,7 +1,7 @@
-"""What lldpa's shows tell: ports, their neighbors and counters, and the agent itself.
+"""What lldpa's shows say: ports, their neighbors and counters, and the agent itself.
 
-Texts stand as they are shown, each octet that is not printable escaped, so they can be printed as
-they are; `show.unescaped` gives the octets behind one.
+Texts are kept as they are shown, each octet that is not printable escaped, so they can be printed
+as they are. `show.unescaped` returns the octets of one.
 """
 from __future__ import annotations
 
@@ -9,11 +9,11 @@ import re
 from dataclasses import dataclass, field
 from typing import List, Mapping, NamedTuple, Optional, Tuple
 
-# the keys of what a neighbor says, but for TLVs of other types, which are named by their numbers
+# the keys of what a neighbor says, except those of TLVs of other types, which have numbers
 SAID_KEYS = ("port.descr", "chassis.name", "chassis.descr", "chassis.caps", "chassis.mgmt")
 
-# a key that is not known here: an agent of later days may have it. Those of the lines before are
-# not among them, since each stands there once.
+# a key that is not known here, as a later agent may have it; not one of the keys of earlier lines,
+# since each of those occurs once
 EARLIER = (r"(?:ttl|expires|(?:chassis|port)\.(?:mac|ip|ifname|ifalias|local|component|portcomp"
            r"|circuit|unhandled))(?:=|$)")
 FURTHER_KEY = rf"(?!{EARLIER}|(?:org|unknown)(?:\.|=|$))[a-z][a-z0-9-]*(?:\.[a-z0-9-]+)*"
@@ -35,11 +35,11 @@ class Identifier(NamedTuple):
 
 @dataclass(frozen=True)
 class Neighbor:
-    """A neighbor of a port. `place` counts from 1 and changes when another one goes; `id` stays.
+    """A neighbor of a port. `place` counts from 1 and changes when another one leaves; `id` stays.
 
     `ttl` is the time to live that it sent, `expires` what is left of it, both in seconds. `said`
     has the key and the value of each further line, in the order in which the neighbor sent them,
-    those too whose keys are not known here.
+    even if the key is not known here.
     """
     port: str
     place: int
@@ -51,28 +51,29 @@ class Neighbor:
 
     @property
     def id(self) -> str:
-        """The MSAP identifier: chassis ID and port ID, parted by the one space in it."""
+        """Returns the MSAP identifier: chassis ID and port ID, separated by the one space in it."""
         parts = (self.chassis, self.port_id)
         return " ".join(str(part).replace(" ", "\\x20") for part in parts)
 
     @property
     def name(self) -> Optional[str]:
-        """The System Name."""
+        """Returns the System Name."""
         return self._first("chassis.name")
 
     @property
     def descr(self) -> Optional[str]:
-        """The System Description."""
+        """Returns the System Description."""
         return self._first("chassis.descr")
 
     @property
     def port_descr(self) -> Optional[str]:
-        """The Port Description."""
+        """Returns the Port Description."""
         return self._first("port.descr")
 
     @property
     def capabilities(self) -> Optional[Mapping[str, bool]]:
-        """Its capabilities, such as `Bridge`, and whether each is on; None where it sent none."""
+        """Returns its capabilities, such as `Bridge`, and whether each is on; None if it sent
+        none."""
         text = self._first("chassis.caps")
         if text is None:
             return None
@@ -81,17 +82,18 @@ class Neighbor:
 
     @property
     def management(self) -> Tuple[str, ...]:
-        """Its management addresses, without what stands behind them in the line."""
+        """Returns its management addresses, without the numbers behind them in the line."""
         return tuple(text.partition(",")[0] for key, text in self.said if key == "chassis.mgmt")
 
     @property
     def org(self) -> Tuple[Tuple[str, str], ...]:
-        """Organizationally specific TLVs: OUI and subtype, such as `00120f.1`, and hexadecimal."""
+        """Returns organizationally specific TLVs: OUI and subtype, such as `00120f.1`, and
+        hexadecimal."""
         return tuple((key[4:], text) for key, text in self.said if key.startswith("org."))
 
     @property
     def unknown(self) -> Tuple[Tuple[int, str], ...]:
-        """TLVs of reserved types: the type, and the octets in hexadecimal."""
+        """Returns TLVs of reserved types: the type, and the octets in hexadecimal."""
         found = ((key.split("."), text) for key, text in self.said)
         return tuple((int(words[1]), text) for words, text in found if words[0] == "unknown")
 
@@ -103,8 +105,8 @@ class Neighbor:
 class Port:
     """A port's neighbors in the order of its table.
 
-    `octets` is the sum of what is stored of them. `too_many` tells whether one was dropped for want
-    of room that would still be there.
+    `octets` is the sum of what is stored of them. `too_many` says whether a neighbor was dropped
+    for lack of room and would still be held.
     """
     name: str
     neighbors_held: int
@@ -114,23 +116,23 @@ class Port:
 
 
 def counter(counts: str) -> int:
-    """A field that counts this."""
+    """Returns a field that counts this."""
     described: int = field(metadata={"counts": counts})
     return described
 
 
 @dataclass(frozen=True)
 class Counters:
-    """A port's counters, and what each counts. Each begins at 0 again behind 4,294,967,295."""
+    """A port's counters, and what each counts. Each starts again at 0 after 4,294,967,295."""
     sent: int = counter("Ordinary frames sent.")
     shutdowns: int = counter("Shutdown frames sent.")
-    received: int = counter("LLDP frames that came while the port was receiving and up.")
+    received: int = counter("LLDP frames received while the port was up and could receive.")
     discarded: int = counter("LLDPDUs refused.")
     errors: int = counter("LLDPDUs refused or with a discarded TLV.")
     tlvs_discarded: int = counter("TLVs discarded.")
-    unrecognized: int = counter("TLVs kept whose meaning is not known.")
+    unrecognized: int = counter("TLVs kept whose meaning the agent does not know.")
     ageouts: int = counter("Neighbors that aged out.")
-    drops: int = counter("LLDPDUs dropped for want of room in the table.")
+    drops: int = counter("LLDPDUs dropped because the table was full.")
 
 
 @dataclass(frozen=True)
@@ -158,7 +160,7 @@ class Configuration:
 
 @dataclass(frozen=True)
 class Show:
-    """What one or several shows tell; what none of them tells is empty or None."""
+    """What one or several shows say; what none of them says is empty or None."""
     ports: Tuple[Port, ...] = ()
     counters: Mapping[str, Counters] = field(default_factory=dict)
     chassis: Optional[LocalChassis] = None
@@ -166,5 +168,5 @@ class Show:
 
     @property
     def neighbors(self) -> List[Neighbor]:
-        """The neighbors of all ports, one port after the other."""
+        """Returns the neighbors of all ports, one port after another."""
         return [neighbor for port in self.ports for neighbor in port.neighbors]

@@ -26,9 +26,9 @@ __all__ = ["LONGEST_LINE", "MARK", "MARK_ANSWER", "Agent", "Answers", "AsyncAgen
 class Agent:
     """An agent that is asked, and answers. One thread at a time may use it.
 
-    Frames that its ports send go to `on_frame(port, octets)`, before the call that made them ends.
-    Each call raises Ended if the agent has ended, has not answered within `timeout` seconds (None
-    for no bound), or answers with more than 64 MB; Closed after `close`.
+    Frames that its ports send are passed to `on_frame(port, octets)`, before the call that caused
+    them ends. Each call raises Ended if the agent has ended, has not answered within `timeout`
+    seconds (None for no bound), or answers with more than 64 MB, and Closed after `close`.
     """
 
     def __init__(self, connection: socket.socket, child: Optional[Child],
@@ -62,7 +62,7 @@ class Agent:
     @classmethod
     def connect(cls, number: int, *, on_frame: Optional[FrameCallback] = None,
                 timeout: Optional[float] = PATIENCE) -> Agent:
-        """Takes the agent that listens on this port of 127.0.0.1.
+        """Connects to the agent that listens on this port of 127.0.0.1.
 
         Raises OSError if none listens, and Ended if it does not answer within `timeout` seconds.
         """
@@ -70,32 +70,34 @@ class Agent:
 
     @property
     def pid(self) -> Optional[int]:
-        """The number of the child's process, None for an agent that listens."""
+        """Returns the number of the child's process, or None for an agent that listens."""
         return None if self._child is None else self._child.pid
 
     def ask(self, line: Line) -> List[str]:
-        """The lines that this one is answered; raises Refused, Ended, or ValueError for no line."""
+        """Sends a line and returns its answer. Raises Refused, Ended, or ValueError if it is not a
+        line."""
         return accepted(self.tell([line]))
 
     def tell(self, lines: Iterable[Line]) -> List[str]:
-        """The lines that these are answered together, those of refused ones among them."""
+        """Sends lines and returns their answers together, those of refused lines among them."""
         return hand_over(self._exchange(with_mark(lines), self.timeout), self._on_frame)
 
     def frame(self, port: str, octets: bytes) -> None:
-        """A frame came in at a port. One that is no LLDP frame changes nothing."""
+        """Reports a frame that a port received. A frame that is not an LLDP frame changes
+        nothing."""
         self.ask(rx(port, octets))
 
     def tick(self, seconds: int = 1) -> None:
-        """So many seconds go by."""
+        """Lets so many seconds pass."""
         for line in ticks(seconds):
             self.ask(line)
 
     def link(self, port: str, up: bool) -> None:
-        """The link of a port came, or went."""
+        """Reports that the link of a port came up, or went down."""
         self.ask(f"{'up' if up else 'down'} {port}")
 
     def configure(self, *words: str) -> None:
-        """A command: `configure("system", "hostname", "sw 1")`."""
+        """Sends a command: `configure("system", "hostname", "sw 1")`."""
         self.ask(command("configure", *words))
 
     def update(self) -> None:
@@ -103,22 +105,22 @@ class Agent:
         self.ask("update")
 
     def show(self, what: str) -> Show:
-        """One of the shows: neighbors, statistics, chassis, configuration."""
+        """Reads one of the shows: neighbors, statistics, chassis, configuration."""
         return read_show(self.ask(command("show", what)))
 
     def neighbors(self) -> List[Neighbor]:
-        """The neighbors of all ports."""
+        """Returns the neighbors of all ports."""
         return self.show("neighbors").neighbors
 
     def statistics(self) -> Mapping[str, Counters]:
-        """The counters of each port by its name."""
+        """Returns the counters of each port by its name."""
         return self.show("statistics").counters
 
     def close(self, patience: float = PATIENCE) -> None:
         """Ends the agent's trace and waits for its end, as a child for so many seconds at most.
 
-        A port that is to take leave of its peers is disabled before:
-        `configure("ports", "eth0", "lldp", "status", "disabled")`.
+        To have a port withdraw from its peers, disable it before: `configure("ports", "eth0",
+        "lldp", "status", "disabled")`.
         """
         self._over = Closed
         last = time.monotonic() + patience
@@ -139,11 +141,12 @@ class Agent:
 
     def _exchange(self, octets: bytes, seconds: Optional[float],
                   silence: str = SILENCE) -> List[bytes]:
-        """Writes, and gives the answer; reads meanwhile, so that neither side blocks the other."""
+        """Writes, and returns the answer. Reads at the same time, so that neither side blocks the
+        other."""
         if self._over is not None:
             raise self._over()
         if not self._is_whole:
-            raise Ended(None, "an answer was not read to its end, so no further line can be asked")
+            raise Ended(None, "an answer was not read to its end, so nothing more can be asked")
         self._is_whole = False
         unsent = memoryview(octets)
         last = None if seconds is None else time.monotonic() + seconds
@@ -163,7 +166,8 @@ class Agent:
             raise self._ended() from None
 
     def _wait(self, wants_to_write: bool, last: Optional[float], silence: str) -> int:
-        """What the socket is ready for. Raises Ended if that is nothing until a time."""
+        """Returns what the socket is ready for. Raises Ended if it is ready for nothing until a
+        time."""
         poller = select.poll()
         poller.register(self._socket, select.POLLIN | (select.POLLOUT if wants_to_write else 0))
         left = None if last is None else 1000 * (last - time.monotonic())
@@ -173,7 +177,7 @@ class Agent:
         return ready[0][1]
 
     def _ended(self) -> Ended:
-        """Why there is no agent any more, which each later call says too."""
+        """Returns why the agent has ended, which each later call raises too."""
         end = Ended(None, NO_CONNECTION) if self._child is None else self._child.end()
         self._over = partial(Ended, end.status, end.text)
         return end

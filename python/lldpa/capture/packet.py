@@ -1,4 +1,4 @@
-"""What captures tell of their interfaces and packets."""
+"""What captures say of their interfaces and packets."""
 from __future__ import annotations
 
 from typing import NamedTuple, Optional, Tuple
@@ -15,8 +15,9 @@ LINK_TYPES = {
 
 
 class CaptureInterface(NamedTuple):
-    """Where packets were taken: its name where the file has one, its link type, the units of its
-    time stamps in a second, the seconds to add to them, and the most octets taken of a packet."""
+    """An interface where packets were captured: its name if the file has one, its link type, the
+    units of its time stamps in a second, the seconds to add to them, and the most octets captured
+    of a packet."""
     name: Optional[str]
     link_type: int
     units: int
@@ -25,18 +26,18 @@ class CaptureInterface(NamedTuple):
 
 
 class Packet(NamedTuple):
-    """What was taken of a packet, its whole length, and its time: nanoseconds since 1970, or None
-    where the file has none for it."""
+    """What was captured of a packet, its whole length, and its time: nanoseconds since 1970, or
+    None if the file has none for it."""
     interface: CaptureInterface
     time: Optional[int]
     octets: bytes
     length: int
 
 
-# Of a packet its interface, its time, from where to where its octets stand, and its whole length.
+# The interface of a packet, its time, where its octets begin and end, and its whole length.
 Look = Tuple[CaptureInterface, Optional[int], int, int, int]
 
 
 def link_type_text(number: int) -> str:
-    """The name and the number of a link type."""
+    """Returns the name and the number of a link type."""
     return f"{LINK_TYPES.get(number, 'unknown')} ({number})"

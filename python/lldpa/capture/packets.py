@@ -23,10 +23,10 @@ NO_PACKET = b"\0" * 1024
 
 
 def reader_of(file: BinaryIO, most_unpacked: Optional[int] = None) -> Reader:
-    """What reads a capture from its begin, which gzip may have compressed; of what gzip unpacks up
-    to so many octets.
+    """Returns a reader of a capture from its beginning, which gzip may have compressed. Reads at
+    most so many octets of what gzip unpacks.
 
-    Raises BadCapture where that is none of a capture.
+    Raises BadCapture if it is not a capture.
     """
     window = Window(file)
     if window.move(0, 2) and window.octets.startswith(MAGIC):
@@ -41,12 +41,12 @@ def reader_of(file: BinaryIO, most_unpacked: Optional[int] = None) -> Reader:
         return PcapngReader(window)
     if magic[:2] in COMPRESSED:
         raise BadCapture(f"it is compressed by {COMPRESSED[magic[:2]]}: unpack it first")
-    raise BadCapture(f"it is no capture: octet 0 begins with {magic.hex(' ')}, "
+    raise BadCapture(f"it is not a capture: octet 0 begins with {magic.hex(' ')}, "
                      "which is neither pcap nor pcapng")
 
 
 def packets_of(file: BinaryIO) -> Iterator[Packet]:
-    """The packets of a capture. Raises BadCapture where it cannot be read on."""
+    """Returns the packets of a capture. Raises BadCapture if it cannot be read further."""
     reader = reader_of(file)
     for interface, time, begin, end, length in reader.looks(b""):
         yield Packet(interface, time, reader.window.octets[begin:end], length)
@@ -54,7 +54,8 @@ def packets_of(file: BinaryIO) -> Iterator[Packet]:
 
 def interfaces_of(file: BinaryIO, most_unpacked: Optional[int] = None
                   ) -> List[CaptureInterface]:
-    """The interfaces that a pcapng file describes, as far as it can be read; pcap has none."""
+    """Returns the interfaces that a pcapng file describes, as far as it can be read; pcap has
+    none."""
     described: List[CaptureInterface] = []
     with suppress(BadCapture):
         reader = reader_of(file, most_unpacked)

@@ -16,7 +16,8 @@ FILE_HEAD_SIZE = 24
 
 
 def form_of(magic: bytes) -> Optional[Tuple[str, int]]:
-    """The byte order of such a file and the units of its time stamps in a second, or None."""
+    """Returns the byte order of such a file and the units of its time stamps in a second, or
+    None."""
     for order in "<>":
         units = UNITS.get(struct.unpack(order + "I", magic)[0])
         if units is not None:
@@ -25,7 +26,8 @@ def form_of(magic: bytes) -> Optional[Tuple[str, int]]:
 
 
 class PcapReader(Reader):
-    """The packets of such a file. All were taken on one interface, whose name it does not tell."""
+    """The packets of such a file. All were captured on one interface, whose name it does not
+    have."""
     HEAD_SIZE = OCTETS_AT = 16
 
     def __init__(self, window: Window, order: str, units: int) -> None:
@@ -38,7 +40,7 @@ class PcapReader(Reader):
         self._unpack = struct.Struct(order + "IIII").unpack_from
 
     def record_size(self) -> int:
-        """The size of the next packet with its head."""
+        """Returns the size of the next packet with its head."""
         captured: int = self._unpack(self.window.octets, self.at)[2]
         return self.HEAD_SIZE + captured
 
@@ -51,7 +53,7 @@ class PcapReader(Reader):
         return self._interface, time, begin, begin + captured, length
 
     def pass_over(self, stop: int) -> Optional[int]:
-        """Passes over packets; see Reader."""
+        """Skips packets; see Reader."""
         octets, unpack, units = self.window.octets, self._unpack, self._units
         at, latest, passed, count = self.at, self.latest, None, 0
         while at + 16 < stop:

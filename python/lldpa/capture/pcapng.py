@@ -21,8 +21,8 @@ MICROSECONDS = b"\x06"
 class PcapngReader(Reader):
     """The blocks of such a file. `described` has the interfaces of all sections so far.
 
-    Packets may be passed over of the first `_passable` interfaces, those in front of one that is no
-    Ethernet: of that one each packet is looked at, so that it is seen.
+    Packets of the first `_passable` interfaces, those before one that is not Ethernet, may be
+    skipped. Each packet of that one is looked at, so that it is seen.
     """
     HEAD_SIZE = 12
     OCTETS_AT = 28
@@ -33,20 +33,20 @@ class PcapngReader(Reader):
         self._begin_section("<")
 
     def record_size(self) -> int:
-        """The size of the next block."""
+        """Returns the size of the next block."""
         octets, at = self.window.octets, self.at
         order = self._order
         if octets.startswith(SECTION_HEADER, at):
             order = BYTE_ORDERS.get(octets[at + 8:at + 12], "")
             if not order:
-                raise self.window.damage(at, "a section of no known byte order")
+                raise self.window.damage(at, "a section of unknown byte order")
         size: int = struct.unpack_from(order + "I", octets, at + 4)[0]
         if size < self.HEAD_SIZE:
             raise self.window.damage(at, f"a block of {size} octets")
         return size
 
     def read_record(self, at: int) -> Optional[Look]:
-        """Looks at the block at this place, which tells of a section, an interface or a packet."""
+        """Looks at the block at this place, which is about a section, an interface or a packet."""
         octets = self.window.octets
         if octets.startswith(SECTION_HEADER, at):
             self._begin_section(BYTE_ORDERS[octets[at + 8:at + 12]])
@@ -64,11 +64,11 @@ class PcapngReader(Reader):
             elif kind == SIMPLE_PACKET:
                 return self._simple_packet(begin, end)
         except (struct.error, IndexError):
-            raise self.window.damage(at, "a block that its fields do not fit") from None
+            raise self.window.damage(at, "a block with fields that do not fit in it") from None
         return None
 
     def pass_over(self, stop: int) -> Optional[int]:
-        """Passes over packets; see Reader. What is wrong with a block is left to read_record."""
+        """Skips packets; see Reader. What is wrong with a block is left to read_record."""
         octets, unpack, unpack_size = self.window.octets, self._unpack_packet, self._unpack_size
         at, latest, passed, count = self.at, self.latest, None, 0
         while at + 28 < stop:
@@ -96,7 +96,7 @@ class PcapngReader(Reader):
 
     def _describe(self, body: bytes) -> None:
         """Remembers the interface that a block describes. Time stamps of interfaces with other
-        units cannot be compared as they stand."""
+        units cannot be compared as they are."""
         link_type, most = struct.unpack_from(self._order + "HxxI", body)
         options = self._options(body[8:])
         resolution = (options.get(RESOLUTION) or MICROSECONDS)[0]
@@ -113,7 +113,7 @@ class PcapngReader(Reader):
         self.latest = UNKNOWN
 
     def _options(self, octets: bytes) -> Dict[int, bytes]:
-        """The options of a block by their codes."""
+        """Returns the options of a block by their codes."""
         options, at, unpack = {}, 0, struct.Struct(self._order + "HH").unpack_from
         while at + 4 <= len(octets):
             code, length = unpack(octets, at)
@@ -124,7 +124,7 @@ class PcapngReader(Reader):
         return options
 
     def _packet(self, fields: str, begin: int, end: int) -> Look:
-        """The packet of a block that names its interface."""
+        """Returns the packet of a block that names its interface."""
         unpacked = struct.unpack_from(self._order + fields, self.window.octets, begin)
         place, high, low, captured, length = unpacked
         interface = self._interfaces[place]
@@ -136,7 +136,7 @@ class PcapngReader(Reader):
         return interface, time, begin + 20, begin + 20 + captured, length
 
     def _simple_packet(self, begin: int, end: int) -> Look:
-        """The packet of a block with its length alone. It is one of the first interface."""
+        """Returns the packet of a block with only its length. It is one of the first interface."""
         (length,) = struct.unpack_from(self._order + "I", self.window.octets, begin)
         interface = self._interfaces[0]
         captured = min(length, interface.most or length)

@@ -1,4 +1,4 @@
-"""Goes over the records of a capture in memory, and makes nothing of those that cannot matter."""
+"""Goes over the records of a capture in memory, and decodes only those that can matter."""
 from __future__ import annotations
 
 from typing import Iterator, Optional
@@ -12,10 +12,10 @@ UNKNOWN = float("inf")
 class Reader:
     """The records of one file; each form of captures is a class below this one.
 
-    `at` is the place of the next record in the window, `number` counts the packets in front of it,
-    and `latest` is the last one's time stamp in the file's own units, or UNKNOWN, which is behind
-    every time stamp, so that the next packet is looked at. A record's octets mostly begin OCTETS_AT
-    behind its begin.
+    `at` is the place of the next record in the window, `number` counts the packets before it, and
+    `latest` is the last one's time stamp in the file's own units, or UNKNOWN, which is after every
+    time stamp, so that the next packet is looked at. A record's octets mostly begin OCTETS_AT
+    behind its beginning.
     """
     HEAD_SIZE = 0
     OCTETS_AT = 0
@@ -28,21 +28,21 @@ class Reader:
         self._found = self._searched = -1
 
     def record_size(self) -> int:
-        """The size of the next record, whose head is in the window."""
+        """Returns the size of the next record, whose head is in the window."""
         raise NotImplementedError
 
     def read_record(self, at: int) -> Optional[Look]:
-        """Looks at the whole record at this place; None where it is no packet."""
+        """Looks at the whole record at this place. Returns None if it is not a packet."""
         raise NotImplementedError
 
     def pass_over(self, stop: int) -> Optional[int]:
-        """Passes over whole packets whose octets begin before `stop`, up to one whose time stamp
-        goes back. Answers where the last of them stands, None where there is none."""
+        """Skips whole packets whose octets begin before `stop`, up to one whose time stamp goes
+        back. Returns where the last of them begins, or None if none was skipped."""
         raise NotImplementedError
 
     def looks(self, prefix: bytes) -> Iterator[Look]:
-        """Each packet that begins with these octets, and so many others that time can be followed:
-        the first, the last, and both where a time stamp goes back."""
+        """Returns each packet that begins with these octets, and enough others to follow time: the
+        first, the last, and both if a time stamp goes back."""
         while True:
             size = self._reach_record()
             if not size:
@@ -61,8 +61,8 @@ class Reader:
                 yield look
 
     def _next(self, prefix: bytes) -> int:
-        """Where these octets stand next in the window, -1 for nowhere. They are looked for once in
-        each stretch of the file: many records may stand in front of them."""
+        """Returns where these octets come next in the window, or -1. They are searched for once in
+        each stretch of the file, since many records may precede them."""
         here, end = self.window.begin + self.at, self.window.begin + len(self.window.octets)
         if self._searched != end or 0 <= self._found < here:
             found = self.window.octets.find(prefix, self.at)
@@ -71,7 +71,8 @@ class Reader:
         return self._found - self.window.begin if self._found >= 0 else -1
 
     def _reach_record(self) -> int:
-        """Has the whole next record in the window; answers its size, 0 at the end of the file."""
+        """Reads until the whole next record is in the window. Returns its size, 0 at the end of the
+        file."""
         end = len(self.window.octets)
         if self.at + self.HEAD_SIZE <= end:
             size = self.record_size()

@@ -17,10 +17,10 @@ STANDARD_INPUT = "-"
 
 
 class Source(NamedTuple):
-    """A capture's file, `-` for standard input, and the port of all its frames where one is given.
+    """A capture's file, `-` for standard input, and the port of all its frames if one is given.
 
-    Else `names` has the ports of interfaces that are to have another name than their own. Of a file
-    that gzip compressed up to `most_unpacked` octets are read.
+    Otherwise `names` has the ports of interfaces whose ports have another name than their own. At
+    most `most_unpacked` octets of a file compressed by gzip are read.
     """
     file: str
     port: Optional[str] = None
@@ -29,14 +29,14 @@ class Source(NamedTuple):
 
 
 def port_of(source: Source, interface: CaptureInterface) -> str:
-    """The name for the port of an interface: it may be no name that a port can have."""
+    """Returns the name for the port of an interface. A port may not be able to have that name."""
     if source.port is not None or interface.name is None:
         return source.port or UNNAMED
     return source.names.get(interface.name, interface.name)
 
 
 def is_port_name(text: str) -> bool:
-    """Whether a port can have that name."""
+    """Returns whether a port can have that name."""
     return PORT_NAME.fullmatch(text) is not None
 
 
@@ -45,7 +45,7 @@ HELD: Dict[str, IO[bytes]] = {}
 
 
 def opened(file: str) -> BinaryIO:
-    """The file, whose octets come as soon as they are there."""
+    """Opens a file, so that its octets are read as soon as they come."""
     if file == STANDARD_INPUT:
         return open(0, "rb", buffering=0, closefd=False)
     if file in HELD:
@@ -63,12 +63,13 @@ def hold(file: str) -> None:
 
 
 def is_stream(mode: int) -> bool:
-    """Whether what has this mode can be read once: a FIFO, the pipe of `<(..)`, a terminal."""
+    """Returns whether what has this mode can be read once: a FIFO, the pipe of `<(..)`, a
+    terminal."""
     return stat.S_ISFIFO(mode) or stat.S_ISSOCK(mode) or stat.S_ISCHR(mode)
 
 
 def whole(file: str) -> bytes:
-    """All octets of a file, which gzip may have compressed. Raises OSError and BadCapture."""
+    """Reads all octets of a file, which gzip may have compressed. Raises OSError and BadCapture."""
     with opened(file) as octets:
         text = octets.read()
         if not text.startswith(MAGIC):

@@ -26,8 +26,9 @@ class TooManyPorts(LldpaFault):
 
 
 class Told(NamedTuple):
-    """Who is told what is passed over (`note`), what makes the trace incomplete (`fault`), and the
-    last time stamp of each capture that has one, in seconds since 1970 (`end`)."""
+    """Calls for a line about what is skipped (`note`), for what makes the trace incomplete
+    (`fault`), and for the last time stamp of each capture that has one, in seconds since 1970
+    (`end`)."""
     note: Tell
     fault: Tell
     end: Callable[[float], None] = lambda _: None
@@ -41,10 +42,11 @@ class Moment(NamedTuple):
 
 
 def ports_of(sources: Sequence[Source]) -> List[str]:
-    """The ports of captures, in the order of sources and interfaces, each once.
+    """Returns the ports of captures, in the order of sources and interfaces, each once.
 
-    Of more than 64 it gives those that have LLDP frames; raises TooManyPorts if these are too many
-    as well. Standard input and pipes, which can be read once, count with the port they are given.
+    If there are more than 64, returns those that have LLDP frames; raises TooManyPorts if these are
+    too many as well. Standard input and pipes, which can be read once, count with the port they are
+    given.
     """
     ports: Dict[str, None] = {}
     for source in sources:
@@ -53,12 +55,12 @@ def ports_of(sources: Sequence[Source]) -> List[str]:
         heard = {line.split(" ")[1] for line in frames_of(sources, Told(ignored, ignored), False)}
         ports = {name: None for name in ports if name in heard}
     if len(ports) > MOST_PORTS:
-        raise TooManyPorts(f"{len(ports)} ports, and {MOST_PORTS} are the most")
+        raise TooManyPorts(f"{len(ports)} ports, and the limit is {MOST_PORTS}")
     return list(ports)
 
 
 def names_of(source: Source) -> Sequence[str]:
-    """The names for the ports of a capture's interfaces, or for the one that it has."""
+    """Returns the names for the ports of a capture's interfaces, or the one name that is given."""
     interfaces: List[CaptureInterface] = []
     if source.port is None and os.path.isfile(source.file):
         with suppress(OSError), opened(source.file) as file:
@@ -68,29 +70,29 @@ def names_of(source: Source) -> Sequence[str]:
 
 
 def ignored(_: str) -> None:
-    """Hears what is told, and does nothing."""
+    """Takes a line, and does nothing."""
 
 
 def trace_of(sources: Sequence[Source], told: Told, seconds: bool = True) -> Iterator[str]:
-    """The lines of the trace, with its seconds or without.
+    """Returns the lines of the trace, with its seconds or without.
 
-    A capture that cannot be read, or not to its end, is a fault that names its file; the others
-    are read on. Raises TooManyPorts before the first line.
+    If a capture cannot be read, or not to its end, that is a fault that names its file, and the
+    others are read further. Raises TooManyPorts before the first line.
     """
     ports_of(sources)
     yield from frames_of(sources, told, seconds)
 
 
 def frames_of(sources: Sequence[Source], told: Told, seconds: bool) -> Iterator[str]:
-    """The lines of a trace of any number of ports."""
+    """Returns the lines of a trace of any number of ports."""
     moments = merge(*(Recording(source, told).moments() for source in sources), key=order)
     clock = Clock()
     for time, line, notes in moments:
         if seconds and time is not None:
             missing = clock.seconds_to(time)
             if missing > MOST_TICKS:
-                notes.tell("jump", f"nothing comes for {missing} s (was the clock set?): "
-                           f"{MOST_TICKS} of them are counted, after which nobody is left")
+                notes.tell("jump", f"no packet came for {missing} s (was the clock set?): "
+                           f"{MOST_TICKS} are counted, and no neighbor is left")
                 missing = MOST_TICKS
             if missing:
                 yield from ticks(missing)
@@ -99,19 +101,20 @@ def frames_of(sources: Sequence[Source], told: Told, seconds: bool) -> Iterator[
 
 
 def order(moment: Moment) -> int:
-    """Moments of captures without time stamps come first."""
+    """Returns the key by which moments are sorted: those of captures without time stamps come
+    first."""
     return moment.time or 0
 
 
 class Clock:
-    """Counts the whole seconds since the first time that it is told."""
+    """Counts the whole seconds since the first time that it is given."""
 
     def __init__(self) -> None:
         self._start: Optional[int] = None
         self._told = 0
 
     def seconds_to(self, time: int) -> int:
-        """The seconds up to a time that were not told before."""
+        """Returns the seconds up to a time, without those that were returned before."""
         if self._start is None:
             self._start = time
         seconds = (time - self._start) // SECOND - self._told
@@ -120,7 +123,7 @@ class Clock:
 
 
 class Recording:
-    """The moments of one capture: its begin, its LLDP frames, and its end."""
+    """The moments of one capture: its beginning, its LLDP frames, and its end."""
 
     def __init__(self, source: Source, told: Told) -> None:
         self._source = source
@@ -131,7 +134,7 @@ class Recording:
         self._ports: Dict[CaptureInterface, str] = {}
 
     def moments(self) -> Iterator[Moment]:
-        """The moments, at times that never go back."""
+        """Returns the moments, at times that never go back."""
         try:
             with opened(self._source.file) as file:
                 yield from self._frames(reader_of(file, self._source.most_unpacked))
@@ -145,7 +148,7 @@ class Recording:
         yield Moment(self._latest, "", self._notes)
 
     def _frames(self, reader: Reader) -> Iterator[Moment]:
-        """The begin and the frames. Of other packets the time alone is looked at."""
+        """Returns the beginning and the frames. Only the time of other packets is looked at."""
         shift, interface_before = 0, None
         for interface, stamp, begin, end, length in reader.looks(NEAREST_BRIDGE):
             if interface is not interface_before:
@@ -164,7 +167,7 @@ class Recording:
                 yield Moment(self._latest, line, self._notes)
 
     def _line(self, number: int, interface: CaptureInterface, octets: bytes, length: int) -> str:
-        """The line of a packet, or nothing where it is no LLDP frame or is passed over."""
+        """Returns the line of a packet, or nothing if it is not an LLDP frame or is skipped."""
         if interface.link_type != ETHERNET or not is_lldp(octets, length):
             return ""
         fault = fault_of(octets, length)
@@ -178,16 +181,16 @@ class Recording:
         return rx(port, octets) if port else ""
 
     def _port(self, interface: CaptureInterface) -> str:
-        """The port of an interface, or nothing where it can be none, which is told."""
+        """Returns the port of an interface, or nothing if it cannot be one, which is noted."""
         port = port_of(self._source, interface)
         if is_port_name(port):
             return port
-        self._fault(f"its interface {port!r} can be no port: {PORT_NAME_RULE}; "
+        self._fault(f"its interface {port!r} cannot be a port: {PORT_NAME_RULE}; "
                     f"write --port '{port}=NAME'")
         return ""
 
     def _need_ethernet(self, interface: CaptureInterface) -> None:
-        """Tells once of an interface whose packets are passed over."""
+        """Notes once that the packets of an interface are skipped."""
         if interface.link_type != ETHERNET and interface not in self._ports:
             self._ports[interface] = ""
             name = f" of its interface {interface.name!r}" if interface.name else ""
@@ -198,18 +201,18 @@ class Recording:
         self._told.fault(f"{self._source.file}: {why}")
 
     def _set_back(self, nanoseconds: int) -> int:
-        """By how much later times are moved on, where a time stamp is before the latest one: not at
-        all by less than a second, since packets of several queues may stand out of order."""
+        """Returns by how much later times are moved on if a time stamp is before the latest one:
+        not at all for less than a second, since packets of several queues may be out of order."""
         if nanoseconds < SECOND:
             return 0
-        self._notes.tell("set back", f"the time stamps go back by {nanoseconds // SECOND} s, for "
-                                     "which there is no tick")
+        self._notes.tell("set back", f"the time stamps go back by {nanoseconds // SECOND} s, "
+                                     "which adds no tick")
         return nanoseconds
 
 
 def is_lldp(octets: bytes, length: int) -> bool:
-    """Whether a packet is for LLDP at the nearest bridge, with tags or without, as far as what was
-    taken of it tells: its address at least."""
+    """Returns whether a packet is for LLDP at the nearest bridge, with tags or without, as far as
+    the captured octets show: at least its address."""
     if octets[12:14] == ETHERTYPE:
         return octets.startswith(NEAREST_BRIDGE)
     if len(octets) == length < SHORTEST_FRAME:
@@ -222,9 +225,10 @@ def is_lldp(octets: bytes, length: int) -> bool:
 
 
 def fault_of(octets: bytes, length: int) -> str:
-    """Why an LLDP frame is not handed to the agent, or nothing. Numbers may be put into it."""
+    """Returns why an LLDP frame is not given to the agent, or nothing. Numbers are put into the
+    text."""
     if len(octets) < length:
-        return "snapped to {} of {} octets"
+        return "truncated to {} of {} octets"
     if octets[12:14] in TAGS:
         return "tagged"
     if len(octets) > LONGEST_FRAME:

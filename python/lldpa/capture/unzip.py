@@ -1,4 +1,4 @@
-"""The octets of a file that gzip compressed, as they come."""
+"""The octets of a file that gzip compressed, as they are read."""
 from __future__ import annotations
 
 import zlib
@@ -8,13 +8,13 @@ from .window import AT_ONCE, BadCapture, Readable
 
 MAGIC = b"\x1f\x8b"
 GZIP = 31  # zlib's number for a stream with the head of gzip
-# how much of the file a part is handed at first: zlib copies what is left behind the part's end
+# how much of the file a part gets at first: zlib copies what is left behind the part's end
 FIRST = 256
 
 
 class Unzipped:
-    """Reads a compressed file of which the first octets were taken already, up to `most` octets of
-    what is in it."""
+    """Reads a compressed file whose first octets were already read, up to `most` octets of what is
+    in it."""
 
     def __init__(self, file: Readable, begun: bytes, most: Optional[int] = None) -> None:
         self._file = file
@@ -26,7 +26,8 @@ class Unzipped:
         self._inflate = zlib.decompressobj(GZIP)
 
     def read(self, size: int) -> bytes:
-        """Some octets, at most so many; none at the end. Raises BadCapture behind what is whole."""
+        """Returns at most so many octets; none at the end. Raises BadCapture after the octets that
+        are whole."""
         parts: list[bytes] = []
         missing = size
         while missing and not (parts and self._at == len(self._packed)):
@@ -40,7 +41,7 @@ class Unzipped:
         return b"".join(parts)
 
     def _some_or_fault(self, size: int) -> bytes:
-        """Some octets; none at the end, and behind a fault, which is remembered."""
+        """Returns some octets; none at the end, and after a fault, which is remembered."""
         if self._fault is None:
             try:
                 return self._some(size)
@@ -49,16 +50,17 @@ class Unzipped:
         return b""
 
     def _some(self, size: int) -> bytes:
-        """Some octets; none at the end. Raises BadCapture where no more can be read."""
+        """Returns some octets; none at the end. Raises BadCapture if no more can be read."""
         octets = self._unpacked(size)
         if self._left is not None:
             self._left -= len(octets)
             if self._left < 0:
-                raise BadCapture("gzip unpacks it to more than is read")
+                raise BadCapture("its gzip data unpacks to more than the limit")
         return octets
 
     def _unpacked(self, size: int) -> bytes:
-        """Some octets; none at the end. Raises BadCapture where it is damaged or cut short."""
+        """Returns some octets; none at the end. Raises BadCapture if the file is damaged or cut
+        short."""
         while True:
             if self._at == len(self._packed):
                 self._packed, self._at = self._file.read(AT_ONCE), 0
@@ -72,7 +74,7 @@ class Unzipped:
             try:
                 octets = self._inflate.decompress(handed, size)
             except zlib.error:
-                raise BadCapture("what gzip compressed in it is damaged") from None
+                raise BadCapture("its gzip data is damaged") from None
             left = self._inflate.unconsumed_tail or self._inflate.unused_data
             self._at += len(handed) - len(left)
             self._handed = min(2 * self._handed, AT_ONCE)
@@ -80,15 +82,15 @@ class Unzipped:
                 return octets
 
     def _begin_part(self) -> None:
-        """A file may have several compressed parts, and zeros behind them."""
+        """Begins the next part: a file may have several compressed parts, and zeros behind them."""
         while self._packed[self._at:self._at + 1] == b"\0":
             self._at += 1
         if self._at < len(self._packed):
             self._inflate, self._handed = zlib.decompressobj(GZIP), FIRST
 
     def _rest(self) -> bytes:
-        """What is left where the file is at its end."""
+        """Returns what is left if the file is at its end."""
         octets = b"" if self._inflate.eof else self._inflate.flush()
         if not octets and not self._inflate.eof:
-            raise BadCapture("what gzip compressed in it is cut short")
+            raise BadCapture("its gzip data is cut short")
         return octets

@@ -10,14 +10,14 @@ MOST_OCTETS = 1 << 24
 
 
 class BadCapture(LldpaFault):
-    """Why a capture cannot be read on, and at which octet from its begin."""
+    """Why a capture cannot be read further, and at which octet from its beginning."""
 
 
 class Readable(Protocol):
-    """What octets are read of: a file, or what unpacks one."""
+    """A source of octets: a file, or what unpacks one."""
 
     def read(self, size: int) -> bytes:
-        """Some octets, at most so many; none at the end."""
+        """Returns at most so many octets; none at the end."""
 
 
 class Window:
@@ -29,12 +29,12 @@ class Window:
         self.octets = b""
 
     def move(self, at: int, count: int) -> bool:
-        """Leaves the first `at` octets behind, and has at least `count` from there on.
+        """Drops the first `at` octets, and reads until at least `count` follow.
 
-        Answers whether there are any. Raises BadCapture where there are some, but too few.
+        Returns whether there are any. Raises BadCapture if there are some, but too few.
         """
         if not 0 <= count <= MOST_OCTETS:
-            raise self.damage(at, "the length there is out of all measure")
+            raise self.damage(at, "the length there is far too large")
         self.begin += at
         self.octets = self.octets[at:]
         while len(self.octets) < count:
@@ -48,5 +48,5 @@ class Window:
         return len(self.octets) >= count
 
     def damage(self, at: int, why: str) -> BadCapture:
-        """Tells what is wrong with the record that begins at this place of the window."""
+        """Returns what is wrong with the record that begins at this place of the window."""
         return BadCapture(f"it is damaged at octet {self.begin + at}: {why}")

@@ -1,7 +1,7 @@
-"""What asks a running lldpa-live, and tells people and programs what it answers.
+"""Asks a running lldpa-live, and presents its answers to people and programs.
 
 `Client` asks a running lldpa-live; `neighbor_object` makes JSON's object of a neighbor that was
-shown; `since_of` reads since when each neighbor is there.
+shown; `since_of` reads since when each neighbor has been there.
 """
 from importlib import import_module
 from typing import TYPE_CHECKING
@@ -14,7 +14,7 @@ if TYPE_CHECKING:
 __all__ = ["Client", "neighbor_object", "since_of"]
 
 
-# what is loaded when it is first used: lldpa-live needs none of them
+# modules that are loaded when they are first used: lldpa-live needs none of them
 LATER = {"Client": ".connection", "neighbor_object": ".as_json", "since_of": ".live_lines"}
 
 

@@ -1,7 +1,7 @@
 """Shows and their parts as objects for JSON.
 
-Texts are Unicode where their octets are UTF-8. Where they are not, a text is escaped as the agent
-shows it, and `octets` beside it has the hexadecimal of each such text by its key.
+Texts are Unicode if their octets are UTF-8. If they are not, a text is escaped as the agent shows
+it, and `octets` beside it has the hexadecimal of each such text by its key.
 """
 
 from __future__ import annotations
@@ -18,7 +18,8 @@ NOBODY: Since = {}
 
 
 def show_object(show: Show, since: Since = NOBODY) -> dict[str, Any]:
-    """What a show tells, under `ports`, `counters`, `chassis`, `configuration` as it has them."""
+    """Returns what a show says, under `ports`, `counters`, `chassis` and `configuration` if it has
+    them."""
     told: dict[str, Any] = {}
     if show.ports:
         told["ports"] = [port_object(port, since) for port in show.ports]
@@ -32,13 +33,13 @@ def show_object(show: Show, since: Since = NOBODY) -> dict[str, Any]:
 
 
 def chassis_object(chassis: LocalChassis) -> dict[str, Any]:
-    """What the agent says of itself."""
+    """Returns what the agent says of itself."""
     told: dict[str, Any] = asdict(chassis)
     return with_texts(told, {"name": chassis.name, "descr": chassis.descr})
 
 
 def port_object(port: Port, since: Since = NOBODY) -> dict[str, Any]:
-    """A port and its neighbors."""
+    """Returns a port and its neighbors."""
     return {
         "name": port.name,
         "neighbors_held": port.neighbors_held,
@@ -49,7 +50,7 @@ def port_object(port: Port, since: Since = NOBODY) -> dict[str, Any]:
 
 
 def neighbor_object(neighbor: Neighbor, since: Since = NOBODY) -> dict[str, Any]:
-    """A neighbor, by the names that `lldpa.Neighbor` has for its parts."""
+    """Returns a neighbor, by the names that `lldpa.Neighbor` has for its parts."""
     capabilities = neighbor.capabilities
     told: dict[str, Any] = {
         "port": neighbor.port,
@@ -74,7 +75,7 @@ def neighbor_object(neighbor: Neighbor, since: Since = NOBODY) -> dict[str, Any]
 
 
 def with_texts(told: dict[str, Any], shown: Mapping[str, Optional[str]]) -> dict[str, Any]:
-    """An object with the texts of a show added by their keys."""
+    """Adds the texts of a show to an object by their keys, and returns it."""
     for key, text in shown.items():
         if text is not None:
             with_text(key, shown_octets(text), told)
@@ -82,5 +83,5 @@ def with_texts(told: dict[str, Any], shown: Mapping[str, Optional[str]]) -> dict
 
 
 def identifier_object(identifier: Identifier) -> dict[str, Any]:
-    """A chassis ID or port ID."""
+    """Returns a chassis ID or port ID."""
     return with_texts({"kind": identifier.kind}, {"text": identifier.text})

@@ -1,4 +1,4 @@
-"""The client's end of the control socket, at which a running lldpa-live answers.
+"""The client's end of the control socket of a running lldpa-live.
 
 A question is one line of at most 4,096 octets; its answer is a line `=N` and then N lines.
 """
@@ -20,16 +20,16 @@ DEFAULT_PATH = "/run/lldpa/control"
 SECONDS_TO_ANSWER = 30.0
 LONGEST_LINE = 64 * 1024  # of an answer, in octets
 MOST_OCTETS = 128 * 1024 * 1024  # of an answer
-OCTETS_OF_A_LINE = 16  # that it counts for besides its own
+OCTETS_OF_A_LINE = 16  # that each line adds to its own
 MOST_DIGITS = 12  # of the number of lines, with the `=`
 NOBODY = 65534  # user and group
 TIMEVAL = struct.Struct("ll")  # seconds and microseconds
 
 
 def connect(connection: socket.socket, path: str, seconds: float) -> None:
-    """Connects within so many seconds, which is also how long each answer may take. While others
-    wait for their connections too, and there is no room for one more, the kernel has it wait, which
-    it does only for a socket that blocks."""
+    """Connects within so many seconds, which is also how long each answer may take. If others wait
+    to connect too, and there is no room for one more, the kernel makes it wait, which it does only
+    for a socket that blocks."""
     whole, rest = divmod(seconds, 1)
     patience = TIMEVAL.pack(int(whole), int(rest * 1_000_000))
     connection.setsockopt(socket.SOL_SOCKET, socket.SO_SNDTIMEO, patience)
@@ -45,14 +45,15 @@ class Gone(LldpaFault, ConnectionError):
 
 
 class Client:
-    """A conversation with an lldpa-live, one question after the other; it blocks.
+    """A conversation with an lldpa-live, one question after another; it blocks.
 
-    Raises OSError if no lldpa-live answers at this path, TimeoutError if it takes nobody in time.
+    Raises OSError if no lldpa-live answers at this path, TimeoutError if it accepts no client in
+    time.
     """
 
     def __init__(self, path: str = DEFAULT_PATH, seconds: float = SECONDS_TO_ANSWER) -> None:
         self.seconds = seconds
-        self.octets = bytearray()  # that came, and are of a line that is not read yet
+        self.octets = bytearray()  # that were received, of a line that is not yet read
         self.connection = socket.socket(socket.AF_UNIX, socket.SOCK_STREAM)
         try:
             connect(self.connection, path, seconds)
@@ -63,7 +64,7 @@ class Client:
     def ask(self, line: str) -> list[str]:
         """Returns the lines that answer a line. What controls a terminal is escaped in them.
 
-        Raises `Refused` with the text behind `error: `, ValueError for a line that is none or too
+        Raises `Refused` with the text behind `error: `, ValueError if it is not a line or is too
         long, TimeoutError if no line comes for so many seconds, and `Gone` if lldpa-live ends, or
         answers with a line of over 64 kB or with over 128 MB.
         """
@@ -72,7 +73,7 @@ class Client:
             self.connection.sendall(octets + b"\n")  # an lldpa-live that has gone may have said why
         head = self.read_line()
         if not (head.startswith("=") and head[1:].isdecimal() and len(head) <= MOST_DIGITS):
-            raise Gone(f"no answer of lldpa-live: {head!r}")
+            raise Gone(f"not an answer of lldpa-live: {head!r}")
         lines, room = [], MOST_OCTETS
         for _ in range(int(head[1:])):
             lines.append(self.read_line())
@@ -95,7 +96,7 @@ class Client:
         return printable(line)
 
     def receive(self, seconds: float) -> None:
-        """Adds what comes next, for which it waits so many seconds at most."""
+        """Adds what comes next, and waits for it for at most so many seconds."""
         if seconds <= 0:
             raise socket.timeout("timed out")
         self.connection.settimeout(seconds)

@@ -5,8 +5,8 @@ from __future__ import annotations
 import time
 from typing import Iterator, List, Mapping, Optional, Sequence, Tuple
 
-from .. import clock
 from .live_lines import Since
+from .times import seconds_of
 from ..organizational import rows_of, said_by
 from .people import address_text, identifier_text, name_of, port_of
 from ..agent.show import Counters, Identifier, Neighbor, Port, counted
@@ -19,9 +19,9 @@ Pair = Tuple[str, str]
 
 
 def details(ports: Sequence[Port], since: Since, width: int) -> list[str]:
-    """Each neighbor of these ports in at most 29 lines, with an empty line between two.
+    """Returns each neighbor of these ports in at most 29 lines, with an empty line between two.
 
-    The lines are wrapped at a width, and cut where 29 are not enough.
+    The lines are wrapped at a width, and cut if 29 are not enough.
     """
     lines: List[str] = []
     for neighbor in (one for port in ports for one in port.neighbors):
@@ -31,14 +31,14 @@ def details(ports: Sequence[Port], since: Since, width: int) -> list[str]:
 
 
 def discarded(counters: Mapping[str, Counters]) -> list[str]:
-    """Returns a line for each port at which parts of frames were discarded: nobody is shown with
-    them."""
+    """Returns a line for each port that discarded parts of frames, which are shown with no
+    neighbor."""
     return [f"{readable(port)}: {counted(of.tlvs_discarded, 'TLV')} discarded since the start"
             for port, of in counters.items() if of.tlvs_discarded]
 
 
 def lines_of(neighbor: Neighbor, since: Optional[str], width: int) -> list[str]:
-    """The lines of one neighbor."""
+    """Returns the lines of one neighbor."""
     head = f"{readable(neighbor.port)}: {name_of(neighbor)} {port_of(neighbor)}"
     pairs = [pair for pair in pairs_of(neighbor, since) if pair[1]]
     indent = max(len(heading) for heading, _ in pairs) + 4
@@ -56,7 +56,7 @@ def lines_of(neighbor: Neighbor, since: Optional[str], width: int) -> list[str]:
 
 
 def pairs_of(neighbor: Neighbor, since: Optional[str]) -> Iterator[Pair]:
-    """What is told of a neighbor, under headings."""
+    """Returns what is known of a neighbor, under headings."""
     yield "Heard", heard(neighbor, since)
     yield "Chassis ID", with_kind(neighbor.chassis)
     yield "Port ID", with_kind(neighbor.port_id)
@@ -77,27 +77,27 @@ def pairs_of(neighbor: Neighbor, since: Optional[str]) -> Iterator[Pair]:
 
 
 def others_of(neighbor: Neighbor) -> Iterator[Pair]:
-    """What else it says: TLVs of reserved types, and keys that are not known here."""
+    """Returns what else it says: TLVs of reserved types, and keys that are not known here."""
     for key, value in neighbor.said:
         if key not in SAID_KEYS and not key.startswith("org."):
             yield readable(key), readable(value)
 
 
 def heard(neighbor: Neighbor, since: Optional[str]) -> str:
-    """Since when it is there, and how long it may be silent."""
+    """Returns since when it has been there, and how long it may be silent."""
     left = f"{neighbor.expires} s of {neighbor.ttl} s left"
     return left if since is None else f"since {local_time(since)}, {left}"
 
 
 def local_time(utc: str) -> str:
-    """A time of an lldpa-live as people here write it."""
+    """Returns a time of an lldpa-live as people here write it."""
     try:
-        seconds = clock.seconds_of(utc)
+        seconds = seconds_of(utc)
     except ValueError:
         return printable(utc)
     return time.strftime("%Y-%m-%d %H:%M:%S", time.localtime(seconds))
 
 
 def with_kind(identifier: Identifier) -> str:
-    """A chassis ID or port ID with its kind."""
+    """Returns a chassis ID or port ID with its kind."""
     return f"{identifier.kind} {identifier_text(identifier)}"

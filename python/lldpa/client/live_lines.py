@@ -1,4 +1,4 @@
-"""What lldpa-live tells of itself, in lines `live.KEY=VALUE` and `live.PORT.KEY=VALUE`."""
+"""What lldpa-live says of itself, in lines `live.KEY=VALUE` and `live.PORT.KEY=VALUE`."""
 
 from __future__ import annotations
 
@@ -12,8 +12,8 @@ Since = Mapping[Tuple[str, str], str]
 
 
 class LiveLines:
-    """These lines by their keys, those of the ports apart; since when each neighbor is there, and
-    the number of each chassis. A line of another form is passed over."""
+    """These lines by their keys, those of the ports apart; since when each neighbor has been there,
+    and the number of each chassis. A line of another form is skipped."""
 
     def __init__(self, lines: Iterable[str]) -> None:
         self.own: Dict[str, str] = {}
@@ -33,10 +33,10 @@ class LiveLines:
 
     @property
     def is_up(self) -> bool:
-        """Whether the agent answers: it is not silent, and not one that waits to be opened."""
+        """Returns whether the agent answers: it is not silent, and does not wait to be opened."""
         return self.own.get("agent", "running") == "running"
 
 
 def since_of(lines: Iterable[str]) -> Dict[Tuple[str, str], str]:
-    """Returns when each neighbor came, of the lines that lldpa-live tells of itself."""
+    """Returns when each neighbor came, from the lines that lldpa-live writes of itself."""
     return LiveLines(lines).since

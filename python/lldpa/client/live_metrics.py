@@ -1,18 +1,18 @@
-"""What lldpa-live tells of itself in its lines `live.KEY=VALUE`, in Prometheus' text format."""
+"""What lldpa-live says of itself in its lines `live.KEY=VALUE`, in Prometheus' text format."""
 
 from __future__ import annotations
 
 from typing import Iterator, Mapping, NamedTuple, Optional
 
-from .. import clock
 from .exposition import lines_of
 from .live_lines import LiveLines
+from .times import seconds_of
 
-UP = ("lldpa_up", "gauge", "Whether lldpa-live answers and its agent does, 1 or 0.")
+UP = ("lldpa_up", "gauge", "Whether lldpa-live and its agent answer, 1 or 0.")
 
 
 class State(NamedTuple):
-    """A metric with a sample for each state that there can be: 1 for the one that is."""
+    """A metric with a sample for each possible state: 1 for the present one."""
 
     key: str
     name: str
@@ -21,7 +21,7 @@ class State(NamedTuple):
 
 
 class OfPorts(NamedTuple):
-    """A metric of each port; a value that is a word counts 1 where it is this one."""
+    """A metric of each port. With a word, the sample is 1 if the value is this word."""
 
     key: str
     name: str
@@ -31,44 +31,44 @@ class OfPorts(NamedTuple):
 
 
 STATES = (
-    State("agent", "lldpa_agent_state", "What the agent does, 1 for what it is.",
+    State("agent", "lldpa_agent_state", "State of the agent: 1 for the current one, or 0.",
           ("running", "silent", "waiting")),
-    State("log", "lldpa_log_state", "What has become of the log, 1 for what it is.",
+    State("log", "lldpa_log_state", "State of the log: 1 for the current one, or 0.",
           ("full", "off", "on", "stalled")),
 )
 OF_PORTS = (
     OfPorts("interface", "lldpa_interface_present", "gauge",
-            "Whether the interface of the port is there, 1 or 0.", "present"),
+            "Whether the interface of the port exists, 1 or 0.", "present"),
     OfPorts("link", "lldpa_link_up", "gauge", "Whether the port has a carrier, 1 or 0.", "up"),
     OfPorts("kernel-drops", "lldpa_kernel_drops_total", "counter",
-            "Frames that the kernel dropped since lldpa-live did not read them in time."),
+            "Frames that the kernel dropped because lldpa-live did not read them in time."),
     OfPorts("limit-drops", "lldpa_limit_drops_total", "counter",
-            "Frames that came faster than a port may, dropped before the agent."),
+            "Frames over the limit of a port, dropped before the agent."),
     OfPorts("unsent", "lldpa_unsent_total", "counter",
-            "Frames of the agent that the interface did not take."),
+            "Frames of the agent that the interface did not accept."),
     OfPorts("left-out", "lldpa_left_out_total", "counter",
-            "Frames of the agent that a standstill left out: the last of each port was sent."),
+            "Frames of the agent left out after a stop: only the last of each port was sent."),
 )
 
 
 def live_lines(told: LiveLines) -> Iterator[str]:
-    """The metrics of an lldpa-live; of what it does not tell there is none."""
+    """Returns the metrics of an lldpa-live, without those of what it does not say."""
     yield from lines_of(*UP, [({}, int(told.is_up))])
     if "began" in told.own:
-        start = clock.seconds_of(told.own["began"])
+        start = seconds_of(told.own["began"])
         yield from lines_of("lldpa_start_time_seconds", "gauge",
-                            "When lldpa-live began, in seconds since 1970.", [({}, start)])
+                            "When lldpa-live started, in seconds since 1970.", [({}, start)])
     for state in STATES:
         if state.key in told.own:
             samples = [({"state": one}, int(told.own[state.key] == one)) for one in state.states]
             yield from lines_of(state.name, "gauge", state.text, samples)
     if "agent-restarts" in told.own:
         yield from lines_of("lldpa_agent_restarts_total", "counter",
-                            "Agents that ended or hung, and whose place another one took.",
+                            "Agents that ended or hung and were replaced.",
                             [({}, int(told.own["agent-restarts"]))])
     if "settings-refused" in told.own:
         yield from lines_of("lldpa_settings_refused", "gauge",
-                            "Settings that were not taken when they were last read.",
+                            "Settings that were refused when they were last read.",
                             [({}, int(told.own["settings-refused"]))])
     if "log-lines-lost" in told.own:
         yield from lines_of("lldpa_log_lines_lost_total", "counter",
@@ -81,11 +81,11 @@ def live_lines(told: LiveLines) -> Iterator[str]:
 
 
 def number_of(one: OfPorts, values: Mapping[str, str]) -> int:
-    """The value of a port as a number."""
+    """Returns the value of a port as a number."""
     value = values[one.key]
     return int(value) if one.word is None else int(value == one.word)
 
 
 def down_lines() -> list[str]:
-    """All that there is to tell where nobody answers."""
+    """Returns the only metrics if no lldpa-live answers."""
     return list(lines_of(*UP, [({}, 0)]))

@@ -1,4 +1,4 @@
-"""What lldpa-live tells of its ports and neighbors, in Prometheus' text format."""
+"""What lldpa-live says of its ports and neighbors, in Prometheus' text format."""
 
 from __future__ import annotations
 
@@ -15,12 +15,12 @@ SAID = ("0080c2.1", "00120f.4")  # Port VLAN ID and Maximum Frame Size, which la
 
 
 def metrics(show: Show, live: Iterable[str]) -> list[str]:
-    """The metrics of a show of neighbors and counters, and of lldpa-live's own lines."""
+    """Returns the metrics of a show of neighbors and counters, and of lldpa-live's own lines."""
     return [
         *live_lines(LiveLines(live)),
         *lines_of("lldpa_neighbors", "gauge", "Neighbors that the port holds.",
                   [({"port": port.name}, port.neighbors_held) for port in show.ports]),
-        *lines_of("lldpa_too_many", "gauge", "Whether a neighbor found no room lately, 1 or 0.",
+        *lines_of("lldpa_too_many", "gauge", "Whether a dropped neighbor would still stay, 1 or 0.",
                   [({"port": port.name}, int(port.too_many)) for port in show.ports]),
         *lines_of("lldpa_neighbor_info", "gauge", "What a neighbor says of itself; always 1.",
                   [(described(neighbor), 1) for neighbor in show.neighbors]),
@@ -31,7 +31,8 @@ def metrics(show: Show, live: Iterable[str]) -> list[str]:
 
 
 def identified(neighbor: Neighbor) -> dict[str, str]:
-    """The labels that tell neighbors apart: no two neighbors of a port have all of them alike."""
+    """Returns the labels that identify a neighbor: no two neighbors of a port have all of them
+    alike."""
     return {
         "port": neighbor.port,
         "chassis_kind": neighbor.chassis.kind,
@@ -42,7 +43,7 @@ def identified(neighbor: Neighbor) -> dict[str, str]:
 
 
 def described(neighbor: Neighbor) -> dict[str, str]:
-    """The labels of what a neighbor says of itself; what it does not say is empty."""
+    """Returns the labels of what a neighbor says of itself; what it does not say is empty."""
     said = said_by(one for one in neighbor.org if one[0] in SAID)
     return {
         **identified(neighbor),
@@ -55,7 +56,7 @@ def described(neighbor: Neighbor) -> dict[str, str]:
 
 
 def counter_lines(counters: Mapping[str, Counters]) -> Iterator[str]:
-    """The metrics of each counter, by ports."""
+    """Returns the metrics of each counter, by ports."""
     for counter in fields(Counters):
         samples = [({"port": port}, getattr(of, counter.name)) for port, of in counters.items()]
         name = f"lldpa_{counter.name}_total"

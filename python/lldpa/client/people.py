@@ -1,4 +1,4 @@
-"""The table for people: a line a neighbor, as wide as the terminal, and a count."""
+"""The table for people: a line for each neighbor, as wide as the terminal, and a count."""
 
 from __future__ import annotations
 
@@ -19,14 +19,14 @@ NOT_CUT = 1_000_000  # a width that cuts nothing
 LEAST_WIDTH_OF_TEXT = 20
 PORT_VLAN = ("0080c2", 1)  # OUI and subtype
 AWAITED, NO_LINK = "awaited", "down"  # what lldpa-live says of an interface and of a link
-# why a port hears nobody, in words for one and for several
+# why a port has no neighbor, in words for one port and for several
 REASONS = {AWAITED: (": no such interface", ": no such interfaces"),
            "disabled": (" is disabled", " are disabled"), "tx-only": (" only sends", " only send"),
            NO_LINK: (" has no link", " have no link")}
 
 
 def terminal_width() -> int:
-    """The columns of the terminal that standard output is; where it is none, nothing is cut."""
+    """Returns the columns of the terminal if standard output is one; otherwise nothing is cut."""
     try:
         return os.get_terminal_size(sys.stdout.fileno()).columns or NOT_CUT
     except (OSError, ValueError):
@@ -34,10 +34,11 @@ def terminal_width() -> int:
 
 
 def table(ports: Sequence[Port], width: int) -> list[str]:
-    """The neighbors of these ports in lines of at most that many columns, and a count below.
+    """Returns the neighbors of these ports in lines of at most that many columns, and a count
+    below.
 
-    The VLAN is there where a neighbor says one; where the lines are too wide, the management
-    address goes first.
+    The table has the VLAN if a neighbor says one. If the lines are too wide, the management address
+    is left out first.
     """
     rows = [row_of(neighbor) for port in ports for neighbor in port.neighbors]
     headings = [heading for heading in HEADINGS
@@ -49,7 +50,7 @@ def table(ports: Sequence[Port], width: int) -> list[str]:
 
 
 def row_of(neighbor: Neighbor) -> Dict[str, str]:
-    """What the table says of a neighbor, by its headings."""
+    """Returns what the table says of a neighbor, by its headings."""
     pvid = said_by(one for one in neighbor.org if one[0] == "%s.%d" % PORT_VLAN).pvid
     management = neighbor.management[0] if neighbor.management else ""
     return dict(zip(HEADINGS, (
@@ -58,24 +59,24 @@ def row_of(neighbor: Neighbor) -> Dict[str, str]:
 
 
 def name_of(neighbor: Neighbor) -> str:
-    """Its System Name, or its chassis ID where it says none."""
+    """Returns its System Name, or its chassis ID if it has none."""
     return readable(neighbor.name) if neighbor.name else identifier_text(neighbor.chassis)
 
 
 def port_of(neighbor: Neighbor) -> str:
-    """Its Port ID, or its Port Description where the Port ID does not read well."""
+    """Returns its Port ID, or its Port Description if the Port ID does not read well."""
     if neighbor.port_id.kind in ("mac", "unhandled") and neighbor.port_descr:
         return readable(neighbor.port_descr)
     return identifier_text(neighbor.port_id)
 
 
 def identifier_text(identifier: Identifier) -> str:
-    """A chassis ID or port ID without its kind."""
+    """Returns a chassis ID or port ID without its kind."""
     return address_text(identifier.text) if identifier.kind == "ip" else readable(identifier.text)
 
 
 def address_text(address: str) -> str:
-    """An address for people, who shorten those of IPv6."""
+    """Returns an address for people, who shorten those of IPv6."""
     try:
         return socket.inet_ntop(socket.AF_INET6, socket.inet_pton(socket.AF_INET6, address))
     except (OSError, ValueError):
@@ -83,33 +84,33 @@ def address_text(address: str) -> str:
 
 
 def summary(neighbor: Neighbor) -> str:
-    """The neighbor, its port and its management address in one line."""
+    """Returns the neighbor, its port and its management address in one line."""
     row = row_of(neighbor)
     return f"{row['NEIGHBOR']} {row['ITS PORT']} {row[MANAGEMENT]}".rstrip()
 
 
 def natural_width(headings: Sequence[str], rows: Sequence[Dict[str, str]]) -> int:
-    """The width of the lines where nothing is cut."""
+    """Returns the width of the lines if nothing is cut."""
     widths = [max([len(heading), *(width_of(row[heading]) for row in rows)])
               for heading in headings]
     return sum(widths) + len(BETWEEN) * (len(headings) - 1)
 
 
 def laid_out(headings: Sequence[str], rows: Sequence[Dict[str, str]], width: int) -> list[str]:
-    """Rows as lines below their headings."""
+    """Returns rows as lines below their headings."""
     return columns([headings, *([row[heading] for heading in headings] for row in rows)], width)
 
 
 def columns(rows: Sequence[Sequence[str]], width: int, numbers: int = 1) -> list[str]:
-    """Rows as lines of columns, of which so many at the end hold numbers; where they are too wide,
-    the widest columns are cut alike."""
+    """Returns rows as lines of columns, of which so many at the end hold numbers. If the lines are
+    too wide, the widest columns are cut to the same width."""
     natural = [max(map(width_of, column)) for column in zip(*rows)]
     widths = fitted(natural, width - len(BETWEEN) * (len(natural) - 1))
     return [cut(line_of(row, widths, numbers), width) for row in rows]
 
 
 def fitted(widths: Sequence[int], room: int) -> list[int]:
-    """The greatest widths, none above those given, that have room together."""
+    """Returns the greatest widths, none above those given, that fit together."""
     most = max(widths)
     while most > 1 and sum(min(width, most) for width in widths) > room:
         most -= 1
@@ -117,7 +118,7 @@ def fitted(widths: Sequence[int], room: int) -> list[int]:
 
 
 def line_of(row: Sequence[str], widths: Sequence[int], numbers: int) -> str:
-    """A row as a line: texts begin below each other, numbers end below each other."""
+    """Returns a row as a line: texts begin below each other, numbers end below each other."""
     parts = [cut(text, width) for text, width in zip(row, widths)]
     first = len(parts) - numbers
     return BETWEEN.join(padded(part, width) if place < first else part.rjust(width)
@@ -125,7 +126,8 @@ def line_of(row: Sequence[str], widths: Sequence[int], numbers: int) -> str:
 
 
 def count_of(ports: Sequence[Port], width: int) -> list[str]:
-    """How many neighbors there are, and which ports had no room for all, with what to raise."""
+    """Returns how many neighbors there are, and which ports had no room for all, with what to
+    raise."""
     held = sum(port.neighbors_held for port in ports)
     said = f"{counted(held, 'neighbor')} on {counted(len(ports), 'port')}."
     for port in (port for port in ports if port.too_many):
@@ -135,7 +137,7 @@ def count_of(ports: Sequence[Port], width: int) -> list[str]:
 
 def reasons(show: Show, live: Mapping[str, Mapping[str, str]], width: int) -> list[str]:
     """Returns which ports have no neighbor for a reason, or no link; `live` has what lldpa-live
-    tells of each port."""
+    says of each port."""
     statuses = show.configuration.statuses if show.configuration else {}
     found: Dict[str, List[str]] = {}
     for port in show.ports:
@@ -148,7 +150,7 @@ def reasons(show: Show, live: Mapping[str, Mapping[str, str]], width: int) -> li
 
 
 def reason(live: Mapping[str, str], status: str) -> str:
-    """Returns why a port hears nobody, one of `REASONS` or nothing."""
+    """Returns why a port has no neighbor, one of `REASONS` or nothing."""
     if live.get("interface") == AWAITED:
         return AWAITED
     if status in REASONS:
@@ -157,7 +159,7 @@ def reason(live: Mapping[str, str], status: str) -> str:
 
 
 def remedy(port: Port) -> str:
-    """What to raise for a port that has dropped neighbors."""
+    """Returns what to raise for a port that has dropped neighbors."""
     if port.neighbors_held >= MOST_NEIGHBORS:
-        return f"{MOST_NEIGHBORS} is the most that a port can hold"
+        return f"a port holds at most {MOST_NEIGHBORS}"
     return "raise --max-neighbors"

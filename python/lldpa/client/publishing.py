@@ -1,7 +1,7 @@
-"""Metrics of lldpa-live, written where Prometheus, or a collector of its files, finds them.
+"""Writes the metrics of lldpa-live for Prometheus, or for a collector of its files.
 
-So that it never looks healthy when it is dead, `lldpa_up 0` is written if nobody answers; and a
-file is written whole or not at all.
+If nobody answers, `lldpa_up 0` is written, so that a dead lldpa-live never looks healthy. A file is
+written whole or not at all.
 """
 
 from __future__ import annotations
@@ -19,7 +19,7 @@ from .metrics import metrics
 from ..agent.show import Show, ShowFault, read_show
 from ..organizational.kinds import load
 
-SECONDS_TO_ANSWER = 10.0  # of each question; what asks comes again soon
+SECONDS_TO_ANSWER = 10.0  # of each question, which is soon asked again
 
 
 class NotWritten(LldpaFault):
@@ -29,25 +29,25 @@ class NotWritten(LldpaFault):
 def publish(path: str, file: Optional[str]) -> None:
     """Writes the metrics of lldpa-live at a control socket to a file, or to standard output.
 
-    Once that is written it raises what `Client` raises where nobody answers, and Refused where the
-    lldpa-live does and its agent does not. Raises NotWritten where the file can't be written.
+    After that it raises what `Client` raises if nobody answers, and Refused if lldpa-live answers
+    but its agent does not. Raises NotWritten if the file can't be written.
     """
     try:
         told, lines = asked(path, file is None)
     except (Refused, Gone, ShowFault, OSError):
         write(down_lines(), file)
         raise
-    except ValueError as fault:  # whoever answers, that is not lldpa-live
+    except ValueError as fault:  # what answers is not lldpa-live
         write(down_lines(), file)
-        raise Gone(f"no answer of lldpa-live: {fault}") from None
+        raise Gone(f"not an answer of lldpa-live: {fault}") from None
     write(lines, file)
     if not told.is_up:
         raise Refused(f"the agent is {told.own['agent']}")
 
 
 def asked(path: str, is_printed: bool) -> tuple[LiveLines, list[str]]:
-    """What lldpa-live at a control socket tells of itself, and its metrics: without those of the
-    agent where that does not answer. Root is kept where a file is to be written."""
+    """Returns what lldpa-live at a control socket says of itself, and its metrics: without those of
+    the agent if that does not answer. Root is kept if a file is to be written."""
     with Client(path, SECONDS_TO_ANSWER) as client:
         if is_printed:
             load()
@@ -61,7 +61,7 @@ def asked(path: str, is_printed: bool) -> tuple[LiveLines, list[str]]:
 
 
 def write(lines: Sequence[str], file: Optional[str]) -> None:
-    """Writes lines to a file that takes the place of the one there, or to standard output."""
+    """Writes lines to a file, which they replace, or to standard output."""
     text = "".join(line + "\n" for line in lines)
     if file is None:
         print(text, end="")
@@ -73,13 +73,13 @@ def write(lines: Sequence[str], file: Optional[str]) -> None:
 
 
 def replace(file: str, text: str) -> None:
-    """Lets a file have that text: the one before stands there until this one is whole."""
+    """Replaces a file by that text, once the text is written whole."""
     import tempfile  # which loads much
     folder, name = os.path.split(os.path.abspath(file))
     number, path = tempfile.mkstemp(prefix=f".{name}.", dir=folder)
     try:
         with open(number, "w", encoding="utf-8") as new:
-            os.fchmod(new.fileno(), 0o644)  # the collector is another user
+            os.fchmod(new.fileno(), 0o644)  # for the collector, which is another user
             new.write(text)
             new.flush()
             os.fsync(new.fileno())

@@ -1,6 +1,6 @@
-"""The commands for people: what is asked for each, and what is told of the answers.
+"""The commands for people: what each asks, and how its answers are shown.
 
-`lldpa-ctl` and the console of `lldpa-live` take the same ones. What a command needs of its own is
+`lldpa-ctl` and the console of `lldpa-live` have the same ones. What a command needs of its own is
 loaded with it.
 """
 
@@ -19,8 +19,8 @@ Answers = Sequence[Lines]
 SHOWS = ("neighbors", "statistics", "chassis", "configuration", "interfaces")
 OF_PORTS = ("neighbors", "statistics")  # the shows that ports can follow
 SET_PORTS = ("configure", "ports")
-OF_LINES = ("up", "down", "rx", "tick")  # words of the agent's lines, which shorten nothing
-# what lldpcli calls otherwise
+OF_LINES = ("up", "down", "rx", "tick")  # words of the agent's lines, which must be whole
+# lldpcli's other names
 OF_LLDPCLI = {("show", "interfaces"): ("interfaces",),
               ("show", "neighbors", "details"): ("details",),
               ("show", "neighbors", "summary"): ("neighbors",),
@@ -31,8 +31,8 @@ OF_A_WORD = ("unknown command", "no such port", "not a number", "out of range", 
 
 
 class Question(NamedTuple):
-    """The lines to ask, and what their answers say as lines of a width and as JSON, for which
-    `further` lines are asked too."""
+    """The lines to ask, what their answers say as lines of a width and as JSON, and the `further`
+    lines that JSON needs."""
 
     lines: Sequence[str]
     text: Callable[[Answers, int], List[str]]
@@ -41,8 +41,8 @@ class Question(NamedTuple):
 
 
 def question(words: Sequence[str]) -> Question:
-    """Returns what a command asks, whose words may be shortened if no other begins so. Raises
-    Refused if a word of it has no meaning here."""
+    """Returns what a command asks. Words may be shortened if no other begins so. Raises Refused if
+    a word has no meaning here."""
     words = in_full(words, COMMANDS)
     for front, short in OF_LLDPCLI.items():
         if tuple(words[:len(front)]) == front:
@@ -57,7 +57,7 @@ def question(words: Sequence[str]) -> Question:
 
 
 def ask_neighbors(rest: Sequence[str]) -> Question:
-    """The table."""
+    """Asks for the table."""
     reader_of(*PORT_VLAN)
     ports = listed(rest)
 
@@ -69,7 +69,7 @@ def ask_neighbors(rest: Sequence[str]) -> Question:
 
 
 def ask_details(rest: Sequence[str]) -> Question:
-    """All that neighbors say."""
+    """Asks for all that neighbors say."""
     from .details import details, discarded
     load()
     ports = listed(rest)
@@ -83,19 +83,19 @@ def ask_details(rest: Sequence[str]) -> Question:
 
 
 def neighbors_object(answers: Answers, ports: Sequence[str]) -> Any:
-    """The neighbors, and since when each is there."""
+    """Returns the neighbors, and since when each has been there."""
     from .as_json import show_object
     return show_object(only(read_show(answers[0]), ports), since_of(answers[1]))
 
 
 def shown_object(show: Show) -> Any:
-    """What a show tells."""
+    """Returns what a show says."""
     from .as_json import show_object
     return show_object(show)
 
 
 def ask_interfaces(rest: Sequence[str]) -> Question:
-    """The state of the ports."""
+    """Asks for the state of the ports."""
     from .tallies import interface_lines, interfaces
     ports = listed(rest)
 
@@ -110,7 +110,7 @@ def ask_interfaces(rest: Sequence[str]) -> Question:
 
 
 def ask_statistics(rest: Sequence[str]) -> Question:
-    """The counters of ports, or the sums of all."""
+    """Asks for the counters of ports, or for the sums of all."""
     from dataclasses import asdict
     from .tallies import counter_lines, summed
     is_summary = list(rest) == ["summary"]
@@ -129,7 +129,7 @@ def ask_statistics(rest: Sequence[str]) -> Question:
 
 
 def ask_live(rest: Sequence[str]) -> Question:
-    """lldpa-live's own lines."""
+    """Asks for lldpa-live's own lines."""
     if rest:
         raise Refused(f"extra word: {rest[0]} (nothing follows)")
     return Question(["live"], lambda answers, width: list(answers[0]), lambda answers: {
@@ -137,7 +137,7 @@ def ask_live(rest: Sequence[str]) -> Question:
 
 
 def ask_show_of(name: str, ports: Sequence[str]) -> Question:
-    """The lines of some ports of a show."""
+    """Asks for the lines of some ports of a show."""
     def text(answers: Answers, width: int) -> List[str]:
         check(ports, ports_of(read_show(answers[0])))
         fronts = tuple(f"lldp.{port}." for port in ports)
@@ -150,7 +150,7 @@ def ask_show_of(name: str, ports: Sequence[str]) -> Question:
 
 
 def ask_lines(lines: Sequence[str]) -> Question:
-    """Lines of the agent, and their answers as they are."""
+    """Asks lines of the agent, and shows their answers as they are."""
     def text(answers: Answers, width: int) -> List[str]:
         return [line for answer in answers for line in answer]
     if lines == ["show neighbors"]:
@@ -183,18 +183,20 @@ def completed(word: str, able: Sequence[str]) -> str:
 
 
 def listed(words: Sequence[str]) -> List[str]:
-    """Names of ports, of words with commas between them; the word `ports` may stand before."""
+    """Returns names of ports, from words with commas between them. The word `ports` may precede
+    them."""
     some = words[1:] if list(words[:1]) == ["ports"] and len(words) > 1 else words
     return [name for word in some for name in word.split(",")]
 
 
 def ports_of(show: Show) -> List[str]:
-    """The ports that a show tells of."""
+    """Returns the ports of a show."""
     return list(dict.fromkeys([*(port.name for port in show.ports), *show.counters]))
 
 
 def only(show: Show, ports: Sequence[str]) -> Show:
-    """What a show tells of some ports, of all where none is named. Raises Refused for another."""
+    """Returns what a show says of some ports, or of all if none is named. Raises Refused for
+    another."""
     if not ports:
         return show
     check(ports, ports_of(show))
@@ -211,14 +213,14 @@ def check(ports: Sequence[str], known: Sequence[str]) -> None:
 
 
 def explanation(words: Sequence[str], text: str, commands: Sequence[str] = COMMANDS) -> str:
-    """What the agent says of a refused command, with the word that it is about and what may stand
-    in its place; `commands` are the first words that there are."""
+    """Returns what the agent says of a refused command, with the word that it is about and what is
+    allowed in its place. `commands` are the first words of all commands."""
     if text not in OF_A_WORD or not words:
         return text
     if words[0] not in commands:
         return f"{text}: {words[0]} ({', '.join(commands)})"
     if words[0] == "configure":
-        from .refused import explained  # which is wanted seldom
+        from .refused import explained  # which is seldom needed
         return explained(command(*words), text)
     if words[0] == "show" and (len(words) == 1 or words[1] not in SHOWS):
         return f"{text}: {words[1] if len(words) > 1 else 'nothing follows'} ({', '.join(SHOWS)})"

@@ -11,7 +11,7 @@ from ..agent.framing import words_of
 
 SECONDS = 5.0  # for `lldpa --help`
 COMMAND = re.compile(r"  (configure (?:[^ ]+ )*[^ ]+)  +(.*)")
-FURTHER = re.compile(r" {20,}(.*)")  # the rest of what is said of a command
+FURTHER = re.compile(r" {20,}(.*)")  # the rest of a command's description
 LIKEWISE = "likewise"
 PORT, STATUS = "PORT", "STATUS"
 A_PORT = "a port of this agent"
@@ -22,7 +22,7 @@ Forms = Dict[Tuple[str, ...], str]
 
 @lru_cache(maxsize=None)
 def forms_of(program: str) -> Forms:
-    """Returns the forms that the help of an agent tells, none if there is no such program."""
+    """Returns the forms in the help of an agent, none if there is no such program."""
     try:
         ran = subprocess.run([program, "--help"], stdin=subprocess.DEVNULL, capture_output=True,
                              timeout=SECONDS, check=False)
@@ -42,8 +42,9 @@ def forms_of(program: str) -> Forms:
 
 
 def explained(line: str, text: str, program: str = "lldpa") -> str:
-    """What the agent said of a line that it refused, `out of range` for one, with the word that it
-    is about and what may stand there: `out of range: 0 (seconds between frames, 1 to 3600)`."""
+    """Returns what the agent said of a line that it refused, for instance `out of range`, with the
+    word that it is about and what is allowed there: `out of range: 0 (seconds between frames, 1 to
+    3600)`."""
     words, known = words_of(line), forms_of(program)
     if text == "bad quote" or not known:
         return text
@@ -60,12 +61,13 @@ def explained(line: str, text: str, program: str = "lldpa") -> str:
 
 
 def said_of(word: str, said: str) -> str:
-    """What may stand at the place of a form's word; `said` is what is said of the form."""
+    """Returns what is allowed in the place of a form's word; `said` is the description of the
+    form."""
     return A_PORT if word == PORT else said if word.isupper() else word
 
 
 def fitting(form: Sequence[str], words: Sequence[str], known: Forms) -> int:
-    """How many words at the beginning are as the form has them."""
+    """Returns how many words at the beginning are as the form has them."""
     count = 0
     for wanted, word in zip(form, words):
         if wanted == STATUS and word not in known[tuple(form)].split(", "):
@@ -77,7 +79,7 @@ def fitting(form: Sequence[str], words: Sequence[str], known: Forms) -> int:
 
 
 def in_full(some: Sequence[str], forms: Forms) -> List[str]:
-    """Returns the words of a command of the agent, those that are shortened in full."""
+    """Returns the words of a command of the agent, with shortened ones in full."""
     words = list(some)
     for place in range(1, len(words)):
         forms = {form: said for form, said in forms.items() if len(form) > place

@@ -16,8 +16,8 @@ ALL = "all"
 
 
 def interfaces(show: Show, live: Iterable[str]) -> list[Dict[str, Any]]:
-    """Each port of a configuration: whether its interface is there and its link is up, its status,
-    and how many neighbors it has. What is not told is None."""
+    """Returns each port of a configuration: whether its interface exists and its link is up, its
+    status, and how many neighbors it has. What is not known is None."""
     states = LiveLines(live).ports
     held = {port.name: port.neighbors_held for port in show.ports}
     statuses: Mapping[str, str] = show.configuration.statuses if show.configuration else {}
@@ -26,7 +26,7 @@ def interfaces(show: Show, live: Iterable[str]) -> list[Dict[str, Any]]:
 
 
 def interface_lines(ports: Sequence[Mapping[str, Any]], width: int) -> list[str]:
-    """The table of `interfaces`."""
+    """Returns the table of `interfaces`."""
     rows: List[Sequence[str]] = [INTERFACES]
     for port in ports:
         rows.append([UNKNOWN if value is None else readable(str(value)) for value in port.values()])
@@ -34,13 +34,13 @@ def interface_lines(ports: Sequence[Mapping[str, Any]], width: int) -> list[str]
 
 
 def summed(counters: Iterable[Counters]) -> Counters:
-    """The sums of counters of several ports."""
+    """Returns the sums of counters of several ports."""
     some = list(counters)
     return Counters(*(sum(getattr(one, field.name) for one in some) for field in fields(Counters)))
 
 
 def counter_lines(counters: Mapping[str, Counters], width: int) -> list[str]:
-    """A line for each port, and one for all of them where there are several."""
+    """Returns a line for each port, and one for all of them if there are several."""
     told = {readable(port): of for port, of in counters.items()}
     if len(told) > 1:
         told[ALL] = summed(counters.values())

@@ -1,4 +1,4 @@
-"""What becomes of neighbors between two shows: who came, changed and went."""
+"""What happens to neighbors between two shows: which came, changed and left."""
 
 from __future__ import annotations
 
@@ -39,7 +39,7 @@ class Watch:
         self.known = by_name(ports)
 
     def news(self, ports: Iterable[Port]) -> Iterator[NeighborNews]:
-        """What happened since the show before, those that went first."""
+        """Returns what happened since the show before, with those that left first."""
         before, self.known = self.known, by_name(ports)
         for name, neighbor in before.items():
             if name not in self.known:
@@ -52,19 +52,19 @@ class Watch:
 
 
 def news_line(news: NeighborNews) -> str:
-    """What happened to a neighbor, for people: `eth0 came: switch-2 swp1 192.0.2.2`."""
+    """Returns what happened to a neighbor, for people: `eth0 came: switch-2 swp1 192.0.2.2`."""
     said = f"{news.neighbor.port} {news.what}: {summary(news.neighbor)}"
     return printable("; ".join([said, *news.changes]))
 
 
 def by_name(ports: Iterable[Port]) -> dict[Name, Neighbor]:
-    """The neighbors by port and MSAP identifier, which no two share."""
+    """Returns the neighbors by port and MSAP identifier, which no two share."""
     return {(one.port, one.chassis, one.port_id): one for port in ports for one in port.neighbors}
 
 
 def changes(old: Neighbor, new: Neighbor) -> Iterator[str]:
-    """What a neighbor says now and did not before, and the other way round. The seconds that
-    are left are no change."""
+    """Returns what a neighbor says now and did not before, and the other way round. The seconds
+    left do not count as a change."""
     if old.ttl != new.ttl:
         yield f"ttl: {old.ttl} -> {new.ttl}"
     if old.said == new.said:
@@ -76,7 +76,7 @@ def changes(old: Neighbor, new: Neighbor) -> Iterator[str]:
 
 
 def words_of(neighbor: Neighbor) -> Dict[str, str]:
-    """All that a neighbor says, by keys: in words where its meaning is known."""
+    """Returns all that a neighbor says, by keys: in words if its meaning is known."""
     said = said_by(neighbor.org)
     plain = [(key, value) for key, value in neighbor.said if not key.startswith("org.")]
     rest = [(f"org.{kind}", octets) for kind, octets in said.rest]
@@ -88,8 +88,8 @@ def words_of(neighbor: Neighbor) -> Dict[str, str]:
 
 
 def watch(client: Client, some: Sequence[str], as_json: bool) -> None:
-    """A line for each neighbor of some ports, or of all, that comes, changes or goes, without end.
-    Raises Refused for a port that is not there."""
+    """Prints a line for each neighbor of some ports, or of all, that comes, changes or leaves,
+    without end. Raises Refused for a port that does not exist."""
     neighbors = Watch(only(read_show(client.ask("show neighbors")), some).ports)
     while True:
         time.sleep(SECONDS_BETWEEN_LOOKS)
@@ -102,6 +102,6 @@ def watch(client: Client, some: Sequence[str], as_json: bool) -> None:
 
 
 def news_object(news: NeighborNews, now: str, since: Since) -> str:
-    """What happened to a neighbor, as JSON in one line."""
+    """Returns what happened to a neighbor, as JSON in one line."""
     told = {"time": now, "what": news.what, "changes": list(news.changes)}
     return json.dumps({**told, "neighbor": neighbor_object(news.neighbor, since)})

@@ -1,1 +1,1 @@
-"""The programs: the words of one each, and its main."""
+"""The programs: the words and the main of each."""

@@ -14,13 +14,13 @@ from ..version import add_version
 
 NAME = "lldpa-capture"
 SUMMARY = "Writes the LLDP frames of captures as a trace for lldpa, with the seconds between them."
-FILE_HELP = """a capture, pcap or pcapng of Ethernet, or - for standard input; as PORT=FILE one
-whose frames all came in at that port"""
-PORT_HELP = """the port of all frames, or as INTERFACE=NAME of those of one interface; without it
-a frame's port is its interface in a pcapng file, and eth0 else"""
+FILE_HELP = """a capture of Ethernet, pcap or pcapng, or - for standard input; PORT=FILE names the
+port of all its frames"""
+PORT_HELP = """the port of all frames, or with INTERFACE=NAME of the frames of one interface; the
+default is the interface that a pcapng file names, or eth0"""
 EPILOG = """\
 example: lldpa-capture --show lab.pcap | lldpa --receive-only eth0
-lldpa-capture(1) has what is skipped, and the exit statuses.
+lldpa-capture(1) lists what is skipped, and the exit statuses.
 """
 SHOWS = ("show neighbors", "show statistics")
 ANY_INTERFACE = ""
@@ -32,7 +32,7 @@ def note(text: str) -> None:
 
 
 def parser_of_words() -> argparse.ArgumentParser:
-    """What reads the program's words."""
+    """Returns the parser of the program's words."""
     parser = argparse.ArgumentParser(
         prog=NAME, description=SUMMARY, epilog=EPILOG, allow_abbrev=False,
         formatter_class=argparse.RawDescriptionHelpFormatter)
@@ -41,15 +41,15 @@ def parser_of_words() -> argparse.ArgumentParser:
     parser.add_argument("--show", action="store_true",
                         help="end the trace with show neighbors and show statistics")
     parser.add_argument("--no-seconds", action="store_true",
-                        help="leave the seconds out, so that nobody ages out")
+                        help="omit the seconds, so that no neighbor ages out")
     parser.add_argument("--ports", action="store_true",
-                        help="write the names of the ports, and no trace")
+                        help="print the names of the ports, and no trace")
     add_version(parser)
     return parser
 
 
 def renamed(word: str) -> Tuple[str, str]:
-    """The interface that a word of --port is for, and the port's name."""
+    """Returns the interface that a word of --port is for, and the port's name."""
     interface, _, port = word.rpartition("=")
     if not is_port_name(port):
         raise ValueError(f"{port}: {PORT_NAME_RULE}")
@@ -57,17 +57,17 @@ def renamed(word: str) -> Tuple[str, str]:
 
 
 def source_of(word: str, names: Mapping[str, str]) -> Source:
-    """The capture that a word names."""
+    """Returns the capture that a word names."""
     front, mark, file = word.partition("=")
     if mark and is_port_name(front):
         return Source(file, front)
     if mark and not os.path.exists(word):
-        raise ValueError(f"{front}: {PORT_NAME_RULE}; write another name in front of ={file}")
+        raise ValueError(f"{front}: {PORT_NAME_RULE}; write another name before ={file}")
     return Source(word, names.get(ANY_INTERFACE), names)
 
 
 def write_trace(sources: List[Source], seconds: bool, shows: bool) -> int:
-    """Writes the trace; answers 1 where something of the captures is wanting, else 0."""
+    """Writes the trace. Returns 1 if something of the captures is missing, else 0."""
     faults: List[str] = []
     is_live = not all(os.path.isfile(source.file) for source in sources)
 
@@ -86,11 +86,11 @@ def write_trace(sources: List[Source], seconds: bool, shows: bool) -> int:
 
 
 def run(given: argparse.Namespace) -> int:
-    """Does what the words say; answers the status."""
+    """Does what the words say, and returns the status."""
     names: Dict[str, str] = dict(renamed(word) for word in given.port)
     sources = [source_of(word, names) for word in given.files]
     if [source.file for source in sources].count(STANDARD_INPUT) > 1:
-        raise ValueError("standard input can be read once")
+        raise ValueError("standard input can be read only once")
     if given.ports:
         print("\n".join(ports_for_words(sources)), flush=True)
         return 0
@@ -98,7 +98,8 @@ def run(given: argparse.Namespace) -> int:
 
 
 def ports_for_words(sources: Sequence[Source]) -> List[str]:
-    """The ports of captures, none of which another program takes for an option. Raises ValueError.
+    """Returns the ports of captures. Raises ValueError if another program could take one for an
+    option.
     """
     ports = ports_of(sources)
     for port in ports:
@@ -108,12 +109,12 @@ def ports_for_words(sources: Sequence[Source]) -> List[str]:
 
 
 def main(words: Optional[Sequence[str]] = None) -> int:
-    """Runs the program on these words; answers its status."""
+    """Runs the program on these words, and returns its status."""
     return output.run(NAME, lambda: status_of(words), 1)
 
 
 def status_of(words: Optional[Sequence[str]]) -> int:
-    """The status, if the output does not fail."""
+    """Returns the status, if the output does not fail."""
     parser = parser_of_words()
     given = parser.parse_args(words)
     try:

@@ -18,37 +18,37 @@ from ..faults import LldpaFault
 from ..texts import printable
 from ..version import add_version
 
-# what only some questions need is loaded where it is used, since a question is to be quick
+# modules that only some questions need are loaded there, since a question must be quick
 NO_PORT, UNKNOWN = "no such port", "unknown command"
 ALONE = ("watch", "metrics", "help")  # the commands that only this program has
 
 EPILOG = """\
-commands, none for a table of the neighbors:
-  neighbors [PORT..]       the table, of all ports or of these
-  details [PORT..]         all that neighbors say
-  interfaces [PORT..]      the state of the ports
-  statistics [PORT..]      the counters as a table
-  statistics summary       the sums of the counters
-  show neighbors [PORT..]  the agent's lines of the neighbors
-  show statistics [PORT..] those of the counters
-  show chassis             what this host says of itself
-  show configuration       the numbers in force, and the status of each port
-  configure ...            changes the agent, see lldpa(1)
-  update                   sends the present state
-  live                     what lldpa-live tells of itself
-  watch [PORT..]           a line when a neighbor comes, changes or goes
-  metrics                  all of it for Prometheus
-  help                     this
-ports are parted by blanks or commas, also in configure ports; words may be
-shortened if no other begins so
+commands, or none for a table of the neighbors:
+  neighbors [PORT..]       print the table, of all ports or of these
+  details [PORT..]         print all that neighbors say
+  interfaces [PORT..]      print the state of the ports
+  statistics [PORT..]      print the counters as a table
+  statistics summary       print the sums of the counters
+  show neighbors [PORT..]  print the neighbors in the agent's lines
+  show statistics [PORT..] print the counters in the agent's lines
+  show chassis             print what this host announces
+  show configuration       print the settings, and the status of each port
+  configure ...            change the agent, see lldpa(1)
+  update                   send the current state
+  live                     print the state of lldpa-live itself
+  watch [PORT..]           print a line when a neighbor comes, changes or goes
+  metrics                  print metrics for Prometheus
+  help                     print this help
+Separate ports by spaces or commas, also in configure ports. A word may be
+shortened if no other word begins like it.
 
 example: lldpa-ctl --json show neighbors eth0,eth1
-lldpa-ctl(8) has the metrics, the keys of JSON and the control socket.
+lldpa-ctl(8) lists the metrics, and describes JSON and the control socket.
 """
 
 
 def print_answer(client: Client, asked: Question, as_json: bool) -> None:
-    """What is told for a command."""
+    """Prints what is answered to a command."""
     answers = [answer(client, line) for line in asked.lines]
     if as_json:
         answers += [answer(client, line) for line in asked.further]
@@ -59,7 +59,7 @@ def print_answer(client: Client, asked: Question, as_json: bool) -> None:
 
 
 def answer(client: Client, line: str) -> list[str]:
-    """The answer to a line. Raises Refused with the word that the refusal is about."""
+    """Returns the answer to a line. Raises Refused with the word that the refusal is about."""
     try:
         return client.ask(line)
     except Refused as refused:
@@ -76,21 +76,21 @@ def answer(client: Client, line: str) -> list[str]:
 
 
 def read_words(words: Optional[Sequence[str]]) -> argparse.Namespace:
-    """The words of the program. Ends it with status 2 where they are bad."""
+    """Reads the words of the program. Ends it with status 2 if they are wrong."""
     parser = argparse.ArgumentParser(
         prog="lldpa-ctl",
         description="Asks a running lldpa-live who the neighbors are, and prints its answers.",
         epilog=EPILOG,
-        formatter_class=argparse.RawDescriptionHelpFormatter,
+        formatter_class=output.plain_help,
         allow_abbrev=False,
     )
     parser.add_argument("--control", metavar="PATH", default=DEFAULT_PATH,
-                        help=f"the control socket of lldpa-live ({DEFAULT_PATH} unless given)")
+                        help=f"the control socket of lldpa-live (default {DEFAULT_PATH})")
     parser.add_argument("--json", action="store_true", help="print answers as JSON")
     parser.add_argument("--output", metavar="FILE",
-                        help="write metrics there, whole or not at all")
+                        help="write metrics to FILE, completely or not at all")
     add_version(parser)
-    parser.add_argument("words", nargs="*", metavar="COMMAND", help="what to ask, see below")
+    parser.add_argument("words", nargs="*", metavar="COMMAND", help="one of the commands below")
     given = parser.parse_intermixed_args(words)
     if len(given.words) == 1:
         given.words = words_of(given.words[0])
@@ -100,17 +100,17 @@ def read_words(words: Optional[Sequence[str]]) -> argparse.Namespace:
         parser.print_help()
         parser.exit()
     if given.words[:1] == ["metrics"] and len(given.words) > 1:
-        parser.error("nothing can stand behind metrics")
+        parser.error("no word may follow metrics")
     if given.words == ["metrics"] and given.json:
-        parser.error("metrics have a form of their own, which is not JSON")
+        parser.error("metrics cannot be printed as JSON")
     if given.words != ["metrics"] and given.output is not None:
-        parser.error("--output is for metrics alone")
+        parser.error("--output can be used only with metrics")
     return given
 
 
 def work_of(given: argparse.Namespace) -> Callable[[Client], None]:
-    """Returns what asks and prints what was asked for, with all loaded that it needs: nobody, which
-    root becomes, may not be able to read it."""
+    """Returns what asks and prints what was asked for, with all loaded that it needs: root becomes
+    nobody, which may not be able to read it."""
     words = given.words or ["neighbors"]
     if given.json:
         import json  # noqa: F401
@@ -127,26 +127,26 @@ def work_of(given: argparse.Namespace) -> Callable[[Client], None]:
 
 
 def said_of(fault: Exception, path: str) -> str:
-    """What is told of a fault, for people."""
+    """Returns what is reported of a fault, for people."""
     if isinstance(fault, (FileNotFoundError, ConnectionRefusedError)):
         return f"nobody answers at {path}: is lldpa-live running?"
     if isinstance(fault, PermissionError):
-        return f"{path}: permission denied (root may ask, and the group that the socket has)"
+        return f"{path}: permission denied (only root and the group of the socket may ask)"
     if isinstance(fault, socket.timeout):
-        return f"no answer came from {path}"
+        return f"no answer from {path}"
     if isinstance(fault, OSError) and fault.strerror:
         return f"{path}: {fault.strerror}"
     return printable(str(fault))
 
 
 def main(words: Optional[Sequence[str]] = None) -> int:
-    """The program: 0 where all was answered, 1 where not, 2 where the words are bad."""
-    # what the terminal has no character for is written as a question mark
+    """Runs the program: 0 if all was answered, 1 if not, 2 if the words are wrong."""
+    # characters that the terminal does not have are written as a question mark
     return output.run("lldpa-ctl", lambda: status_of(words), 1, errors="replace")
 
 
 def status_of(words: Optional[Sequence[str]]) -> int:
-    """The status, if the output does not fail."""
+    """Returns the status, if the output does not fail."""
     given = read_words(words)
     try:
         if given.words == ["metrics"]:

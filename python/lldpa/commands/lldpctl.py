@@ -25,29 +25,29 @@ LLDPCTL, LLDPCLI = "lldpctl", "lldpcli"
 HELP = f"""\
 usage: NAME [-u PATH] [-f FORM] COMMAND
 
-Asks a running lldpa-live, and prints its answer as lldpcli of lldpd does.
+Asks a running lldpa-live, and prints its answer like lldpcli of lldpd.
 
-  -u PATH  the control socket of lldpa-live ({DEFAULT_PATH} unless given)
-  -f FORM  {', '.join(FORMS)} (plain unless given)
-  -d, -s   taken and ignored
-  -h, --help  this
+  -u PATH  the control socket of lldpa-live (default {DEFAULT_PATH})
+  -f FORM  {', '.join(FORMS)} (default plain)
+  -d, -s   accepted and ignored
+  -h, --help  print this help
   -v, --version  print the version
 
-commands; lldpctl takes ports too, and without a command it shows all neighbors in detail;
-lldpcli without a command reads commands from standard input, up to exit:
+lldpctl without a command prints all that neighbors say, of the ports that you name or of all.
+lldpcli without a command reads commands from standard input, up to exit. The commands are:
   show neighbors [details | summary] [ports PORT,..]
   show interfaces [details | summary] [ports PORT,..]
   show chassis [details | summary]
   show statistics [summary] [ports PORT,..]
   show configuration
   watch [details | summary] [ports PORT,..] [limit N]
-  configure ...  those of lldpa(1)
+  configure ...  the commands of lldpa(1)
   update
 
 example: lldpctl -f keyvalue eth0
-lldpctl(1) says where this program stands, since lldpd has one of its name.
+lldpctl(1) says how to put this program on the path, since lldpd has one of the same name.
 """
-# what lldpcli calls that which happens to a neighbor
+# lldpcli's words for what happens to a neighbor
 HAPPENED = {"came": "added", "changed": "updated", "gone": "deleted"}
 
 
@@ -66,7 +66,7 @@ class Given(NamedTuple):
 
 
 def read_words(words: Sequence[str]) -> Given:
-    """The words of the program. Raises Refused where an option is not known."""
+    """Reads the words of the program. Raises Refused if an option is not known."""
     try:
         options, rest = getopt.gnu_getopt(list(words), "dhsvu:f:", ["help", "version"])
     except getopt.GetoptError as fault:
@@ -80,7 +80,8 @@ def read_words(words: Sequence[str]) -> Given:
 
 
 def show(client: Client, given: Given, question: Question) -> None:
-    """Prints a show. Raises Refused for a port that is not there, when the others are printed."""
+    """Prints a show. Raises Refused for a port that does not exist, after the others are
+    printed."""
     live = client.ask("live")
     told = told_by([client.ask(line) for line in LINES], live, time.time())
     given.write(question.tree(told))
@@ -90,7 +91,7 @@ def show(client: Client, given: Given, question: Question) -> None:
 
 
 def watch(client: Client, given: Given, watching: Watching) -> None:
-    """Prints each neighbor that comes, changes or goes, up to the limit if there is one."""
+    """Prints each neighbor that comes, changes or leaves, up to the limit if there is one."""
     told = told_by([client.ask("show neighbors")], [], time.time())
     neighbors, left = Watch(told.show.ports), watching.limit
     while True:
@@ -108,7 +109,7 @@ def watch(client: Client, given: Given, watching: Watching) -> None:
 
 
 def obey(given: Given, command: Command) -> int:
-    """Does what a command says. Raises Refused if that does not go."""
+    """Does what a command says. Raises Refused if that is not possible."""
     try:
         with Client(given.path) as client:
             if isinstance(command, Lines):
@@ -159,7 +160,7 @@ def in_child(body: Callable[[], int]) -> None:
 
 
 def answer(name: str, words: Sequence[str]) -> int:
-    """Prints what is asked for; gives the status."""
+    """Prints what is asked for, and returns the status."""
     given = read_words(words)
     if given.is_help:
         print(HELP.replace("NAME", name), end="")
@@ -173,7 +174,7 @@ def answer(name: str, words: Sequence[str]) -> int:
 
 
 def told_status(name: str, body: Callable[[], int]) -> int:
-    """The status of a body, whose faults are told."""
+    """Returns the status of a body, and reports its faults."""
     try:
         return body()
     except KeyboardInterrupt:
@@ -186,7 +187,7 @@ def told_status(name: str, body: Callable[[], int]) -> int:
 
 
 def main(words: Optional[Sequence[str]] = None) -> int:
-    """The program: 0 where all was answered, else 1."""
+    """Runs the program: 0 if all was answered, else 1."""
     name = LLDPCLI if os.path.basename(sys.argv[0]) == LLDPCLI else LLDPCTL
     given = sys.argv[1:] if words is None else words
     return output.run(name, lambda: told_status(name, lambda: answer(name, given)), 1,

@@ -1,1 +1,1 @@
-"""lldpa-live: interfaces, their frames and the clock, told to an agent."""
+"""lldpa-live: gives an agent interfaces, their frames and the clock."""

@@ -1,4 +1,4 @@
-"""What an agent is to be told next, gathered until it is told."""
+"""Lines for the agent, gathered until they are sent."""
 
 from __future__ import annotations
 
@@ -11,14 +11,15 @@ DOWN = b"down "
 
 
 class Entry(NamedTuple):
-    """A line that the agent is told, and its moment."""
+    """A line for the agent, and its moment."""
 
     moment: float
     line: bytes
 
 
 class Batch:
-    """Lines in their order, how many seconds are among them, and the ports whose links went."""
+    """Holds lines in their order, how many seconds are among them, and the ports whose links went
+    down."""
 
     def __init__(self) -> None:
         self.entries: list[Entry] = []
@@ -30,17 +31,17 @@ class Batch:
         self.entries.append(Entry(moment, line))
 
     def add_frame(self, moment: float, frame: Frame) -> None:
-        """Adds that a frame came in."""
+        """Adds a frame that was received."""
         self.add(moment, b"rx %s %s" % (frame.port.encode(), frame.octets.hex().encode()))
 
     def add_seconds(self, moment: float, count: int) -> None:
-        """Adds that so many seconds went by."""
+        """Adds that so many seconds passed."""
         for line in ["tick"] if count == 1 else ticks(count):
             self.add(moment, line.encode())
         self.seconds += count
 
     def add_link(self, moment: float, line: bytes) -> None:
-        """Adds that a link came or went."""
+        """Adds that a link came up or went down."""
         self.add(moment, line)
         if line.startswith(DOWN):
             self.downs.append(line[len(DOWN):].decode())

@@ -1,9 +1,9 @@
 """What a log's file begins with, so that it can be replayed alone: the settings in force, and each
 neighbor's last frame with the seconds between them.
 
-No port sends meanwhile. First comes a short frame of each neighbor, in the order of the
+No port sends in the meantime. First comes a short frame of each neighbor, in the order of the
 tables; then the last frames in the order in which they came. A port that had no room for a neighbor
-is told of two more, of which it drops one, as long as its table is empty.
+is given two more, of which it drops one, while its table is empty.
 """
 
 from __future__ import annotations
@@ -22,7 +22,7 @@ WITHOUT_SENDING = {"rx-and-tx": "rx-only", "tx-only": "disabled"}
 
 
 class Beginning:
-    """The lines that bring a new agent to where the one is that gave these shows."""
+    """The lines that bring a new agent to the state of the one that gave these shows."""
 
     def __init__(self, show: Show, senders: Senders) -> None:
         assert show.chassis is not None and show.configuration is not None
@@ -35,7 +35,7 @@ class Beginning:
         self.oldest = max([0, *ages])
 
     def lines(self, given_name: Optional[str]) -> Iterator[str]:
-        """The lines, for an agent that was given that name when it was opened."""
+        """Returns the lines, for an agent that was given that name when it was opened."""
         statuses = self.configuration.statuses.items()
         yield from (f"configure ports {name} lldp status {WITHOUT_SENDING.get(status, status)}"
                     for name, status in statuses)
@@ -53,7 +53,8 @@ class Beginning:
         yield from (f"down {name}" for name in self.senders.downs)
 
     def too_many(self) -> Iterator[str]:
-        """Has each port that had no room for a neighbor drop one that would last as long."""
+        """Returns lines by which each port that had no room drops a neighbor that would last as
+        long."""
         for port in (port for port in self.ports if port.too_many):
             left = self.senders.too_many_until.get(port.name, 0) - self.senders.second
             yield "configure lldp max-neighbors 1"
@@ -62,7 +63,7 @@ class Beginning:
             yield made(port, "held", GONE)
 
     def tables(self) -> Iterator[str]:
-        """Puts the neighbors into the order of the tables."""
+        """Returns lines that put the neighbors into the order of the tables."""
         for port in self.ports:
             for neighbor in port.neighbors:
                 octets = self.senders.frame_of(neighbor)
@@ -70,7 +71,7 @@ class Beginning:
                     yield f"rx {port.name} {placeholder(octets).hex()}"
 
     def last_frames(self) -> Iterator[str]:
-        """The last frame of each neighbor, and the seconds up to now at their places."""
+        """Returns the last frame of each neighbor, with the seconds up to now at their places."""
         ages: dict[int, list[Neighbor]] = {}
         for port in self.ports:
             for neighbor in port.neighbors:
@@ -87,12 +88,12 @@ class Beginning:
 
 
 def setting(what: str, shown: str) -> str:
-    """The line that sets a text, which is given as it is shown."""
+    """Returns the line that sets a text, which is given as it is shown."""
     return command("configure", "system", what, unescaped(shown).decode("ascii"))
 
 
 def made(port: Port, name: str, ttl: int) -> str:
-    """A frame of a neighbor that there is not, at this port."""
+    """Returns the line of a frame of a neighbor that does not exist, at this port."""
     text = name.encode()
     chassis = ((1 << 9) + 1 + len(text)).to_bytes(2, "big") + b"\7" + text
     port_id = ((2 << 9) + 1 + len(text)).to_bytes(2, "big") + b"\7" + text

@@ -1,4 +1,4 @@
-"""What is told of frames that were dropped, by the kernel or by the limit of a port."""
+"""Reports frames that were dropped, by the kernel or by the limit of a port."""
 
 from __future__ import annotations
 
@@ -10,11 +10,11 @@ from ..clock import now
 
 SECONDS_BETWEEN_REPORTS = 60
 BY_KERNEL = "the kernel has dropped {} frames that came too fast: {}"
-BY_LIMIT = f"{{}} frames were dropped that came faster than {A_SECOND} a second at a port: {{}}"
+BY_LIMIT = f"{{}} frames over the limit of {A_SECOND} a second for a port were dropped: {{}}"
 
 
 class Drops:
-    """Tells of one kind of drops, as a line for people, at most once a minute."""
+    """Reports one kind of drops, as a line for people, at most once a minute."""
 
     def __init__(self, text: str, count: Callable[[Interface], int],
                  report: Callable[[str], None]) -> None:
@@ -25,7 +25,8 @@ class Drops:
         self.next_report = 0.0
 
     def tell(self, ports: Iterable[Interface]) -> None:
-        """Tells how many frames of which ports were dropped since the start, if there are more."""
+        """Reports how many frames of which ports were dropped since the start, if there are
+        more."""
         counts = {port.name: self.count(port) for port in ports}
         drops = sum(counts.values())
         if drops > self.told and now() >= self.next_report:

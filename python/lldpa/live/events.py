@@ -1,4 +1,4 @@
-"""Who comes, changes and goes, as lines on standard error: with a service they are its history."""
+"""Neighbors that come, change and leave, as lines on standard error: a service's history."""
 
 from __future__ import annotations
 
@@ -13,7 +13,7 @@ LONGEST = 1000  # characters of a line, whatever a neighbor says
 
 
 class Events:
-    """Tells what is new at each look, of a port no more than 100 lines a minute."""
+    """Reports what is new at each look, for each port at most 100 lines a minute."""
 
     def __init__(self, report: Callable[[str], None]) -> None:
         self.report = report
@@ -23,7 +23,7 @@ class Events:
         self.next_minute = 0.0
 
     def take(self, ports: Sequence[Port], now: float) -> None:
-        """Tells what is new since the look before."""
+        """Reports what is new since the look before."""
         self.take_time(now)
         for news in self.watch.news(ports):
             self.tell(news.neighbor.port, news_line(news))
@@ -33,17 +33,17 @@ class Events:
         self.full = full
 
     def take_link(self, port: str, is_up: bool) -> None:
-        """Tells that a link came or went."""
+        """Reports that a link came up or went down."""
         self.tell(port, f"{port}: the link is {'up' if is_up else 'down'}")
 
     def tell(self, port: str, text: str) -> None:
-        """Tells something of a port, unless it had its lines of this minute."""
+        """Reports something of a port, unless it had its lines of this minute."""
         self.counts[port] = self.counts.get(port, 0) + 1
         if self.counts[port] <= MOST_A_MINUTE:
             self.report(shortened(text))
 
     def take_time(self, now: float) -> None:
-        """At the end of a minute it tells how much was left out."""
+        """Reports at the end of a minute how much was left out."""
         if now < self.next_minute:
             return
         for port, count in self.counts.items():
@@ -55,5 +55,5 @@ class Events:
 
 
 def shortened(text: str) -> str:
-    """The text, or as much of its begin as a line may have."""
+    """Returns the text, or as much of its beginning as a line may have."""
     return text if len(text) <= LONGEST else text[:LONGEST - 4] + " ..."

@@ -1,4 +1,4 @@
-"""The host's name while lldpa-live runs: where it changes, the agent is told."""
+"""The host's name while lldpa-live runs: if it changes, the agent is given the new one."""
 
 from __future__ import annotations
 
@@ -15,8 +15,8 @@ Tell = Callable[[bytes], Awaitable["list[str]"]]
 
 
 class HostName:
-    """Follows the host's name for an agent that has been told `told`, and leaves it alone where
-    somebody else has named it since. What was given is not followed."""
+    """Follows the host's name for an agent that has been given `told`, and leaves it alone if
+    somebody else has named the agent since. A given name is not followed."""
 
     def __init__(self, told: str, is_given: bool) -> None:
         self.told = told
@@ -24,18 +24,18 @@ class HostName:
         self.file: Optional[int] = None
 
     def wake(self, sources: select.epoll) -> None:
-        """Has a change wake who waits for these sources, where the kernel lets it be watched."""
+        """Lets a change wake a wait for these sources, if the kernel can watch the name."""
         if self.last is not None and os.access(PATH, os.R_OK):
             self.file = os.open(PATH, os.O_RDONLY | os.O_CLOEXEC)
             sources.register(self.file, select.EPOLLPRI)
 
     def has_changed(self) -> bool:
-        """Whether the host has another name than it had."""
+        """Returns whether the host's name has changed."""
         return self.last is not None and host_name() != self.last
 
     async def follow(self, look: Tell, tell: Tell) -> Optional[str]:
-        """Tells the agent the host's name, and gives why that was refused, None where it was not,
-        or where somebody else has named it."""
+        """Gives the agent the host's name. Returns why it was refused, or None if it was not, or if
+        somebody else has named the agent."""
         self.last = host_name()
         chassis = read_show(await look(b"show chassis")).chassis
         if chassis is None or unescaped(chassis.name).decode("ascii") != self.told:
@@ -43,7 +43,7 @@ class HostName:
         try:
             line = command("configure", "system", "hostname", self.last).encode("ascii")
         except ValueError:
-            return f"{self.last}: no name for an agent"
+            return f"{self.last}: the agent does not accept this name"
         for refusal in await tell(line):
             return f"{self.last}: {refusal}"
         self.told = self.last

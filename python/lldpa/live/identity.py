@@ -13,13 +13,13 @@ from .links import Address, Links, LinkNews
 OS_RELEASE = ("/etc/os-release", "/usr/lib/os-release")
 MOST_OCTETS = 255  # of a description
 MOST_ABOVE = 8  # interfaces, as a bridge above a bond
-SECONDS_TO_STAY = 2.0  # that another address is there before it is announced
+SECONDS_TO_STAY = 2.0  # that another address must stay before it is announced
 
 
 def chassis_address(ports: Sequence[str], known: Iterable[LinkNews]) -> Optional[bytes]:
-    """The address that names this host: the permanent one of the first port whose interface is
-    hardware, else of the first hardware Ethernet interface, else the address of the first port
-    that is there. None where there is none of these, so far."""
+    """Returns the address that names this host: the permanent one of the first port whose interface
+    is hardware, else of the first hardware Ethernet interface, else the address of the first port
+    that exists. Returns None if there is none of these yet."""
     able = sorted((one for one in known if one.is_ethernet and any(one.address)),
                   key=lambda one: one.number)
     by_name = {one.name: one for one in able}
@@ -32,8 +32,9 @@ def chassis_address(ports: Sequence[str], known: Iterable[LinkNews]) -> Optional
 
 def management_address(ports: Sequence[str], known: Iterable[LinkNews],
                        addresses: Iterable[Address]) -> Optional[str]:
-    """The first global IPv4 address of a port, else of what stands above a port, else of a hardware
-    interface, of those given with the numbers of their interfaces. None if there is none."""
+    """Returns the first global IPv4 address of a port, else of what is above a port, else of a
+    hardware interface, of those given with the numbers of their interfaces. None if there is
+    none."""
     first: dict[int, str] = {}
     for number, address in addresses:
         first.setdefault(number, address)
@@ -48,7 +49,7 @@ def management_address(ports: Sequence[str], known: Iterable[LinkNews],
 
 
 def above(one: LinkNews, by_number: Mapping[int, LinkNews]) -> Iterator[LinkNews]:
-    """The interfaces above one: the bond, team or Linux bridge that it is a part of, and so on."""
+    """Returns the interfaces above one: the bond, team or Linux bridge it belongs to, and so on."""
     for _ in range(MOST_ABOVE):
         upper = by_number.get(one.master)
         if upper is None:
@@ -58,7 +59,7 @@ def above(one: LinkNews, by_number: Mapping[int, LinkNews]) -> Iterator[LinkNews
 
 
 def description(paths: Iterable[str] = OS_RELEASE) -> Optional[str]:
-    """What this host runs: PRETTY_NAME of os-release, None where that says nothing."""
+    """Returns what this host runs: PRETTY_NAME of os-release, or None if that says nothing."""
     for path in paths:
         with suppress(OSError), open(path, "rb") as lines:
             for line in lines:
@@ -68,7 +69,8 @@ def description(paths: Iterable[str] = OS_RELEASE) -> Optional[str]:
 
 
 def able_text(value: str) -> Optional[str]:
-    """A value of os-release as a text that a command can set, None where nothing is left of it."""
+    """Returns a value of os-release as a text that a command can set, or None if nothing is left of
+    it."""
     with suppress(ValueError):
         value = "".join(shlex.split(value))
     kept = "".join(letter for letter in value if " " <= letter <= "~" and letter != '"').strip()
@@ -76,12 +78,12 @@ def able_text(value: str) -> Optional[str]:
 
 
 def host_name() -> str:
-    """The host's name now."""
+    """Returns the host's present name."""
     return os.uname().nodename
 
 
 class Management:
-    """The management address that the agent was told. Unless it was given, it is followed."""
+    """The management address that the agent was given. It is followed unless the user gave it."""
 
     def __init__(self, ports: Sequence[str], links: Links, is_followed: bool) -> None:
         self.ports = ports
@@ -93,11 +95,11 @@ class Management:
         self.changes = links.changes
 
     def found(self) -> Optional[str]:
-        """The address of this host now."""
+        """Returns the present address of this host."""
         return management_address(self.ports, self.links.known.values(), self.links.addresses)
 
     def has_changed(self) -> bool:
-        """Whether another one than the agent was told has been there for 2 seconds."""
+        """Returns whether another address than the agent's has existed for 2 seconds."""
         if self.is_followed and self.changes != self.links.changes:
             self.changes = self.links.changes
             found = self.found()

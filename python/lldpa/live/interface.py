@@ -1,9 +1,9 @@
 """An Ethernet interface's LLDP frames: a packet socket with a filter, a group and time stamps.
 
-Opening the socket wants CAP_NET_RAW. What comes after wants no right: binding it, binding it again
-to an interface that came back, the group, the time stamps, reading and sending. So that nobody who
-takes over this process reads more than LLDP frames, the filter is there before the socket hears
-anything, and the kernel lets nobody take it off or exchange it.
+Opening the socket needs CAP_NET_RAW. The rest needs no right: binding it, binding it again to an
+interface that came back, the group, the time stamps, reading and sending. The filter is set before
+the socket receives anything, and the kernel lets nobody remove or replace it, so that nobody who
+takes over this process reads more than LLDP frames.
 """
 
 from __future__ import annotations
@@ -36,7 +36,8 @@ ROOM_IN_KERNEL = 1 << 20  # octets; the kernel gives as much of it as net.core.r
 
 
 class Test(NamedTuple):
-    """A test of the filter: what is loaded from where, how it is compared, and what must hold."""
+    """A test of the filter: what is loaded from where, how it is compared, and the wanted
+    result."""
 
     load: int
     where: int
@@ -45,9 +46,9 @@ class Test(NamedTuple):
     must: bool
 
 
-# An LLDP frame to the nearest bridge that came in untagged, and is no longer than a frame may be.
+# An LLDP frame to the nearest bridge that came untagged, and is no longer than a frame may be.
 IS_OURS = (
-    Test(LOAD_BYTE, VLAN_TAG_PRESENT, IF_EQUAL, 0, True),  # the kernel takes the tag off the octets
+    Test(LOAD_BYTE, VLAN_TAG_PRESENT, IF_EQUAL, 0, True),  # the kernel removes the tag itself
     Test(LOAD_BYTE, PACKET_TYPE, IF_EQUAL, socket.PACKET_OUTGOING, False),
     Test(LOAD_LENGTH, 0, IF_GREATER, LONGEST_FRAME, False),
     Test(LOAD_WORD, 0, IF_EQUAL, 0x0180C200, True),
@@ -57,7 +58,7 @@ IS_OURS = (
 
 
 class Frame(NamedTuple):
-    """A frame that came in at a port, and when by the kernel's wall clock, in seconds."""
+    """A frame that a port received, and when by the kernel's wall clock, in seconds."""
 
     stamp: Optional[float]
     port: str
@@ -65,7 +66,8 @@ class Frame(NamedTuple):
 
 
 def filter_program(tests: tuple[Test, ...]) -> bytes:
-    """A BPF program that takes a frame whole where all tests hold, and not at all elsewhere."""
+    """Returns a BPF program that accepts a whole frame if all tests hold, and otherwise rejects
+    it."""
     steps = []
     for place, test in enumerate(tests):
         to_refusal = 2 * (len(tests) - place - 1) + 1
@@ -77,16 +79,17 @@ def filter_program(tests: tuple[Test, ...]) -> bytes:
 
 
 class Interface:
-    """The interface of a port. Its socket is there from the start, and hears an interface of that
-    name from `take` to `release`."""
+    """The interface of a port. Its socket exists from the start, and receives from an interface of
+    that name from `take` to `release`."""
 
     def __init__(self, name: str) -> None:
-        """Opens the socket, which hears nothing yet. Raises PermissionError without CAP_NET_RAW."""
+        """Opens the socket, which receives nothing yet. Raises PermissionError without
+        CAP_NET_RAW."""
         self.name = name
-        self.number: Optional[int] = None  # of the interface that it hears
-        self.address = b""  # that it has now
-        self.fault = ""  # why it hears none of its name
-        self.is_up: Optional[bool] = None  # as the agent was told
+        self.number: Optional[int] = None  # of the interface that it receives from
+        self.address = b""  # the present one
+        self.fault = ""  # why it receives from none of its name
+        self.is_up: Optional[bool] = None  # as the agent knows
         self.has_more = False  # whether frames were left in the socket
         self.drops = 0  # frames that the kernel had no room for
         self.bucket = Bucket()
@@ -94,7 +97,7 @@ class Interface:
         self.read_to = 0.0  # the moment of the last frame that was read
         self.unsent = 0  # frames that the interface did not take
         self.is_failing = False  # whether the last one was among them
-        self.left_out = 0  # frames of a standstill that later ones took the place of
+        self.left_out = 0  # frames of a standstill that later ones replaced
         self.socket = socket.socket(socket.AF_PACKET, socket.SOCK_RAW, 0)
         self.socket.setblocking(False)
         self.socket.setsockopt(socket.SOL_SOCKET, socket.SO_RCVBUF, ROOM_IN_KERNEL)
@@ -102,22 +105,22 @@ class Interface:
         self.set_filter(IS_OURS)
 
     def take(self, number: int) -> None:
-        """Hears the interface of the port's name from now on, which has this number."""
+        """Receives from the interface of the port's name from now on, which has this number."""
         self.socket.bind((self.name, ETH_P_ALL))
         group = struct.pack("iHH8s", number, PACKET_MR_MULTICAST, 6, NEAREST_BRIDGE)
         self.socket.setsockopt(SOL_PACKET, PACKET_ADD_MEMBERSHIP, group)
         self.number = number
 
     def release(self) -> None:
-        """Hears nothing any more: where the interface is there under another name, it is left for
-        one on which no LLDP frame comes."""
+        """Receives nothing any more: if the interface still exists under another name, the socket
+        is bound to one on which no LLDP frame comes."""
         if self.number is not None:
             with suppress(OSError):
                 self.socket.bind((LOOPBACK, ETH_P_LLDP))
         self.number = None
 
     def set_filter(self, tests: tuple[Test, ...]) -> None:
-        """Lets the kernel hand out the frames that pass these tests alone, for good."""
+        """Lets the kernel hand out only frames that pass these tests, for good."""
         code = array.array("B", filter_program(tests))
         address, length = code.buffer_info()
         program = struct.pack("HP", length // 8, address)
@@ -125,7 +128,7 @@ class Interface:
         self.socket.setsockopt(socket.SOL_SOCKET, SO_LOCK_FILTER, 1)
 
     def read(self, most: int) -> list[Frame]:
-        """The frames that lie in the socket, so many at most; `has_more` tells if some are left."""
+        """Reads at most so many of the frames in the socket; `has_more` says if some are left."""
         frames: list[Frame] = []
         self.has_more = False
         for _ in range(most):
@@ -133,7 +136,7 @@ class Interface:
                 octets, notes, _, _ = self.socket.recvmsg(LONGEST_FRAME, socket.CMSG_SPACE(16))
             except BlockingIOError:
                 return frames
-            except OSError:  # an interface that went down is told once, and frames may lie behind
+            except OSError:  # of an interface that went down, once; frames may follow
                 continue
             if self.number is not None:
                 frames.append(Frame(stamp_of(notes), self.name, octets))
@@ -141,7 +144,7 @@ class Interface:
         return frames
 
     def send(self, octets: bytes) -> None:
-        """Sends a frame. Raises OSError where there is no interface, or it takes none."""
+        """Sends a frame. Raises OSError if there is no interface, or it does not take the frame."""
         if self.number is None:
             raise OSError(0, "there is no such interface now")
         self.socket.send(octets)
@@ -152,12 +155,12 @@ class Interface:
         self.drops += struct.unpack("II", octets)[1]
 
     def close(self) -> None:
-        """Lets go of the socket."""
+        """Closes the socket."""
         self.socket.close()
 
 
 def stamp_of(notes: list[tuple[int, int, bytes]]) -> Optional[float]:
-    """The kernel's time stamp among what it tells of a frame."""
+    """Returns the kernel's time stamp among its notes on a frame."""
     for level, kind, octets in notes:
         if level == socket.SOL_SOCKET and kind == SO_TIMESTAMPNS:
             seconds, nanoseconds = struct.unpack("ll", octets)

@@ -1,8 +1,8 @@
-"""Interfaces as rtnetlink tells of them: which there are, whether they run, and the global IPv4
-addresses that they have.
+"""Reads of interfaces from rtnetlink: which exist, whether they run, and their global IPv4
+addresses.
 
 Its messages, RTM_NEWLINK, RTM_DELLINK, RTM_NEWADDR and RTM_DELADDR, are read here (linux/netlink.h,
-linux/rtnetlink.h, linux/if_link.h, linux/if_addr.h); listening wants no right.
+linux/rtnetlink.h, linux/if_link.h, linux/if_addr.h); listening needs no right.
 """
 
 from __future__ import annotations
@@ -40,9 +40,9 @@ Address = Tuple[int, str]
 
 
 class LinkNews(NamedTuple):
-    """What became of an interface: its number, its name, whether it is there, and has a carrier;
-    its address, what kind of a virtual one it is, the address that it was made with, and the number
-    of the bond, team or Linux bridge above it, 0 if there is none."""
+    """What happened to an interface: its number, its name, whether it exists, and has a carrier;
+    its address, its kind if it is virtual, the address that it was made with, and the number of the
+    bond, team or Linux bridge above it, 0 if there is none."""
 
     number: int
     name: str
@@ -56,13 +56,13 @@ class LinkNews(NamedTuple):
 
     @property
     def is_hardware(self) -> bool:
-        """Whether it is a device, and not one that was made by software."""
+        """Returns whether it is a device, and was not made by software."""
         return self.kind in OF_HARDWARE
 
 
 class Links:
-    """LinkNews of all interfaces of this network namespace, those that are there at first, and the
-    addresses. `changes` counts what becomes of both."""
+    """Follows all interfaces of this network namespace, from those that exist at first, and the
+    addresses. `changes` counts what happens to both."""
 
     def __init__(self) -> None:
         self.socket = socket.socket(socket.AF_NETLINK, socket.SOCK_RAW, socket.NETLINK_ROUTE)
@@ -76,7 +76,7 @@ class Links:
         self.ask()
 
     def ask(self) -> None:
-        """Asks for the list of all interfaces, which comes as news, and behind it is that of their
+        """Asks for the list of all interfaces, which comes as news, followed by that of their
         addresses."""
         self.is_listing = self.has_addresses_to_ask = True
         self.is_stale = False
@@ -89,7 +89,7 @@ class Links:
         self.socket.send(HEADER.pack(length, kind, NLM_F_REQUEST | NLM_F_DUMP, 0, 0) + body)
 
     def first(self) -> list[LinkNews]:
-        """The interfaces that are there at first; waits until the kernel has told them all."""
+        """Returns the interfaces that exist at first, after the kernel has reported them all."""
         news: list[LinkNews] = []
         while self.is_listing:
             select.select([self.socket], [], [])
@@ -97,7 +97,7 @@ class Links:
         return news
 
     def read(self) -> list[LinkNews]:
-        """What has come in, in its order. Where the kernel lost some, the list is asked for."""
+        """Returns the news that came, in its order. If the kernel lost some, asks for the list."""
         news: list[LinkNews] = []
         while True:
             try:
@@ -115,7 +115,7 @@ class Links:
                 self.ask()
 
     def take(self, kind: int, body: bytes) -> list[LinkNews]:
-        """The news of one message."""
+        """Returns the news of one message."""
         if kind in (RTM_NEWLINK, RTM_DELLINK):
             found = news_of(kind, body)
             return [] if found is None else [self.note(found)]
@@ -126,7 +126,7 @@ class Links:
         return self.end_list() if kind in (NLMSG_DONE, NLMSG_ERROR) else []
 
     def end_list(self) -> list[LinkNews]:
-        """The news of interfaces that a list that ended did not name."""
+        """Returns the news of interfaces that a list that ended did not name."""
         self.is_listing = self.has_addresses_to_ask and not self.is_stale
         if self.is_stale:  # it may not be whole, and is asked for again
             return []
@@ -140,7 +140,7 @@ class Links:
                 for number in sorted(self.unseen)]
 
     def note_address(self, is_there: bool, address: Optional[Address]) -> None:
-        """Keeps in mind which addresses there are."""
+        """Notes which addresses exist."""
         if address is None:
             return
         self.unseen_addresses.discard(address)
@@ -152,7 +152,7 @@ class Links:
             self.addresses.pop(address, None)
 
     def note(self, news: LinkNews) -> LinkNews:
-        """Keeps in mind which interfaces there are."""
+        """Notes which interfaces exist."""
         self.unseen.discard(news.number)
         self.changes += 1
         if news.is_there:
@@ -162,12 +162,12 @@ class Links:
         return news
 
     def close(self) -> None:
-        """Lets go of the socket."""
+        """Closes the socket."""
         self.socket.close()
 
 
 def messages(octets: bytes) -> Iterator[tuple[int, bytes]]:
-    """The kind and the body of each message."""
+    """Returns the kind and the body of each message."""
     while len(octets) >= HEADER.size:
         length, kind, _, _, _ = HEADER.unpack_from(octets)
         yield kind, octets[HEADER.size:length]
@@ -175,7 +175,8 @@ def messages(octets: bytes) -> Iterator[tuple[int, bytes]]:
 
 
 def news_of(kind: int, body: bytes) -> Optional[LinkNews]:
-    """The news of a message about an interface, or None where it is about its part in a bridge."""
+    """Returns the news of a message about an interface, or None if it is about its part in a
+    bridge."""
     family, device, index, flags, _ = INTERFACE.unpack_from(body)
     if family != socket.AF_UNSPEC:
         return None
@@ -191,7 +192,7 @@ def news_of(kind: int, body: bytes) -> Optional[LinkNews]:
 
 
 def global_address(body: bytes) -> Optional[Address]:
-    """The address of a message, None if it is of another scope or family."""
+    """Returns the address of a message, or None if it is of another scope or family."""
     family, _, _, scope, number = ADDRESS.unpack_from(body)
     parts = dict(attributes(body[ADDRESS.size:]))
     octets = parts.get(IFA_LOCAL) or parts.get(IFA_ADDRESS) or b""
@@ -201,7 +202,7 @@ def global_address(body: bytes) -> Optional[Address]:
 
 
 def attributes(octets: bytes) -> Iterator[tuple[int, bytes]]:
-    """The kind and the value of each attribute."""
+    """Returns the kind and the value of each attribute."""
     while len(octets) >= ATTRIBUTE.size:
         length, kind = ATTRIBUTE.unpack_from(octets)
         yield kind & KIND_MASK, octets[ATTRIBUTE.size:length]
@@ -209,5 +210,5 @@ def attributes(octets: bytes) -> Iterator[tuple[int, bytes]]:
 
 
 def aligned(length: int) -> int:
-    """A length with what fills it up to a whole number of four octets."""
+    """Returns a length rounded up to a whole number of four octets."""
     return (length + 3) & ~3

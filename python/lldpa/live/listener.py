@@ -1,4 +1,5 @@
-"""Who listens at a port of 127.0.0.1: the agent of --connect is root's, or of the own user."""
+"""Which users listen at a port of 127.0.0.1: the agent of --connect must be root's, or our own
+user's."""
 
 from __future__ import annotations
 
@@ -16,11 +17,11 @@ def check_listener(port: int) -> None:
     """Raises Ended if another user listens at this port."""
     for user in users_at(port):
         if user not in (0, os.geteuid()):
-            raise Ended(None, f"another user listens at port {port}, with the number {user}")
+            raise Ended(None, f"another user, {user}, listens on port {port}")
 
 
 def users_at(port: int) -> Iterator[int]:
-    """The users of the sockets that listen there, as the kernel lists them."""
+    """Returns the users of the sockets that listen there, as the kernel lists them."""
     with open(TABLE, encoding="ascii") as table:
         for words in map(str.split, table):
             address, _, number = words[1].partition(":")

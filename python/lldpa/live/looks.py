@@ -1,8 +1,8 @@
-"""When to look at the agent's tables: only where they may differ from what the last look saw.
+"""When to look at the agent's tables: only if they may differ from what the last look saw.
 
-A table changes by frames, by commands, by links, and as its neighbors age out. A frame that its
-sender repeats changes nothing but the seconds left (`senders`). So a quiet network costs a look
-each time that the neighbor seen with the fewest seconds left would have aged out.
+Frames, commands, links and aging change a table. A frame that its sender repeats changes only the
+seconds left (`senders`). So a quiet network costs a look each time that the neighbor seen with the
+fewest seconds left would have aged out.
 """
 
 from __future__ import annotations
@@ -13,24 +13,24 @@ from ..agent.show import Port
 
 SECONDS_BETWEEN = 0.5
 SHARE = 20  # a look that takes a second is followed by 20 without one
-NO_CHANGE = (b"rx", b"tick", b"show")  # or what `senders` tell
+NO_CHANGE = (b"rx", b"tick", b"show")  # or what `senders` know
 
 
 class Looks:
-    """Notes what the agent is told, and says when to look at its tables again."""
+    """Notes what the agent is sent, and says when to look at its tables again."""
 
     def __init__(self) -> None:
         self.may_differ = True
-        self.first_end: Optional[int] = None  # the second in which the first neighbor would go
+        self.first_end: Optional[int] = None  # the second in which the first neighbor would age out
         self.next_look = 0.0
 
     def take_line(self, line: bytes) -> None:
-        """Notes a line that the agent is told."""
+        """Notes a line that the agent is sent."""
         self.may_differ |= line.partition(b" ")[0] not in NO_CHANGE
 
     def is_due(self, second: int, now: float) -> bool:
-        """Whether to look once so many seconds were told: at most twice a second, and never for
-        more than a twentieth of the time."""
+        """Returns whether to look after so many seconds: at most twice a second, and never for more
+        than a twentieth of the time."""
         ages_out = self.first_end is not None and second >= self.first_end
         return (self.may_differ or ages_out) and now >= self.next_look
 

@@ -1,4 +1,4 @@
-"""What lldpa-live stands on: what wants rights is opened first, and then the agent."""
+"""What lldpa-live needs: first what needs rights is opened, and then the agent."""
 
 from __future__ import annotations
 
@@ -35,7 +35,7 @@ from .watched import Watched
 
 
 class Ground:
-    """The interfaces, the ports and the log, opened while there are rights to."""
+    """The interfaces, the ports and the log, opened while the rights last."""
 
     def __init__(self, given: Given) -> None:
         self.given = given
@@ -53,7 +53,7 @@ class Ground:
         self.session = Session(given.log, given.log_most, given.log_keep, user_of(given.user), warn)
         self.watched = Watched(Manager(os.environ), self.senders, inform if given.events else None)
         self.state = state_at(given.state, user_of(given.user), warn)
-        self.is_awaiting = False  # whether it was told what is awaited
+        self.is_awaiting = False  # whether it was reported what is awaited
         self.not_taken = 0  # settings, lines and whole files
         self.relay: Optional[Relay] = None  # once the agent is open
 
@@ -81,7 +81,7 @@ class Ground:
         return relay
 
     def more(self) -> List[str]:
-        """The ports that patterns give by now, as many as there is room for."""
+        """Returns the ports that patterns give by now, as many as there is room for."""
         given = ports_of(self.parts, self.links.known.values())
         return [name for name in given if name not in self.names][:len(self.ports.spares)]
 
@@ -98,7 +98,7 @@ class Ground:
             self.links.read()
 
     def about(self) -> List[str]:
-        """What lldpa-live says of itself, without asking the agent."""
+        """Returns what lldpa-live says of itself, without asking the agent."""
         restarts = self.relay.agents.restarts if self.relay else 0
         return [f"live.began={written(self.began)}", f"live.agent={self.agent_state()}",
                 f"live.seconds={self.senders.second}", f"live.agent-restarts={restarts}",
@@ -108,13 +108,13 @@ class Ground:
                 *self.senders.about()]
 
     def agent_state(self) -> str:
-        """What is with the agent: `waiting` (for an interface), `running` or `silent`."""
+        """Returns the state of the agent: `waiting` (for an interface), `running` or `silent`."""
         if self.relay is None:
             return "waiting"
         return "silent" if self.relay.agents.patient.is_silent else "running"
 
     async def own_options(self, options: Options) -> Options:
-        """The agent's options: those given, and what this host says of itself besides."""
+        """Returns the agent's options: those given, and what this host says of itself besides."""
         own: Options = {"mac": None, "hostname": host_name()}
         if "mac" not in options and self.given.connect is None:
             own["mac"] = (await self.address(options)).hex(":")
@@ -123,13 +123,13 @@ class Ground:
         return {**own, **options}
 
     def management(self) -> Management:
-        """The management address of this host, which is followed unless it was given."""
+        """Returns the management address of this host, which is followed unless it was given."""
         is_own = "management" not in self.given.options and self.given.connect is None
         return Management(self.names, self.links, is_own and not self.given.no_management)
 
     async def address(self, options: Options) -> bytes:
-        """The address that names this host, which comes with an interface. Settings that such an
-        agent would refuse are told before it is awaited."""
+        """Returns the address that names this host, which comes with an interface. Settings that
+        such an agent would refuse are reported before it is awaited."""
         while True:
             address = chassis_address(self.names, self.links.known.values())
             if address is not None:
@@ -141,7 +141,7 @@ class Ground:
             self.links.read()
 
     async def try_settings(self, options: Options) -> None:
-        """Has an agent that sends nothing take the settings. Raises SettingsRefused where some are
+        """Tries the settings on an agent that sends nothing. Raises SettingsRefused if some are
         wrong."""
         agent = await AsyncAgent.start(self.names, self.given.program, on_frame=None, timeout=None,
                                        **options)
@@ -154,7 +154,7 @@ class Ground:
             raise SettingsRefused(settled.refused)
 
     def report_awaited(self) -> None:
-        """Says that there is no agent before an interface comes."""
+        """Reports that there is no agent before an interface comes."""
         if self.is_awaiting:
             return
         self.is_awaiting = True
@@ -166,7 +166,7 @@ class Ground:
         self.watched.manager.show(f"waiting for an interface: {awaited}")
 
     async def settle(self, relay: Relay) -> None:
-        """Tells the settings before any frame goes. Raises SettingsRefused where some are wrong."""
+        """Sends the settings before any frame is sent. Raises SettingsRefused if some are wrong."""
         text: Optional[str] = "" if self.given.no_description else description()
         if text is not None and self.given.connect is None:
             await relay.tell(command("configure", "system", "description", text).encode())
@@ -176,7 +176,7 @@ class Ground:
             raise SettingsRefused(settled.refused)
 
     def note(self, settled: Settled) -> None:
-        """Notes how many settings were not taken, and reports the files that could not be read."""
+        """Notes how many settings were not applied, and reports files that could not be read."""
         for line in settled.unread:
             warn(line)
         self.not_taken = len(settled.refused) + len(settled.unread)
@@ -184,7 +184,8 @@ class Ground:
 
 
 def check(ports: Sequence[str], found: Sequence[LinkNews], only_existing: bool) -> None:
-    """Raises OSError for an interface that can be no port, or is not there and is not awaited."""
+    """Raises OSError for an interface that cannot be a port, or does not exist and is not
+    awaited."""
     there = {news.name: news for news in found}
     for name in ports:
         if name in there and not there[name].is_ethernet:

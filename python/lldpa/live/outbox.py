@@ -1,4 +1,4 @@
-"""What the agent's ports send, from the agent to the interfaces."""
+"""What the agent's ports send, on its way from the agent to the interfaces."""
 
 from __future__ import annotations
 
@@ -13,8 +13,8 @@ ETHERTYPE = b"\x88\xcc"
 
 
 class Outbox:
-    """Keeps the frames that the agent hands over until they go out of their ports, with their own
-    source address or, where it is wished, that of the interface that they leave by."""
+    """Keeps the frames that the agent hands over until they are sent by their ports, with the
+    agent's source address or, if that is wanted, that of the interface."""
 
     def __init__(self, ports: Ports, own_source: bool = False) -> None:
         self.ports = ports
@@ -23,16 +23,16 @@ class Outbox:
         self.frames: list[tuple[str, bytes]] = []
 
     def take(self, name: str, octets: bytes) -> None:
-        """Takes a frame from the agent. Raises Ended for one that no agent of this host sends."""
+        """Takes a frame from the agent. Raises Ended if no agent of this host would send it."""
         port = self.ports.by_name.get(name)
         if port is None or not is_lldp(octets, self.chassis, port.address):
-            raise Ended(None, f"the agent wanted to send what is not an LLDP frame of {name}: "
+            raise Ended(None, f"the agent tried to send what is not an LLDP frame of {name}: "
                               f"{octets[:HEADER].hex()}")
         self.frames.append((name, octets))
 
     def send(self, seconds: int) -> None:
-        """Sends the frames of so many seconds. Of those that a port would have sent in several
-        seconds that were missed, the last one goes out, and the others are counted."""
+        """Sends the frames of so many seconds. If a port would have sent several in seconds that
+        were missed, the last one is sent, and the others are counted."""
         frames, self.frames = self.frames, []
         last = {name: place for place, (name, _) in enumerate(frames)}
         for place, (name, octets) in enumerate(frames):
@@ -43,8 +43,8 @@ class Outbox:
                 self.send_frame(port, octets)
 
     def send_frame(self, port: Interface, octets: bytes) -> None:
-        """Sends a frame out of its port. That it was not sent is counted, and told once until
-        one goes again."""
+        """Sends a frame by its port. A failure is counted, and reported once until a frame is sent
+        again."""
         if self.own_source and len(port.address) == LENGTH_OF_ADDRESS:
             octets = octets[:6] + port.address + octets[12:]
         try:
@@ -59,6 +59,6 @@ class Outbox:
 
 
 def is_lldp(octets: bytes, *sources: bytes) -> bool:
-    """Whether it is an LLDP frame to the nearest bridge from one of these addresses."""
+    """Returns whether it is an LLDP frame to the nearest bridge from one of these addresses."""
     return (HEADER <= len(octets) <= LONGEST_FRAME and octets[:6] == NEAREST_BRIDGE
             and octets[6:12] in sources and octets[12:14] == ETHERTYPE)

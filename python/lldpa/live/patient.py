@@ -1,4 +1,5 @@
-"""An agent that may hang: that it does not answer is told, and after a while it is ended."""
+"""An agent that may hang: if it does not answer, that is reported, and after a while it is
+ended."""
 
 from __future__ import annotations
 
@@ -15,7 +16,7 @@ SECONDS_BETWEEN_LOOKS = 0.25
 
 
 class Patient:
-    """Asks an agent, which is `is_silent` if it has said nothing for 5 seconds while it was asked,
+    """Asks an agent, which is `is_silent` if it has said nothing for 5 seconds after a question,
     and is ended after 10."""
 
     def __init__(self, agent: AsyncAgent, report: Callable[[str], None]) -> None:
@@ -23,10 +24,11 @@ class Patient:
         self.report = report
         self.waiting = Waiting()
         self.is_silent = False
-        self.silence = asyncio.Event()  # of who waits meanwhile
+        self.silence = asyncio.Event()  # for those that wait for an answer
 
     async def tell(self, lines: Iterable[Line]) -> List[str]:
-        """As AsyncAgent.tell. Raises Ended also where the agent was ended for its silence."""
+        """Sends lines, as AsyncAgent.tell does. Raises Ended also if the agent was ended for its
+        silence."""
         self.looking = asyncio.get_running_loop().call_later(SECONDS_BETWEEN_LOOKS, self.look)
         try:
             answer = await self.agent.tell(lines)
@@ -39,7 +41,7 @@ class Patient:
         return answer
 
     async def succeed(self, agent: AsyncAgent, patience: float) -> None:
-        """Goes on with another agent, and ends the one before."""
+        """Continues with another agent, and ends the one before."""
         before, self.agent = self.agent, agent
         self.waiting.begin()
         self.end_silence()
@@ -51,7 +53,7 @@ class Patient:
         self.silence.clear()
 
     def look(self) -> None:
-        """Looks how long the agent has said nothing."""
+        """Looks for how long the agent has said nothing."""
         seconds = self.waiting.look()
         if seconds >= SECONDS_TO_TELL and not self.is_silent:
             self.is_silent = True
@@ -68,5 +70,5 @@ class Patient:
         self.agent.kill()
 
     async def close(self, patience: float) -> None:
-        """As AsyncAgent.close."""
+        """Closes the agent, as AsyncAgent.close does."""
         await self.agent.close(patience)

@@ -1,4 +1,4 @@
-"""Ports that are given by patterns, as those of lldpd's option -I."""
+"""Ports that are given by patterns, like those of lldpd's option -I."""
 
 from __future__ import annotations
 
@@ -12,7 +12,7 @@ from ..limits import MOST_PORTS, PORT_NAME
 
 PATTERN = re.compile(r"[A-Za-z0-9_/:*?\[\]^-]{1,64}")  # of a name with wildcards
 WILDCARDS = set("*?[")
-TOO_MANY = ("{} ports, and {} are the most of an agent: run a second service for the others "
+TOO_MANY = ("{} ports, and an agent has at most {}: run a second service for the others "
             "(lldpa-live(8), Ports)")
 
 
@@ -21,26 +21,26 @@ class NoPorts(LldpaFault, LookupError):
 
 
 def parts_of(words: Iterable[str]) -> list[str]:
-    """The names and patterns of words, which may have several with commas between them."""
+    """Returns the names and patterns of words, which may have several with commas between them."""
     return [part for word in words for part in word.split(",") if part]
 
 
 def is_pattern(part: str) -> bool:
-    """Whether it is a pattern, or takes names away, and is not the name of a port."""
+    """Returns whether it is a pattern, or takes names away, and is not the name of a port."""
     return part.startswith("!") or bool(WILDCARDS & set(part))
 
 
 def is_able(part: str) -> bool:
-    """Whether it can be a port's name or a pattern of such names."""
+    """Returns whether it can be a port's name or a pattern of such names."""
     if is_pattern(part):
         return bool(PATTERN.fullmatch(part.lstrip("!"))) and not part.startswith("!!!")
     return bool(PORT_NAME.fullmatch(part))
 
 
 def ports_of(parts: Sequence[str], found: Iterable[LinkNews]) -> list[str]:
-    """The ports that names and patterns give. A name is a port, whether its interface is there or
-    not. A pattern gives the interfaces it matches of those that are hardware, or that are named
-    besides, and if it begins with a letter of a name, as `veth*`, also virtual ones. `!PATTERN`
+    """Returns the ports that names and patterns give. A name is a port even if its interface does
+    not exist. A pattern gives the interfaces it matches of those that are hardware, or that are
+    also named, and if it begins with a letter of a name, as `veth*`, also virtual ones. `!PATTERN`
     takes away what it matches, and `!!PATTERN` gives it all the same.
     """
     named = [part for part in parts if not is_pattern(part)]
@@ -57,8 +57,8 @@ def ports_of(parts: Sequence[str], found: Iterable[LinkNews]) -> list[str]:
 
 
 def first_ports(parts: Sequence[str], found: Iterable[LinkNews], may_wait: bool) -> list[str]:
-    """The ports that names and patterns give at the start. Raises NoPorts if there are over 64, or
-    if there is none and it may not be waited for one."""
+    """Returns the ports that names and patterns give at the start. Raises NoPorts if there are over
+    64, or if there is none and waiting for one is not allowed."""
     ports = ports_of(parts, found)
     if not ports and not (may_wait and any(map(gives, parts))):
         raise NoPorts(f"{','.join(parts)}: no Ethernet interface has such a name")
@@ -68,17 +68,17 @@ def first_ports(parts: Sequence[str], found: Iterable[LinkNews], may_wait: bool)
 
 
 def gives(part: str) -> bool:
-    """Whether it is a pattern that gives ports, and takes none away."""
+    """Returns whether it is a pattern that gives ports, and takes none away."""
     return is_pattern(part) and (not part.startswith("!") or part.startswith("!!"))
 
 
 def names_virtual(part: str) -> bool:
-    """Whether a pattern names virtual interfaces too: it does not begin with a wildcard."""
+    """Returns whether a pattern names virtual interfaces too: it does not begin with a wildcard."""
     return part.lstrip("!")[:1] not in WILDCARDS
 
 
 def is_wanted(name: str, parts: Sequence[str]) -> bool:
-    """Whether nothing takes a name away, or something gives it all the same."""
+    """Returns whether nothing takes a name away, or something gives it all the same."""
     given = any(fnmatchcase(name, part[2:]) for part in parts if part.startswith("!!"))
     return given or not any(fnmatchcase(name, part[1:]) for part in parts
                             if part.startswith("!") and not part.startswith("!!"))

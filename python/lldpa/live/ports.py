@@ -17,7 +17,7 @@ Report = Callable[[str], None]
 
 
 class Ports:
-    """All ports. `report` is told, as a line for people, what becomes of them."""
+    """All ports. What happens to them is passed to `report`, as lines for people."""
 
     def __init__(self, interfaces: Sequence[Interface], spares: Sequence[Interface],
                  report: Report) -> None:
@@ -26,7 +26,7 @@ class Ports:
         self.spares = list(spares)
         self.report = report
         self.waiting: list[tuple[float, Frame]] = []  # frames that were read, by their moments
-        self.awaited: set[str] = set()  # whose interfaces were told to be missing
+        self.awaited: set[str] = set()  # whose interfaces were reported to be missing
         self.drops = (Drops(BY_KERNEL, lambda port: port.drops, report),
                       Drops(BY_LIMIT, lambda port: port.limit_drops, report))
         self.readable = select.epoll()
@@ -42,7 +42,7 @@ class Ports:
         self.report(f"{name}: the interface is there, and in use")
 
     def take_link(self, news: LinkNews) -> list[bytes]:
-        """What an agent is to be told of the news of an interface: `up PORT`, `down PORT`."""
+        """Returns what the news of an interface mean to the agent: `up PORT`, `down PORT`."""
         lines: list[bytes] = []
         for port in self.by_name.values():
             if news.is_there and news.name == port.name:
@@ -75,18 +75,19 @@ class Ports:
             self.report(f"{port.name}: the interface is there, and in use")
 
     def retry(self, known: Iterable[LinkNews]) -> list[bytes]:
-        """Takes what it did not take, of the interfaces that there are; as for `take_link`."""
+        """Takes the existing interfaces that it did not take before; returns lines as `take_link`
+        does."""
         names = {port.name for port in self.by_name.values() if port.number is None}
         return [line for one in known if one.name in names for line in self.take_link(one)]
 
     def lose(self, port: Interface, what: str) -> list[bytes]:
-        """Lets go of an interface that has gone."""
+        """Lets go of an interface that is gone; returns lines as `take_link` does."""
         port.release()
         self.report(f"{port.name}: the interface is {what}; waiting for the next of that name")
         return told_link(port, False)
 
     def await_missing(self) -> list[bytes]:
-        """What an agent is to be told at the start of ports whose interface is not there."""
+        """Returns the lines for the agent at the start, of ports whose interface does not exist."""
         lines: list[bytes] = []
         for port in self.by_name.values():
             if port.number is None:
@@ -96,10 +97,10 @@ class Ports:
         return lines
 
     def read(self, seconds: Seconds, most: int = MOST_AT_ONCE) -> float:
-        """Reads some frames, so many at most of all ports together, and gives the moment up to
+        """Reads some frames, at most so many of all ports together, and returns the moment up to
         which none is left in any socket.
 
-        A port whose frames still wait is not read, so that few wait, however many come.
+        A port is not read while frames of it wait, so that few wait, however many come.
         """
         moment = now()
         readable = {number for number, _ in self.readable.poll(0)}
@@ -123,8 +124,8 @@ class Ports:
             port.limit_drops += 1
 
     def have_more(self) -> bool:
-        """Whether frames were left in a socket."""
-        return any(port.has_more for port in self.by_name.values())
+        """Returns whether frames were left in a socket, or wait for their moment."""
+        return bool(self.waiting) or any(port.has_more for port in self.by_name.values())
 
     def frames_until(self, moment: float) -> Iterable[tuple[float, Frame]]:
         """Takes out the frames up to a moment, in their order."""
@@ -132,18 +133,18 @@ class Ports:
             yield self.waiting.pop(0)
 
     def downs(self) -> list[str]:
-        """The ports whose links are down."""
+        """Returns the ports whose links are down."""
         return [port.name for port in self.by_name.values() if not port.is_up]
 
     def report_drops(self) -> None:
-        """Tells of frames that were dropped, each kind at most once a minute."""
+        """Reports frames that were dropped, each kind at most once a minute."""
         for port in self.by_name.values():
             port.count_drops()
         for drops in self.drops:
             drops.tell(self.by_name.values())
 
     def about(self) -> list[str]:
-        """Lines that say of each port what the agent can't know."""
+        """Returns lines that say of each port what the agent can't know."""
         lines = []
         for port in self.by_name.values():
             port.count_drops()
@@ -157,14 +158,14 @@ class Ports:
         return lines
 
     def close(self) -> None:
-        """Lets go of all sockets."""
+        """Closes all sockets."""
         self.readable.close()
         for port in [*self.by_name.values(), *self.spares]:
             port.close()
 
 
 def told_link(port: Interface, is_up: bool) -> list[bytes]:
-    """The line of a link that came or went, none where the agent knows it already."""
+    """Returns the line of a link that came up or went down, none if the agent knows it already."""
     if port.is_up == is_up:
         return []
     port.is_up = is_up
@@ -172,8 +173,8 @@ def told_link(port: Interface, is_up: bool) -> list[bytes]:
 
 
 def ran_and_later(news: Sequence[LinkNews]) -> tuple[list[LinkNews], list[LinkNews]]:
-    """LinkNews up to the last time that an interface of their name ran, and the others. The order
-    holds for each name, whichever interfaces have it one after the other."""
+    """Returns the news up to the last time that an interface of their name ran, and the others. The
+    order holds for each name, whichever interfaces have it one after another."""
     last = {one.name: place for place, one in enumerate(news) if one.is_running}
     ran = [one for place, one in enumerate(news) if place <= last.get(one.name, -1)]
     return ran, [one for place, one in enumerate(news) if place > last.get(one.name, -1)]

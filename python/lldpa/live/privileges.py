@@ -1,4 +1,5 @@
-"""Giving up rights: who reads frames of strangers needs none of those that opened the sockets."""
+"""Giving up rights: a process that reads strangers' frames needs none of those that opened the
+sockets."""
 
 from __future__ import annotations
 
@@ -25,14 +26,14 @@ def give_up(user: Optional[str]) -> None:
     user, `nobody` unless given.
 
     Children have none either, and no program that they run gives them any. No other process of the
-    same user can look into this one, or change it. Raises LookupError where there is no such user,
-    and OSError where the kernel refuses.
+    same user can look into this one, or change it. Raises LookupError if there is no such user, and
+    OSError if the kernel refuses.
     """
     libc = ctypes.CDLL(None, use_errno=True)
     empty_bounding_set(libc)
     join_keyring(libc)
     is_root = os.geteuid() == 0
-    with suppress(*() if is_root else (PermissionError,)):  # it wants CAP_SETGID
+    with suppress(*() if is_root else (PermissionError,)):  # it needs CAP_SETGID
         os.setgroups([])
     if is_root:
         entry = entry_of(user or USER)
@@ -46,20 +47,21 @@ def give_up(user: Optional[str]) -> None:
 
 
 def join_keyring(libc: ctypes.CDLL) -> None:
-    """Leaves the session keyring of who started this for a new one, where the kernel has some."""
+    """Replaces the session keyring of the process that started this one, if the kernel has
+    keyrings."""
     number = SYS_KEYCTL.get(os.uname().machine)
     if number is not None:
         libc.syscall(number, KEYCTL_JOIN_SESSION_KEYRING, None)
 
 
 def user_of(user: Optional[str]) -> Optional[int]:
-    """The number of the user that `give_up` becomes, None where it becomes none."""
+    """Returns the number of the user that `give_up` becomes, or None if it becomes none."""
     return entry_of(user or USER).pw_uid if os.geteuid() == 0 else None
 
 
 def empty_bounding_set(libc: ctypes.CDLL) -> None:
-    """Takes each capability out of what any program run from here could get, where that is allowed:
-    it wants CAP_SETPCAP."""
+    """Takes each capability out of what any program run from here could get, if that is allowed: it
+    needs CAP_SETPCAP."""
     capability = 0
     while libc.prctl(PR_CAPBSET_READ, capability, 0, 0, 0) >= 0:
         if libc.prctl(PR_CAPBSET_DROP, capability, 0, 0, 0) != 0:
@@ -68,7 +70,7 @@ def empty_bounding_set(libc: ctypes.CDLL) -> None:
 
 
 def entry_of(user: str) -> pwd.struct_passwd:
-    """What the system knows of a user."""
+    """Returns what the system knows of a user."""
     try:
         return pwd.getpwnam(user)
     except KeyError:
@@ -76,7 +78,7 @@ def entry_of(user: str) -> pwd.struct_passwd:
 
 
 def succeeded(result: int) -> None:
-    """Raises OSError where a call of the C library failed."""
+    """Raises OSError if a call of the C library failed."""
     if result != 0:
         number = ctypes.get_errno()
         raise OSError(number, os.strerror(number))

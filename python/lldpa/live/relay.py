@@ -1,4 +1,4 @@
-"""What comes in at interfaces is told to the agent, what the agent sends goes out.
+"""Gives the agent what the interfaces receive, and sends what the agent sends.
 
 What happens to a frame says `take_frame`, to a second `take_seconds`, which `turn` calls for all
 that has come in; to a question `ask`, and to the end `end`.
@@ -31,7 +31,7 @@ STATUS = "configuration.{}.status="
 
 
 class Relay:
-    """Stands between ports and an agent, whose frames come to lie in the outbox."""
+    """Stands between ports and an agent, whose frames are put into the outbox."""
 
     def __init__(self, agents: Agents, name: HostName, management: Management, ports: Ports,
                  links: Links, watched: Watched, state: Optional[State] = None,
@@ -46,18 +46,18 @@ class Relay:
         self.session = agents.session
         self.watched = watched
         self.state = state
-        self.more = more  # gives the ports that are to be added
+        self.more = more  # returns the ports to be added
         self.changes = links.changes
         self.forgets_on_down = forgets_on_down
         self.seconds = Seconds()
         self.batch = Batch()
-        self.telling = asyncio.Lock()  # one tells the agent at a time
+        self.telling = asyncio.Lock()  # held to send the agent lines
         self.woken = asyncio.Event()
         self.stopping = asyncio.Event()
         self.sources = select.epoll()
         self.sources.register(links.socket, select.EPOLLIN)
         self.sources.register(ports.readable, select.EPOLLIN)
-        self.is_awaiting = False  # what comes in
+        self.is_awaiting = False  # something that comes in
         name.wake(self.sources)
 
     def begin(self, found: Iterable[LinkNews]) -> None:
@@ -69,7 +69,7 @@ class Relay:
         self.senders.downs = self.ports.downs()
 
     async def run(self) -> None:
-        """Works until `stop`; then, and where anything fails, comes the end."""
+        """Works until `stop`; then, and if anything fails, comes the end."""
         try:
             while not self.stopping.is_set():
                 async with self.telling:
@@ -100,16 +100,18 @@ class Relay:
             timer.cancel()
 
     def wake(self) -> None:
-        """Something has come in, which is read at the next turn, and wakes nobody until then."""
+        """Notes that something has come in, which is read at the next turn, and wakes nothing until
+        then."""
         asyncio.get_running_loop().remove_reader(self.sources.fileno())
         self.is_awaiting = False
         self.woken.set()
 
     async def turn(self, most: int = MOST_AT_ONCE) -> float:
-        """Tells what has come in: frames by their stamps, and each second at its place among them.
-        Gives the moment up to which it has told all.
+        """Gives the agent what has come in: frames by their stamps, and each second at its place
+        among them. Returns the moment up to which it has given all.
 
-        A link that came is told before the frames, one that went behind them: none is lost by it.
+        A link that came up is given before the frames, one that went down after them, so that none
+        is lost.
         """
         moment = self.ports.read(self.seconds, most)
         came, went = ran_and_later(self.links.read())
@@ -120,7 +122,7 @@ class Relay:
         self.take_links(went)
         downs = self.batch.downs if self.forgets_on_down else []
         for refusal in await self.tell_agent():
-            raise Ended(None, f"the agent refused what lldpa-live told it: {refusal}")
+            raise Ended(None, f"the agent refused a line of lldpa-live: {refusal}")
         for name in downs:
             await self.forget(name)
         if self.name.has_changed():
@@ -139,13 +141,13 @@ class Relay:
         return moment
 
     async def catch_up(self) -> None:
-        """Tells all that has come in up to now, however many frames these are."""
+        """Gives the agent all that has come in up to now, however many frames these are."""
         moment = now() + LEAST_CHANGE
         while await self.turn(MOST_TO_CATCH_UP) < moment and self.ports.have_more():
             pass
 
     def take_frame(self, moment: float, frame: Frame) -> None:
-        """What happens to a frame: the seconds before it are told, and then it."""
+        """Takes a frame: the agent is given the seconds before it, and then the frame."""
         self.take_seconds(moment)
         self.batch.add_frame(moment, frame)
         if self.ports.by_name[frame.port].is_up:
@@ -153,7 +155,7 @@ class Relay:
                 self.watched.take_change()
 
     def take_seconds(self, moment: float) -> None:
-        """What happens to a second: of those that end up to a moment each is told, once."""
+        """Takes seconds: the agent is given each one that ends up to a moment, once."""
         missed = self.seconds.until(moment)
         if missed:
             self.batch.add_seconds(moment, missed)
@@ -162,13 +164,13 @@ class Relay:
             self.add_links(moment, self.ports.retry(self.links.known.values()))
 
     def take_links(self, news: Iterable[LinkNews]) -> None:
-        """What happens to a link: that it came or went is told."""
+        """Takes links: the agent is given that one came up or went down."""
         moment = now()
         for one in news:
             self.add_links(moment, self.ports.take_link(one))
 
     def add_links(self, moment: float, lines: Iterable[bytes]) -> None:
-        """Adds what the agent is to be told of links."""
+        """Adds lines about links for the agent."""
         for line in lines:
             self.batch.add_link(moment, line)
             self.watched.take_link(line)
@@ -183,7 +185,7 @@ class Relay:
                     await self.tell(f"configure ports {name} lldp status {status}".encode())
 
     async def grow(self, names: Sequence[str]) -> None:
-        """What happens to interfaces that a pattern gives later: they become ports."""
+        """Takes interfaces that a pattern gives later: they become ports."""
         if names:
             await self.agents.grow(names)
             for name in names:
@@ -191,13 +193,13 @@ class Relay:
             self.add_links(now(), self.ports.retry(self.links.known.values()))
 
     async def rename(self) -> None:
-        """What happens to the host's name: the agent takes it."""
+        """Takes the host's new name: the agent gets it."""
         refused = await self.name.follow(self.look, self.tell)
         if refused is not None:
             self.ports.report(refused)
 
     async def ask(self, line: bytes) -> list[bytes]:
-        """What happens to a question: the agent answers it, after all that came in before.
+        """Takes a question: the agent answers it, after all that came in before.
 
         Raises Ended if the agent or lldpa-live has ended.
         """
@@ -208,8 +210,8 @@ class Relay:
             return [text.encode() for text in await self.tell(line)]
 
     async def settle(self, paths: Sequence[str], program: str) -> Settled:
-        """What happens to settings: all of these files are told to the agent, which runs this
-        program, and what was not taken is given.
+        """Takes settings: sends all of these files to the agent, which runs this program, and
+        returns what was not accepted.
 
         Raises Ended if the agent or lldpa-live has ended.
         """
@@ -219,8 +221,8 @@ class Relay:
             return await tell_settings(paths, self.tell, program)
 
     async def end(self) -> None:
-        """The end: the state is left to the next one, and each port is disabled, so that its
-        shutdown frame goes."""
+        """Ends: leaves the state to the next lldpa-live, and disables each port, so that its
+        shutdown frame is sent."""
         async with self.telling:
             with suppress(Ended):
                 if self.state is not None:
@@ -229,7 +231,7 @@ class Relay:
                     await self.tell(f"configure ports {name} lldp status disabled".encode())
 
     async def tell(self, line: bytes) -> list[str]:
-        """Tells the agent a line as of now, and gives its answer."""
+        """Sends the agent a line as of now, and returns its answer."""
         answer = await self.tell_agent(line)
         if not answer:
             self.session.write([(now(), line)])  # no show and no line that was refused
@@ -238,12 +240,12 @@ class Relay:
         return answer
 
     async def look(self, line: bytes) -> list[str]:
-        """What the agent shows to lldpa-live itself, which is not in the log."""
+        """Returns what the agent shows to lldpa-live itself, which is not in the log."""
         return await self.agents.exchange([line])
 
     async def tell_agent(self, *commands: bytes) -> list[str]:
-        """Tells the log and the agent what is to be told, and the agent a command behind it; sends
-        its frames, and gives its answer."""
+        """Sends the log and the agent what waits, and the agent a command after it; sends its
+        frames, and returns its answer."""
         batch, self.batch = self.batch, Batch()
         lines = [*(entry.line for entry in batch.entries), *commands]
         if not lines:

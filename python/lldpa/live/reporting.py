@@ -1,4 +1,4 @@
-"""What lldpa-live tells people on standard error: a line each, and never a traceback."""
+"""What lldpa-live reports to people on standard error: a line each, and never a traceback."""
 
 from __future__ import annotations
 
@@ -42,7 +42,8 @@ def inform(text: str) -> None:
 
 
 def is_journal() -> bool:
-    """Whether standard error goes to systemd's journal, which reads a level in front of a line."""
+    """Returns whether standard error goes to systemd's journal, which reads a level before a
+    line."""
     with suppress(OSError):
         told = os.fstat(ERRORS)
         return os.environ.get("JOURNAL_STREAM") == f"{told.st_dev}:{told.st_ino}"
@@ -53,7 +54,7 @@ IS_JOURNAL = is_journal()
 
 
 def text_of(error: BaseException) -> str:
-    """An error as a text for people; where it is none that was expected, with its place."""
+    """Returns an error as a text for people, with its place if it is not an expected one."""
     is_told = isinstance(error, LookupError) and not isinstance(error, (KeyError, IndexError))
     if isinstance(error, Ended) or is_told:
         return str(error)
@@ -67,14 +68,14 @@ def text_of(error: BaseException) -> str:
 
 
 def place_of(error: BaseException) -> str:
-    """Where an error came up, as ` (FILE:LINE)`."""
+    """Returns where an error came up, as ` (FILE:LINE)`."""
     for step in reversed(traceback.extract_tb(error.__traceback__)):
         return f" ({os.path.basename(step.filename)}:{step.lineno})"
     return ""
 
 
 def report_fault(program: str, fault: BaseException) -> int:
-    """Reports why lldpa-live ends, and gives its status: 2 if its settings, or the words of the
+    """Reports why lldpa-live ends, and returns its status: 2 if its settings, or the words of the
     agent, are wrong, which no further start makes better; else 1."""
     if isinstance(fault, SettingsRefused):
         for line in fault.lines:
@@ -85,14 +86,14 @@ def report_fault(program: str, fault: BaseException) -> int:
 
 
 def report_all() -> None:
-    """Has the interpreter report what nobody catches in a line each."""
+    """Lets the interpreter report what nobody catches in a line each."""
     sys.excepthook = lambda _, fault, __: report(text_of(fault), ERROR)
     sys.unraisablehook = lambda told: warn(text_of(told.exc_value or RuntimeError("a fault")))
 
 
 def report_of_loop(_: asyncio.AbstractEventLoop, context: Dict[str, Any]) -> None:
-    """What an event loop does with a fault that no task waits for. That an agent has ended is told
-    by who runs it."""
+    """Reports a fault that no task of an event loop waits for. The caller of an agent reports its
+    end."""
     fault = context.get("exception")
     if not isinstance(fault, Ended):
         warn(context["message"] if fault is None else text_of(fault))

@@ -1,4 +1,4 @@
-"""The life of lldpa-live: what wants rights is opened, they are given up, the agent runs, ends."""
+"""The life of lldpa-live: it opens what needs rights, gives them up, runs the agent, and ends."""
 
 from __future__ import annotations
 
@@ -23,7 +23,7 @@ SECONDS_FOR_THE_LOG = 0.3
 
 
 async def live(given: Given) -> int:
-    """Runs lldpa-live to its end, and gives the status."""
+    """Runs lldpa-live to its end, and returns the status."""
     asyncio.get_running_loop().set_exception_handler(report_of_loop)
     name_process("lldpa-live")
     ground = Ground(given)
@@ -69,7 +69,7 @@ async def until_the_end(ground: Ground, desk: Desk, given: Given) -> int:
 
 
 async def end_silent(running: asyncio.Task[None], relay: Optional[Relay], program: str) -> int:
-    """Ends an agent that does not answer, and what waits for it; gives the status."""
+    """Ends an agent that does not answer, and what waits for it; returns the status."""
     report(f"{program}: the agent does not answer; it is ended without its last frames")
     if relay is not None:
         relay.agents.is_over = True
@@ -78,12 +78,12 @@ async def end_silent(running: asyncio.Task[None], relay: Optional[Relay], progra
     running.cancel()
     await asyncio.wait({running}, timeout=SECONDS_FOR_THE_AGENT)
     if running.done() and not running.cancelled():
-        running.exception()  # which is known: the agent was ended
+        running.exception()  # a known one: the agent was ended
     return 1
 
 
 def status_of(task: asyncio.Task[Any], program: str) -> int:
-    """The status of a task that has ended; what went wrong is reported."""
+    """Returns the status of a task that has ended; what went wrong is reported."""
     if task.cancelled():
         return 0
     fault = task.exception()

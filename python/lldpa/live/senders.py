@@ -1,7 +1,7 @@
-"""Who is heard at each port: since when and until when, and the last frame of each.
+"""The senders of each port: since when and until when they count, and the last frame of each.
 
-A frame is parsed here, once. A neighbor is named as `Neighbor.id` names it. At least those that the
-agent holds are known; of the others so many that memory stays bounded.
+A frame is parsed here, once. A neighbor is named as in `Neighbor.id`. At least the agent's
+neighbors are known, and so many others that memory stays bounded.
 """
 
 from __future__ import annotations
@@ -34,9 +34,9 @@ class Said(NamedTuple):
 
 @dataclass
 class Sender:
-    """One that is heard: when it came, by the wall clock, its time to live, the second in which it
-    ages out, the last second that any of its frames asked for, its last frame, and the change
-    before which that came."""
+    """A sender that is heard: when it came, by the wall clock, its time to live, the second in
+    which it ages out, the last second that any of its frames asked for, its last frame, and the
+    number of the change before that frame."""
 
     came: float
     ttl: int
@@ -54,22 +54,22 @@ class Numbered(NamedTuple):
 
 
 class Senders:
-    """The senders at each port. `second` counts those that the agent was told."""
+    """The senders at each port. `second` counts those that the agent was given."""
 
     def __init__(self) -> None:
         self.by_port: Dict[str, Dict[str, Sender]] = {}
-        self.too_many_until: Dict[str, int] = {}  # for want of room, by the port's name
-        self.held: Dict[str, set[str]] = {}  # whom the agent held when it was last asked
-        self.deaf: set[str] = set()  # ports whose status lets them hear nobody
+        self.too_many_until: Dict[str, int] = {}  # for lack of room, by the port's name
+        self.held: Dict[str, set[str]] = {}  # the agent's neighbors when it was last asked
+        self.deaf: set[str] = set()  # ports that cannot receive by their status
         self.downs: List[str] = []  # ports whose links are down
         self.second = 0
-        self.change = 0  # counts what gives a frame a meaning that was repeated without one
-        self.is_full = False  # whether it wants to be told whom the agent holds
+        self.change = 0  # counts what gives a meaning to a repeated frame
+        self.is_full = False  # whether it needs `note_held`
         self.numbers: Dict[str, Numbered] = {}  # by the chassis
         self.last_number = 0
 
     def hear(self, port: str, octets: bytes) -> bool:
-        """Takes a frame that comes in, and tells whether the port's table may be another by it."""
+        """Takes a received frame, and returns whether it may change the port's table."""
         said = said_by(octets)
         if said is None or port in self.deaf:
             return False
@@ -95,8 +95,8 @@ class Senders:
 
     def restore(self, port: str, id: str, octets: bytes, age: int, came: float,
                 seconds: int) -> None:
-        """Takes a neighbor that was there when lldpa-live ended, so many seconds ago; then its last
-        frame was so many seconds old."""
+        """Takes a neighbor of the last lldpa-live, which ended so many seconds ago; its last frame
+        was then so many seconds old."""
         said = said_by(octets)
         until = said.ttl - age - seconds if said is not None else 0
         if said is None or until <= 0:
@@ -106,8 +106,8 @@ class Senders:
         self.by_port.setdefault(port, {})[id] = sender
 
     def obey(self, line: bytes) -> None:
-        """Takes a command that the agent has taken: one that takes receiving away from a port
-        empties its table."""
+        """Takes a command that the agent has accepted. If it stops a port from receiving, that
+        port's table is emptied."""
         words = words_of(line.decode("ascii", "replace"))
         self.change += words[:1] != ["show"]
         if len(words) != 6 or [*words[:2], *words[3:5]] != STATUS:
@@ -120,8 +120,8 @@ class Senders:
             self.deaf.discard(words[2])
 
     def note_held(self, ports: Sequence[Port]) -> None:
-        """Takes whom the agent holds. Of others it is noted until when the longest one counts, and
-        where one is gone, there is room for them; where there are too many, they are forgotten."""
+        """Takes the agent's neighbors. Notes until when the longest of the others counts; if one is
+        gone, there is room for them; if there are too many, they are forgotten."""
         for port in ports:
             senders = self.by_port.get(port.name, {})
             held = {neighbor.id for neighbor in port.neighbors}
@@ -135,12 +135,12 @@ class Senders:
         self.is_full = False
 
     def ports(self) -> Tuple[Port, ...]:
-        """The neighbors of each port as the agent holds them, as far as that is known without it:
-        first those that it held when it was last asked."""
+        """Returns the neighbors of each port as the agent holds them, as far as that is known
+        without it: first those that it held when it was last asked."""
         return tuple(self.port(name) for name in self.by_port)
 
     def port(self, name: str) -> Port:
-        """The neighbors of one port."""
+        """Returns the neighbors of one port."""
         held = self.held.get(name, set())
         there = sorted(self.there(name), key=lambda entry: entry[0] not in held)
         neighbors = tuple(
@@ -151,17 +151,17 @@ class Senders:
         return Port(name, len(neighbors), 0, too_many, neighbors)
 
     def frame_of(self, neighbor: Neighbor) -> Optional[bytes]:
-        """The last frame of a neighbor, None where it was heard before lldpa-live began."""
+        """Returns the last frame of a neighbor, or None if it came before lldpa-live began."""
         sender = self.by_port.get(neighbor.port, {}).get(neighbor.id)
         return None if sender is None else sender.frame
 
     def came(self, neighbor: Neighbor) -> Optional[float]:
-        """When a neighbor came, None as for `frame_of`."""
+        """Returns when a neighbor came, None as for `frame_of`."""
         sender = self.by_port.get(neighbor.port, {}).get(neighbor.id)
         return None if sender is None else sender.came
 
     def number(self, chassis: str, until: int) -> None:
-        """Notes until when a chassis is there, and gives it a number if it was not."""
+        """Notes until when a chassis counts, and gives it a number if it did not count before."""
         known = self.numbers.get(chassis)
         if known is not None and known.until > self.second:
             self.numbers[chassis] = Numbered(known.number, max(known.until, until))
@@ -174,7 +174,7 @@ class Senders:
         self.numbers[chassis] = Numbered(self.last_number, until)
 
     def renumber(self, chassis: str) -> None:
-        """Notes that a sender of a chassis is gone, which perhaps was its last one."""
+        """Notes that a sender of a chassis is gone, which may have been its last one."""
         ends = [one.until for senders in self.by_port.values() for id, one in senders.items()
                 if id.partition(" ")[0] == chassis]
         if ends and chassis in self.numbers:
@@ -183,11 +183,12 @@ class Senders:
             self.numbers.pop(chassis, None)
 
     def there(self, port: str) -> Iterator[Tuple[str, Sender]]:
-        """The senders at a port that have not aged out, in the order in which they came."""
+        """Returns the senders at a port that have not aged out, in the order in which they came."""
         return ((id, one) for id, one in self.by_port[port].items() if one.until > self.second)
 
     def about(self) -> List[str]:
-        """The lines that tell who is there since when, and the number of each chassis."""
+        """Returns the lines that say since when each neighbor has been there, and the number of
+        each chassis."""
         lines = [f"live.{port}.since.{number}={written(one.came)} {id}" for port in self.by_port
                  for number, (id, one) in enumerate(self.there(port), 1)]
         numbers = self.numbers.items()
@@ -196,13 +197,13 @@ class Senders:
 
 
 def identifier(text: str) -> Identifier:
-    """A part of an MSAP identifier."""
+    """Returns a part of an MSAP identifier."""
     kind, _, value = text.partition("=")
     return Identifier(kind, value)
 
 
 def tlvs_of(octets: bytes) -> Iterator[Tuple[int, bytes]]:
-    """The type and the body of each TLV of a frame, up to its end or to one that is cut."""
+    """Returns the type and the body of each TLV of a frame, up to its end or to one that is cut."""
     place = HEADER
     while place + 2 <= len(octets):
         head = int.from_bytes(octets[place:place + 2], "big")
@@ -213,7 +214,7 @@ def tlvs_of(octets: bytes) -> Iterator[Tuple[int, bytes]]:
 
 
 def said_by(octets: bytes) -> Optional[Said]:
-    """What a frame says, None for one that the agent refuses."""
+    """Returns what a frame says, or None for one that the agent refuses."""
     tlvs = list(tlvs_of(octets))
     if tuple(kind for kind, _ in tlvs[:3]) != MANDATORY:
         return None
@@ -228,7 +229,7 @@ def said_by(octets: bytes) -> Optional[Said]:
 
 
 def shown_identifier(body: bytes, kinds: Sequence[str]) -> str:
-    """A Chassis ID or Port ID as the agent shows it."""
+    """Returns a Chassis ID or Port ID as the agent shows it."""
     kind = kinds[body[0] - 1] if 1 <= body[0] <= len(kinds) else ""
     value = body[1:]
     if kind == "mac" and len(value) == 6:
@@ -243,6 +244,6 @@ def shown_identifier(body: bytes, kinds: Sequence[str]) -> str:
 
 
 def placeholder(octets: bytes) -> bytes:
-    """A frame of the same neighbor that says no more, and lasts as long as one can."""
+    """Returns a frame of the same neighbor that says nothing more, and lasts as long as one can."""
     parts = [(kind << 9 | len(body)).to_bytes(2, "big") + body for kind, body in tlvs_of(octets)]
     return octets[:HEADER] + b"".join(parts[:2]) + LONGEST_TTL + bytes(2)

@@ -21,20 +21,20 @@ Tell = Callable[[bytes], Awaitable["list[str]"]]
 
 
 class Setting(NamedTuple):
-    """A line that sets something, and where it stands."""
+    """A line that sets something, and its place."""
 
     path: str
     number: int
     line: bytes
 
     def refused(self, why: str) -> str:
-        """What is said of it if it is refused."""
+        """Returns what is reported if it is refused."""
         text = printable(self.line.decode("utf-8", "surrogateescape").strip())[:MOST_SHOWN]
         return f"{self.path}:{self.number}: {text}: {printable(why)[:MOST_SHOWN]}"
 
 
 class Settled(NamedTuple):
-    """What was not taken of settings: lines that were refused, and files that could not be read;
+    """What was not accepted of settings: lines that were refused, and files that could not be read;
     each as a line for people."""
 
     refused: list[str]
@@ -42,9 +42,9 @@ class Settled(NamedTuple):
 
 
 def settings_of(paths: Iterable[str]) -> tuple[list[Setting], list[str]]:
-    """The settings of the files at these paths, and which files could not be read, and why. A
-    folder has those that end with `.conf` and are not hidden, in the order of their names; a path
-    at which nothing is has none."""
+    """Returns the settings of the files at these paths, and which files could not be read, and why.
+    A folder has those that end with `.conf` and are not hidden, in the order of their names; a path
+    at which nothing exists has none."""
     settings: list[Setting] = []
     unread: list[str] = []
     for path in paths:
@@ -60,7 +60,7 @@ def settings_of(paths: Iterable[str]) -> tuple[list[Setting], list[str]]:
 
 
 def files_of(path: str) -> list[str]:
-    """The files at a path. Raises OSError for a folder that cannot be read."""
+    """Returns the files at a path. Raises OSError for a folder that cannot be read."""
     if not os.path.isdir(path):
         return [path] if os.path.lexists(path) else []
     return [os.path.join(path, name) for name in sorted(os.listdir(path))
@@ -68,8 +68,8 @@ def files_of(path: str) -> list[str]:
 
 
 def lines_of(path: str) -> list[Setting]:
-    """The lines of a file without blank ones and comments. Raises OSError if it cannot be read, or
-    is not a file of lines; a pipe or a device is not waited for."""
+    """Returns the lines of a file without blank ones and comments. Raises OSError if it cannot be
+    read, or is not a file of lines; a pipe or a device is not waited for."""
     if not stat.S_ISREG(os.stat(path).st_mode):
         raise OSError(0, "not a file", path)
     with open(os.open(path, os.O_RDONLY | os.O_NONBLOCK | os.O_CLOEXEC), "rb") as file:
@@ -83,7 +83,7 @@ def lines_of(path: str) -> list[Setting]:
 
 
 async def tell_settings(paths: Sequence[str], tell: Tell, program: str) -> Settled:
-    """Tells all settings of these paths, one after the other, and gives what was not taken: for
+    """Sends all settings of these paths, one after another, and returns what was not accepted: for
     each refused line its file and number, the line, and why, by the help of that program."""
     settings, unread = settings_of(paths)
     refused: list[str] = []
@@ -94,7 +94,7 @@ async def tell_settings(paths: Sequence[str], tell: Tell, program: str) -> Settl
 
 
 async def why_refused(line: bytes, tell: Tell, program: str) -> str:
-    """Tells a setting, and gives why it was refused, nothing where it was not."""
+    """Sends a setting, and returns why it was refused, or nothing if it was not."""
     if len(line) > LONGEST_LINE:
         return "line too long"
     if first_word(line) != SETTING:

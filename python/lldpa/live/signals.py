@@ -1,4 +1,4 @@
-"""What lldpa-live does at signals: it ends, or reads its settings anew."""
+"""What lldpa-live does at signals: it ends, or reads its settings again."""
 
 from __future__ import annotations
 
@@ -16,7 +16,7 @@ SIGNALS = (signal.SIGINT, signal.SIGTERM, signal.SIGHUP)
 
 class Signals:
     """Stops lldpa-live at the first signal; a second one ends the process at once. With `--stay`
-    SIGHUP has it tell its settings anew. What was ignored at the start stays ignored."""
+    SIGHUP makes it send its settings again. What was ignored at the start stays ignored."""
 
     def __init__(self, stopping: asyncio.Event, ground: Ground) -> None:
         self.stopping = stopping
@@ -24,27 +24,36 @@ class Signals:
         self.wants_reload = False
         self.reloading: Optional[asyncio.Future[None]] = None
         self.taken = [one for one in SIGNALS if signal.getsignal(one) != signal.SIG_IGN]
+        mask = signal.pthread_sigmask(signal.SIG_BLOCK, SIGNALS)
+        self.add_handlers()
+        signal.pthread_sigmask(signal.SIG_SETMASK, mask)
+
+    def add_handlers(self) -> None:
+        """Has the event loop call what each signal asks for. The loop reads signals from a pipe. A
+        flood fills it. Nothing is lost by that, and the interpreter must not report it: CPython takes
+        a lock for that in its signal handler, and may wait for itself for ever."""
         loop = asyncio.get_running_loop()
         for one in self.taken:
-            reloads = one == signal.SIGHUP and ground.given.stay
+            reloads = one == signal.SIGHUP and self.ground.given.stay
             loop.add_signal_handler(one, self.reload if reloads else self.stop)
+        signal.set_wakeup_fd(signal.set_wakeup_fd(-1), warn_on_full_buffer=False)
 
     def stop(self) -> None:
-        """Has lldpa-live come to its end, and leaves further signals to the system."""
+        """Ends lldpa-live, and leaves further signals to the system."""
         self.stopping.set()
         for one in self.taken:
             asyncio.get_running_loop().remove_signal_handler(one)
             signal.signal(one, signal.SIG_DFL)
 
     def reload(self) -> None:
-        """Has the settings told anew: one time runs, and one may wait for it."""
+        """Sends the settings again: one time runs, and one may wait for it."""
         self.wants_reload = True
         if self.reloading is None or self.reloading.done():
             self.reloading = asyncio.ensure_future(self.settle())
 
     async def settle(self) -> None:
-        """Tells the settings anew as often as it is wanted, and says what was not taken. If there
-        is no agent yet, it is told them when it is opened."""
+        """Sends the settings again as often as it is wanted, and reports what was not accepted. If
+        there is no agent yet, it gets them when it is opened."""
         while self.wants_reload and self.ground.relay is not None:
             self.wants_reload = False
             manager, given = self.ground.watched.manager, self.ground.given
@@ -55,7 +64,7 @@ class Signals:
                 for refused in settled.refused:
                     warn(refused)
                 if self.ground.not_taken:
-                    warn(f"{self.ground.not_taken} settings were not taken")
+                    warn(f"{self.ground.not_taken} settings were not applied")
                 else:
-                    report("the settings were read anew")
+                    report("the settings were read again")
                 manager.ready()

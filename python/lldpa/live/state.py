@@ -1,8 +1,8 @@
 """The state that one lldpa-live leaves to the next: the tables, in a file.
 
-It is a trace of the neighbors' last frames with the seconds between them, as the head of a file of
-the log has them, between two comments; further comments say when each neighbor came. The file is
-emptied when it is read, so nothing is read twice.
+It is a trace of the neighbors' last frames with the seconds between them, as in the head of a file
+of the log, between two comments; further comments say when each neighbor came. The file is emptied
+when it is read, so nothing is read twice.
 """
 
 from __future__ import annotations
@@ -28,7 +28,7 @@ TICK = re.compile(r"tick(?: ([0-9]{1,5}))?")
 END = "# end"
 MOST_APART = 5.0  # seconds by the two clocks, within one boot
 MOST_FRAMES = MOST_PORTS * MOST_NEIGHBORS
-MOST_OCTETS = MOST_FRAMES * 2 * 4096  # two lines of each neighbor, and one of since when
+MOST_OCTETS = MOST_FRAMES * 2 * 4096  # two lines for each neighbor, and one of since when
 FLAGS = os.O_RDWR | os.O_CREAT | os.O_NOFOLLOW | os.O_NONBLOCK | os.O_CLOEXEC
 
 
@@ -48,7 +48,7 @@ class Kept(NamedTuple):
 
 
 class State:
-    """The file of a state, which is opened while there are rights to."""
+    """The file of a state, opened while there is the right to."""
 
     def __init__(self, path: str, user: Optional[int], report: Callable[[str], None]) -> None:
         """Opens it for that user, the present one if None. Raises OSError if it cannot be."""
@@ -63,8 +63,8 @@ class State:
             os.fchown(self.file, user, -1)
 
     def restore(self, senders: Senders, ports: Iterable[str]) -> bool:
-        """Tells the senders of these ports who was there, and whether there was anybody. What is
-        not used is reported."""
+        """Gives the senders the earlier neighbors of these ports, and returns whether there were
+        any. What is not used is reported."""
         try:
             kept, seconds = self.read()
         except (BadState, OSError, ValueError) as fault:
@@ -76,18 +76,18 @@ class State:
         return any(map(any, senders.by_port.values()))
 
     def read(self) -> Tuple[Dict[Name, Kept], int]:
-        """Reads the neighbors and how many seconds went by since, and empties the file. Raises
+        """Reads the neighbors and how many seconds have passed since, and empties the file. Raises
         BadState, OSError or ValueError for a state that cannot be used."""
         if self.is_foreign:
-            raise BadState("it is not a file of its user alone")
+            raise BadState("it does not belong to its user alone")
         with open(os.dup(self.file), "rb") as file:
             octets = file.read(MOST_OCTETS + 1)
         os.ftruncate(self.file, 0)
         return neighbors_in(octets.decode("ascii").split("\n")) if octets else ({}, 0)
 
     def write(self, show: Show, senders: Senders) -> None:
-        """Writes what leads to the tables that are shown, and since when each neighbor is there.
-        What fails is reported."""
+        """Writes what leads to the tables that are shown, and since when each neighbor has been
+        there. What fails is reported."""
         if self.is_foreign:
             return
         beginning = Beginning(show, senders)
@@ -104,17 +104,17 @@ class State:
             self.report(f"{self.path}: the state was not written: {error.strerror}")
 
     def close(self) -> None:
-        """Lets go of the file."""
+        """Closes the file."""
         with suppress(OSError):
             os.close(self.file)
 
 
 def neighbors_in(lines: List[str]) -> Tuple[Dict[Name, Kept], int]:
-    """The neighbors of a state in the order of the tables, and how many seconds went by since.
-    Raises BadState for one that is damaged, too old, or of another boot."""
+    """Returns the neighbors of a state in the order of the tables, and how many seconds have passed
+    since. Raises BadState for one that is damaged, too old, or of another boot."""
     head = HEAD.fullmatch(lines[0])
     if head is None or lines[-2:] != [END, ""]:
-        raise BadState("it is not whole")
+        raise BadState("it is not complete")
     seconds = now() - float(head[2])
     if seconds < 0 or abs(time.time() - float(head[1]) - seconds) > MOST_APART:
         raise BadState("this host was booted since, or its clock was set")
@@ -127,7 +127,7 @@ def neighbors_in(lines: List[str]) -> Tuple[Dict[Name, Kept], int]:
 
 
 def parsed(lines: List[str]) -> Dict[Name, Kept]:
-    """The neighbors of lines."""
+    """Returns the neighbors of lines."""
     came: Dict[Name, float] = {}
     heard: Dict[Name, Tuple[bytes, int]] = {}
     second = 0
@@ -140,22 +140,22 @@ def parsed(lines: List[str]) -> Dict[Name, Kept]:
         elif frame and (said := said_by(bytes.fromhex(frame[2]))) is not None and said.ttl:
             heard[frame[1], said.id] = bytes.fromhex(frame[2]), second
         else:
-            raise BadState(f"it has a line of another form: {line[:100]!r}")
+            raise BadState(f"it has a malformed line: {line[:100]!r}")
     if heard.keys() != came.keys():
         raise BadState("its neighbors are not those that it names")
     return {name: Kept(octets, second - at, came[name]) for name, (octets, at) in heard.items()}
 
 
 def ttl_of(frame: bytes) -> int:
-    """The time to live of a frame."""
+    """Returns the time to live of a frame."""
     said = said_by(frame)
     return said.ttl if said is not None else 0
 
 
 def state_at(path: Optional[str], user: Optional[int], report: Callable[[str], None]
              ) -> Optional[State]:
-    """Opens the state at a path for that user; None if no path is given, or it cannot be opened,
-    which is reported."""
+    """Opens the state at a path for that user. Returns None if no path is given, or it cannot be
+    opened, which is reported."""
     if path is None:
         return None
     try:

@@ -1,4 +1,4 @@
-"""Who looks on while lldpa-live runs: systemd, and who reads the lines of who comes and goes."""
+"""Those who watch lldpa-live: systemd, and the reader of its lines about neighbors."""
 
 from __future__ import annotations
 
@@ -17,16 +17,17 @@ Look = Callable[[bytes], Awaitable[List[str]]]
 
 
 class Watched:
-    """Tells them of the tables. Where nobody looks on, it costs nothing."""
+    """Reports the tables to them. If nobody watches, it costs nothing."""
 
     def __init__(self, manager: Manager, senders: Senders,
                  report: Optional[Callable[[str], None]] = None) -> None:
-        """Takes who started the service, and what is told who comes and goes, if anybody is."""
+        """Takes who started the service, and the reader of lines about neighbors, if there is
+        one."""
         self.manager = manager
         self.senders = senders
         self.events: Optional[Events] = None
         if report is not None:
-            from .events import Events  # loaded where somebody looks on: it takes 2 MB
+            from .events import Events  # loaded if somebody watches: it takes 2 MB
             from ..organizational.kinds import load
             load()  # while its files can be read
             self.events = Events(report)
@@ -34,31 +35,31 @@ class Watched:
         self.looks = Looks() if manager.is_there or self.events is not None else None
 
     def note_not_taken(self, count: int) -> None:
-        """Notes how many settings were not taken."""
+        """Notes how many settings were not applied."""
         self.remark = f"; {count} settings refused" if count else ""
         if self.status:
             self.manager.show(self.status + self.remark)
 
     def take_lines(self, lines: Iterable[bytes]) -> None:
-        """Lines that the agent is told."""
+        """Takes lines that the agent is sent."""
         if self.looks is not None:
             for line in lines:
                 self.looks.take_line(line)
 
     def take_change(self) -> None:
-        """The agent is told a frame that may change a table."""
+        """Takes the note that the agent is sent a frame that may change a table."""
         if self.looks is not None:
             self.looks.may_differ = True
 
     def take_link(self, line: bytes) -> None:
-        """A link came or went, as the line says that the agent is told."""
+        """Takes the line about a link that the agent is sent."""
         if self.events is not None:
             word, _, port = line.decode("ascii").partition(" ")
             self.events.take_link(port, word == "up")
 
     async def turned(self, look: Look, second: int) -> None:
-        """The agent has answered all that came in, up to so many seconds: it is looked at where
-        its tables may be others, and that all goes on is told."""
+        """Takes the note that the agent has answered all that came in, up to so many seconds: looks
+        at its tables if they may have changed, and reports a sign of life."""
         now = time.monotonic()
         if self.looks is not None and self.looks.is_due(second, now):
             await self.look(look, second, now)
@@ -80,6 +81,6 @@ class Watched:
 
 
 def status_of(ports: Sequence[Port]) -> str:
-    """How many neighbors there are, for people."""
+    """Returns how many neighbors there are, for people."""
     held = sum(port.neighbors_held for port in ports)
     return f"{counted(held, 'neighbor')} on {counted(len(ports), 'port')}"

@@ -16,14 +16,14 @@ MAC_OF_PORT, IP_OF_PORT = 3, 4
 
 
 def chassis_of(neighbor: Neighbor, is_brief: bool) -> Node:
-    """The chassis of a neighbor."""
+    """Returns the chassis of a neighbor."""
     known = {MAC_OF_CHASSIS: "mac", IP_OF_CHASSIS: "ip"}
     return chassis_node(identifier_node("ChassisID", neighbor.chassis, known), neighbor.said,
                         neighbor.capabilities or {}, is_brief)
 
 
 def local_chassis(chassis: LocalChassis, is_brief: bool) -> Node:
-    """What this host says of itself."""
+    """Returns what this host says of itself."""
     parts = [part.rpartition(":") for part in chassis.caps.split(",") if part]
     said = [("chassis.name", chassis.name), ("chassis.descr", chassis.descr)]
     said += [("chassis.mgmt", chassis.mgmt)] if chassis.mgmt else []
@@ -34,7 +34,7 @@ def local_chassis(chassis: LocalChassis, is_brief: bool) -> Node:
 
 def chassis_node(identifier: Node, said: Iterable[Tuple[str, str]],
                  capabilities: Mapping[str, bool], is_brief: bool) -> Node:
-    """A chassis, in brief its identifier and its name."""
+    """Returns a chassis, in brief its identifier and its name."""
     said = list(said)
     node = Node("chassis", "Chassis", nodes=[identifier])
     node.add("name", "SysName", first(said, "chassis.name"))
@@ -53,8 +53,8 @@ def chassis_node(identifier: Node, said: Iterable[Tuple[str, str]],
 
 
 def identifier_node(label: str, identifier: Identifier, known: Mapping[int, str]) -> Node:
-    """A Chassis ID or Port ID; `known` has the kinds that lldpd has of subtypes whose octets the
-    agent does not show as such."""
+    """Returns a Chassis ID or Port ID. `known` has lldpd's kinds for subtypes whose octets the
+    agent shows as unhandled."""
     kind, text = identifier
     if kind == "ip":
         text = shortest(text)
@@ -70,12 +70,12 @@ def identifier_node(label: str, identifier: Identifier, known: Mapping[int, str]
 
 
 def first(said: Iterable[Tuple[str, str]], key: str) -> Optional[str]:
-    """The text of a key, None where nothing is said of it."""
+    """Returns the text of a key, or None if nothing is said of it."""
     return next((said_text(unescaped(text)) for name, text in said if name == key), None)
 
 
 def managements(said: Iterable[Tuple[str, str]]) -> Iterator[Tuple[str, Optional[str]]]:
-    """The management addresses that are of IP, and the numbers of interfaces behind them."""
+    """Returns the IP management addresses, and the numbers of interfaces behind them."""
     for key, text in said:
         if key == "chassis.mgmt" and not text.startswith("af"):
             address, numbering, number, *_ = text.split(",")
@@ -84,7 +84,7 @@ def managements(said: Iterable[Tuple[str, str]]) -> Iterator[Tuple[str, Optional
 
 
 def shortest(address: str) -> str:
-    """An IP address as lldpd writes it."""
+    """Returns an IP address as lldpd writes it."""
     found = ipaddress.ip_address(address)
     family = socket.AF_INET if found.version == 4 else socket.AF_INET6
     return socket.inet_ntop(family, found.packed)

@@ -1,15 +1,15 @@
-"""The trees of the shows, each with its title, of what lldpa-live answers."""
+"""The trees of the shows, each with its title, from what lldpa-live answers."""
 from __future__ import annotations
 
 from enum import Enum
 from typing import Iterable, Iterator, List, Mapping, NamedTuple, Optional, Sequence
 
-from .. import clock
 from ..client.live_lines import LiveLines, Since
 from ..agent.framing import Refused
 from ..agent.show import (Configuration, Counters, Identifier, LocalChassis, Neighbor, Show,
                           read_show)
 from ..client.tallies import summed
+from ..client.times import seconds_of
 from ..node import Node, yes
 from ..organizational import known_to_lldpd
 from ..organizational.kinds import nodes_in
@@ -28,8 +28,8 @@ class Depth(Enum):
 
 
 class Told(NamedTuple):
-    """What lldpa-live answers: its shows, since when each neighbor is there, and the number of
-    each chassis; `now` is the time, in seconds of the epoch."""
+    """What lldpa-live answers: its shows, since when each neighbor has been there, and the number
+    of each chassis; `now` is the time, in seconds of the epoch."""
     show: Show
     since: Since
     numbers: Mapping[str, int]
@@ -37,14 +37,14 @@ class Told(NamedTuple):
 
 
 def told_by(answers: Sequence[Sequence[str]], live: Iterable[str], now: float) -> Told:
-    """What the answers to `LINES`, and to `live`, tell."""
+    """Reads the answers to `LINES`, and to `live`."""
     show = read_show([line for answer in answers for line in answer])
     told = LiveLines(live)
     return Told(show, told.since, told.numbers, now)
 
 
 def neighbors(told: Told, ports: Optional[Sequence[str]], depth: Depth) -> Node:
-    """`show neighbors`, of all ports or of some."""
+    """Returns `show neighbors`, of all ports or of some."""
     found = [neighbor for neighbor in told.show.neighbors if ports is None
              or neighbor.port in ports]
     return Node("lldp", "LLDP neighbors",
@@ -52,7 +52,7 @@ def neighbors(told: Told, ports: Optional[Sequence[str]], depth: Depth) -> Node:
 
 
 def neighbor_node(told: Told, neighbor: Neighbor, depth: Depth) -> Node:
-    """A neighbor."""
+    """Returns a neighbor."""
     node = Node("interface", "Interface", [("name", "", neighbor.port), ("via", "via", "LLDP")])
     if depth is not Depth.SUMMARY:
         node.attributes += presence(told, neighbor)
@@ -67,25 +67,26 @@ def neighbor_node(told: Told, neighbor: Neighbor, depth: Depth) -> Node:
 
 
 def presence(told: Told, neighbor: Neighbor) -> Iterator["tuple[str, str, str]"]:
-    """The number of its chassis, and how long it has been there, as far as lldpa-live knows."""
+    """Returns the number of its chassis, and how long it has been there, as far as lldpa-live
+    knows."""
     chassis, _, _ = neighbor.id.partition(" ")
     number, came = told.numbers.get(chassis), told.since.get((neighbor.port, neighbor.id))
     if number is not None:
         yield "rid", "RID", str(number)
     if came is not None:
-        seconds = told.now - clock.seconds_of(came)
+        seconds = told.now - seconds_of(came)
         yield "age", "Time", age(max(0, int(seconds)))
 
 
 def age(seconds: int) -> str:
-    """A time as lldpcli has it."""
+    """Returns a time as lldpcli writes it."""
     days, rest = divmod(seconds, 24 * 60 * 60)
     plural = "s" if days > 1 else ""
     return f"{days} day{plural}, {rest // 3600:02}:{rest // 60 % 60:02}:{rest % 60:02}"
 
 
 def interfaces(told: Told, ports: Optional[Sequence[str]], depth: Depth) -> Node:
-    """`show interfaces`: what this host says at its ports."""
+    """Returns `show interfaces`: what this host says at its ports."""
     root = Node("lldp", "LLDP interfaces")
     of_host, numbers = chassis_told(told), configuration_told(told)
     for name, status in numbers.statuses.items():
@@ -103,27 +104,27 @@ def interfaces(told: Told, ports: Optional[Sequence[str]], depth: Depth) -> Node
 
 
 def chassis(told: Told, depth: Depth) -> Node:
-    """`show chassis`."""
+    """Returns `show chassis`."""
     return Node("local-chassis", "Local chassis",
                 nodes=[local_chassis(chassis_told(told), depth is Depth.SUMMARY)])
 
 
 def chassis_told(told: Told) -> LocalChassis:
-    """Returns what this host says of itself. Raises Refused if lldpa-live does not tell it."""
+    """Returns what this host says of itself. Raises Refused if lldpa-live does not say it."""
     if told.show.chassis is None:
-        raise Refused("lldpa-live does not tell what this host says")
+        raise Refused("lldpa-live did not report what this host announces")
     return told.show.chassis
 
 
 def configuration_told(told: Told) -> Configuration:
-    """Returns the numbers in force. Raises Refused if lldpa-live does not tell them."""
+    """Returns the numbers in force. Raises Refused if lldpa-live does not say them."""
     if told.show.configuration is None:
-        raise Refused("lldpa-live does not tell the configuration")
+        raise Refused("lldpa-live did not report the configuration")
     return told.show.configuration
 
 
 def configuration(told: Told) -> Node:
-    """`show configuration`, as far as lldpd has the same."""
+    """Returns `show configuration`, as far as lldpd has the same."""
     numbers = configuration_told(told)
     only_receives = all(status == "rx-only" for status in numbers.statuses.values())
     node = Node("config", "Configuration")
@@ -136,7 +137,7 @@ def configuration(told: Told) -> Node:
 
 
 def statistics(told: Told, ports: Optional[Sequence[str]], is_summary: bool) -> Node:
-    """`show statistics`, of ports or their sums."""
+    """Returns `show statistics`, of ports or their sums."""
     found = {name: counters for name, counters in told.show.counters.items()
              if ports is None or name in ports}
     if is_summary:
@@ -148,7 +149,7 @@ def statistics(told: Told, ports: Optional[Sequence[str]], is_summary: bool) -> 
 
 
 def counter_nodes(counters: Counters) -> List[Node]:
-    """Counters; of what is sent lldpd does not tell shutdown frames apart."""
+    """Returns counters. Like lldpd's, the count of sent frames includes shutdown frames."""
     values = (("tx", "Transmitted", counters.sent + counters.shutdowns),
               ("rx", "Received", counters.received),
               ("rx_discarded_cnt", "Discarded", counters.discarded),

@@ -28,7 +28,7 @@ class Question(NamedTuple):
     ports: Optional[List[str]]
 
     def tree(self, told: Told) -> Node:
-        """The tree, of what lldpa-live answers."""
+        """Returns the tree, from what lldpa-live answers."""
         if self.show == "chassis":
             return chassis(told, self.depth)
         if self.show == "configuration":
@@ -39,14 +39,15 @@ class Question(NamedTuple):
         return of_ports(told, self.ports, self.depth)
 
     def missing(self, told: Told) -> List[str]:
-        """The ports that are asked for and are not there."""
+        """Returns the ports that are asked for and do not exist."""
         configuration = told.show.configuration
         known = configuration.statuses if configuration else {}
         return [port for port in self.ports or () if port not in known]
 
 
 class Watching(NamedTuple):
-    """What becomes of neighbors, of which ports, how much of them, and how often at most."""
+    """The changes of neighbors to watch, of which ports, how much of them, and how often at
+    most."""
     depth: Depth
     ports: Optional[List[str]]
     limit: Optional[int]
@@ -95,7 +96,7 @@ def read_rest(rest: List[str], able: List[str]) -> Watching:
         word = meant(rest.pop(0), able)
         able.remove(word)
         if word in (PORTS, LIMIT) and not rest:
-            raise Refused(f"nothing behind {word}")
+            raise Refused(f"nothing follows {word}")
         if word == PORTS:
             told = told._replace(ports=listed([rest.pop(0)]))
         elif word == LIMIT:
@@ -114,7 +115,8 @@ def number_of(word: str) -> int:
 
 
 def meant(word: str, able: Sequence[str]) -> str:
-    """The word that one is or shortens. Raises Refused where there is none, or several."""
+    """Returns the word that this one is or shortens. Raises Refused if there is none, or
+    several."""
     found = [one for one in able if one.startswith(word)] if word else []
     if len(found) != 1:
         instead = ", ".join(able) if able else "nothing follows"

@@ -9,14 +9,15 @@ from ..texts import escaped, printable
 from ..node import Node
 
 LINE = "-" * 79
-WIDTH = 13  # columns of what stands before a value
-NAMING = ("name", "type")  # the attributes whose values stand in the place of their node's key
+WIDTH = 13  # columns before a value
+NAMING = ("name", "type")  # the attributes whose values replace their node's key
 FLAGS = {"yes": True, "on": True, "no": False, "off": False}
 ENDS = ("Zl", "Zp")  # what ends a line, or a paragraph
 
 
 def plain(root: Node) -> str:
-    """For people. A text of several lines is indented, and no other octet controls a terminal."""
+    """Returns the form for people. A text of several lines is indented, and no other octet controls
+    a terminal."""
     lines = [LINE, f"{root.label}:", LINE]
     for node in root.nodes:
         lines += [*plain_lines(node, 0), LINE]
@@ -24,7 +25,7 @@ def plain(root: Node) -> str:
 
 
 def plain_lines(node: Node, depth: int) -> Iterator[str]:
-    """A node and those in it."""
+    """Returns the lines of a node and those in it."""
     front = "  " * depth
     told = [f"{label}: {printable(value)}" if label else printable(value)
             for _, label, value in node.attributes]
@@ -40,18 +41,18 @@ def plain_lines(node: Node, depth: int) -> Iterator[str]:
 
 
 def keyvalue(root: Node) -> str:
-    """Keys and values, a line each."""
+    """Writes keys and values, a line each."""
     return "\n".join(f"{key}={one_line(value)}" for key, value in pairs(root, ""))
 
 
 def on_a_terminal(root: Node) -> str:
-    """Keys and values, with all escaped that a terminal does not show as it is."""
+    """Writes keys and values, with all escaped that a terminal does not show as it is."""
     return "\n".join(f"{printable(key)}={printable(one_line(value))}"
                      for key, value in pairs(root, ""))
 
 
 def pairs(node: Node, front: str) -> Iterator[Tuple[str, str]]:
-    """The keys of a node and of those in it, and their values."""
+    """Returns the keys of a node and of those in it, and their values."""
     names = [value for key, _, value in node.attributes if key in NAMING]
     path = front + (one_line(names[0]) if names else node.key)
     for key, _, value in node.attributes:
@@ -64,8 +65,8 @@ def pairs(node: Node, front: str) -> Iterator[Tuple[str, str]]:
 
 
 def one_line(text: str) -> str:
-    """A text in a line: a line feed is a space, and what else a reader may take for the end of a
-    line, controls a terminal or is no UTF-8 is escaped."""
+    """Returns a text in a line. A line feed becomes a space, and what else may end a line for a
+    reader, controls a terminal or is not UTF-8 is escaped."""
     if text.isascii() and text.isprintable():
         return text
     return "".join(" " if letter == "\n" else escaped(letter) if is_control(letter) else letter
@@ -73,23 +74,26 @@ def one_line(text: str) -> str:
 
 
 def is_control(letter: str) -> bool:
-    """Whether it is a control character but a tab, ends a line, or stands for an octet."""
+    """Returns whether it is a control character other than a tab, ends a line, or stands for an
+    octet."""
     kind = unicodedata.category(letter)
     return kind in ENDS or kind[0] == "C" and kind not in ("Cf", "Co", "Cn") and letter != "\t"
 
 
 def json0(root: Node) -> str:
-    """JSON in which all that may come several times is a list."""
+    """Returns JSON in which all that may come several times is a list."""
     return json.dumps({root.key: [whole(root)]}, indent=2)
 
 
 def json_short(root: Node) -> str:
-    """JSON in which a list of one is what is in it, and what has a name stands under it."""
+    """Returns JSON in which a list of one is replaced by its item, and what has a name is under
+    it."""
     return json.dumps({root.key: shortened([whole(root)])}, indent=2)
 
 
 def whole(node: Node) -> Dict[str, Any]:
-    """A node as an object: its attributes, lists of the nodes in it by their keys, its text."""
+    """Returns a node as an object: its attributes, lists of the nodes in it by their keys, its
+    text."""
     told: Dict[str, Any] = {}
     for key, _, value in node.attributes:
         is_flag = value in FLAGS and key not in NAMING
@@ -102,12 +106,12 @@ def whole(node: Node) -> Dict[str, Any]:
 
 
 def unicode_of(text: str) -> str:
-    """A text with the replacement character for each octet that is no UTF-8."""
+    """Returns a text with the replacement character for each octet that is not UTF-8."""
     return "".join("\ufffd" if "\ud800" <= letter <= "\udfff" else letter for letter in text)
 
 
 def shortened(told: Any) -> Any:
-    """An object or a list of the whole form in the short one."""
+    """Returns an object or a list of the whole form in the short one."""
     if isinstance(told, list):
         parts: List[Any] = [shortened(one) for one in told]
         return parts[0] if len(parts) == 1 else parts
@@ -127,5 +131,5 @@ FORMS = {"plain": plain, "keyvalue": keyvalue, "json": json_short, "json0": json
 
 
 def form_of(name: str, is_terminal: bool) -> Callable[[Node], str]:
-    """Returns what writes a form, to a terminal or else."""
+    """Returns the writer of a form, for a terminal or for anything else."""
     return on_a_terminal if is_terminal and name == "keyvalue" else FORMS[name]

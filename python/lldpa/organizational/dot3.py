@@ -89,12 +89,12 @@ class MacPhy(Tlv):
 
     @property
     def mau(self) -> Optional[Mau]:
-        """The MAU type by its name, None if its number is not known."""
+        """Returns the MAU type by its name, or None if its number is not known."""
         return mau_of(self.mau_type)
 
     @property
     def modes(self) -> Tuple[str, ...]:
-        """What is advertised."""
+        """Returns what is advertised."""
         return advertised_names(self.advertised)
 
     @classmethod

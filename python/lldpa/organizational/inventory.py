@@ -40,19 +40,19 @@ class MedPower(Tlv):
 
     @property
     def device_name(self) -> Optional[str]:
-        """`PSE` or `PD`, None if the number is of neither."""
+        """Returns `PSE` or `PD`, or None if the number is of neither."""
         return DEVICES.get(self.device)
 
     @property
     def source_name(self) -> Optional[str]:
-        """Where the power of a PSE or a PD comes from."""
+        """Returns where the power of a PSE or a PD comes from."""
         if self.device not in DEVICES:
             return None
         return (PD_SOURCES if self.device else PSE_SOURCES)[self.source]
 
     @property
     def priority_name(self) -> Optional[str]:
-        """The priority of the PD, None if its number is not known."""
+        """Returns the priority of the PD, or None if its number is not known."""
         return PRIORITIES[self.priority] if self.priority < len(PRIORITIES) else None
 
     def words(self) -> str:

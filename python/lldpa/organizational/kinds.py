@@ -26,7 +26,7 @@ Reader = Callable[[bytes], Optional["Tlv"]]
 
 
 class Row(NamedTuple):
-    """What a neighbor says, for people: a key, a heading and words. Rows of one group stand
+    """What a neighbor says, for people: a key, a heading and words. Rows of one group are shown
     together under its name."""
     key: str
     heading: str
@@ -52,7 +52,7 @@ class Tlv:
 
     @property
     def part(self) -> str:
-        """What tells TLVs of this class apart of which one each may be sent."""
+        """Returns what distinguishes the TLVs of this class that may be sent once each."""
         return ""
 
     def words(self) -> str:
@@ -143,7 +143,7 @@ def kinds() -> List[Type[Tlv]]:
 
 
 def nodes_in(parent: str, said: Said) -> List[Node]:
-    """Returns the nodes that stand in the node of a key."""
+    """Returns the nodes that belong in the node of a key."""
     return [node for kind in kinds() if kind.parent == parent for node in kind.nodes(said)]
 
 
@@ -158,12 +158,12 @@ def name_in(names: Sequence[str], place: int, other: str) -> str:
 
 
 def ability(is_supported: bool, is_enabled: bool) -> str:
-    """Returns in a word whether something can be done, and is."""
+    """Returns in a word whether something can be done, and whether it is."""
     if is_enabled:
         return "enabled"
     return "disabled" if is_supported else "not supported"
 
 
 def watts(tenths: int) -> str:
-    """Returns a power in words, of tenths of a watt."""
+    """Returns a power in words, from tenths of a watt."""
     return f"{tenths / 10:g} W"

@@ -70,8 +70,8 @@ class Coordinates(Location):
     @classmethod
     def read(cls, octets: bytes) -> Optional[Coordinates]:
         """Reads bits: resolution (6) and latitude (34), resolution (6) and longitude (34), type
-        (4), resolution (6) and altitude (30), datum (8). No place is beyond a pole or half the
-        globe."""
+        (4), resolution (6) and altitude (30), datum (8). Returns None for places beyond a pole or
+        half the globe."""
         if len(octets) != 16:
             return None
         bits = number(octets)
@@ -127,8 +127,8 @@ def fixed(value: int, places: int, resolution: int, whole: int) -> str:
     """Returns the amount of a number, whose last `places` bits are behind the point, as lldpd
     writes it.
 
-    `resolution` counts the bits that are valid, `whole` those that the part before the point has;
-    by them lldpd has its digits, and cuts off what is beyond.
+    `resolution` counts the bits that are valid, and `whole` those of the part before the point.
+    From them lldpd takes the number of digits, and cuts off the rest.
     """
     size = abs(value)
     part = size & ((1 << places) - 1)

@@ -7,7 +7,7 @@ from __future__ import annotations
 import re
 from typing import NamedTuple, Optional, Tuple
 
-# from 1 on; behind a slash the duplex mode, where the type has one of its own
+# from 1 on; behind a slash the duplex mode, if the type has one of its own
 MAU_NAMES = """
 AUI 10BASE5 FOIRL 10BASE2 10BASE-T 10BASE-FP 10BASE-FB 10BASE-FL 10BROAD36 10BASE-T/half
 10BASE-T/full 10BASE-FL/half 10BASE-FL/full 100BASE-T4 100BASE-TX/half 100BASE-TX/full
@@ -39,20 +39,20 @@ ADVERTISED_NAMES = (
     "asymmetric and symmetric pause", "1000BASE-X/half", "1000BASE-X/full", "1000BASE-T/half",
     "1000BASE-T/full")
 
-# no speed where the two directions differ, as in 10/1GBASE-PRX
+# no speed if the two directions differ, as in 10/1GBASE-PRX
 SPEED = re.compile(r"([0-9.]+)(G?)(?:BASE|PASS|BROAD)")
 
 
 class Mau(NamedTuple):
-    """A MAU type: its name, its speed in Mb/s, and its duplex mode, `half` or `full`; None where
-    the type does not say it."""
+    """A MAU type: its name, its speed in Mb/s, and its duplex mode, `half` or `full`; None if the
+    type does not say it."""
     name: str
     speed: Optional[int]
     duplex: Optional[str]
 
 
 def mau_of(number: int) -> Optional[Mau]:
-    """The MAU type of a number, None where the number is not known (0 is `other or unknown`)."""
+    """Returns the MAU type of a number, or None if it is not known (0 is `other or unknown`)."""
     if not 1 <= number <= len(MAU_NAMES):
         return None
     name = MAU_NAMES[number - 1]
@@ -63,5 +63,5 @@ def mau_of(number: int) -> Optional[Mau]:
 
 
 def advertised_names(bits: int) -> Tuple[str, ...]:
-    """What each bit of two octets says that a port advertises."""
+    """Returns what each bit of two octets says that a port advertises."""
     return tuple(name for place, name in enumerate(ADVERTISED_NAMES) if bits >> (15 - place) & 1)

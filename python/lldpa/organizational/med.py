@@ -35,12 +35,12 @@ class MedCapabilities(Tlv):
 
     @property
     def names(self) -> Tuple[str, ...]:
-        """The capabilities that are known."""
+        """Returns the capabilities that are known."""
         return tuple(name for bit, name in enumerate(CAPABILITIES) if self.capabilities >> bit & 1)
 
     @property
     def class_name(self) -> Optional[str]:
-        """The class, None if its number is not known."""
+        """Returns the class, or None if its number is not known."""
         return CLASSES.get(self.device_class)
 
     def words(self) -> str:
@@ -56,7 +56,7 @@ class MedCapabilities(Tlv):
 
     @classmethod
     def nodes(cls, said: Said) -> List[Node]:
-        """Returns the node with all of LLDP-MED; none if no class of devices is said."""
+        """Returns the node with all of LLDP-MED, or none if no class of devices is said."""
         found = said.one(cls)
         if found is None or found.device_class == 0:
             return []
@@ -96,7 +96,7 @@ class NetworkPolicy(Tlv):
 
     @property
     def application_name(self) -> Optional[str]:
-        """The application, None if its number is not known."""
+        """Returns the application, or None if its number is not known."""
         return APPLICATIONS.get(self.application)
 
     def words(self) -> str:

@@ -44,17 +44,17 @@ class PowerRequest:
 
     @property
     def type_name(self) -> str:
-        """The type of the sender."""
+        """Returns the type of the sender."""
         return POWER_TYPES[self.type]
 
     @property
     def source_name(self) -> str:
-        """Where the power of a PSE or a PD comes from."""
+        """Returns where the power of a PSE or a PD comes from."""
         return (PD_SOURCES if self.type & 1 else PSE_SOURCES)[self.source]
 
     @property
     def priority_name(self) -> str:
-        """The priority of the PD."""
+        """Returns the priority of the PD."""
         return PRIORITIES[self.priority]
 
     def words(self) -> str:
@@ -176,17 +176,18 @@ class Power(Tlv):
 
     @property
     def power_class(self) -> Optional[int]:
-        """The power class, 0 to 4; None if the number is not that of a class."""
+        """Returns the power class, 0 to 4, or None if the number is not that of a class."""
         return self.class_number - 1 if 1 <= self.class_number <= 5 else None
 
     @property
     def pairs_name(self) -> Optional[str]:
-        """The pairs that carry power, `signal` or `spare`; None if the number is of neither."""
+        """Returns the pairs that carry power, `signal` or `spare`, or None if the number is of
+        neither."""
         return PAIRS.get(self.pairs)
 
     @property
     def device(self) -> str:
-        """`PSE` or `PD`."""
+        """Returns `PSE` or `PD`."""
         return "PSE" if self.is_pse else "PD"
 
     def words(self) -> str:

@@ -15,30 +15,30 @@ class Organizational(Said):
     """What a neighbor says in organizationally specific TLVs.
 
     `rest` has OUI and subtype, and the octets in hexadecimal, of all TLVs that are not in `tlvs`:
-    those of other kinds, those without the form of their kind, and those of which there should be
-    one and several differ.
+    those of other kinds, those without the form of their kind, and those that should be sent once
+    but were sent several times and differ.
     """
     rest: Tuple[Tuple[str, str], ...] = ()
 
     @property
     def pvid(self) -> Optional[int]:
-        """The Port VLAN ID, 0 if the port has none; None if nothing is said of it."""
+        """Returns the Port VLAN ID, 0 if the port has none, or None if nothing is said of it."""
         return self._number("vlan.pvid")
 
     @property
     def max_frame_size(self) -> Optional[int]:
-        """The maximum frame size in octets."""
+        """Returns the maximum frame size in octets."""
         return self._number("max_frame_size")
 
     @property
     def inventory(self) -> Mapping[str, bytes]:
-        """The texts of the inventory by their kinds, those of `inventory.INVENTORY` that are
-        said."""
+        """Returns the texts of the inventory by their kinds, of those of `inventory.INVENTORY` that
+        are said."""
         from .inventory import Inventory
         return {tlv.kind: tlv.text for tlv in self.all(Inventory)}
 
     def _number(self, path: str) -> Optional[int]:
-        """The value of the TLV with this path in JSON, whose class may not be loaded."""
+        """Returns the value of the TLV with this path in JSON, whose class may not be loaded."""
         return next((tlv.value() for tlv in self.tlvs if tlv.path == path), None)
 
 
@@ -75,7 +75,7 @@ def read_shown(kind: str, digits: str) -> Optional[Tlv]:
 
 
 def differing(tlvs: Iterable[Tlv]) -> List[Tuple[type, str]]:
-    """Returns of what there should be one TLV, and several say different things."""
+    """Returns which TLVs should be sent once, but were sent several times and differ."""
     first: Dict[Tuple[type, str], Tlv] = {}
     some = (tlv for tlv in tlvs if not tlv.is_repeated)
     places = (((type(tlv), tlv.part), tlv) for tlv in some)
@@ -83,8 +83,8 @@ def differing(tlvs: Iterable[Tlv]) -> List[Tuple[type, str]]:
 
 
 def known_to_lldpd(org: Org) -> Tuple[Organizational, List[Tuple[str, str]]]:
-    """Returns what the TLVs say that lldpd knows, and the others in their order, with those whose
-    octets do not have the form of their kind."""
+    """Returns what the TLVs say that lldpd knows, and the others in their order, among them those
+    whose octets do not have the form of their kind."""
     kinds.load()
     shown = list(org)
     said = said_by(one for one in shown if one[0] in OF_LLDPD)

@@ -1,6 +1,6 @@
-"""Stands for the package in its tests: `unittest discover` looks for it in this folder alone.
+"""Stands for the package in its tests: `unittest discover` looks for it only in this folder.
 
-It puts the folder of the package in front of where Python looks, and gives way to the package.
+It puts the folder of the package in front of Python's search path, and is replaced by the package.
 """
 import importlib
 import sys

@@ -1,6 +1,6 @@
 //! The agent.
 
-use crate::fault::{CommandFault, NoPort, OpenFault};
+use crate::fault::{expect_ok, unexpected, CommandFault, OpenFault, PortFault};
 use crate::machine::Mark;
 use crate::neighbors::{Neighbors, News};
 use crate::sys;
@@ -91,11 +91,12 @@ impl Show {
     /// The show of that number, or None for a command that changed something.
     fn of(number: u32) -> Option<Show> {
         match number {
+            0 => None,
             1 => Some(Show::Neighbors),
             2 => Some(Show::Statistics),
             3 => Some(Show::Chassis),
             4 => Some(Show::Configuration),
-            _ => None,
+            _ => unexpected(number),
         }
     }
 }
@@ -103,16 +104,22 @@ impl Show {
 /// What a command gave: a show that [`Agent::show`] writes, or which ports send.
 #[derive(Clone, Debug, PartialEq, Eq)]
 pub struct Commanded {
-    /// Which show was asked for, or None where something was changed.
+    /// Which show was asked for, or None if something was changed.
     pub show: Option<Show>,
     /// Which ports send.
     pub sent: Vec<Sent>,
 }
 
-/// An open agent. Its memory is taken by [`Agent::open`] alone, and given back where it is dropped.
+/// An open agent. Only [`Agent::open`] takes its memory, and dropping it gives that back.
 ///
-/// It stays on the thread that opened it, and is not `Send`: the toolchain that proves the library does not say of the
-/// memory behind the handle that another thread may use it.
+/// It stays on the thread that opened it, and is neither `Send` nor `Sync`. By the rule of the toolchain that proves the
+/// library, a handle may go to another thread only if `Send` is proved of its type. It is not proved of this handle: the
+/// agent's memory is behind a raw pointer, and no proof says that another thread may use it and free it.
+///
+/// ```compile_fail,E0277
+/// fn crosses<T: Send>() {}
+/// crosses::<lldpa::Agent>();
+/// ```
 ///
 /// ```
 /// use lldpa::{Agent, Options, Show};
@@ -141,6 +148,76 @@ pub struct Ticks {
     pub aged_out: u32,
     /// Which ports send at the last of them.
     pub sent: Vec<Sent>,
+}
+
+/// What a port counted, each modulo 2^32.
+#[derive(Clone, Copy, Debug, PartialEq, Eq, Hash)]
+pub struct Statistics {
+    /// Ordinary frames sent.
+    pub sent: u32,
+    /// Shutdown frames sent.
+    pub shutdowns: u32,
+    /// LLDP frames that came while the port received and its link was up.
+    pub received: u32,
+    /// LLDPDUs that were refused.
+    pub discarded: u32,
+    /// LLDPDUs that were refused or had a TLV discarded.
+    pub errors: u32,
+    /// TLVs that were discarded.
+    pub tlvs_discarded: u32,
+    /// Kept TLVs of the types 9 to 127.
+    pub unrecognized: u32,
+    /// Neighbors that aged out.
+    pub ageouts: u32,
+    /// LLDPDUs that were dropped for want of room.
+    pub drops: u32,
+}
+
+/// What a port may do.
+#[derive(Clone, Copy, Debug, PartialEq, Eq, Hash)]
+pub enum Status {
+    /// It receives and transmits.
+    RxAndTx = 0,
+    /// It receives.
+    RxOnly = 1,
+    /// It transmits.
+    TxOnly = 2,
+    /// Neither.
+    Disabled = 3,
+}
+
+impl Status {
+    /// The status of that number.
+    fn of(number: u8) -> Status {
+        match number {
+            0 => Status::RxAndTx,
+            1 => Status::RxOnly,
+            2 => Status::TxOnly,
+            3 => Status::Disabled,
+            _ => unexpected(number),
+        }
+    }
+}
+
+/// How an agent is configured: each by the last command that set it, else as it was opened.
+#[derive(Clone, Debug, PartialEq, Eq, Hash)]
+pub struct Configuration {
+    /// The tx-interval in seconds.
+    pub interval: u32,
+    /// The tx-hold.
+    pub hold: u32,
+    /// The time to live of an ordinary frame, in seconds.
+    pub ttl: u32,
+    /// reinitDelay in seconds.
+    pub reinit: u32,
+    /// txFastInit.
+    pub fast_init: u32,
+    /// txCreditMax.
+    pub credit_max: u32,
+    /// How many neighbors each port may hold now.
+    pub max_neighbors: u32,
+    /// The status of each port, in the order of the options.
+    pub status: Vec<Status>,
 }
 
 /// The room for the lines of a show beside those of neighbors, and for those of one neighbor, which mostly has fewer.
@@ -195,28 +272,92 @@ impl Agent {
     }
 
     /// One second has passed. Tells which ports send, by rising port.
+    #[must_use = "the frames that go"]
     pub fn tick(&mut self) -> Vec<Sent> {
         let mut marks = no_marks();
         // SAFETY: the handle is open, and the marks are a value of their own.
-        unsafe { sys::lldpa_tick(&mut *self.handle, &mut marks, ptr::null_mut()) };
+        expect_ok(unsafe { sys::lldpa_tick(&mut *self.handle, &mut marks, ptr::null_mut()) });
         sent(&marks)
     }
 
     /// Up to `count` seconds have passed: takes as many ticks, but stops behind the first at which a port sends or a
     /// neighbor ages out. Call it again for the others.
+    #[must_use = "the frames that go"]
     pub fn ticks(&mut self, count: u32) -> Ticks {
         let (mut marks, mut told) = (no_marks(), sys::TicksTaken::default());
         // SAFETY: the handle is open, and the others are values of their own.
-        unsafe { sys::lldpa_ticks(&mut *self.handle, count, &mut marks, &mut told) };
+        expect_ok(unsafe { sys::lldpa_ticks(&mut *self.handle, count, &mut marks, &mut told) });
         Ticks { taken: told.taken, aged_out: told.aged_out, sent: sent(&marks) }
     }
 
-    /// A frame came on a port: any octets; what is no LLDP frame changes nothing. Tells which ports send.
+    /// At which tick, from 1, a port sends or a neighbor ages out, if no other call comes before it; None if at none.
+    /// [`Agent::ticks`] stops behind just that one, so a caller may sleep so many seconds and then give them all.
+    #[must_use]
+    pub fn due(&self) -> Option<u32> {
+        let mut seconds = sys::NEVER;
+        // SAFETY: the handle is open, and the seconds are a value of their own.
+        expect_ok(unsafe { sys::lldpa_due(&*self.handle, &mut seconds) });
+        (seconds != sys::NEVER).then_some(seconds)
+    }
+
+    /// What a port counted.
     ///
     /// # Errors
     ///
     /// The agent has no such port.
-    pub fn frame(&mut self, port: u8, octets: &[u8]) -> Result<Vec<Sent>, NoPort> {
+    pub fn statistics(&self, port: u8) -> Result<Statistics, PortFault> {
+        let mut told = sys::Statistics::default();
+        // SAFETY: the handle is open, and what is told is a value of its own.
+        PortFault::check(unsafe { sys::lldpa_statistics(&*self.handle, port.into(), &mut told) })?;
+        Ok(Statistics {
+            sent: told.sent,
+            shutdowns: told.shutdowns,
+            received: told.received,
+            discarded: told.discarded,
+            errors: told.errors,
+            tlvs_discarded: told.tlvs_discarded,
+            unrecognized: told.unrecognized,
+            ageouts: told.ageouts,
+            drops: told.drops,
+        })
+    }
+
+    /// How the agent is configured.
+    #[must_use]
+    pub fn configuration(&self) -> Configuration {
+        let mut told = sys::Configuration {
+            interval: 0,
+            hold: 0,
+            ttl: 0,
+            reinit: 0,
+            fast_init: 0,
+            credit_max: 0,
+            max_neighbors: 0,
+            ports: 0,
+            status: [0; 64],
+        };
+        // SAFETY: the handle is open, and what is told is a value of its own.
+        expect_ok(unsafe { sys::lldpa_configuration(&*self.handle, &mut told) });
+        let ports = &told.status[..usize::from(self.ports)];
+        Configuration {
+            interval: told.interval,
+            hold: told.hold,
+            ttl: told.ttl,
+            reinit: told.reinit,
+            fast_init: told.fast_init,
+            credit_max: told.credit_max,
+            max_neighbors: told.max_neighbors,
+            status: ports.iter().map(|number| Status::of(*number)).collect(),
+        }
+    }
+
+    /// Takes a frame that a port received: any octets; if they are not an LLDP frame, nothing changes. Returns which
+    /// ports send.
+    ///
+    /// # Errors
+    ///
+    /// The agent has no such port.
+    pub fn frame(&mut self, port: u8, octets: &[u8]) -> Result<Vec<Sent>, PortFault> {
         let mut marks = no_marks();
         // SAFETY: the handle is open, the octets are as many as are told, and the marks are a value of their own.
         let answer = unsafe {
@@ -229,10 +370,8 @@ impl Agent {
                 ptr::null_mut(),
             )
         };
-        match answer {
-            sys::OK => Ok(sent(&marks)),
-            _ => Err(NoPort),
-        }
+        PortFault::check(answer)?;
+        Ok(sent(&marks))
     }
 
     /// A frame came on a port, as for [`Agent::frame`]. Tells what it did, too.
@@ -240,7 +379,7 @@ impl Agent {
     /// # Errors
     ///
     /// The agent has no such port.
-    pub fn frame_news<'f>(&mut self, port: u8, octets: &'f [u8]) -> Result<(Vec<Sent>, News<'f>), NoPort> {
+    pub fn frame_news<'f>(&mut self, port: u8, octets: &'f [u8]) -> Result<(Vec<Sent>, News<'f>), PortFault> {
         let (mut marks, mut news) = (no_marks(), sys::News::default());
         // SAFETY: the handle is open, the octets are as many as are told, and the others are values of their own.
         let answer = unsafe {
@@ -253,10 +392,8 @@ impl Agent {
                 &mut news,
             )
         };
-        match answer {
-            sys::OK => Ok((sent(&marks), News::of(&news, octets))),
-            _ => Err(NoPort),
-        }
+        PortFault::check(answer)?;
+        Ok((sent(&marks), News::of(&news, octets)))
     }
 
     /// The neighbors of a port, in the order in which they were last new.
@@ -264,13 +401,11 @@ impl Agent {
     /// # Errors
     ///
     /// The agent has no such port.
-    pub fn neighbors(&mut self, port: u8) -> Result<Neighbors<'_>, NoPort> {
+    pub fn neighbors(&self, port: u8) -> Result<Neighbors<'_>, PortFault> {
         let mut count = 0;
         // SAFETY: the handle is open, and the count is a value of its own.
-        match unsafe { sys::lldpa_neighbor_count(&mut *self.handle, port.into(), &mut count) } {
-            sys::OK => Ok(Neighbors::new(self, port, count)),
-            _ => Err(NoPort),
-        }
+        PortFault::check(unsafe { sys::lldpa_neighbor_count(&*self.handle, port.into(), &mut count) })?;
+        Ok(Neighbors::new(self, port, count))
     }
 
     /// The link of a port came up, or went down. Tells which ports send.
@@ -278,13 +413,11 @@ impl Agent {
     /// # Errors
     ///
     /// The agent has no such port.
-    pub fn link(&mut self, port: u8, up: bool) -> Result<Vec<Sent>, NoPort> {
+    pub fn link(&mut self, port: u8, up: bool) -> Result<Vec<Sent>, PortFault> {
         let mut marks = no_marks();
         // SAFETY: the handle is open, and the marks are a value of their own.
-        match unsafe { sys::lldpa_link(&mut *self.handle, port.into(), up, &mut marks) } {
-            sys::OK => Ok(sent(&marks)),
-            _ => Err(NoPort),
-        }
+        PortFault::check(unsafe { sys::lldpa_link(&mut *self.handle, port.into(), up, &mut marks) })?;
+        Ok(sent(&marks))
     }
 
     /// Takes a command, `configure ..`, `update` or `show ..`, without its line feed. A show is only read:
@@ -305,16 +438,14 @@ impl Agent {
     }
 
     /// A room for which a show mostly has not too many lines.
-    fn room_of_show(&mut self) -> usize {
-        let held: usize = (0..self.ports)
-            .map(|port| self.neighbors(port).map_or(0, |all| all.len()))
-            .sum();
+    pub(crate) fn room_of_show(&self) -> usize {
+        let held: usize = (0..self.ports).map(|port| self.neighbors(port).map_or(0, |all| all.len())).sum();
         SHOW_ROOM + SHOW_ROOM_OF_NEIGHBOR * held
     }
 
     /// All lines of a show, each with its line feed.
     #[must_use]
-    pub fn show(&mut self, show: Show) -> String {
+    pub fn show(&self, show: Show) -> String {
         let mut text = String::new();
         let mut room = vec![0u8; self.room_of_show()];
         let mut lines = sys::Lines::default();
@@ -323,7 +454,7 @@ impl Agent {
             // SAFETY: the handle is open, the room has as many octets as are told, and the lines are a value of their own.
             let answer = unsafe {
                 sys::lldpa_show_lines(
-                    &mut *self.handle,
+                    &*self.handle,
                     show as u32,
                     from,
                     room.as_mut_ptr(),
@@ -331,9 +462,7 @@ impl Agent {
                     &mut lines,
                 )
             };
-            if answer != sys::OK {
-                break;
-            }
+            expect_ok(answer);
             text.push_str(&String::from_utf8_lossy(&room[..lines.length]));
             // Each further call goes through the lines before again, so it gets twice the room.
             room.resize(2 * room.len(), 0);
@@ -343,21 +472,18 @@ impl Agent {
 
     /// One line of a show, from 0, without its line feed. None behind the last.
     #[must_use]
-    pub fn show_line(&mut self, show: Show, line: u32) -> Option<String> {
+    pub fn show_line(&self, show: Show, line: u32) -> Option<String> {
         let mut room = [0u8; sys::LINE_ROOM];
         let mut length = 0;
         // SAFETY: the handle is open, the room has as many octets as are told, and the length is a value of its own.
         let answer = unsafe {
-            sys::lldpa_show_line(
-                &mut *self.handle,
-                show as u32,
-                line,
-                room.as_mut_ptr(),
-                room.len(),
-                &mut length,
-            )
+            sys::lldpa_show_line(&*self.handle, show as u32, line, room.as_mut_ptr(), room.len(), &mut length)
         };
-        (answer == sys::OK).then(|| String::from_utf8_lossy(&room[..length]).into_owned())
+        match answer {
+            sys::OK => Some(String::from_utf8_lossy(&room[..length]).into_owned()),
+            sys::OUT_OF_RANGE => None,
+            _ => unexpected(answer),
+        }
     }
 
     /// The frame that a port sends, with the present configuration: at most 1514 octets.
@@ -365,13 +491,13 @@ impl Agent {
     /// # Errors
     ///
     /// The agent has no such port.
-    pub fn frame_of(&mut self, port: u8, mark: Mark) -> Result<Vec<u8>, NoPort> {
+    pub fn frame_of(&self, port: u8, mark: Mark) -> Result<Vec<u8>, PortFault> {
         let mut frame = vec![0u8; sys::FRAME_ROOM];
         let mut length = 0;
         // SAFETY: the handle is open, the room has as many octets as are told, and the length is a value of its own.
         let answer = unsafe {
             sys::lldpa_frame_of(
-                &mut *self.handle,
+                &*self.handle,
                 port.into(),
                 mark as u32,
                 frame.as_mut_ptr(),
@@ -379,9 +505,7 @@ impl Agent {
                 &mut length,
             )
         };
-        if answer != sys::OK {
-            return Err(NoPort);
-        }
+        PortFault::check(answer)?;
         frame.truncate(length);
         Ok(frame)
     }

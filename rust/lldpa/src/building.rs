@@ -1,6 +1,6 @@
 //! LLDPDUs that are built.
 
-use crate::fault::{BuildFault, OutOfRange};
+use crate::fault::{BuildFault, RangeFault};
 use crate::reading::Tlv;
 use crate::sys;
 use alloc::vec;
@@ -14,7 +14,7 @@ use alloc::vec::Vec;
 ///     .finish()?;
 /// assert_eq!(built.faults(), [None]);
 /// assert!(lldpa::examine(built.octets()).is_ok());
-/// # Ok::<(), lldpa::OutOfRange>(())
+/// # Ok::<(), lldpa::RangeFault>(())
 /// ```
 #[derive(Clone, Debug)]
 #[must_use]
@@ -43,7 +43,7 @@ impl<'a> Builder<'a> {
     /// # Errors
     ///
     /// An identifier has not 2 to 256 octets.
-    pub fn finish(self) -> Result<Built, OutOfRange> {
+    pub fn finish(self) -> Result<Built, RangeFault> {
         let tlvs: Vec<sys::Tlv> = self
             .tlvs
             .iter()
@@ -69,9 +69,7 @@ impl<'a> Builder<'a> {
                 &mut length,
             )
         };
-        if answer != sys::OK {
-            return Err(OutOfRange);
-        }
+        RangeFault::check(answer)?;
         octets.truncate(length);
         Ok(Built {
             octets,

@@ -1,6 +1,7 @@
 //! Why a call gives nothing.
 
 use crate::sys;
+use alloc::format;
 use alloc::string::String;
 use core::fmt;
 
@@ -125,39 +126,97 @@ faults! {
 }
 
 impl CommandFault {
-    /// The line that the program writes of the fault, as `error: unknown command`.
+    /// The line that the program writes of the fault, as `error: unknown command`; or one with the same beginning, if
+    /// the fault is [`CommandFault::Unexpected`].
     #[must_use]
     pub fn line(self) -> String {
         let mut room = [0u8; sys::TEXT_ROOM];
         let mut length = 0;
         // SAFETY: the room has as many octets as are told, and nothing else is lent.
-        unsafe { sys::lldpa_command_text(self.number().into(), room.as_mut_ptr(), room.len(), &mut length) };
-        String::from_utf8_lossy(&room[..length]).into_owned()
+        let answer = unsafe {
+            sys::lldpa_command_text(self.number().into(), room.as_mut_ptr(), room.len(), &mut length)
+        };
+        match answer {
+            sys::OK => String::from_utf8_lossy(&room[..length]).into_owned(),
+            _ => format!("error: {self}"),
+        }
     }
 }
 
-/// A number, or the length of an identifier, is not in its range.
-#[derive(Clone, Copy, Debug, PartialEq, Eq, Hash)]
-pub struct OutOfRange;
-
-impl fmt::Display for OutOfRange {
-    fn fmt(&self, out: &mut fmt::Formatter<'_>) -> fmt::Result {
-        out.write_str("a number or a length is not in its range")
+/// What the fault or the misuse of that number in `lldpa.h` is, in words. None if none has that number.
+#[must_use]
+pub fn fault_text(number: u32) -> Option<String> {
+    let mut room = [0u8; sys::FAULT_ROOM];
+    let mut length = 0;
+    // SAFETY: the room has as many octets as are told, and nothing else is lent.
+    let answer = unsafe { sys::lldpa_fault_text(number, room.as_mut_ptr(), room.len(), &mut length) };
+    match answer {
+        sys::OK => Some(String::from_utf8_lossy(&room[..length]).into_owned()),
+        sys::OUT_OF_RANGE => None,
+        _ => unexpected(answer),
     }
 }
 
-#[cfg(feature = "std")]
-impl std::error::Error for OutOfRange {}
-
-/// The agent has no port of that number.
-#[derive(Clone, Copy, Debug, PartialEq, Eq, Hash)]
-pub struct NoPort;
-
-impl fmt::Display for NoPort {
-    fn fmt(&self, out: &mut fmt::Formatter<'_>) -> fmt::Result {
-        out.write_str("the agent has no port of that number")
+faults! {
+    /// Why an LLDPDU is not built, or a machine not made or told of an event.
+    RangeFault {
+        /// A number, or the length of an identifier, is not in its range.
+        OutOfRange = 100, "a number or a length is not in its range";
+        /// The archive is of another version than this crate.
+        Version = 254, "the archive is of another version than this crate";
     }
 }
 
-#[cfg(feature = "std")]
-impl std::error::Error for NoPort {}
+faults! {
+    /// Why a call of an agent is refused that names a port.
+    PortFault {
+        /// The agent has no port of that number.
+        NoPort = 103, "the agent has no port of that number";
+    }
+}
+
+/// The end of a call that has no fault, if the archive answers a number that this crate does not know.
+///
+/// # Panics
+///
+/// Always: an archive of this version does not do so.
+#[cold]
+pub(crate) fn unexpected(answer: impl fmt::Display) -> ! {
+    panic!("liblldpa answered {answer}, which this crate does not know")
+}
+
+/// Looks that the answer of a call that has no fault is 0.
+pub(crate) fn expect_ok(answer: u8) {
+    if answer != sys::OK {
+        unexpected(answer);
+    }
+}
+
+#[cfg(test)]
+mod tests {
+    use super::*;
+    use alloc::string::ToString;
+
+    fn words(fault: u8) -> String {
+        fault_text(fault.into()).expect("a fault")
+    }
+
+    #[test]
+    fn texts_are_those_of_the_archive() {
+        for fault in 1..=8 {
+            assert_eq!(PduFault::check(fault).map_err(|fault| fault.to_string()), Err(words(fault)));
+        }
+        for fault in 11..=13 {
+            assert_eq!(BuildFault::check(fault).map_err(|fault| fault.to_string()), Err(words(fault)));
+        }
+        for fault in 21..=26 {
+            assert_eq!(OpenFault::check(fault).map_err(|fault| fault.to_string()), Err(words(fault)));
+        }
+        for fault in 31..=38 {
+            assert_eq!(CommandFault::check(fault).map_err(|fault| fault.to_string()), Err(words(fault)));
+        }
+        assert_eq!(RangeFault::OutOfRange.to_string(), words(100));
+        assert_eq!(PortFault::NoPort.to_string(), words(103));
+        assert!([0, 9, 27, 106, 256 + 21].iter().all(|number| fault_text(*number).is_none()));
+    }
+}

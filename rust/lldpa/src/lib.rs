@@ -10,8 +10,15 @@
 //! writes it, then where pkg-config knows it.
 //!
 //! Without the feature `std` the crate needs `alloc` alone.
+//!
+//! All but an [`Agent`] and its [`Neighbors`] is `Send` and `Sync`:
+//!
+//! ```
+//! fn crosses<T: Send + Sync>() {}
+//! crosses::<(lldpa::Builder, lldpa::Built, lldpa::Machine, lldpa::Kept, lldpa::Neighbor, lldpa::News)>();
+//! ```
 #![no_std]
-#![warn(missing_docs)]
+#![warn(missing_docs, missing_debug_implementations)]
 
 extern crate alloc;
 #[cfg(feature = "std")]
@@ -20,14 +27,16 @@ extern crate std;
 mod agent;
 mod building;
 mod fault;
+#[cfg(test)]
+mod full;
 mod machine;
 mod neighbors;
 mod reading;
 mod sys;
 
-pub use agent::{Agent, Commanded, Options, Role, Sent, Show, Ticks};
+pub use agent::{Agent, Commanded, Configuration, Options, Role, Sent, Show, Statistics, Status, Ticks};
 pub use building::{Builder, Built};
-pub use fault::{BuildFault, CommandFault, NoPort, OpenFault, OutOfRange, PduFault};
+pub use fault::{fault_text, BuildFault, CommandFault, OpenFault, PduFault, PortFault, RangeFault};
 pub use machine::{Cause, Machine, Mark};
 pub use neighbors::{Neighbor, Neighbors, News};
 pub use reading::{

@@ -1,6 +1,6 @@
 //! The transmit machine of one port (clause 9).
 
-use crate::fault::OutOfRange;
+use crate::fault::{unexpected, RangeFault};
 use crate::sys;
 
 /// What an event is for a port.
@@ -37,9 +37,10 @@ impl Mark {
     /// The mark of that number, or None for a quiet port.
     pub(crate) fn of(number: u8) -> Option<Mark> {
         match number {
+            0 => None,
             1 => Some(Mark::Ordinary),
             2 => Some(Mark::Shutdown),
-            _ => None,
+            _ => unexpected(number),
         }
     }
 }
@@ -51,7 +52,7 @@ impl Mark {
 /// let mut machine = Machine::new(5, 4, 2, true)?;
 /// assert_eq!(machine.event(Cause::Tick, 30)?, Some(Mark::Ordinary));
 /// assert_eq!(machine.event(Cause::Tick, 30)?, None);
-/// # Ok::<(), lldpa::OutOfRange>(())
+/// # Ok::<(), lldpa::RangeFault>(())
 /// ```
 #[derive(Clone, Debug)]
 pub struct Machine {
@@ -65,19 +66,17 @@ impl Machine {
     /// # Errors
     ///
     /// A number is not in its range, or the archive is of another version.
-    pub fn new(credit_max: u8, fast_init: u8, reinit: u8, allowed: bool) -> Result<Machine, OutOfRange> {
+    pub fn new(credit_max: u8, fast_init: u8, reinit: u8, allowed: bool) -> Result<Machine, RangeFault> {
         let mut held = sys::Machine::default();
         if !crate::is_of_this_version() {
-            return Err(OutOfRange);
+            return Err(RangeFault::Version);
         }
         // SAFETY: the struct is a value of its own.
         let answer = unsafe {
             sys::lldpa_transmit_new(&mut held, credit_max.into(), fast_init.into(), reinit.into(), allowed)
         };
-        match answer {
-            sys::OK => Ok(Machine { held }),
-            _ => Err(OutOfRange),
-        }
+        RangeFault::check(answer)?;
+        Ok(Machine { held })
     }
 
     /// Takes one event, with the tx-interval in force after it, 1 to 3600 seconds, and tells which frame goes.
@@ -85,15 +84,13 @@ impl Machine {
     /// # Errors
     ///
     /// The interval is not in its range, and the machine stays as it was.
-    pub fn event(&mut self, cause: Cause, interval: u16) -> Result<Option<Mark>, OutOfRange> {
+    pub fn event(&mut self, cause: Cause, interval: u16) -> Result<Option<Mark>, RangeFault> {
         let mut mark = 0;
         // SAFETY: both are values of their own.
         let answer =
             unsafe { sys::lldpa_transmit_event(&mut self.held, cause as u32, interval.into(), &mut mark) };
-        match answer {
-            sys::OK => Ok(Mark::of(mark)),
-            _ => Err(OutOfRange),
-        }
+        RangeFault::check(answer)?;
+        Ok(Mark::of(mark))
     }
 
     /// How many ordinary frames may go before the next tick, 0 to 10.

@@ -1,7 +1,7 @@
 //! The neighbors of a port, and what a frame does to them.
 
 use crate::agent::Agent;
-use crate::fault::PduFault;
+use crate::fault::{unexpected, PduFault};
 use crate::reading::{examine, Examined, Info, Msap};
 use crate::sys;
 use alloc::vec;
@@ -10,7 +10,7 @@ use alloc::vec::Vec;
 /// What a frame did.
 #[derive(Clone, Copy, Debug, PartialEq, Eq)]
 pub enum News<'f> {
-    /// It is no LLDP frame.
+    /// It is not an LLDP frame.
     NotLldp,
     /// The port does not receive, or its link is down: nobody looked at the frame.
     Deaf,
@@ -89,14 +89,14 @@ impl Neighbor {
 #[derive(Debug)]
 #[must_use]
 pub struct Neighbors<'a> {
-    agent: &'a mut Agent,
+    agent: &'a Agent,
     port: u8,
     next: u32,
     count: u32,
 }
 
 impl<'a> Neighbors<'a> {
-    pub(crate) fn new(agent: &'a mut Agent, port: u8, count: u32) -> Neighbors<'a> {
+    pub(crate) fn new(agent: &'a Agent, port: u8, count: u32) -> Neighbors<'a> {
         Neighbors { agent, port, next: 0, count }
     }
 }
@@ -110,7 +110,7 @@ impl Iterator for Neighbors<'_> {
         // SAFETY: the handle is open, the room has as many octets as are told, and what is told is a value of its own.
         let answer = unsafe {
             sys::lldpa_neighbor(
-                &mut *self.agent.handle,
+                &*self.agent.handle,
                 self.port.into(),
                 self.next,
                 octets.as_mut_ptr(),
@@ -118,8 +118,10 @@ impl Iterator for Neighbors<'_> {
                 &mut told,
             )
         };
-        if answer != sys::OK {
-            return None;
+        match answer {
+            sys::OK => (),
+            sys::OUT_OF_RANGE => return None,
+            _ => unexpected(answer),
         }
         self.next += 1;
         octets.truncate(told.pdu.extent);

@@ -9,7 +9,7 @@ fn at(octets: &[u8], place: sys::Place) -> &[u8] {
 }
 
 /// The LLDPDU of an Ethernet frame, which begins with its destination address and has no VLAN tag and no check
-/// sequence. None for what is no LLDP frame: 14 to 1514 octets, to 01-80-C2-00-00-0E, of EtherType 88-CC.
+/// sequence. None if it is not an LLDP frame: 14 to 1514 octets, to 01-80-C2-00-00-0E, of EtherType 88-CC.
 #[must_use]
 pub fn frame_pdu(frame: &[u8]) -> Option<&[u8]> {
     let mut place = sys::Place::default();
@@ -88,7 +88,7 @@ impl<'a> Info<'a> {
         self.unrecognized
     }
 
-    /// The kept TLVs in their order: well formed, and the first of its type where that is 4 to 7.
+    /// The kept TLVs in their order: well formed, and the first of its type if that is 4 to 7.
     pub fn kept(&self) -> Kept<'a> {
         Kept { extent: self.octets, walk: sys::Kept::default() }
     }
@@ -163,7 +163,7 @@ pub struct Capabilities {
     pub enabled: u16,
 }
 
-/// The fields of the body of a System Capabilities TLV. None where it is not well formed: four octets, and no bit
+/// The fields of the body of a System Capabilities TLV. None if it is not well formed: four octets, and no bit
 /// enabled that is not available.
 #[must_use]
 pub fn caps(body: &[u8]) -> Option<Capabilities> {
@@ -188,7 +188,7 @@ pub struct Management<'a> {
     pub oid: &'a [u8],
 }
 
-/// The fields of the body of a Management Address TLV. None where it is not well formed.
+/// The fields of the body of a Management Address TLV. None if it is not well formed.
 #[must_use]
 pub fn mgmt(body: &[u8]) -> Option<Management<'_>> {
     let mut told = sys::Management::default();

@@ -4,6 +4,7 @@
 use core::ffi::c_void;
 
 pub const OK: u8 = 0;
+pub const OUT_OF_RANGE: u8 = 100;
 
 /// The version of the header that these declarations are of.
 pub const VERSION: u32 = 10000;
@@ -18,6 +19,10 @@ pub const FRAME_ROOM: usize = 1514;
 pub const PDU_ROOM: usize = 1500;
 /// No text of a refusal has more octets.
 pub const TEXT_ROOM: usize = 22;
+/// No words of a fault have more octets.
+pub const FAULT_ROOM: usize = 65;
+/// At no tick anything is due.
+pub const NEVER: u32 = u32::MAX;
 
 #[repr(C)]
 #[derive(Clone, Copy, Debug, Default)]
@@ -156,6 +161,34 @@ pub struct TicksTaken {
 
 #[repr(C)]
 #[derive(Clone, Copy, Debug, Default)]
+pub struct Statistics {
+    pub sent: u32,
+    pub shutdowns: u32,
+    pub received: u32,
+    pub discarded: u32,
+    pub errors: u32,
+    pub tlvs_discarded: u32,
+    pub unrecognized: u32,
+    pub ageouts: u32,
+    pub drops: u32,
+}
+
+#[repr(C)]
+#[derive(Clone, Copy, Debug)]
+pub struct Configuration {
+    pub interval: u32,
+    pub hold: u32,
+    pub ttl: u32,
+    pub reinit: u32,
+    pub fast_init: u32,
+    pub credit_max: u32,
+    pub max_neighbors: u32,
+    pub ports: u32,
+    pub status: [u8; 64],
+}
+
+#[repr(C)]
+#[derive(Clone, Copy, Debug, Default)]
 pub struct News {
     pub chassis: Place,
     pub port: Place,
@@ -203,6 +236,10 @@ extern "C" {
     pub fn lldpa_open(options: *const Options, agent: *mut Agent) -> u8;
     pub fn lldpa_tick(agent: *mut Agent, marks: *mut Marks, aged_out: *mut u32) -> u8;
     pub fn lldpa_ticks(agent: *mut Agent, count: u32, marks: *mut Marks, told: *mut TicksTaken) -> u8;
+    pub fn lldpa_due(agent: *const Agent, seconds: *mut u32) -> u8;
+    pub fn lldpa_statistics(agent: *const Agent, port: u32, told: *mut Statistics) -> u8;
+    pub fn lldpa_configuration(agent: *const Agent, told: *mut Configuration) -> u8;
+    pub fn lldpa_fault_text(fault: u32, room: *mut u8, room_length: usize, length: *mut usize) -> u8;
     pub fn lldpa_frame(
         agent: *mut Agent,
         port: u32,
@@ -211,9 +248,9 @@ extern "C" {
         marks: *mut Marks,
         news: *mut News,
     ) -> u8;
-    pub fn lldpa_neighbor_count(agent: *mut Agent, port: u32, count: *mut u32) -> u8;
+    pub fn lldpa_neighbor_count(agent: *const Agent, port: u32, count: *mut u32) -> u8;
     pub fn lldpa_neighbor(
-        agent: *mut Agent,
+        agent: *const Agent,
         port: u32,
         index: u32,
         room: *mut u8,
@@ -230,7 +267,7 @@ extern "C" {
     ) -> u8;
     pub fn lldpa_command_text(fault: u32, room: *mut u8, room_length: usize, length: *mut usize) -> u8;
     pub fn lldpa_show_lines(
-        agent: *mut Agent,
+        agent: *const Agent,
         show: u32,
         from: u32,
         room: *mut u8,
@@ -238,7 +275,7 @@ extern "C" {
         told: *mut Lines,
     ) -> u8;
     pub fn lldpa_show_line(
-        agent: *mut Agent,
+        agent: *const Agent,
         show: u32,
         line: u32,
         room: *mut u8,
@@ -246,7 +283,7 @@ extern "C" {
         length: *mut usize,
     ) -> u8;
     pub fn lldpa_frame_of(
-        agent: *mut Agent,
+        agent: *const Agent,
         port: u32,
         mark: u32,
         room: *mut u8,

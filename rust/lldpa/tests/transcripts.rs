@@ -1,6 +1,6 @@
 //! Three transcripts of examples/, with what the library does in the place of the program. A program in C runs all.
 
-use lldpa::{Agent, CommandFault, Neighbor, News, Options, Role, Sent};
+use lldpa::{Agent, CommandFault, Neighbor, News, Options, Role, Sent, Show};
 use std::fs;
 use std::path::Path;
 
@@ -13,20 +13,55 @@ fn octets(digits: &str) -> Vec<u8> {
 }
 
 /// The lines of frames that were sent.
-fn sent_lines(agent: &mut Agent, ports: &[&str], sent: &[Sent]) -> String {
+fn sent_lines(agent: &Agent, ports: &[&str], sent: &[Sent]) -> String {
     let line = |one: &Sent| {
-        let frame = agent
-            .frame_of(one.port, one.mark)
-            .expect("a port that sends");
+        let frame = agent.frame_of(one.port, one.mark).expect("a port that sends");
         let digits: String = frame.iter().map(|octet| format!("{octet:02x}")).collect();
         format!("tx {} {digits}\n", ports[usize::from(one.port)])
     };
     sent.iter().map(line).collect()
 }
 
+/// What is told as structs is what the shows show.
+fn see_structs(agent: &mut Agent, ports: &[&str]) {
+    let (counters, settings) = (agent.show(Show::Statistics), agent.show(Show::Configuration));
+    for (port, name) in ports.iter().enumerate() {
+        let told = agent.statistics(port as u8).expect("a port");
+        for (key, number) in [
+            ("sent", told.sent),
+            ("shutdowns", told.shutdowns),
+            ("received", told.received),
+            ("discarded", told.discarded),
+            ("errors", told.errors),
+            ("tlvs-discarded", told.tlvs_discarded),
+            ("unrecognized", told.unrecognized),
+            ("ageouts", told.ageouts),
+            ("drops", told.drops),
+        ] {
+            assert!(counters.contains(&format!("lldp.{name}.{key}={number}\n")));
+        }
+    }
+    let told = agent.configuration();
+    assert_eq!(told.status.len(), ports.len());
+    for (key, number) in [
+        ("tx-interval", told.interval),
+        ("tx-hold", told.hold),
+        ("ttl", told.ttl),
+        ("reinit-delay", told.reinit),
+        ("tx-fast-init", told.fast_init),
+        ("tx-credit-max", told.credit_max),
+        ("max-neighbors", told.max_neighbors),
+        ("ports", told.status.len() as u32),
+    ] {
+        assert!(settings.contains(&format!("configuration.{key}={number}\n")));
+    }
+    assert!(agent.statistics(ports.len() as u8).is_err());
+}
+
 /// What a command answers, each line of its show also by itself.
 fn answer(agent: &mut Agent, ports: &[&str], line: &str) -> Result<String, CommandFault> {
     let done = agent.command(line.as_bytes())?;
+    see_structs(agent, ports);
     let mut written = sent_lines(agent, ports, &done.sent);
     if let Some(show) = done.show {
         let text = agent.show(show);
@@ -60,7 +95,10 @@ fn event(agent: &mut Agent, ports: &[&str], line: &str) -> String {
         ["tick", count] => {
             let (mut left, mut written) = (count.parse().expect("a number"), String::new());
             while left > 0 {
+                let due = agent.due();
                 let done = agent.ticks(left);
+                assert_eq!(done.taken, due.map_or(left, |due| due.min(left)));
+                assert_eq!(done.aged_out > 0 || !done.sent.is_empty(), Some(done.taken) == due);
                 left -= done.taken;
                 written.push_str(&sent_lines(agent, ports, &done.sent));
             }
@@ -76,16 +114,11 @@ fn event(agent: &mut Agent, ports: &[&str], line: &str) -> String {
 
 /// Runs a transcript, and compares what it writes.
 fn run(name: &str, options: Options) {
-    let path = Path::new(env!("CARGO_MANIFEST_DIR"))
-        .join("../../examples")
-        .join(name);
+    let path = Path::new(env!("CARGO_MANIFEST_DIR")).join("../../examples").join(name);
     let trace = fs::read_to_string(path.with_extension("trace")).expect("a file");
     let shown = fs::read_to_string(path.with_extension("expect")).expect("a file");
     let mut agent = Agent::open(&options).expect("an agent");
-    let written: String = trace
-        .lines()
-        .map(|line| event(&mut agent, options.ports, line))
-        .collect();
+    let written: String = trace.lines().map(|line| event(&mut agent, options.ports, line)).collect();
     let wanted = shown.lines().filter(|line| !line.starts_with("> "));
     assert!(written.lines().eq(wanted), "{name} writes {written}");
 }
@@ -105,18 +138,12 @@ fn two_ports() {
 
 #[test]
 fn links_frames_and_seconds() {
-    let options = Options {
-        ports: &["eth0"],
-        ..Options::default()
-    };
+    let options = Options { ports: &["eth0"], ..Options::default() };
     run("link-down-keeps-the-table", options);
 }
 
 #[test]
 fn refused_commands() {
-    let options = Options {
-        ports: &["eth0"],
-        ..Options::default()
-    };
+    let options = Options { ports: &["eth0"], ..Options::default() };
     run("numbers-and-configuration", options);
 }

@@ -2,7 +2,7 @@
 
 use lldpa::{
     caps, examine, frame_pdu, mgmt, Agent, BuildFault, Builder, Cause, Examined, Machine, Mark, Options,
-    OutOfRange,
+    RangeFault,
 };
 
 const ROWS: &str = include_str!("../../../examples/vectors.rows");
@@ -131,8 +131,8 @@ fn built() {
     }
     for length in [0, 1, 257] {
         let identifier = vec![4; length];
-        assert_eq!(Builder::new(&identifier, b"\x05eth0", 120).finish(), Err(OutOfRange));
-        assert_eq!(Builder::new(b"\x05eth0", &identifier, 120).finish(), Err(OutOfRange));
+        assert_eq!(Builder::new(&identifier, b"\x05eth0", 120).finish(), Err(RangeFault::OutOfRange));
+        assert_eq!(Builder::new(b"\x05eth0", &identifier, 120).finish(), Err(RangeFault::OutOfRange));
     }
 }
 
@@ -150,8 +150,8 @@ fn machines() {
                 assert_eq!(found, Ok(wanted), "{}, {step}", row[0]);
             }
         }
-        assert_eq!(machine.event(Cause::Tick, 0), Err(OutOfRange));
-        assert_eq!(machine.event(Cause::Tick, 3601), Err(OutOfRange));
+        assert_eq!(machine.event(Cause::Tick, 0), Err(RangeFault::OutOfRange));
+        assert_eq!(machine.event(Cause::Tick, 3601), Err(RangeFault::OutOfRange));
     }
     for (credit_max, fast_init, reinit) in
         [(0, 4, 2), (11, 4, 2), (5, 0, 2), (5, 9, 2), (5, 4, 0), (5, 4, 11)]

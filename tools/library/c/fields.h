@@ -39,7 +39,7 @@ static int digit(char letter)
     return letter >= 'a' && letter <= 'f' ? letter - 'a' + 10 : -1;
 }
 
-/* The octets that so many digits spell; `at` is NULL where they spell none. */
+/* The octets that so many digits spell; `at` is NULL if they spell none. */
 static octets spelled(const char *digits, size_t count)
 {
     octets told = {NULL, count / 2};

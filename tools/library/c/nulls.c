@@ -1,6 +1,6 @@
 /*
  * Calls each function of the library with NULL for each of its pointers: it says so, and writes nothing. NULL with a
- * length of 0 is no octet, no TLV, no port or no room.
+ * length of 0 stands for no octet, no TLV, no port or no room.
  *     nulls
  * What does not hold is told; the last line is `N passed, M failed`.
  */
@@ -26,6 +26,8 @@ typedef struct written {
     uint8_t octet;
     uint32_t number;
     lldpa_ticks_taken ticks;
+    lldpa_statistics_told statistics;
+    lldpa_configuration_told configuration;
     lldpa_news news;
     lldpa_held held;
     size_t length;
@@ -183,6 +185,12 @@ static void step_nulls(void)
     ANSWERS(lldpa_ticks(NULL, 1, &now.marks, &now.ticks), LLDPA_NULL);
     ANSWERS(lldpa_ticks(&agent, 1, NULL, &now.ticks), LLDPA_NULL);
     ANSWERS(lldpa_ticks(&agent, 1, &now.marks, NULL), LLDPA_NULL);
+    ANSWERS(lldpa_due(NULL, &now.number), LLDPA_NULL);
+    ANSWERS(lldpa_due(&agent, NULL), LLDPA_NULL);
+    ANSWERS(lldpa_statistics(NULL, 0, &now.statistics), LLDPA_NULL);
+    ANSWERS(lldpa_statistics(&agent, 0, NULL), LLDPA_NULL);
+    ANSWERS(lldpa_configuration(NULL, &now.configuration), LLDPA_NULL);
+    ANSWERS(lldpa_configuration(&agent, NULL), LLDPA_NULL);
     ANSWERS(lldpa_frame(NULL, 0, octets, 33, &now.marks, &now.news), LLDPA_NULL);
     ANSWERS(lldpa_frame(&agent, 0, NULL, 33, &now.marks, &now.news), LLDPA_NULL);
     ANSWERS(lldpa_frame(&agent, 0, octets, 33, NULL, &now.news), LLDPA_NULL);
@@ -207,6 +215,9 @@ static void show_nulls(void)
     ANSWERS(lldpa_command_text(LLDPA_UNKNOWN, NULL, 22, &now.length), LLDPA_NULL);
     ANSWERS(lldpa_command_text(LLDPA_UNKNOWN, NULL, 0, &now.length), LLDPA_NO_ROOM);
     ANSWERS(lldpa_command_text(LLDPA_UNKNOWN, room, 22, NULL), LLDPA_NULL);
+    ANSWERS(lldpa_fault_text(LLDPA_MEMORY, NULL, 65, &now.length), LLDPA_NULL);
+    ANSWERS(lldpa_fault_text(LLDPA_MEMORY, NULL, 0, &now.length), LLDPA_NO_ROOM);
+    ANSWERS(lldpa_fault_text(LLDPA_MEMORY, room, 65, NULL), LLDPA_NULL);
     ANSWERS(lldpa_show_lines(NULL, 3, 0, room, 1514, &now.lines), LLDPA_NULL);
     ANSWERS(lldpa_show_lines(&agent, 3, 0, NULL, 1514, &now.lines), LLDPA_NULL);
     ANSWERS(lldpa_show_lines(&agent, 3, 0, NULL, 0, &now.lines), LLDPA_NO_ROOM);
@@ -219,6 +230,21 @@ static void show_nulls(void)
     ANSWERS(lldpa_frame_of(&agent, 0, LLDPA_ORDINARY, NULL, 1514, &now.length), LLDPA_NULL);
     ANSWERS(lldpa_frame_of(&agent, 0, LLDPA_ORDINARY, NULL, 0, &now.length), LLDPA_NO_ROOM);
     ANSWERS(lldpa_frame_of(&agent, 0, LLDPA_ORDINARY, room, 1514, NULL), LLDPA_NULL);
+}
+
+/* What only reads an agent writes nothing to its handle, not even where nothing can be written. */
+static void handles_are_read(void)
+{
+    static const lldpa_agent none = {NULL, false};
+    uint8_t *room = now.room;
+    ANSWERS(lldpa_neighbor_count(&none, 0, &now.number), LLDPA_NOT_OPEN);
+    ANSWERS(lldpa_neighbor(&none, 0, 0, room, 1500, &now.held), LLDPA_NOT_OPEN);
+    ANSWERS(lldpa_due(&none, &now.number), LLDPA_NOT_OPEN);
+    ANSWERS(lldpa_statistics(&none, 0, &now.statistics), LLDPA_NOT_OPEN);
+    ANSWERS(lldpa_configuration(&none, &now.configuration), LLDPA_NOT_OPEN);
+    ANSWERS(lldpa_show_lines(&none, 3, 0, room, 1514, &now.lines), LLDPA_NOT_OPEN);
+    ANSWERS(lldpa_show_line(&none, 3, 0, room, 1514, &now.length), LLDPA_NOT_OPEN);
+    ANSWERS(lldpa_frame_of(&none, 0, LLDPA_ORDINARY, room, 1514, &now.length), LLDPA_NOT_OPEN);
 }
 
 /* All that an agent shows. */
@@ -244,6 +270,7 @@ int main(void)
     size_t length = shown(first, sizeof first);
     step_nulls();
     show_nulls();
+    handles_are_read();
     holds(shown(last, sizeof last) == length && memcmp(first, last, length) == 0, "the agent is what it was");
     begin();
     holds(lldpa_frame(&agent, 0, NULL, 0, &now.marks, NULL) == LLDPA_OK && now.marks.count == 0, "no octets as a frame");

@@ -80,6 +80,21 @@ static void call_ticks(void)
     lldpa_ticks(&agent, 40, &marks, &told);
 }
 
+static void call_due(void)
+{
+    uint32_t seconds;
+    lldpa_due(&agent, &seconds);
+}
+
+static void call_told(void)
+{
+    lldpa_statistics_told statistics;
+    lldpa_configuration_told configuration;
+    lldpa_statistics(&agent, 0, &statistics);
+    lldpa_configuration(&agent, &configuration);
+    lldpa_fault_text(LLDPA_MEMORY, room, sizeof room, &length);
+}
+
 static void call_frame(void)
 {
     lldpa_news news;
@@ -155,8 +170,9 @@ int main(void)
         {"lldpa_transmit_event", call_machine, 1024}, {"lldpa_tick", call_tick, 12288},
         {"lldpa_ticks", call_ticks, 12288},         {"lldpa_frame", call_frame, 12288},
         {"lldpa_neighbor", call_neighbor, 12288},   {"lldpa_command", call_command, 12288},
-        {"lldpa_show_lines", call_show_lines, 12288}, {"lldpa_show_line", call_show_line, 28672},
-        {"lldpa_frame_of", call_frame_of, 12288},   {"lldpa_close", call_close, 12288},
+        {"lldpa_show_lines", call_show_lines, 12288}, {"lldpa_show_line", call_show_line, 12288},
+        {"lldpa_frame_of", call_frame_of, 12288},   {"lldpa_due", call_due, 1024},
+        {"lldpa_configuration", call_told, 1024},   {"lldpa_close", call_close, 12288},
     };
     unsigned passed = 0, failed = 0;
     size_t nothing = taken_by(call_nothing);

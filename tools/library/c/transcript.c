@@ -1,9 +1,9 @@
 /*
- * Does what the program lldpa does with a trace, over the library: the words are those of the program (but for
+ * Does what the program lldpa does with a trace, over the library: the words are those of the program (except
  * --listen), standard input is the trace, and standard output gets what the program would write.
  *     transcript [--max-neighbors N] [--mac MAC] [--hostname TEXT] [--management ADDRESS] [--role ROLE]
  *                [--tx-credit-max N] [--tx-fast-init N] [--reinit-delay N] [--receive-only] PORT ..
- * So each transcript of examples/ is one of the library too. The status is 2 where an agent is not opened.
+ * So each transcript of examples/ is one of the library too. The status is 2 if no agent is opened.
  */
 #include "fields.h"
 #include "lldpa.h"
@@ -83,7 +83,7 @@ static void set_option(lldpa_options *options, const char *name, const char *val
     }
 }
 
-/* Opens the agent that the words tell of. */
+/* Opens the agent that the words describe. */
 static void open_agent(agent_of_trace *told, char **words)
 {
     lldpa_options options = LLDPA_OPTIONS_INIT;
@@ -144,11 +144,70 @@ static void write_marks(agent_of_trace *told, uint8_t answer, const lldpa_marks 
     }
 }
 
+/* A line of a show is this text. */
+static void see_line(agent_of_trace *told, uint32_t show, uint32_t line, const char *wanted)
+{
+    static uint8_t room[ROOM];
+    size_t length = 0;
+    if (lldpa_show_line(&told->agent, show, line, room, sizeof room, &length) != LLDPA_OK ||
+        length != strlen(wanted) || memcmp(room, wanted, length) != 0) {
+        fail("a show tells something else than a struct");
+    }
+}
+
+/* The structs tell what the lines of the shows do. */
+static void see_statistics(agent_of_trace *told)
+{
+    static const char *const keys[] = {"sent", "shutdowns", "received", "discarded", "errors", "tlvs-discarded",
+                                       "unrecognized", "ageouts", "drops"};
+    lldpa_statistics_told statistics;
+    uint32_t numbers[9];
+    char wanted[64];
+    for (uint32_t port = 0; port < told->count; port++) {
+        lldpa_text name = told->names[port];
+        if (lldpa_statistics(&told->agent, port, &statistics) != LLDPA_OK || sizeof numbers != sizeof statistics) {
+            fail("the statistics of a port");
+        }
+        memcpy(numbers, &statistics, sizeof numbers);
+        for (uint32_t at = 0; at < 9; at++) {
+            snprintf(wanted, sizeof wanted, "lldp.%.*s.%s=%lu", (int)name.length, (const char *)name.octets, keys[at],
+                     (unsigned long)numbers[at]);
+            see_line(told, LLDPA_SHOW_STATISTICS, 9 * port + at, wanted);
+        }
+    }
+}
+
+static void see_configuration(agent_of_trace *told)
+{
+    static const char *const keys[] = {"tx-interval", "tx-hold", "ttl", "reinit-delay", "tx-fast-init",
+                                       "tx-credit-max", "max-neighbors", "ports"};
+    static const char *const words[] = {"rx-and-tx", "rx-only", "tx-only", "disabled"};
+    lldpa_configuration_told configuration;
+    uint32_t numbers[8];
+    char wanted[64];
+    if (lldpa_configuration(&told->agent, &configuration) != LLDPA_OK) {
+        fail("the configuration");
+    }
+    memcpy(numbers, &configuration, sizeof numbers);
+    for (uint32_t at = 0; at < 8; at++) {
+        snprintf(wanted, sizeof wanted, "configuration.%s=%lu", keys[at], (unsigned long)numbers[at]);
+        see_line(told, LLDPA_SHOW_CONFIGURATION, at, wanted);
+    }
+    for (uint32_t port = 0; port < told->count; port++) {
+        lldpa_text name = told->names[port];
+        snprintf(wanted, sizeof wanted, "configuration.%.*s.status=%s", (int)name.length, (const char *)name.octets,
+                 words[configuration.status[port] & 3]);
+        see_line(told, LLDPA_SHOW_CONFIGURATION, 8 + port, wanted);
+    }
+}
+
 /* Writes a show, by as many lines as fit into a room each time; and sees that each line alone is the same. */
 static void write_show(agent_of_trace *told, uint32_t show)
 {
     static uint8_t room[ROOM], one[ROOM];
     lldpa_lines lines = {0, 0, false};
+    see_statistics(told);
+    see_configuration(told);
     while (!lines.done) {
         uint32_t line = lines.next;
         if (lldpa_show_lines(&told->agent, show, line, room, sizeof room, &lines) != LLDPA_OK) {
@@ -176,7 +235,7 @@ static int separates(char letter)
     return letter == ' ' || letter == '\t';
 }
 
-/* The words of a line, at most three and then one more for all others; -1 where a quote is wrong. */
+/* The words of a line, at most three and then one more for all others; -1 if a quote is wrong. */
 static int split(const char *line, size_t length, word words[4])
 {
     int count = 0;
@@ -220,6 +279,14 @@ static int port_of(const agent_of_trace *told, word name)
     return -1;
 }
 
+/* Ticks were taken, at most so many, up to the one at which something is due. */
+static void see_due(uint32_t due, uint32_t most, uint32_t taken, int is_something)
+{
+    if (taken != (most < due ? most : due) || is_something != (taken == due)) {
+        fail("something is due at another tick");
+    }
+}
+
 /* `tick` and `tick N` */
 static void run_ticks(agent_of_trace *told, word words[4], int count)
 {
@@ -244,12 +311,17 @@ static void run_ticks(agent_of_trace *told, word words[4], int count)
     }
     lldpa_ticks_taken done = {0, 0};
     for (lldpa_marks marks; ticks > 0; ticks -= done.taken) {
-        if (ticks % 2 == 1) { /* one alone, and the others at once */
-            done.taken = 1;
-            write_marks(told, lldpa_tick(&told->agent, &marks, NULL), &marks);
-        } else {
-            write_marks(told, lldpa_ticks(&told->agent, (uint32_t)ticks, &marks, &done), &marks);
+        uint32_t due, most = ticks % 2 == 1 ? 1 : (uint32_t)ticks; /* one alone, and the others at once */
+        if (lldpa_due(&told->agent, &due) != LLDPA_OK) {
+            fail("it is not told when something is due");
         }
+        if (most == 1) {
+            done.taken = 1;
+            write_marks(told, lldpa_tick(&told->agent, &marks, &done.aged_out), &marks);
+        } else {
+            write_marks(told, lldpa_ticks(&told->agent, most, &marks, &done), &marks);
+        }
+        see_due(due, most, done.taken, marks.count > 0 || done.aged_out > 0);
     }
 }
 

@@ -16,7 +16,7 @@ static unsigned failed;
 static char *fields[MOST_FIELDS];
 static size_t field_count;
 
-/* Counts something that ought to hold, and tells it where it does not. */
+/* Counts something that ought to hold, and reports it if it does not. */
 static void holds(int is_so, const char *what)
 {
     if (is_so) {
@@ -120,7 +120,7 @@ static octets odd_octets(size_t length)
     return block;
 }
 
-/* Of octets that are no extent, and of a walk that was begun otherwise, the bodies still lie in the octets. */
+/* With octets that are not an extent, or a walk that was begun otherwise, the bodies are still in the octets. */
 static void walk_oddly(void)
 {
     for (unsigned done = 0; done < 500; done++) {
@@ -350,12 +350,17 @@ static void use_closed(lldpa_agent *agent)
     lldpa_ticks_taken ticks;
     lldpa_news news;
     lldpa_held held;
+    lldpa_statistics_told statistics;
+    lldpa_configuration_told configuration;
     uint8_t room[16];
     uint32_t show;
     size_t length;
     const uint8_t *line = (const uint8_t *)"show chassis";
     holds(lldpa_tick(agent, &marks, NULL) == LLDPA_NOT_OPEN, "a tick of none");
     holds(lldpa_ticks(agent, 9, &marks, &ticks) == LLDPA_NOT_OPEN, "ticks of none");
+    holds(lldpa_due(agent, &show) == LLDPA_NOT_OPEN, "what is due of none");
+    holds(lldpa_statistics(agent, 0, &statistics) == LLDPA_NOT_OPEN, "statistics of none");
+    holds(lldpa_configuration(agent, &configuration) == LLDPA_NOT_OPEN, "the configuration of none");
     holds(lldpa_neighbor_count(agent, 0, &show) == LLDPA_NOT_OPEN, "a count of none");
     holds(lldpa_neighbor(agent, 0, 0, room, sizeof room, &held) == LLDPA_NOT_OPEN, "a neighbor of none");
     holds(lldpa_frame(agent, 0, line, 3, &marks, NULL) == LLDPA_NOT_OPEN, "a frame of none");
@@ -375,6 +380,7 @@ static void use_badly(lldpa_agent *agent, uint32_t ports)
     lldpa_lines lines;
     lldpa_news news;
     lldpa_held held;
+    lldpa_statistics_told statistics;
     uint8_t room[2049] = {0};
     uint32_t count;
     size_t length;
@@ -385,6 +391,7 @@ static void use_badly(lldpa_agent *agent, uint32_t ports)
         holds(lldpa_link(agent, none[at], true, &marks) == LLDPA_NO_PORT, "a link of no port");
         holds(lldpa_frame_of(agent, none[at], LLDPA_ORDINARY, room, sizeof room, &length) == LLDPA_NO_PORT, "frames");
         holds(lldpa_neighbor_count(agent, none[at], &count) == LLDPA_NO_PORT, "a count of no port");
+        holds(lldpa_statistics(agent, none[at], &statistics) == LLDPA_NO_PORT, "statistics of no port");
         holds(lldpa_neighbor(agent, none[at], 0, room, sizeof room, &held) == LLDPA_NO_PORT, "neighbors of no port");
     }
     for (unsigned mark = 0; mark < 256; mark += 3) { /* 0, 3, .., 255: neither ordinary nor shutdown */
@@ -402,7 +409,7 @@ static void use_badly(lldpa_agent *agent, uint32_t ports)
               lines.length == 0, "lines behind the last");
 }
 
-/* Octets that are no frame and lines that are no command do no harm. */
+/* Octets that are not a frame and lines that are not a command do no harm. */
 static void use_oddly(lldpa_agent *agent)
 {
     for (unsigned done = 0; done < 300; done++) {
@@ -471,6 +478,35 @@ static void run_open(void)
     }
     free(ports);
     free(hostname.at);
+}
+
+/* Each fault and each misuse has words of its own, and no other number has any. */
+static void run_words(void)
+{
+    static const uint32_t first[] = {1, 11, 21, 31, 100}, last[] = {8, 13, 26, 38, 105};
+    uint8_t room[LLDPA_FAULT_ROOM], others[31][LLDPA_FAULT_ROOM];
+    size_t length = 0, longest = 0, count = 0;
+    for (uint32_t fault = 0; fault < 300; fault++) {
+        int is_one = 0;
+        for (size_t at = 0; at < sizeof first / sizeof *first; at++) {
+            is_one = is_one || (fault >= first[at] && fault <= last[at]);
+        }
+        memset(room, 0, sizeof room);
+        uint8_t answer = lldpa_fault_text(fault, room, sizeof room, &length);
+        holds(answer == (is_one ? LLDPA_OK : LLDPA_OUT_OF_RANGE), "the words of a fault");
+        for (size_t at = 0; is_one && at < count; at++) {
+            holds(memcmp(others[at], room, sizeof room) != 0, "two faults have the same words");
+        }
+        if (is_one) {
+            memcpy(others[count++], room, sizeof room);
+            longest = length > longest ? length : longest;
+            holds(lldpa_fault_text(fault, room, length - 1, &length) == LLDPA_NO_ROOM, "too small a room for words");
+        }
+    }
+    holds(count == 31 && longest == LLDPA_FAULT_ROOM, "how many faults there are, and the longest words");
+    holds(lldpa_fault_text(256 + LLDPA_MEMORY, room, sizeof room, &length) == LLDPA_OUT_OF_RANGE, "a fault over 255");
+    holds(lldpa_fault_text(LLDPA_NO_CHASSIS, room, sizeof room, &length) == LLDPA_OK && length == 30 &&
+              memcmp(room, "the first TLV is no Chassis ID", 30) == 0, "the words of a fault");
 }
 
 /* The texts of the refusals of commands have at most 22 octets. */
@@ -543,6 +579,7 @@ int main(int count, char **words)
     memcpy(fields, texts, sizeof texts);
     if (is_wanted("text", words + 2)) {
         run_texts();
+        run_words();
     }
     if (is_wanted("causes", words + 2)) {
         play_all_causes();

@@ -10,6 +10,7 @@ use Rattle.lldp_table.proofs.Standing.Calls.{stands_limit, stands_neighbors}
 use Rattle.lldp_table.proofs.Live.LastStored.{last_stored_from_held, held_from_last_stored}
 use Rattle.lldp_table.proofs.Standing.Lists.{sound_from_stands}
 use Rattle.lldp_table.proofs.Live.Order.{neighbors_in_order}
+use Rattle.lldp_transmit.specs.Standing.{machine_of}
 use Rattle.lldp_transmit.proofs.Answered.{windows_hold, ordinary_with, shutdown_with}
 use Rattle.lldp_engine.specs.Options.{Options, InRange}
 use Rattle.lldp_engine.specs.AgentState.{PortState, AgentState}
@@ -34,6 +35,10 @@ module _ (o : Options) (past : List Happened) (p : PortState) (h : p ≡ port_af
   pub counters_are : p.counters ≡ counters_after o past
   unfolding port_after
   counters_are = ap (λ (q : PortState). q.counters) h
+
+  pub machine_is : p.machine ≡ machine_of (settings_of o) (causes_after o past)
+  unfolding port_after
+  machine_is = ap (λ (q : PortState). q.machine) h
 
   pub links_read : p.machine.up ≡ up_after past
   unfolding port_after

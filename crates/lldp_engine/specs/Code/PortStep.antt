@@ -39,11 +39,11 @@ hears_if p heard =
       counters = with_heard (learn_answer p.table) p.counters heard;
     }
 
--- what an event is for its transmitting
+-- what an event means to its transmit machine
 abbrev pub port_cause : PortEvent → PortState → Cause
 port_cause event p = cause_at event p.status p.machine.up (learn_answer p.table)
 
--- a port after an event, but for its transmitting
+-- a port after an event, before its transmit machine takes it
 abbrev pub port_after_event : PortEvent → PortState → PortState
 port_after_event event p =
     record p {

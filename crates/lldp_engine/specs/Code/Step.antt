@@ -23,6 +23,6 @@ agent_after event agent =
     let c = configured event agent.configuration in
     record { configuration = c; ports = ports_step (whose event) c.interval 0 agent.ports }
 
--- which ports send at the event, rising, each with what it sends
+-- which ports send at the event, in ascending order, each with what it sends
 abbrev pub agent_marks : Event → AgentState → List Sending
 agent_marks event agent = marks_step (whose event) (configured event agent.configuration).interval 0 agent.ports

@@ -1,4 +1,4 @@
--- Which fault is told of words that say no command: that of the first word that no command has there.
+-- The fault of words that say no command: that of the first word that no command has in its place.
 use Rattle.std.specs.Prelude.{◌≡◌, ℕ, false, List, [], ◌∷◌, ◌++◌, Some, None, Err}
 use Rattle.std.specs.List.{AllByRecursion, Contains}
 use Rattle.lldp_text.specs.declared.fault.CommandFault.{CommandFault}
@@ -13,11 +13,11 @@ use Rattle.lldp_engine.specs.Given.{said_by}
 use Rattle.lldp_engine.specs.Laws.OnlyForms.{AreWordsOf}
 use Rattle.lldp_engine.specs.Laws.Sayings.{show_word, neighbors_word, statistics_word, chassis_word, configuration_word, configure_word, system_word, hostname_word, description_word, lldp_word, interval_word, hold_word, limit_word, ports_word, status_word, update_word, word_of}
 
--- some first words of commands, and the fixed words of which one stands behind them
+-- some first words of commands, and the fixed words one of which follows them
 abbrev pub Choice : Type 0
 Choice = List (List ℕ) × List (List ℕ)
 
--- Behind these a fixed word stands.
+-- A fixed word follows these.
 abbrev pub choices : List Choice
 choices =
     ([], show_word ∷ configure_word ∷ update_word ∷ [])
@@ -33,7 +33,7 @@ choices_behind name =
     ∷ (configure_word ∷ ports_word ∷ name ∷ lldp_word ∷ [], status_word ∷ [])
     ∷ (configure_word ∷ ports_word ∷ name ∷ lldp_word ∷ status_word ∷ [], word_of RxAndTx ∷ word_of RxOnly ∷ word_of TxOnly ∷ word_of Disabled ∷ []) ∷ []
 
--- Behind these a text or a number stands, or the name of a port.
+-- A text, a number or the name of a port follows these.
 abbrev pub before_arguments : List (List (List ℕ))
 before_arguments =
     (configure_word ∷ system_word ∷ hostname_word ∷ [])
@@ -43,18 +43,18 @@ before_arguments =
     ∷ (configure_word ∷ lldp_word ∷ limit_word ∷ [])
     ∷ (configure_word ∷ ports_word ∷ []) ∷ []
 
--- The first words are told as Unknown if no word follows them.
+-- The fault of the first words is Unknown if no word follows them.
 abbrev pub WantsMore : AgentState → List (List ℕ) → Type 0
 WantsMore agent front = said_by agent front ≡ Err Unknown
 
--- A word behind the first ones that is not among those of the choice is told as Unknown, whatever follows it.
+-- The fault of a word behind the first ones that is not one of the choice is Unknown, whatever follows it.
 abbrev pub TakesOnly : AgentState → List ℕ → List (List ℕ) → Choice → Type 0
 TakesOnly agent word behind choice =
     ¬ (Contains choice.1 word) → said_by agent (choice.0 ++ word ∷ behind) ≡ Err Unknown
 
--- What is told of a word that no command has there, whatever follows it: Unknown in the place of a fixed word; Text, the
--- fault of the number, or NoSuchPort in the place of an argument; Extra behind the words of a command. A word that is
--- missing is told as Unknown.
+-- The fault of a word that no command has in its place, whatever follows it: Unknown in the place of a fixed word;
+-- Text, the fault of the number, or NoSuchPort in the place of an argument; Extra behind the words of a command. For a
+-- missing word it is Unknown.
 pub record TellsFirstFault (agent : AgentState) (word : List ℕ) (behind : List (List ℕ)) : Type 0 where
   pub fixed : AllByRecursion (TakesOnly agent word behind) choices
   pub fixed_behind : (name : List ℕ) (port : ℕ) → place_of (names_of agent) name ≡ Some port →

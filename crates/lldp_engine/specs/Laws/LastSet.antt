@@ -1,4 +1,4 @@
--- What the last event that set something set, said of positions. A position of the events is a split of them: the
+-- What the last event that set something set, in terms of positions. A position of the events is a split of them: the
 -- events after it (newest first), the event there, and the events before it.
 use Rattle.std.specs.Prelude.{◌≡◌, ◌⊎◌, ℕ, Bool, true, List, ◌∷◌, ◌++◌, codes}
 use Rattle.lldp_engine.specs.declared.port.status.Status.{Status as PortStatus}

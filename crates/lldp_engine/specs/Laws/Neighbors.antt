@@ -12,6 +12,6 @@ others_than name neighbors = filter (λ neighbor. not (same_msap name neighbor.m
 abbrev pub one_less : Neighbor → Neighbor
 one_less neighbor = record neighbor { left = neighbor.left - 1 }
 
--- Each has one tick less left, and those that have none left are gone.
+-- Each has one tick less left, and those that have none left are removed.
 abbrev pub one_tick_older : List Neighbor → List Neighbor
 one_tick_older neighbors = filter (λ neighbor. nat_lt 0 neighbor.left) (map one_less neighbors)

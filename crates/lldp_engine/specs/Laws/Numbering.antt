@@ -1,4 +1,4 @@
--- How the lines of a port number its neighbors and tell that there are too many.
+-- How the lines of a port number its neighbors and say that there are too many.
 use Rattle.std.specs.Prelude.{◌≡◌, ℕ, ◌+◌, ◌<◌, List, [], ◌∷◌, ◌++◌, length, slice_get, Some, decimal, sum_by}
 use Rattle.std.specs.List.{Contains}
 use Rattle.lldp_table.specs.Events.{Neighbor}

@@ -1,4 +1,4 @@
--- When an agent opens, said of each check by itself and of every name.
+-- When an agent opens, in terms of each check by itself and of every name.
 use Rattle.std.specs.Prelude.{◌≢◌, ℕ, ◌<◌, ◌≤◌, List, length}
 use Rattle.std.specs.List.{All, AllPass, AllPairs}
 use Rattle.lldp_engine.specs.declared.agent.open_fault.OpenFault.{OpenFault}
@@ -17,8 +17,8 @@ pub record IsText (text : List ℕ) : Type 0 where
   pub short : length text ≤ 255
   pub octets : All (λ octet. (32 ≤ octet) × (octet ≤ 126)) text
 
--- The options pass the check that this fault tells of: a port at least, 64 at most, each with a name, no two with the
--- same, and a hostname that is a text. Want of memory is no check.
+-- The options pass the check of this fault: at least one port, at most 64, each with a name, no two with the same, and
+-- a hostname that is a text. Lack of memory is not a check.
 abbrev pub Passes : Options → OpenFault → Type 0
 Passes o Memory = Unit {0}
 Passes o NoPorts = 1 ≤ length o.names

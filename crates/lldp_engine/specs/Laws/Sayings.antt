@@ -1,4 +1,4 @@
--- What words say, form by form, with whatever word stands where a form takes one.
+-- What words say, form by form, with any word in the place that takes one.
 use Rattle.std.specs.Prelude.{◌≡◌, ℕ, ◌<◌, ◌↔◌, if◌then◌else◌, List, [], ◌∷◌, Ok, Err}
 use Rattle.lldp_text.specs.declared.fault.CommandFault.TheVariants.{Unknown, NoSuchPort, Text, Extra}
 use Rattle.lldp_engine.specs.declared.command.Show.TheVariants.{Neighbors, Statistics, Chassis, Configuration}
@@ -81,7 +81,8 @@ status_word = 0x73 ∷ 0x74 ∷ 0x61 ∷ 0x74 ∷ 0x75 ∷ 0x73 ∷ []
 abbrev pub update_word : List ℕ
 update_word = 0x75 ∷ 0x70 ∷ 0x64 ∷ 0x61 ∷ 0x74 ∷ 0x65 ∷ []
 
--- The forms, with a word that is or is no text, number, port's name or status. Ranges: 1 to 3,600, 100, the limit of opening.
+-- The forms, with a word that is or is not a text, number, port's name or status. Ranges: 1 to 3,600, 100, the limit of
+-- opening.
 pub record AreSaid (agent : AgentState) (word other : List ℕ) : Type 0 where
   pub neighbors : said_by agent (show_word ∷ neighbors_word ∷ []) ≡ Ok (show Neighbors)
   pub statistics : said_by agent (show_word ∷ statistics_word ∷ []) ≡ Ok (show Statistics)

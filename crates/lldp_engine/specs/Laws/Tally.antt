@@ -41,7 +41,7 @@ Adds past i octets faults errors discarded unrecognized =
 abbrev pub unknown_tlvs : List ℕ → ℕ
 unknown_tlvs pdu = length (filter (λ tlv. nat_le 9 tlv.kind) (kept_of pdu))
 
--- The event makes this of port i, said of the port before it and after it.
+-- The event makes this of port i, in terms of the port before and after it.
 abbrev pub Makes : Past → Event → ℕ → (PortState → PortState → Type 0) → Type 0
 Makes past event i P =
     (before after : PortState) → port_at past i ≡ Some before → port_at (with_event past event) i ≡ Some after → P before after

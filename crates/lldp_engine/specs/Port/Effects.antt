@@ -37,7 +37,7 @@ call_of refused = None
 call_of (leaves msap) = Some (forget msap)
 call_of (tells info) = Some (learn info.msap info.ttl info.octets)
 
--- What its table is told. A status that takes receiving away purges it, whether the link is up or down.
+-- The call on its table. A status that takes receiving away purges it, whether the link is up or down.
 abbrev pub call_at : PortEvent → Status → Bool → Option Call
 call_at tick before up = Some tick_call
 call_at (frame octets) before up = option_and_then call_of (heard_by before up octets)
@@ -71,7 +71,7 @@ cause_of_link false true = Up
 cause_of_link true true = Nothing
 cause_of_link false false = Nothing
 
--- what an event is for its transmitting; answer: what its table answers to a name
+-- what an event means to its transmit machine; answer: what its table answers to a name
 abbrev pub cause_at : PortEvent → Status → Bool → (MsapId → Learned) → Cause
 cause_at tick before up answer = Tick
 cause_at (frame octets) before up answer = cause_of_heard answer (heard_by before up octets)

@@ -1,10 +1,10 @@
--- What happens to one port, and whose an agent's event is.
+-- What happens to one port, and which ports an agent's event concerns.
 use Rattle.std.specs.Prelude.{ℕ, ◌==◌, Bool, if◌then◌else◌, List}
 use Rattle.lldp_engine.specs.declared.port.status.Status.{Status}
 use Rattle.lldp_engine.specs.Event as agent
 
--- a second has passed; these octets came; its link came or went; it was given a status; the limit of its neighbors was
--- set; a local change (localChange), of what is sent or by update; nothing, as at another port's event
+-- a second has passed; it received these octets; its link came up or went down; it was given a status; the limit of its
+-- neighbors was set; a local change (localChange), of what is sent or by update; nothing, as at another port's event
 pub data PortEvent : Type 0 where
   tick : PortEvent
   frame : (octets : List ℕ) → PortEvent
@@ -14,18 +14,18 @@ pub data PortEvent : Type 0 where
   change : PortEvent
   nothing : PortEvent
 
--- an event is that of one port alone, or each port's, and it is this for that port
+-- the ports that an event concerns, one by its number or each, and what it is for them
 pub data Whose : Type 0 where
   one_port : (port : ℕ) (event : PortEvent) → Whose
   each_port : (event : PortEvent) → Whose
 
--- Every command but a status command is each port's, and a local change, also if it sets the same value.
+-- Every command except a status command concerns each port, and is a local change, even if it sets the same value.
 abbrev pub whose_setting : agent.Setting → Whose
 whose_setting (agent.status port given) = one_port port (status given)
 whose_setting (agent.limit neighbors) = each_port (limit neighbors)
 whose_setting setting = each_port change
 
--- a tick is each port's, octets and a link event are one port's
+-- a tick concerns each port, octets and a link event one port
 abbrev pub whose : agent.Event → Whose
 whose agent.tick = each_port tick
 whose (agent.frame port octets) = one_port port (frame octets)

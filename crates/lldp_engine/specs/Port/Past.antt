@@ -38,12 +38,12 @@ abbrev pub heard_after : Options → List Happened → List Heard
 heard_after o [] = []
 heard_after o (now ∷ past) = cons_option (heard_at now.event (status_after o past) (up_after past)) (heard_after o past)
 
--- what its table was told
+-- the calls on its table
 abbrev pub calls_after : Options → List Happened → List Call
 calls_after o [] = []
 calls_after o (now ∷ past) = cons_option (call_at now.event (status_after o past) (up_after past)) (calls_after o past)
 
--- what its table was told, with what each call answered
+-- the calls on its table, with what each one answered
 abbrev pub table_events_after : Options → List Happened → List TableEvent
 table_events_after o past = events_of o.max_neighbors (calls_after o past)
 
@@ -51,13 +51,13 @@ table_events_after o past = events_of o.max_neighbors (calls_after o past)
 abbrev pub settings_of : Options → Settings
 settings_of o = settings o.credit_max o.fast_init o.reinit (transmits (status_at_opening o))
 
--- what an event is for its transmitting, with the tx-interval in force after the event
+-- what an event means to its transmit machine, with the tx-interval in force after the event
 abbrev pub caused_at : Options → Happened → List Happened → Caused
 caused_at o now past =
     caused (cause_at now.event (status_after o past) (up_after past)
     (λ name. answer o.max_neighbors name (table_events_after o past))) now.interval
 
--- what each event was for its transmitting
+-- what each event meant to its transmit machine
 abbrev pub causes_after : Options → List Happened → History
 causes_after o [] = []
 causes_after o (now ∷ past) = caused_at o now past ∷ causes_after o past

@@ -17,25 +17,25 @@ const INTERVAL: u16 = 30;
 const HOLD: u8 = 4;
 
 /// A text of at most 255 octets.
-pub(crate) type Text = ArrayVec<u8, 255>;
+pub type Text = ArrayVec<u8, 255>;
 
-/// How an agent is configured: what it was opened with for good, and what commands change.
+/// The configuration of an agent: what it was opened with for good, and what commands change.
 #[derive(Drop)]
-pub(crate) struct Configuration {
-    pub(crate) mac: [u8; 6],
-    pub(crate) role: Role,
-    pub(crate) management: Option<[u8; 4]>,
-    pub(crate) credit_max: u8,
-    pub(crate) fast_init: u8,
-    pub(crate) reinit: u8,
+pub struct Configuration {
+    pub mac: [u8; 6],
+    pub role: Role,
+    pub management: Option<[u8; 4]>,
+    pub credit_max: u8,
+    pub fast_init: u8,
+    pub reinit: u8,
     /// The limit of neighbors at opening.
-    pub(crate) capacity: u8,
-    pub(crate) hostname: Text,
-    pub(crate) description: Text,
-    pub(crate) interval: u16,
-    pub(crate) hold: u8,
+    pub capacity: u8,
+    pub hostname: Text,
+    pub description: Text,
+    pub interval: u16,
+    pub hold: u8,
     /// The limit of neighbors in force.
-    pub(crate) limit: u8,
+    pub limit: u8,
 }
 
 impl Model for Configuration {
@@ -69,7 +69,7 @@ fn text_of(octets: &[u8]) -> Text
 }
 
 impl Configuration {
-    /// That of an agent with these options, whose hostname has at most 255 octets.
+    /// Returns that of an agent with these options, whose hostname has at most 255 octets.
     pub(crate) fn open(options: &Options<'_>) -> Configuration
         requires { length options.now.hostname.now ≤ 255 }
         ensures { result ≡ configuration_at_opening (options_of options.now) }
@@ -90,7 +90,7 @@ impl Configuration {
         }
     }
 
-    /// What an event makes of it.
+    /// Changes it as an event asks.
     pub(crate) fn take(&mut self, event: &Event<'_>)
         requires { HasShortText (event_of event.now) }
         ensures { self.new ≡ configured (event_of event.now) self.old }
@@ -115,22 +115,22 @@ impl Configuration {
         }
     }
 
-    /// The tx-interval in force, in seconds.
+    /// Returns the tx-interval in force, in seconds.
     pub(crate) fn interval(&self) -> u16
         ensures { result ≡ self.now.interval }
     {
         self.interval
     }
 
-    /// The limit of neighbors at opening.
+    /// Returns the limit of neighbors at opening.
     pub(crate) fn capacity(&self) -> u8
         ensures { result ≡ self.now.capacity }
     {
         self.capacity
     }
 
-    /// The TTL of an ordinary frame.
-    pub(crate) fn ttl(&self) -> u16
+    /// Returns the TTL of an ordinary frame.
+    pub fn ttl(&self) -> u16
         ensures value { result ≡ sent_ttl self.now }
         ensures lives { 0 < result }
     {

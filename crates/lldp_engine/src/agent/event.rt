@@ -29,7 +29,7 @@ pub enum Setting<'a> {
     Limit(u8),
     /// The status of the port of this number.
     Status { port: u8, status: Status },
-    /// Nothing, but it is a local change.
+    /// Nothing. It still is a local change.
     Update,
 }
 
@@ -38,7 +38,7 @@ pub enum Setting<'a> {
 pub enum Event<'a> {
     /// A second has passed.
     Tick,
-    /// These octets came on the port of this number.
+    /// The port of this number received these octets.
     Frame { port: u8, octets: &'a [u8] },
     /// The link of the port of this number came up, or went down.
     Link { port: u8, up: bool },
@@ -47,8 +47,8 @@ pub enum Event<'a> {
 }
 
 impl<'a> Setting<'a> {
-    /// Whether every agent that has the port and the room accepts it: its number is in the range,
-    /// its text has at most 255 printable octets.
+    /// Returns whether every agent that has the port and the room accepts it: its number is in the
+    /// range, its text has at most 255 printable octets.
     pub(crate) fn in_range(&self) -> bool
         ensures { IsTrue result ↔ IsInRange (setting_of self.now) }
     {
@@ -60,7 +60,7 @@ impl<'a> Setting<'a> {
         }
     }
 
-    /// Whose it is, and what it is for that port or for each.
+    /// Returns which ports it concerns, and what it is for each of them.
     fn whose(&self) -> Whose<'a>
         ensures { whose_of result ≡ whose_setting (setting_of self.now) }
     {
@@ -77,7 +77,7 @@ impl<'a> Setting<'a> {
 }
 
 impl<'a> Event<'a> {
-    /// Whose it is, and what it is for that port or for each.
+    /// Returns which ports it concerns, and what it is for each of them.
     pub(crate) fn whose(&self) -> Whose<'a>
         ensures value { whose_of result ≡ whose (event_of self.now) }
         ensures octets { HasOctets (event_of self.now) }

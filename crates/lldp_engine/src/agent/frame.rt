@@ -22,10 +22,10 @@ use lldp_pdu::tlv_type::{
 use lldp_transmit::Mark;
 use std::alloc::Allocator;
 
-/// A frame that is sent, at most 1,514 octets.
+/// A frame to send, at most 1,514 octets.
 pub type Frame = ArrayVec<u8, 1514>;
 
-/// The body of the Chassis ID: a MAC address.
+/// Returns the body of the Chassis ID: a MAC address.
 fn chassis_id(configuration: &Configuration) -> ArrayVec<u8, 7>
     ensures value { result.items ≡ 4 ∷ configuration.now.mac }
     ensures len { length result.items ≡ 7 }
@@ -36,7 +36,7 @@ fn chassis_id(configuration: &Configuration) -> ArrayVec<u8, 7>
     body
 }
 
-/// The body of the Port ID: the name of the port.
+/// Returns the body of the Port ID: the name of the port.
 fn port_id(name: &[u8]) -> ArrayVec<u8, 16>
     requires { length name.now ≤ 15 }
     ensures value { result.items ≡ 5 ∷ name.now }
@@ -48,7 +48,7 @@ fn port_id(name: &[u8]) -> ArrayVec<u8, 16>
     body
 }
 
-/// The body of the System Capabilities of a role.
+/// Returns the body of the System Capabilities of a role.
 fn capabilities(role: Role) -> &'static [u8]
     ensures value { result.now ≡ capabilities_of role }
     ensures short { length result.now ≡ 4 }
@@ -60,7 +60,7 @@ fn capabilities(role: Role) -> &'static [u8]
     }
 }
 
-/// The body of the Management Address TLV of an IPv4 address.
+/// Returns the body of the Management Address TLV of an IPv4 address.
 fn management(address: &[u8; 4]) -> ArrayVec<u8, 12>
     ensures value { result.items ≡ management_body address.now }
     ensures short { length result.items ≡ 12 }
@@ -72,7 +72,7 @@ fn management(address: &[u8; 4]) -> ArrayVec<u8, 12>
     body
 }
 
-/// Writes what stands before the LLDPDU: the nearest bridge, the agent's MAC, LLDP's EtherType.
+/// Writes what precedes the LLDPDU: the nearest bridge, the agent's MAC, LLDP's EtherType.
 fn write_head(frame: &mut Frame, configuration: &Configuration)
     ensures value { frame.new.items ≡ nearest_bridge ++ configuration.now.mac ++ lldp_ethertype }
     ensures len { array_vec_len frame.new ≡ 14 }
@@ -101,7 +101,7 @@ fn write_mandatory(frame: &mut Frame, configuration: &Configuration, name: &[u8]
     append_tlv(frame, TIME_TO_LIVE, &ttl.to_be_bytes());
 }
 
-/// Adds what an ordinary frame says beside them.
+/// Adds the optional TLVs of an ordinary frame.
 fn write_optional(frame: &mut Frame, configuration: &Configuration, name: &[u8])
     requires short { length name.now ≤ 15 }
     requires room { array_vec_len frame.old ≤ 45 }
@@ -123,7 +123,7 @@ fn write_optional(frame: &mut Frame, configuration: &Configuration, name: &[u8])
     }
 }
 
-/// Adds the TLVs of a frame, but for the End Of LLDPDU.
+/// Adds the TLVs of a frame, except the End Of LLDPDU.
 fn write_tlvs(frame: &mut Frame, configuration: &Configuration, name: &[u8], mark: Mark)
     requires some { 0 < length name.now }
     requires short { length name.now ≤ 15 }
@@ -143,7 +143,7 @@ fn write_tlvs(frame: &mut Frame, configuration: &Configuration, name: &[u8], mar
     }
 }
 
-/// Writes the frame of a port over what was there.
+/// Writes the frame of a port over what the room held.
 fn write_frame(frame: &mut Frame, configuration: &Configuration, name: &[u8], mark: Mark)
     requires some { 0 < length name.now }
     requires short { length name.now ≤ 15 }
@@ -156,10 +156,9 @@ fn write_frame(frame: &mut Frame, configuration: &Configuration, name: &[u8], ma
 }
 
 impl<A: Allocator> Agent<A> {
-    /// Writes the frame that a port sends, with the present configuration, over what the room held.
-    /// It is an LLDP frame whose LLDPDU is examined back to what was to be said: an ordinary one to
-    /// the name, the TTL and the TLVs of the configuration, a shutdown one to the name and a TTL of
-    /// 0.
+    /// Writes the frame that a port sends with the present configuration, over what the room held.
+    /// `examine` reads back what was meant: from an ordinary frame the name, the TTL and the TLVs
+    /// of the configuration, from a shutdown frame the name and a TTL of 0.
     pub fn write_frame(&self, port: u8, mark: Mark, frame: &mut Frame)
         requires port { IsPort self.now port }
         requires sent { IsSent mark }
@@ -174,8 +173,8 @@ impl<A: Allocator> Agent<A> {
         write_frame(frame, self.configuration(), self.port_name(port), mark);
     }
 
-    /// The frame that a port sends, as `write_frame` writes it. Who sends many has each written
-    /// into one room.
+    /// Returns the frame that a port sends, as `write_frame` writes it. To send many, have each
+    /// written into one room.
     pub fn frame(&self, port: u8, mark: Mark) -> Frame
         requires port { IsPort self.now port }
         requires sent { IsSent mark }

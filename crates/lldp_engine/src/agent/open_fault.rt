@@ -1,4 +1,4 @@
-//! Why an agent is not opened.
+//! Why an agent cannot be opened.
 ghost use Rattle.std.specs.Prelude.{◌≡◌};
 ghost use Rattle.lldp_engine.specs.FixedNumbers.{number_of_refusal};
 
@@ -22,7 +22,7 @@ pub enum OpenFault {
 }
 
 impl OpenFault {
-    /// The number of the fault, 1 to 6.
+    /// Returns the number of the fault, 1 to 6.
     pub fn number(self) -> u8
         ensures { result ≡ number_of_refusal self }
     {

@@ -11,7 +11,7 @@ pub use lldp_transmit::{MOST_CREDIT, MOST_FAST, MOST_REINIT};
 /// The most neighbors that a port may be opened for.
 pub const MOST_NEIGHBORS: u8 = lldp_table::MOST_NEIGHBORS as u8;
 
-/// What a station is.
+/// The role of a host: the one capability that its frames report.
 #[derive(Clone, Copy, Debug, PartialEq, Eq)]
 pub enum Role {
     Station,
@@ -43,7 +43,7 @@ pub struct Options<'a> {
 }
 
 impl<'a> Options<'a> {
-    /// Whether the four numbers are in their ranges, as `Agent::open` asks.
+    /// Returns whether the four numbers are in their ranges, as `Agent::open` requires.
     pub fn in_range(&self) -> bool
         ensures { IsTrue result ↔ InRange (options_of self.now) }
     {
@@ -52,7 +52,7 @@ impl<'a> Options<'a> {
             && (1..=MOST_FAST).contains(&self.fast_init)
             && (1..=MOST_REINIT).contains(&self.reinit)
     }
-    /// The first check of the names and the hostname that fails, by the numbers of the faults.
+    /// Returns the first fault of the names and the hostname, in the order of the faults' numbers.
     pub(crate) fn first_fault(&self) -> Option<OpenFault>
         ensures fault { result ≡ fault_of (options_of self.now) }
         ensures names { IfNone result (IsTrue (list_all is_port_name (map (λ n.

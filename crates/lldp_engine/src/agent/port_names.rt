@@ -30,7 +30,7 @@ fn can_name_port(name: &str) -> bool
     all_name_octets(name.as_bytes())
 }
 
-/// Whether each is the name of a port.
+/// Returns whether each is the name of a port.
 pub(crate) fn all_port_names(names: &[&str]) -> bool
     ensures { result ≡ list_all is_port_name (map (λ n. n.now) names.now) }
 {
@@ -53,7 +53,7 @@ fn contains(names: &[&str], name: &str) -> bool
     false
 }
 
-/// Whether a name stands twice.
+/// Returns whether a name occurs twice.
 pub(crate) fn names_repeat(names: &[&str]) -> bool
     ensures { result ≡ has_same (map (λ n. n.now) names.now) }
 {

@@ -19,10 +19,10 @@ use lldp_table::Room;
 use lldp_transmit::Mark;
 use std::alloc::{AllocError, Allocator};
 
-/// The ports that send, rising, each with what it sends.
+/// The ports that send, in ascending order, each with what it sends.
 pub type Marks = ArrayVec<(u8, Mark), 64>;
 
-/// The ports of the options. Takes the memory of their tables.
+/// Opens the ports of the options. Takes the memory of their tables.
 pub(crate) fn open_ports<A: Allocator + Clone>(
     alloc: A,
     options: &Options<'_>,
@@ -50,8 +50,8 @@ fn note(marks: &mut Marks, port: u8, mark: Mark)
     }
 }
 
-/// The ports take an event, with the tx-interval in force after it: the one whose event it is
-/// alone, else each.
+/// Gives an event to the ports that it concerns, one or all, with the tx-interval in force after
+/// it. Returns which ports send, and what.
 pub(crate) fn take_event<A: Allocator>(
     ports: &mut [Port<A>],
     event: &Whose<'_>,
@@ -69,13 +69,13 @@ pub(crate) fn take_event<A: Allocator>(
             note(&mut marks, *port, mark);
             marks
         }
-        // Most events are ticks: their loop is compiled apart, and no port asks which event it is.
+        // Most events are ticks: their loop is compiled apart, so no port checks which event it is.
         Whose::EachPort(PortEvent::Tick) => each_takes(ports, &PortEvent::Tick, interval),
         Whose::EachPort(each) => each_takes(ports, each, interval),
     }
 }
 
-/// Each port takes an event.
+/// Gives an event to each port.
 #[inline(always)]
 fn each_takes<A: Allocator>(ports: &mut [Port<A>], event: &PortEvent<'_>, interval: u16) -> Marks
     requires few { length ports.old ≤ 64 }
@@ -93,7 +93,7 @@ fn each_takes<A: Allocator>(ports: &mut [Port<A>], event: &PortEvent<'_>, interv
     marks
 }
 
-/// Whether no port holds more neighbors than this.
+/// Returns whether no port holds more neighbors than this.
 pub(crate) fn all_fit<A: Allocator>(ports: &[Port<A>], most: u8) -> bool
     ensures { result ≡ fits ports.now most }
 {
@@ -105,7 +105,7 @@ pub(crate) fn all_fit<A: Allocator>(ports: &[Port<A>], most: u8) -> bool
     true
 }
 
-/// The place of the port of that name, from 0.
+/// Returns the place of the port of that name, from 0.
 pub(crate) fn find_place<A: Allocator>(ports: &[Port<A>], name: &[u8]) -> Option<u8>
     requires { length ports.now ≤ 64 }
     ensures { result ≡ place_from 0 (map (λ p. p.name) ports.now) name.now }

@@ -22,9 +22,9 @@ pub fn ports_count_what_they_sent()
         (n : ℕ) × HasSent past i Shutdown n × (port.counters.shutdowns ≡ n % 2 ^ 32) }
 {}
 
-/// An LLDPDU that a port hears is counted once. With a fault it is discarded and an error, with
-/// discarded TLVs an error alone. Without a fault, and with a TTL above 0, its discarded TLVs and
-/// those of its kept TLVs that are unrecognized are added.
+/// An LLDPDU that a port hears is counted once. With a fault it is discarded and an error; with
+/// discarded TLVs it is an error. If it has no fault and a TTL above 0, its discarded TLVs and its
+/// unrecognized kept TLVs are added.
 pub fn ports_count_each_lldpdu_once()
     ensures refused { (past : Past) (i : ℕ) (octets pdu : List ℕ) (fault : PduFault) →
         Hears past i → lldpdu_of octets ≡ Some pdu → fault_of pdu ≡ Some fault →
@@ -41,8 +41,8 @@ pub fn ports_count_each_lldpdu_once()
 {}
 
 /// A tick adds to `ageouts` of each port the neighbors that it takes away, and nothing else changes
-/// it. A frame adds one to `drops` of its port exactly if it finds no room there; and what is
-/// counted of received frames is changed by frames of that port alone.
+/// `ageouts`. A frame adds one to `drops` of its port exactly if it finds no room there. The
+/// counters of received frames are changed by frames of that port only.
 pub fn ports_count_what_they_lose()
     ensures aged_out { (past : Past) (i : ℕ) → Makes past tick i CountsAgedOut }
     ensures others_age_none { (past : Past) (i : ℕ) (event : Event) → event ≢ tick →

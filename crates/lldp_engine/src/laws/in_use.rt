@@ -6,9 +6,9 @@ ghost use Rattle.lldp_engine.specs.Event.{limit};
 ghost use Rattle.lldp_engine.specs.Given.{command_given};
 ghost use Rattle.lldp_engine.specs.Laws.InUse.{WouldLimitBelow, HoldAtMost};
 
-/// A line is told that a limit is in use exactly where its words would set one and some port holds
-/// more neighbors; and a limit may be set exactly if it is 1 to that of opening and every port
-/// holds at most so many.
+/// The fault of a line is that a limit is in use exactly if its words would set one and some port
+/// holds more neighbors. A limit may be set exactly if it is between 1 and that of opening and no
+/// port holds more neighbors.
 pub fn limits_below_what_ports_hold_are_in_use()
     ensures refused { (agent : AgentState) (line : List ℕ) →
         (command_given agent line ≡ Err InUse) ↔ WouldLimitBelow agent line }

@@ -1,4 +1,4 @@
-//! Laws of what an event is for the transmitting of a port.
+//! Laws of what an event means to the transmit machine of a port.
 ghost use Rattle.std.specs.Prelude.{◌≡◌, ◌≢◌, ℕ, ◌+◌, Bool, List, Some, length};
 ghost use Rattle.lldp_table.specs.Events.{Neighbor as Held};
 ghost use Rattle.lldp_transmit.specs.declared.event.Cause.TheVariants.{Tick, Change, Neighbor, Nothing};
@@ -8,7 +8,8 @@ ghost use Rattle.lldp_engine.specs.Past.{Past, with_event};
 ghost use Rattle.lldp_engine.specs.Laws.PortAt.{neighbors_at};
 ghost use Rattle.lldp_engine.specs.Laws.CauseOf.{IsFor};
 
-/// A tick is one for each port, and each command but a status command a local change for each.
+/// A tick is one for each port, and each command except a status command is a local change for
+/// each.
 pub fn settings_are_local_changes()
     ensures tick { (past : Past) (i : ℕ) → IsFor past tick i Tick }
     ensures hostname { (past : Past) (i : ℕ) (text : List ℕ) →
@@ -32,8 +33,8 @@ pub fn statuses_links_and_frames_are_no_changes()
         ¬ (IsFor past (frame port octets) i Change) }
 {}
 
-/// A frame is a new neighbor exactly if its port holds one neighbor more after it; every other
-/// frame, as a refresh and one that is dropped, is nothing for transmitting.
+/// A frame is a new neighbor exactly if its port holds one neighbor more after it. Every other
+/// frame, such as a refresh or one that is dropped, means nothing to the transmit machine.
 pub fn new_neighbors_are_one_more()
     ensures new { (past : Past) (i : ℕ) (octets : List ℕ) (before after : List Held) →
         neighbors_at past i ≡ Some before →

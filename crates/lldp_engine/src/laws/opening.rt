@@ -5,7 +5,7 @@ ghost use Rattle.lldp_engine.specs.Options.{Options, fault_of};
 ghost use Rattle.lldp_engine.specs.Laws.Opening.{Passes, IsFirstFault};
 
 /// Options have a fault exactly if they fail its check and pass each check of a smaller number,
-/// each over all the ports; they have none exactly if they pass each check.
+/// each over all the ports. They have no fault exactly if they pass each check.
 pub fn openings_tell_first_faults()
     ensures fault { (options : Options) (fault : OpenFault) →
         (fault_of options ≡ Some fault) ↔ IsFirstFault options fault }

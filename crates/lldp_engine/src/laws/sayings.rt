@@ -19,7 +19,7 @@ ghost use Rattle.lldp_engine.specs.Laws.OnlyForms.{AreWordsOf, IsNotInUse, IsLin
 ghost use Rattle.lldp_engine.specs.Laws.Places.{IsFirstPlace};
 ghost use Rattle.lldp_engine.specs.Laws.Sayings.{AreGreatest, AreSaid, MaySet, OpensWith, word_of};
 
-/// The words of each form say its command, with whatever word stands where it takes one. Each range
+/// The words of each form say its command, with any word in the place that takes one. Each range
 /// ends at its number: that of the code, that of what commands may set, and that which an agent
 /// opens with.
 pub fn forms_say_their_commands()
@@ -29,9 +29,9 @@ pub fn forms_say_their_commands()
     ensures defaults { (options : Options) → OpensWith options }
 {}
 
-/// A command is said by the words of its form and by no others, and given by a line that has them
-/// and by no other, if a limit that it sets is not in use. A word is read as a status exactly
-/// if it is that status's own.
+/// A command is said by the words of its form and by no others. It is given by a line that has
+/// these words, and by no other, unless a limit that it sets is in use. A word is read as a status
+/// exactly if it is that status's own.
 pub fn only_forms_say_commands()
     ensures said { (agent : AgentState) (words : List (List ℕ)) (command : Command) →
         (said_by agent words ≡ Ok command) ↔ AreWordsOf agent command words }
@@ -44,9 +44,9 @@ pub fn only_forms_say_commands()
         (status_of word ≡ Some given) ↔ (word ≡ word_of given) }
 {}
 
-/// A word that no command has in its place decides the fault, whatever follows it, and a line
-/// whose quotes are bad is told as Quote. With `only_forms_say_commands` each list of words has
-/// its command or its fault.
+/// A word that no command has in its place decides the fault, whatever follows it. The fault of a
+/// line with bad quotes is Quote. With `only_forms_say_commands` each list of words has its command
+/// or its fault.
 pub fn first_faults_are_told()
     ensures words { (agent : AgentState) (word : List ℕ) (behind : List (List ℕ)) →
         TellsFirstFault agent word behind }
@@ -57,15 +57,15 @@ pub fn first_faults_are_told()
         command_given agent line ≡ Err Quote }
 {}
 
-/// A word names a port exactly if it is the port's name, octet for octet; of ports with the same
-/// name it is the first.
+/// A word names a port exactly if it is the port's name, octet for octet. If several ports have
+/// that name, it names the first.
 pub fn words_name_ports_in_full()
     ensures { (names : List (List ℕ)) (word : List ℕ) (i : ℕ) →
         (place_of names word ≡ Some i) ↔ IsFirstPlace names word i }
 {}
 
-/// The neighbors of a port are shown with numbers from 1 on, behind the line that tells whether
-/// there are too many, each behind its keys.
+/// The neighbors of a port are numbered from 1 on. Their lines follow the line that says whether
+/// there are too many, each with its key.
 pub fn neighbors_are_numbered_from_1()
     ensures numbers { (port : PortState) → NumbersNeighbors port }
     ensures first { (name : List ℕ) (number : ℕ) (neighbor : Neighbor) →

@@ -9,8 +9,8 @@ ghost use Rattle.lldp_engine.specs.Past.{Past};
 ghost use Rattle.lldp_engine.specs.Laws.PortAt.{Sends};
 ghost use Rattle.lldp_engine.specs.Laws.Deaf.{HasStatus};
 
-/// An ordinary frame goes only from a port whose last status is RxAndTx or TxOnly, and a shutdown
-/// frame only from one whose last status is RxOnly or Disabled.
+/// Only a port whose last status is RxAndTx or TxOnly sends an ordinary frame, and only one whose
+/// last status is RxOnly or Disabled sends a shutdown frame.
 pub fn ports_send_by_their_status()
     ensures ordinary { (past : Past) (i : ℕ) → Sends past i Ordinary →
         HasStatus past i RxAndTx ⊎ HasStatus past i TxOnly }
@@ -18,7 +18,7 @@ pub fn ports_send_by_their_status()
         HasStatus past i RxOnly ⊎ HasStatus past i Disabled }
 {}
 
-/// Ports that were opened to receive only send nothing until a status command.
+/// Ports opened to receive only send nothing until a status command.
 pub fn ports_opened_to_receive_only_are_silent()
     ensures { (past : Past) (i : ℕ) (mark : Mark) → IsTrue past.options.receive_only →
         NoneSets (λ given. set (status i given)) past.events → ¬ (Sends past i mark) }

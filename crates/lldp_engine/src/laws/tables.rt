@@ -12,9 +12,9 @@ ghost use Rattle.lldp_engine.specs.Laws.PortAt.{table_at, neighbors_at, LeavesTa
 ghost use Rattle.lldp_engine.specs.Laws.Deaf.{HasStatus, Hears};
 ghost use Rattle.lldp_engine.specs.Laws.Neighbors.{others_than};
 
-/// An LLDPDU speaks of the neighbor of its own name alone: all others of its port stay, in their
-/// order. With a TTL of 0 and no fault, on a port that hears, its own is gone; with a fault the
-/// table stays as it was.
+/// An LLDPDU concerns the neighbor of its own name only: all others of its port stay, in their
+/// order. If the port hears, the TTL is 0 and there is no fault, that neighbor leaves. If there is
+/// a fault, the table does not change.
 pub fn lldpdus_speak_of_one_neighbor()
     ensures others { (past : Past) (i : ℕ) (octets pdu : List ℕ) → lldpdu_of octets ≡ Some pdu →
         option_map (others_than (msap_of pdu)) (neighbors_at (with_event past (frame i octets)) i)
@@ -28,8 +28,8 @@ pub fn lldpdus_speak_of_one_neighbor()
         table_at (with_event past (frame i octets)) i ≡ table_at past i }
 {}
 
-/// A status that receives, RxAndTx or RxOnly, leaves every table as it was; a port whose status is
-/// TxOnly or Disabled holds no neighbor.
+/// A status that receives, RxAndTx or RxOnly, changes no table. A port whose status is TxOnly or
+/// Disabled holds no neighbor.
 pub fn ports_that_cannot_receive_hold_none()
     ensures rx_and_tx { (past : Past) (port : ℕ) → LeavesTables past (set (status port RxAndTx)) }
     ensures rx_only { (past : Past) (port : ℕ) → LeavesTables past (set (status port RxOnly)) }

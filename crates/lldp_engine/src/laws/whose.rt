@@ -1,4 +1,4 @@
-//! Laws of whose an event is.
+//! Laws of which ports an event concerns.
 ghost use Rattle.std.specs.Prelude.{◌≡◌, ◌≢◌, ℕ, Bool, List, All};
 ghost use Rattle.std.specs.Option.{option_map};
 ghost use Rattle.lldp_engine.specs.declared.port.status.Status.{Status};
@@ -9,7 +9,7 @@ ghost use Rattle.lldp_engine.specs.Laws.PortAt.{neighbors_at, LeavesPort, Leaves
 ghost use Rattle.lldp_engine.specs.Laws.Neighbors.{one_tick_older};
 
 /// If the four numbers of the options are in their ranges, as in every agent: a frame, a link event
-/// and a status command are of one port. Every other port stays as it was and sends nothing.
+/// and a status command concern one port. Every other port stays as it was and sends nothing.
 pub fn events_of_one_port_leave_the_others()
     ensures frame { (past : Past) (port other : ℕ) (octets : List ℕ) → InRange past.options →
         other ≢ port → LeavesPort past (frame port octets) other }
@@ -19,15 +19,15 @@ pub fn events_of_one_port_leave_the_others()
         other ≢ port → LeavesPort past (set (status port given)) other }
 {}
 
-/// A tick comes to each port: each of its neighbors has one tick less left, and those that had one
-/// left are gone.
+/// A tick concerns each port: each of its neighbors has one tick less left, and those that had one
+/// left are removed.
 pub fn ticks_come_to_each_port()
     ensures { (past : Past) (i : ℕ) →
         neighbors_at (with_event past tick) i
         ≡ option_map one_tick_older (neighbors_at past i) }
 {}
 
-/// Tables are changed by ticks, frames, limits and statuses alone, and a limit takes none away.
+/// Only ticks, frames, limits and statuses change tables, and a limit removes no neighbor.
 pub fn links_and_updates_leave_tables()
     ensures link { (past : Past) (port : ℕ) (up : Bool) → LeavesTables past (link port up) }
     ensures setting { (past : Past) (setting : Setting) →
@@ -37,8 +37,8 @@ pub fn links_and_updates_leave_tables()
         neighbors_at (with_event past (set (limit neighbors))) i ≡ neighbors_at past i }
 {}
 
-/// The limit of each port's table is the one that is configured, whatever came before, and its room
-/// is what the options gave.
+/// The limit of each port's table is the configured one, whatever came before, and its room is the
+/// number of neighbors that the options gave.
 pub fn ports_have_the_configured_limit()
     ensures limit { (past : Past) →
         All (λ port. port.table.limit ≡ (agent_of past).configuration.limit)

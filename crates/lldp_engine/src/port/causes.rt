@@ -1,10 +1,10 @@
-//! What a link event and a status are for a port's transmitting.
+//! What a link event and a status mean to a port's transmit machine.
 ghost use Rattle.std.specs.Prelude.{◌≡◌};
 ghost use Rattle.lldp_engine.specs.Port.Effects.{cause_of_link, cause_of_right};
 
 use lldp_transmit::Cause;
 
-/// What a link event is for transmitting.
+/// Returns what a link event means to the transmit machine.
 pub(crate) fn cause_of_link_event(before: bool, up: bool) -> Cause
     ensures { result ≡ cause_of_link before up }
 {
@@ -15,7 +15,7 @@ pub(crate) fn cause_of_link_event(before: bool, up: bool) -> Cause
     }
 }
 
-/// What a status command is for transmitting, by the right to transmit before and after.
+/// Returns what a status command means to it, by the right to transmit before and after.
 pub(crate) fn cause_of_status(before: bool, after: bool) -> Cause
     ensures { result ≡ cause_of_right before after }
 {

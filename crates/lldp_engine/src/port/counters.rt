@@ -12,7 +12,7 @@ pub struct Counters {
     pub sent: u32,
     /// Shutdown frames sent.
     pub shutdowns: u32,
-    /// LLDP frames that came while the port received and its link was up.
+    /// LLDP frames received while the status allowed it and the link was up.
     pub received: u32,
     /// LLDPDUs that were refused.
     pub discarded: u32,
@@ -24,12 +24,12 @@ pub struct Counters {
     pub unrecognized: u32,
     /// Neighbors that aged out.
     pub ageouts: u32,
-    /// LLDPDUs that were dropped for want of room.
+    /// LLDPDUs that were dropped for lack of room.
     pub drops: u32,
 }
 
 impl Counters {
-    /// Nothing was counted.
+    /// The counters of a port that has seen nothing.
     pub(crate) const ZERO: Counters = Counters {
         sent: 0,
         shutdowns: 0,
@@ -42,14 +42,14 @@ impl Counters {
         drops: 0,
     };
 
-    /// An LLDP frame came.
+    /// Counts a received LLDP frame.
     pub(crate) fn count_received(&mut self)
         ensures { self.new ≡ with_received self.old }
     {
         self.received = self.received.wrapping_add(1);
     }
 
-    /// Its LLDPDU was refused.
+    /// Counts that its LLDPDU was refused.
     pub(crate) fn count_refused(&mut self)
         ensures { self.new ≡ with_refused self.old }
     {
@@ -57,7 +57,7 @@ impl Counters {
         self.errors = self.errors.wrapping_add(1);
     }
 
-    /// So many of its TLVs were discarded, and so many of those kept are unrecognized.
+    /// Counts its TLVs that were discarded, and those kept that are unrecognized.
     pub(crate) fn count_tlvs(&mut self, discarded: u32, unrecognized: u32)
         ensures { self.new ≡ with_tlvs self.old discarded unrecognized }
     {
@@ -66,7 +66,7 @@ impl Counters {
         self.unrecognized = self.unrecognized.wrapping_add(unrecognized);
     }
 
-    /// The table answered this to it.
+    /// Counts what the table answered to it.
     pub(crate) fn count_answer(&mut self, answer: Learned)
         ensures { self.new ≡ with_answer self.old answer }
     {
@@ -76,7 +76,7 @@ impl Counters {
         }
     }
 
-    /// So many neighbors aged out.
+    /// Counts neighbors that aged out.
     pub(crate) fn count_aged_out(&mut self, n: u8)
         ensures { self.new ≡ with_aged_out self.old n }
     {
@@ -86,7 +86,7 @@ impl Counters {
         }
     }
 
-    /// This was sent.
+    /// Counts what was sent.
     pub(crate) fn count_mark(&mut self, mark: Mark)
         ensures { self.new ≡ with_mark self.old mark }
     {

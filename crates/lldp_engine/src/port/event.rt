@@ -1,4 +1,4 @@
-//! What happens to one port, and whose an agent's event is.
+//! What happens to one port, and which ports an agent's event concerns.
 ghost use Rattle.std.specs.Prelude.{◌≡◌};
 ghost use Rattle.lldp_pdu.specs.Tlv.{AreOctets};
 ghost use Rattle.lldp_engine.specs.Port.Event.{frame};
@@ -11,20 +11,20 @@ use crate::port::status::Status;
 pub(crate) enum PortEvent<'a> {
     /// A second has passed.
     Tick,
-    /// These octets came.
+    /// It received these octets.
     Frame(&'a [u8]),
     /// Its link came up, or went down.
     Link(bool),
     /// It was given this status.
     Status(Status),
-    /// So many neighbors are the most that it may hold.
+    /// It may hold at most so many neighbors.
     Limit(u8),
     /// A local change.
     Change,
 }
 
 impl<'a> PortEvent<'a> {
-    /// Octets came.
+    /// Returns the event that the port received these octets.
     pub(crate) fn came(octets: &'a [u8]) -> PortEvent<'a>
         ensures value { port_event_of result ≡ frame octets.now }
         ensures octets { AreOctets octets.now }
@@ -33,7 +33,7 @@ impl<'a> PortEvent<'a> {
     }
 }
 
-/// An event is that of the port of this number alone, or each port's, and it is this for that port.
+/// The ports that an event concerns, one by its number or each, and what it is for them.
 #[derive(Clone, Copy)]
 pub(crate) enum Whose<'a> {
     OnePort(u8, PortEvent<'a>),

@@ -1,4 +1,4 @@
-//! What a port hears (IEEE 802.1AB-2009, 9.2.7.7).
+//! What a port does with received octets (IEEE 802.1AB-2009, 9.2.7.7).
 ghost use Rattle.std.specs.Prelude.{◌≡◌, ◌≤◌, length, Some};
 ghost use Rattle.lldp_table.specs.Code.Steps.{learn_answer, after_learn};
 ghost use Rattle.lldp_engine.specs.Heard.{heard_of, heard_by};
@@ -13,7 +13,7 @@ use lldp_transmit::Cause;
 use std::alloc::Allocator;
 
 impl<A: Allocator> Port<A> {
-    /// Octets came.
+    /// Takes octets that were received. Returns what they mean to the transmit machine.
     pub(crate) fn receive(&mut self, octets: &[u8]) -> Cause
         ensures after { self.new
             ≡ hears_if self.old (heard_by self.old.status self.old.machine.up octets.now) }
@@ -33,7 +33,7 @@ impl<A: Allocator> Port<A> {
         }
     }
 
-    /// The LLDPDU of an LLDP frame came.
+    /// Takes the LLDPDU of an LLDP frame.
     fn hear(&mut self, pdu: &[u8]) -> Cause
         requires { length pdu.now ≤ 1500 }
         ensures after { self.new ≡ hears_if self.old (Some (heard_of pdu.now)) }
@@ -54,7 +54,7 @@ impl<A: Allocator> Port<A> {
         }
     }
 
-    /// A neighbor that lives was told of.
+    /// Takes what an LLDPDU says of a neighbor that lives.
     fn learn(&mut self, info: &Info<'_>) -> Cause
         requires { length info.now.octets ≤ 1500 }
         ensures after { self.new ≡ record {

@@ -15,14 +15,14 @@ pub enum Status {
 }
 
 impl Status {
-    /// Whether the port receives.
+    /// Returns whether the port receives.
     pub(crate) fn receives(self) -> bool
         ensures { result ≡ receives self }
     {
         matches!(self, Status::RxAndTx | Status::RxOnly)
     }
 
-    /// Whether the port may transmit.
+    /// Returns whether the port may transmit.
     pub(crate) fn transmits(self) -> bool
         ensures { result ≡ transmits self }
     {
@@ -30,7 +30,7 @@ impl Status {
     }
 }
 
-/// The status of each port at opening.
+/// Returns the status of each port at opening.
 pub(crate) fn opening_status(options: &Options<'_>) -> Status
     ensures { result ≡ status_at_opening (options_of options.now) }
 {

@@ -20,7 +20,7 @@ fn text_of_role(role: Role) -> &'static [u8]
     }
 }
 
-/// The line of the management address, if one was given.
+/// Writes the line of the management address, if the agent has one.
 fn put_management<S: LineSink>(sink: &mut S, management: Option<[u8; 4]>)
     ensures { Takes S.takes sink.old sink.new (management_lines management) }
 {
@@ -29,7 +29,7 @@ fn put_management<S: LineSink>(sink: &mut S, management: Option<[u8; 4]>)
     }
 }
 
-/// The lines of `show chassis`.
+/// Writes the lines of `show chassis`.
 pub(crate) fn put_chassis<S: LineSink>(sink: &mut S, c: &Configuration)
     ensures { Takes S.takes sink.old sink.new (chassis_lines c.now) }
 {

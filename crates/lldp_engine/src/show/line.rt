@@ -1,4 +1,4 @@
-//! A line of a show: what takes it, its value, what it begins with, and lines of numbers.
+//! A line of a show: what takes it, how it begins, its value, and lines of numbers.
 ghost use Rattle.std.specs.Prelude.{◌≡◌, ℕ, ◌+◌, ◌≤◌, ◌++◌, List, length, map, true, IfSome};
 ghost use Rattle.std.specs.Borrow.{sem, Bor};
 ghost use Rattle.std.specs.List.{AllByRecursion};
@@ -18,20 +18,20 @@ pub trait LineSink {
     /// How it is after it took a line.
     ghost takes: { Self → Self → List ℕ → Type 0 };
 
-    /// Lends the writer in which the next line is written, behind what stands there; None if no
-    /// line changes the sink any more. What is written there is taken as a line: at most 2,048
-    /// octets, and a line feed.
+    /// Lends the writer for the next line, which is appended to what the writer holds; None if the
+    /// sink takes that line whatever it is, as one that is not wanted, which nobody then writes.
+    /// What is written is taken as a line: at most 2,048 octets, and a line feed.
     fn begin_line(&mut self) -> Option<&mut Writer>
         ensures* takes_line { sem 𝓛 (LendsRoom Self.row takes self.entry result) }
         ensures room { IfSome result (λ writer. length writer.now + 2049 ≤ 8192) };
 
-    /// Whether no line changes it any more, so that the others need not come. Shows ask this before
-    /// each port and before each neighbor, though no clause says so.
+    /// Returns whether no further line changes it, so that the others need not come. Shows check
+    /// this before each port and before each neighbor, though no clause says so.
     fn is_done(&self) -> bool
         ensures { result ≡ true → (line : List ℕ) → takes self.now self.now line };
 }
 
-/// What stands behind the key of a shown line.
+/// The value behind the key of a shown line.
 #[derive(Clone, Copy)]
 pub(crate) enum Value<'a> {
     /// A number, in decimal.
@@ -78,7 +78,7 @@ pub(crate) fn write_value(line: &mut Writer, value: Value<'_>)
 /// What a line begins with: the same for all lines of a port, or of a neighbor.
 pub(crate) type Front = ArrayVec<u8, 32>;
 
-/// Puts octets behind what stands there.
+/// Appends octets.
 fn extend(front: &mut Front, octets: &[u8])
     requires { length front.old.items + length octets.now ≤ 32 }
     ensures { front.new.items ≡ front.old.items ++ octets.now }
@@ -86,7 +86,7 @@ fn extend(front: &mut Front, octets: &[u8])
     let _ = front.try_extend_from_slice(octets);
 }
 
-/// A word, the name of a port, and a `.`.
+/// Returns a word, the name of a port, and a `.`.
 pub(crate) fn front(word: &[u8], name: &[u8]) -> Front
     requires word { length word.now ≤ 14 }
     requires name { length name.now ≤ 15 }
@@ -100,7 +100,7 @@ pub(crate) fn front(word: &[u8], name: &[u8]) -> Front
     front
 }
 
-/// `lldp.PORT.`
+/// Returns `lldp.PORT.`
 pub(crate) fn port_front(name: &[u8]) -> Front
     requires { length name.now ≤ 15 }
     ensures value { result.items ≡ port_key name.now }
@@ -109,7 +109,7 @@ pub(crate) fn port_front(name: &[u8]) -> Front
     front(b"lldp.", name)
 }
 
-/// `lldp.PORT.N.`
+/// Returns `lldp.PORT.N.`
 pub(crate) fn neighbor_front(name: &[u8], number: u8) -> Front
     requires { length name.now ≤ 15 }
     ensures { result.items ≡ neighbor_key name.now number }
@@ -121,7 +121,7 @@ pub(crate) fn neighbor_front(name: &[u8], number: u8) -> Front
     front
 }
 
-/// A line: what it begins with, its key, and its value.
+/// Writes a line: what it begins with, its key, and its value.
 pub(crate) fn put_line<S: LineSink>(sink: &mut S, front: &[u8], key: &[u8], value: Value<'_>)
     requires front { length front.now ≤ 32 }
     requires key { length key.now ≤ 32 }
@@ -137,10 +137,10 @@ pub(crate) fn put_line<S: LineSink>(sink: &mut S, front: &[u8], key: &[u8], valu
     line.end_line();
 }
 
-/// A number and the key that stands before it.
+/// A number with the key before it.
 pub(crate) type Number = (&'static [u8], u32);
 
-/// A line for each number.
+/// Writes a line for each number.
 pub(crate) fn put_numbers<S: LineSink>(sink: &mut S, front: &[u8], numbers: &[Number])
     requires front { length front.now ≤ 32 }
     requires keys { AllByRecursion (λ number. length number.0.now ≤ 32) numbers.now }

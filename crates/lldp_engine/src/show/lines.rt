@@ -5,6 +5,7 @@ ghost use Rattle.lldp_engine.specs.Lines.{octets_of, lines_of};
 ghost use Rattle.lldp_engine.specs.Past.{Past, agent_of};
 ghost use Rattle.lldp_engine.specs.Standing.{Stands};
 ghost use Rattle.lldp_engine.specs.Takes.{Takes};
+ghost use Rattle.lldp_engine.specs.Code.OneLineState.{line_kept};
 
 use crate::agent::Agent;
 use crate::command::Show;
@@ -18,15 +19,15 @@ use lldp_text::Line;
 use std::alloc::Allocator;
 
 /// No show has more lines: each of 64 ports has 3 and those of 128 neighbors, each of which has 4
-/// and one for each of 744 kept TLVs. Of the 1,500 octets of a neighbor the mandatory TLVs take 12
-/// at least, and a kept TLV takes 2.
+/// and one for each of 744 kept TLVs. The mandatory TLVs take at least 12 of the 1,500 octets of a
+/// neighbor, and a kept TLV takes 2.
 pub const MOST_LINES: u32 = 64 * (3 + 128 * (4 + 744));
 
 impl<A: Allocator> Agent<A> {
     /// Gives the lines of a show, in their order, to a sink: exactly those, at most `MOST_LINES`,
-    /// 6,127,808, none cut, each of at most 2,048 octets. It takes no memory. Past its clauses:
-    /// if the sink is done, as behind a write that failed, no further port or neighbor is gone
-    /// through.
+    /// 6,127,808, none cut, each of at most 2,048 octets. It takes no memory. Beyond its clauses:
+    /// if the sink is done, for instance after a write failed, it skips the ports and neighbors
+    /// that are left.
     pub fn show_lines<S: LineSink>(&self, show: &Show, sink: &mut S)
         ensures value { Takes S.takes sink.old sink.new (lines_of show.now self.now) }
         ensures few { length (lines_of show.now self.now) ≤ 6127808 }
@@ -43,17 +44,32 @@ impl<A: Allocator> Agent<A> {
         }
     }
 
-    /// Line `i` of a show, from 0, without its line feed; None from the first `i` past the last
-    /// line on. Past its clauses: it goes through the lines before that one too, so whoever wants
-    /// several takes them from `show_lines`.
+    /// Keeps line `i` of a show, from 0, if the show has it, in a sink of the caller's. Beyond its
+    /// clauses: it goes through the lines before that one too, so use `show_lines` for several.
+    pub fn keep_line(&self, show: &Show, i: u32, sink: &mut OneLine)
+        ensures line { line_kept sink.new ≡ slice_get (lines_of show.now self.now) i }
+        ensures short { length sink.new.line ≤ 2049 }
+        ensures few { length (lines_of show.now self.now) ≤ MOST_LINES }
+        ensures past { (past : Past) → Stands past self.now →
+            line_kept sink.new ≡ slice_get (lines_of show.now (agent_of past)) i }
+    {
+        sink.want(i);
+        self.show_lines(show, sink);
+    }
+
+    /// Returns line `i` of a show, from 0, without its line feed, or None if the show has no such
+    /// line. Beyond its clauses: it costs what `keep_line` does.
     pub fn show_line(&self, show: &Show, i: u32) -> Option<Line>
         ensures line { option_map octets_of result ≡ slice_get (lines_of show.now self.now) i }
         ensures few { IsSome result → i < 6127808 }
         ensures past { (past : Past) → Stands past self.now →
             option_map octets_of result ≡ slice_get (lines_of show.now (agent_of past)) i }
     {
-        let mut sink = OneLine::new(i);
-        self.show_lines(show, &mut sink);
-        sink.into_line()
+        let mut sink = OneLine::new();
+        self.keep_line(show, i, &mut sink);
+        let octets = sink.line()?;
+        let mut line = Line::new();
+        let _ = line.try_extend_from_slice(octets);
+        Some(line)
     }
 }

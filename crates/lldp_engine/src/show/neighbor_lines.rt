@@ -18,7 +18,7 @@ fn word_of(condition: bool) -> &'static [u8]
     if condition { b"yes" } else { b"no" }
 }
 
-/// The lines of a neighbor's kept TLVs.
+/// Writes the lines of a neighbor's kept TLVs.
 fn put_kept<S: LineSink>(sink: &mut S, front: &[u8], kept: Kept<'_>)
     requires front { length front.now ≤ 32 }
     requires kept { AllByRecursion IsKeptTlv kept }
@@ -29,7 +29,7 @@ fn put_kept<S: LineSink>(sink: &mut S, front: &[u8], kept: Kept<'_>)
     }
 }
 
-/// The lines of a neighbor, by its number, from 1, in the table of the port of this name.
+/// Writes the lines of a neighbor, by its number, from 1, in the table of the port of this name.
 fn put_neighbor<S: LineSink>(sink: &mut S, name: &[u8], number: u8, neighbor: Entry<'_>)
     requires { length name.now ≤ 15 }
     ensures { Takes S.takes sink.old sink.new (neighbor_lines name.now number neighbor.entry) }
@@ -54,7 +54,7 @@ fn put_neighbor<S: LineSink>(sink: &mut S, name: &[u8], number: u8, neighbor: En
     put_kept(sink, front, neighbor.kept());
 }
 
-/// The lines that stand before those of a port's neighbors.
+/// Writes the lines that precede those of a port's neighbors.
 fn put_counts<A: Allocator, S: LineSink>(sink: &mut S, port: &Port<A>)
     ensures { Takes S.takes sink.old sink.new (count_lines port.now) }
 {
@@ -76,7 +76,7 @@ fn put_counts<A: Allocator, S: LineSink>(sink: &mut S, port: &Port<A>)
     );
 }
 
-/// The lines of a port.
+/// Writes the lines of a port.
 fn put_port<A: Allocator, S: LineSink>(sink: &mut S, port: &Port<A>)
     ensures { Takes S.takes sink.old sink.new (port_lines port.now) }
 {
@@ -91,7 +91,7 @@ fn put_port<A: Allocator, S: LineSink>(sink: &mut S, port: &Port<A>)
     }
 }
 
-/// The lines of `show neighbors`.
+/// Writes the lines of `show neighbors`.
 pub(crate) fn put_neighbors<A: Allocator, S: LineSink>(sink: &mut S, ports: &[Port<A>])
     ensures { Takes S.takes sink.old sink.new (neighbors_lines ports.now) }
 {

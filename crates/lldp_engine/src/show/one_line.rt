@@ -1,48 +1,48 @@
 //! A sink that keeps one line.
-ghost use Rattle.std.specs.Prelude.{◌≡◌, ◌≤◌, ℕ, List, [], true, false, None, Some, length};
+ghost use Rattle.std.specs.Prelude.{◌≡◌, [], false};
 ghost use Rattle.std.specs.Option.{option_map};
-ghost use Rattle.lldp_engine.specs.Lines.{octets_of};
-ghost use Rattle.lldp_text.specs.Text.{ended};
-ghost use Rattle.lldp_engine.specs.Code.OneLineState.{KeepsOne};
+ghost use Rattle.lldp_engine.specs.Code.OneLineState.{KeepsOne, line_kept};
 
 use crate::show::line::LineSink;
-use arrayvec::ArrayVec;
-use lldp_text::{Line, Writer};
+use lldp_text::Writer;
 
-/// How many lines come before the one that is wanted, whether that one came, and the last line that
-/// was written, with its line feed.
+/// How many lines come before the wanted one, whether that one came, and what it is, with its line
+/// feed. It is large, so the caller lends it.
 #[derive(Drop)]
-pub(crate) struct OneLine {
+pub struct OneLine {
     before: u32,
     came: bool,
     line: Writer,
 }
 
 impl OneLine {
-    pub fn new(before: u32) -> OneLine
-        ensures { result ≡ record { before = before; came = false; line = [] } }
-    {
+    /// Returns one that keeps nothing.
+    pub fn new() -> OneLine {
         OneLine {
-            before,
+            before: 0,
             came: false,
             line: Writer::new(),
         }
     }
 
-    /// The line that is wanted, if it came, without its line feed.
-    pub fn into_line(self) -> Option<Line>
-        requires { length self.line ≤ 2049 }
-        ensures none { self.came ≡ false → result ≡ None }
-        ensures line { (line : List ℕ) → self.came ≡ true → self.line ≡ ended line
-            → option_map octets_of result ≡ Some line }
+    /// Empties it, with so many lines before the wanted one.
+    pub(crate) fn want(&mut self, before: u32)
+        ensures { self.new ≡ record { before = before; came = false; line = [] } }
+    {
+        self.before = before;
+        self.came = false;
+        self.line.clear();
+    }
+
+    /// Returns the wanted line without its line feed, if it came.
+    pub fn line(&self) -> Option<&[u8]>
+        ensures { option_map (λ line. line.now) result ≡ line_kept self.now }
     {
         if !self.came {
             return None;
         }
-        let (_, octets) = self.line.as_slice().split_last()?;
-        let mut line = ArrayVec::new();
-        let _ = line.try_extend_from_slice(octets);
-        Some(line)
+        let line = self.line.as_slice();
+        Some(&line[..line.len().saturating_sub(1)])
     }
 }
 
@@ -53,11 +53,11 @@ impl LineSink for OneLine {
         if self.came {
             return None;
         }
-        if self.before == 0 {
-            self.came = true;
-        } else {
+        if self.before > 0 {
             self.before -= 1;
+            return None;
         }
+        self.came = true;
         self.line.clear();
         Some(&mut self.line)
     }

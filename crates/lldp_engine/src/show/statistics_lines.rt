@@ -10,7 +10,7 @@ use crate::port::counters::Counters;
 use crate::show::line::{LineSink, Number, port_front, put_numbers};
 use std::alloc::Allocator;
 
-/// The counters, in the order in which they are shown.
+/// Returns the counters in the order in which they are shown.
 fn in_order(counters: &Counters) -> [Number; 9]
     ensures shown { map plain_number result ≡ counters_shown counters.now }
     ensures short { AllByRecursion (λ number. length number.0.now ≤ 32) result }
@@ -28,7 +28,7 @@ fn in_order(counters: &Counters) -> [Number; 9]
     ]
 }
 
-/// The lines of a port.
+/// Writes the lines of a port.
 fn put_counters<A: Allocator, S: LineSink>(sink: &mut S, port: &Port<A>)
     ensures { Takes S.takes sink.old sink.new (counter_lines port.now) }
 {
@@ -36,7 +36,7 @@ fn put_counters<A: Allocator, S: LineSink>(sink: &mut S, port: &Port<A>)
     put_numbers(sink, front.as_slice(), &in_order(port.counters()));
 }
 
-/// The lines of `show statistics`.
+/// Writes the lines of `show statistics`.
 pub(crate) fn put_statistics<A: Allocator, S: LineSink>(sink: &mut S, ports: &[Port<A>])
     ensures { Takes S.takes sink.old sink.new (statistics_lines ports.now) }
 {

@@ -22,7 +22,7 @@ pub record GoesOut (old : Option (List ℕ)) (waited : List ℕ) (new : Option (
   pub in_order : waited ++ text ≡ sent ++ waits
   pub taken : Appends old new sent
 
--- What an output tells: what its sink took, how many writes failed and where to, the reference that it was lent, what
+-- The state of an output: what its sink took, how many writes failed and where to, the reference that it was lent, what
 -- waits, and the answer so far.
 pub record Output : Type 0 where
   pub taken : Option (List ℕ)

@@ -1,4 +1,4 @@
--- What an output tells, and what a part of a run does.
+-- The state of an output, and what a part of a run does.
 use Rattle.std.specs.Prelude.{◌≡◌, ℕ, List, Option, Result, Ok, Err}
 use Rattle.std.specs.Borrow.{GName}
 use Rattle.lldp_engine.specs.AgentState.{AgentState}
@@ -11,7 +11,7 @@ use Rattle.lldp_program.specs.Trace.Items.{Item}
 use Rattle.lldp_program.specs.Code.Output.{Output, SameSink}
 use Rattle.lldp_program.specs.Trace.Runs.{Done, Failed}
 
--- by what its sink tells: the octets taken, the failures, and the place
+-- by what its sink reports: the octets taken, the failures, and the place
 abbrev pub output_state : {W : Type 0} → (W → Option (List ℕ)) → (W → ℕ) → (W → GName) → OwnOutput W → Output
 output_state taken failures place output = record {
   taken = taken output.sink.now;
@@ -22,7 +22,7 @@ output_state taken failures place output = record {
   answer = output.answer;
 }
 
--- what an output tells before and after is so related
+-- the states of an output before and after are so related
 abbrev pub Between : {W : Type 0} → (W → Option (List ℕ)) → (W → ℕ) → (W → GName) → OwnOutput W → OwnOutput W →
     (Output → Output → Type 0) → Type 0
 Between taken failures place old new Relation = Relation (output_state taken failures place old) (output_state taken failures place new)

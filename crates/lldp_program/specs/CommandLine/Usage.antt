@@ -21,7 +21,7 @@ use Rattle.lldp_program.specs.declared.arguments.Listening.{Listening}
 use Rattle.lldp_program.specs.declared.arguments.AddressFault.{AddressFault}
 use Rattle.lldp_program.specs.declared.arguments.AddressFault.TheVariants.{Mac, Management}
 
--- an option that takes a value, or has this one
+-- an option that takes a value, and this one by default
 abbrev pub valued_rule : Text → Text → Rule
 valued_rule name default = record (new_rule name) { long = Some name; action = Some Set; defaults = default ∷ [] }
 

@@ -20,7 +20,7 @@ pub data Call (C : Type 0) : Type 0 where
   bound : (address : List ℕ) (port : ℕ) → Call C
   unbound : (address : List ℕ) (port : ℕ) → Call C
 
--- what an acceptor tells after more calls, the last one first: nothing, if it tells nothing
+-- what an acceptor reports after more calls, the last one first: nothing, if it reports nothing
 abbrev pub logged : {C : Type 0} → List (Call C) → Option (List (Call C)) → Option (List (Call C))
 logged calls None = None
 logged calls (Some earlier) = Some (calls ++ earlier)
@@ -35,7 +35,7 @@ abbrev pub binding : {C : Type 0} → List ℕ → ℕ → Result (Unit {0}) Dev
 binding address port (Ok done) = bound address port
 binding address port (Err fault) = unbound address port
 
--- a trace was run over a connection, and the acceptor tells it
+-- a trace was run over a connection, and the acceptor reports it
 pub record RanOver {C : Type 0} (to_come taken : C → Option (List ℕ)) (connection : C) (asked asked_after : Option (List (Call C)))
     (before after : AgentState) (result : Result (Unit {0}) RunFault) : Type 0 where
   pub left : Option (List ℕ)

@@ -1,4 +1,4 @@
--- What the adapters tell.
+-- What the adapters report.
 use Rattle.std.specs.Prelude.{ℕ, List, Option}
 use Rattle.std.specs.Borrow.{GName}
 use Rattle.lldp_program.specs.declared.device.FromReader.{FromReader}

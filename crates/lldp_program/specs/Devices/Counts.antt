@@ -1,4 +1,4 @@
--- What a call does to the counts of a device, and to the octets that it tells.
+-- What a call does to the counts of a device, and to the octets that it reports.
 use Rattle.std.specs.Prelude.{◌≡◌, ℕ, ◌+◌, ◌-◌, ◌^◌, min, List, take, Option, Result, Ok, Err, is_ok, ◌==◌, if◌then◌else◌}
 use Rattle.std.specs.Io.KnownBytes.{Consumes, Keeps, IsAtEnd}
 

@@ -1,4 +1,4 @@
--- Why the program ends with another status than 0, and the line that tells it.
+-- Why the program ends with a status other than 0, and the line that reports it.
 use Rattle.std.specs.Prelude.{ℕ, List, Result, Ok, Err, codes}
 use Rattle.lldp_engine.specs.declared.agent.open_fault.OpenFault.{OpenFault}
 use Rattle.lldp_engine.specs.declared.agent.open_fault.OpenFault.TheVariants as opening

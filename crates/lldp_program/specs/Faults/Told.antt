@@ -1,4 +1,4 @@
--- What the program tells of how it ended.
+-- What the program reports about its end.
 use Rattle.std.specs.Prelude.{◌≡◌, ◌⊎◌, ℕ, List, Option, Result, Ok, Err}
 use Rattle.std.specs.Io.KnownBytes.{Appends, Keeps}
 use Rattle.lldp_program.specs.declared.fault.ProgramFault.{ProgramFault}
@@ -10,12 +10,12 @@ abbrev pub IsTold : ProgramFault → Option (List ℕ) → Option (List ℕ) →
 IsTold fault old new =
     Appends old new (line_of fault) ⊎ ((part : List ℕ) × IsCutOff (line_of fault) part × Appends old new part)
 
--- nothing is told without a fault, and of a fault its line
+-- without a fault nothing is reported, and with one its line
 abbrev pub TellsEnd : Result (Unit {0}) ProgramFault → Option (List ℕ) → Option (List ℕ) → Type 0
 TellsEnd (Ok done) old new = Keeps old new
 TellsEnd (Err fault) old new = IsTold fault old new
 
--- The program ended so: its status is that of the end, and the end was told.
+-- The program ended so: its status is that of the end, and the end was reported.
 pub record EndsBy (ended : Result (Unit {0}) ProgramFault) (old new : Option (List ℕ)) (status : ℕ) : Type 0 where
   pub ends : status ≡ status_after ended
   pub told : TellsEnd ended old new

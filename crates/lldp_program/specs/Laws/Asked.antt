@@ -1,4 +1,4 @@
--- What lines ask for, item by item, and the lines that tell what ports sent, one for each.
+-- What lines ask for, item by item, and the lines that report what ports sent, one for each.
 use Rattle.std.specs.Prelude.{◌≡◌, ℕ, List, [], ◌∷◌, ◌++◌, length, get_or, Err}
 use Rattle.std.specs.List.{AllByRecursion}
 use Rattle.hex.specs.Hex.{encode_lower}
@@ -15,7 +15,7 @@ use Rattle.lldp_program.specs.Trace.Items.{Item, happens, shows, refused, items_
 use Rattle.lldp_program.specs.Trace.Sent.{sent_text}
 use Rattle.lldp_program.specs.Trace.Work.{Work, skip, ticks, frame, link, command}
 
--- The items of some work: so many, all of them ticks; one event; one show; none if it is passed over.
+-- The items of some work: so many, all of them ticks; one event; one show; none if it is skipped.
 abbrev pub AreItemsOf : Work → List Item → Type 0
 AreItemsOf skip items = items ≡ []
 AreItemsOf (ticks n) items = (length items ≡ n) × AllByRecursion (λ item. item ≡ happens tick) items
@@ -24,7 +24,7 @@ AreItemsOf (link port up) items = items ≡ happens (event.link port up) ∷ []
 AreItemsOf (command (set setting)) items = items ≡ happens (event.set setting) ∷ []
 AreItemsOf (command (show what)) items = items ≡ shows what ∷ []
 
--- A line asks for the items of its work, and a refused one for its fault to be told.
+-- A line asks for the items of its work, and a refused one for the report of its fault.
 pub record AsksItsItems (past : Past) (line : List ℕ) : Type 0 where
   pub work : (work : Work) → IsLineOfWork (agent_of past) work line → AreItemsOf work (items_of past line)
   pub fault : (fault : LineFault) → work_given (agent_of past) line ≡ Err fault → items_of past line ≡ refused fault ∷ []
@@ -39,7 +39,7 @@ AreLinesOf names configuration (mark ∷ marks) text =
     × (text ≡ (0x74 ∷ 0x78 ∷ 0x20 ∷ name) ++ (0x20 ∷ encode_lower (frame_of configuration name mark.1)) ++ 0x0a ∷ rest)
     × AreLinesOf names configuration marks rest
 
--- what was sent at the last event is told of each port that sent
+-- what was sent at the last event is reported for each port that sent
 abbrev pub TellsEachPort : Past → Type 0
 TellsEachPort past =
     AreLinesOf past.options.names (configuration_after past.options past.events) (marks_of past) (sent_text past)

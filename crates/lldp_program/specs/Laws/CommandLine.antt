@@ -94,7 +94,7 @@ pub record IsPlain (rule : Rule) : Type 0 where
   pub required : rule.required ≡ false
 
 -- Eleven options and the ports, and nothing else: no short form, no alias, no subcommand. Each option is written in its
--- own name behind `--`; `--help` and `--version` are `clap`'s own. Beside the names stand what an option takes and its
+-- own name behind `--`; `--help` and `--version` are `clap`'s own. Beside the names are what an option takes and its
 -- default.
 pub record HasOptions (roles : Bor (List (Bor Text))) : Type 0 where
   pub names : map (λ r. r.id) (rules roles)
@@ -121,7 +121,7 @@ pub record HasOptions (roles : Bor (List (Bor Text))) : Type 0 where
   pub counts : map (λ r. r.range) (rules roles)
       ≡ None ∷ None ∷ None ∷ None ∷ None ∷ None ∷ None ∷ None ∷ None ∷ None ∷ None
       ∷ Some (record { start_inclusive = 0; end_inclusive = usize_max }) ∷ []
-  -- nothing beside the arguments but `--version`
+  -- besides the arguments only `--version`
   pub top : record ((program roles).top) { rules = [] } ≡ record (new_shape (0x6c ∷ 0x6c ∷ 0x64 ∷ 0x70 ∷ 0x61 ∷ [])) { has_version = true }
   pub subcommands : (program roles).subs ≡ []
 

@@ -23,7 +23,7 @@ abbrev pub TellsSent : List ℕ → List ℕ → Type 0
 TellsSent name frame =
     sent_line name frame ≡ (0x74 ∷ 0x78 ∷ 0x20 ∷ []) ++ name ++ (0x20 ∷ []) ++ encode_lower frame ++ 0x0a ∷ []
 
--- The line that tells why the program ended, with its LF.
+-- The line that says why the program ended, with its LF.
 pub record TellEnds : Type 0 where
   -- lldpa: read failed
   pub read : line_of program.Read ≡ 0x6c ∷ 0x6c ∷ 0x64 ∷ 0x70 ∷ 0x61 ∷ 0x3a ∷ 0x20 ∷ 0x72 ∷ 0x65 ∷ 0x61 ∷ 0x64 ∷ 0x20 ∷ 0x66 ∷ 0x61 ∷ 0x69 ∷ 0x6c ∷ 0x65 ∷ 0x64 ∷ 0x0a ∷ []

@@ -13,13 +13,13 @@ use Rattle.lldp_program.specs.Trace.Forms.{tick_form, frame_form, link_form, for
 use Rattle.lldp_program.specs.Trace.Work.{Work, skip, ticks, frame, link, command}
 use Rattle.lldp_program.specs.Laws.Sayings.{tick_word, rx_word, up_word, down_word, IsPassedOver}
 
--- the words of a line that is to be read: neither too long nor passed over
+-- the words of a line that is to be read: neither too long nor skipped
 pub record IsReadAs (line : List ℕ) (words : List (List ℕ)) : Type 0 where
   pub short : length line ≤ 4096
   pub read : IsPassedOver line → ⊥
   pub are : AreWords line words
 
--- What a line says is what its words say. It is too long above 4,096 octets, and a quote stands wrongly if it has no
+-- What a line says is what its words say. It is too long above 4,096 octets, and a quote is misplaced if it has no
 -- words.
 pub record SaysItsWords (agent : AgentState) (line : List ℕ) : Type 0 where
   pub words : (words : List (List ℕ)) → IsReadAs line words → work_given agent line ≡ form_of agent words
@@ -39,13 +39,13 @@ NamesPort agent port word = place_of (names_of agent) word ≡ Some port
 abbrev pub NamesNoPort : AgentState → List ℕ → Type 0
 NamesNoPort agent word = place_of (names_of agent) word ≡ None
 
--- the word of a link that came or went
+-- the word of a link that came up or went down
 abbrev pub link_word : Bool → List ℕ
 link_word true = up_word
 link_word false = down_word
 
--- The words that say some work: `tick`, one tick; `tick` and a number of ticks from 1 to 65,535; `rx`, a port's name and
--- the digits of the octets; `up` or `down` and a port's name; the words of a command. Nothing stands behind them.
+-- The words that say some work: `tick`, one tick; `tick` and a number of ticks from 1 to 65,535; `rx`, a port's name
+-- and the digits of the octets; `up` or `down` and a port's name; the words of a command. Nothing follows them.
 abbrev pub AreWordsOfWork : AgentState → Work → List (List ℕ) → Type 0
 AreWordsOfWork agent skip words = ⊥
 AreWordsOfWork agent (ticks n) words =
@@ -58,12 +58,12 @@ AreWordsOfWork agent (link port up) words =
     (name : List ℕ) × NamesPort agent port name × (words ≡ link_word up ∷ name ∷ [])
 AreWordsOfWork agent (command given) words = AreWordsOf agent given words × IsNotInUse agent given
 
--- The lines that say some work: nothing is said by those that are passed over, all else by the words of the work.
+-- The lines that say some work: those that are skipped say no work, the words of the work say all else.
 abbrev pub IsLineOfWork : AgentState → Work → List ℕ → Type 0
 IsLineOfWork agent skip line = (length line ≤ 4096) × IsPassedOver line
 IsLineOfWork agent work line = (words : List (List ℕ)) × IsReadAs line words × AreWordsOfWork agent work words
 
--- The faults of what stands behind `tick`: that of its number, or a word too many behind a number that it may say.
+-- The faults of what follows `tick`: that of its number, or a word too many behind a number that it may say.
 abbrev pub RefusesTicks : List (List ℕ) → LineFault → Type 0
 RefusesTicks [] fault = ⊥
 RefusesTicks (word ∷ behind) (Command fault) =
@@ -71,7 +71,7 @@ RefusesTicks (word ∷ behind) (Command fault) =
     ⊎ ((n : ℕ) × SaysTicks n word × (behind ≢ []) × (fault ≡ Extra))
 RefusesTicks (word ∷ behind) fault = ⊥
 
--- The faults of what stands behind `rx`, the first of these: no name; a name of no port; no digits; digits that spell no
+-- The faults of what follows `rx`, the first of these: no name; a name of no port; no digits; digits that spell no
 -- octets; a word too many.
 abbrev pub RefusesFrame : AgentState → List (List ℕ) → LineFault → Type 0
 RefusesFrame agent [] fault = fault ≡ Command Unknown
@@ -84,7 +84,7 @@ RefusesFrame agent (name ∷ digits ∷ behind) fault =
     × (((is_ok (decode_of digits) ≡ false) × (fault ≡ Hex))
     ⊎ ((is_ok (decode_of digits) ≡ true) × (behind ≢ []) × (fault ≡ Command Extra))))
 
--- The faults of what stands behind `up` and `down`, the first of these: no name; a name of no port; a word too many.
+-- The faults of what follows `up` and `down`, the first of these: no name; a name of no port; a word too many.
 abbrev pub RefusesLink : AgentState → List (List ℕ) → LineFault → Type 0
 RefusesLink agent [] fault = fault ≡ Command Unknown
 RefusesLink agent (name ∷ behind) fault =

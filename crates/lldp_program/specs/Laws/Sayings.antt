@@ -56,6 +56,6 @@ abbrev pub IsPassedOver : List ℕ → Type 0
 IsPassedOver line =
     AreBlanks line ⊎ ((blanks : List ℕ) × (rest : List ℕ) × AreBlanks blanks × (line ≡ blanks ++ 0x23 ∷ rest))
 
--- A line asks for nothing exactly if it is passed over and no longer than 4,096 octets.
+-- A line asks for nothing exactly if it is skipped and no longer than 4,096 octets.
 abbrev pub SkipsLines : AgentState → List ℕ → Type 0
 SkipsLines agent line = (work_given agent line ≡ Ok skip) ↔ ((length line ≤ 4096) × IsPassedOver line)

@@ -22,8 +22,8 @@ pub record AreServed {C : Type 0} (old new : Option (List (Call C))) (connection
   pub faults : faulty_among visits ≡ faulty
   pub asked : new ≡ logged (asked_in_turn visits) old
 
--- An answer that counts faults had as many connections as were asked for. One without a fault had them at the port of
--- 127.0.0.1, which was bound before, and each of the runs ended without a fault.
+-- If the answer counts faults, as many connections were served as were asked for. If it is without a fault, they were
+-- served at the port of 127.0.0.1, which was bound before, and each of the runs ended without a fault.
 pub record ServesAll {C : Type 0} (to_come taken : C → Option (List ℕ)) (old new : Option (List (Call C)))
     (before after : AgentState) : Type 0 where
   pub counted : (connections faulty : ℕ) → HasAsked to_come taken old new connections before after (Ok faulty) →

@@ -33,7 +33,7 @@ items_of_work (Err fault) = refused fault ∷ []
 abbrev pub items_of : Past → List ℕ → List Item
 items_of past line = items_of_work (work_given (agent_of past) line)
 
--- the past after an item: an event joins it, and nothing else does
+-- the past after an item: only an event joins it
 abbrev pub after : Past → Item → Past
 after past (happens event) = with_event past event
 after past (shows what) = past

@@ -12,7 +12,7 @@ use Rattle.lldp_program.specs.Trace.Items.{Item, after_all, text_of, text_of_all
 use Rattle.lldp_program.specs.declared.trace.RunFault.{RunFault}
 use Rattle.lldp_program.specs.declared.trace.RunFault.TheVariants.{Read, Write, InputTooLong}
 
--- part stands at the front of whole, and is not all of it
+-- part is a front of whole, and not all of it
 pub record IsCutOff (whole part : List ℕ) : Type 0 where
   pub rest : List ℕ
   pub joined : whole ≡ part ++ rest
@@ -55,14 +55,14 @@ Ends past input left old new agent (Err Write) = StoppedAt past input left old n
 Ends past input left old new agent (Err InputTooLong) =
     Done past (items_of_lines past (ended_lines input)) old new agent
 
--- what the answer tells of the octets that were read: Ok, that the end was reached; InputTooLong, how many they were
+-- what the answer says of the octets that were read: Ok, that the end was reached; InputTooLong, how many they were
 abbrev pub HasRead : {T : Type 0} → Option (List ℕ) → List ℕ → Result T RunFault → Type 0
 HasRead left input (Ok done) = IsAtEnd left
 HasRead left input (Err Read) = Unit {0}
 HasRead left input (Err Write) = Unit {0}
 HasRead left input (Err InputTooLong) = 4294967295 ≤ length input
 
--- A run: the octets that it read, what its answer tells of them, and, for every past that the agent stood for, what it
+-- A run: the octets that it read, what its answer says of them, and, for every past that the agent stood for, what it
 -- did. A source had octets to come and has some left, a sink had taken octets and has taken more.
 pub record HasRun {T : Type 0} (to_come left old new : Option (List ℕ)) (before after : AgentState)
     (result : Result T RunFault) : Type 0 where

@@ -1,4 +1,4 @@
--- The lines that tell what ports sent.
+-- The lines that report what ports sent.
 use Rattle.std.specs.Prelude.{ℕ, List, [], ◌++◌, codes, get_or}
 use Rattle.std.specs.List.{flat_map}
 use Rattle.hex.specs.Hex.{encode_lower}
@@ -17,6 +17,6 @@ mark_line names configuration mark =
     let name = get_or names mark.0 [] in
     sent_line name (frame_of configuration name mark.1)
 
--- the lines of what was sent at the last event, the ports rising, each frame with the configuration after the event
+-- the lines of what was sent at the last event, the ports ascending, each frame with the configuration after the event
 abbrev pub sent_text : Past → List ℕ
 sent_text past = flat_map (mark_line past.options.names (configuration_after past.options past.events)) (marks_of past)

@@ -6,7 +6,7 @@ use Rattle.lldp_engine.specs.Command.{Command, command_of, AllowsCommand}
 use Rattle.lldp_program.specs.declared.line.Work.{Work as CodeWork}
 use Rattle.lldp_program.specs.declared.line.Work.TheVariants as code
 
--- nothing, some ticks, a frame on a port, that the link of a port came or went, or a command
+-- nothing, some ticks, a frame on a port, that the link of a port came up or went down, or a command
 pub data Work : Type 0 where
   skip : Work
   ticks : ℕ → Work

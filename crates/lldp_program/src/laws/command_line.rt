@@ -10,8 +10,8 @@ ghost use Rattle.lldp_program.specs.Serving.{faults_of};
 ghost use Rattle.lldp_program.specs.declared.arguments.Listening.{Listening};
 ghost use Rattle.lldp_program.specs.declared.trace.RunFault.{RunFault};
 
-/// The command line has these options, none with an alias or a short form, and these roles, octet
-/// by octet, and nothing else. Four options take the numbers that an opening takes, and no others.
+/// The command line has exactly these options, none with an alias or a short form, and these roles,
+/// octet by octet. Four options take the numbers that an opening takes, and no others.
 pub fn options_are_these_alone()
     ensures options { (roles : Bor (List (Bor Text))) → HasOptions roles }
     ensures roles { (roles : Bor (List (Bor Text))) → HasRoles roles }
@@ -20,9 +20,9 @@ pub fn options_are_these_alone()
 {}
 
 /// The texts of `--listen` and `--connections`, whatever they are, ask to listen at the port that
-/// the one writes and for as many connections as the other writes; four command lines ask for
-/// this, one of them by the default of one connection. As many connections are counted as ended
-/// with a fault.
+/// the first gives and for as many connections as the second gives. Four command lines ask for
+/// this, one of them by the default of one connection. The number of faults is that of the
+/// connections that ended with one.
 pub fn words_ask_to_listen()
     ensures texts { (port connections : Option Text) (asked : Option Listening) →
         AskByTexts port connections asked }

@@ -1,4 +1,4 @@
-//! What stands fixed: numbers and lines, octet by octet.
+//! What is fixed: numbers and lines, octet by octet.
 ghost use Rattle.std.specs.Prelude.{ℕ, List};
 ghost use Rattle.lldp_program.specs.Laws.FixedNumbers.{AreNumbers};
 ghost use Rattle.lldp_program.specs.Laws.FixedTexts.{TellEnds, TellFaults, TellsSent};
@@ -8,7 +8,7 @@ pub fn statuses_and_faults_have_fixed_numbers()
     ensures { AreNumbers }
 {}
 
-/// The lines that tell faults and sent frames stand octet by octet.
+/// The lines that report faults and sent frames have these octets.
 pub fn lines_have_fixed_octets()
     ensures faults { TellFaults }
     ensures ends { TellEnds }

@@ -8,16 +8,16 @@ ghost use Rattle.lldp_program.specs.Trace.Forms.{work_given};
 ghost use Rattle.lldp_program.specs.Trace.Work.{Work};
 
 /// Four first words begin the forms of a trace, and every other one a command; `tick` is as many
-/// ticks as it says; and lines of these octets alone are passed over.
+/// ticks as it says; and exactly the lines of these octets are skipped.
 pub fn first_words_decide_forms()
     ensures words { (agent : AgentState) (words : List (List ℕ)) → BeginForms agent words }
     ensures ticks { CountTicks }
     ensures skipped { (agent : AgentState) (line : List ℕ) → SkipsLines agent line }
 {}
 
-/// A line says what its words say, and nothing else does: it says some work exactly if it has the
-/// words of that work, octet by octet, with nothing behind them. Words behind `tick`, `rx`, `up`
-/// and `down` have a fault exactly if it is the first that stands there.
+/// A line says what its words say, and only that: it says some work exactly if it has the words of
+/// that work, octet by octet, with nothing behind them. Words behind `tick`, `rx`, `up` and `down`
+/// have a fault exactly if it is the first among them.
 pub fn lines_say_what_their_words_say()
     ensures says { (agent : AgentState) (line : List ℕ) → SaysItsWords agent line }
     ensures work { (agent : AgentState) (line : List ℕ) (work : Work) →

@@ -16,8 +16,8 @@ pub fn lines_ask_for_their_items()
     ensures { (past : Past) (line : List ℕ) → AsksItsItems past line }
 {}
 
-/// What was sent at an event is told by one line for each port that sent, with its whole name and
-/// all octets of its frame, and by nothing else.
+/// What was sent at an event is reported by one line for each port that sent, with its whole name
+/// and all octets of its frame, and by nothing else.
 pub fn each_port_that_sends_is_told()
     ensures { (past : Past) → TellsEachPort past }
 {}

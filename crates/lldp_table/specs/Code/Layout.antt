@@ -42,7 +42,7 @@ pub record AreEntries (slots : List Stored) (left : ℕ → ℕ) (indices : List
 abbrev pub with_next : {X : Type 0} → ℕ → X → List X → List X
 with_next n x xs = if length xs == n then xs ++ x ∷ [] else xs
 
--- each slot's index stands once in the order
+-- each slot's index is once in the order
 pub record IsOrder (size : ℕ) (order : List ℕ) : Type 0 where
   pub all : length order ≡ size
   pub within : AllByRecursion (λ i. i < size) order

@@ -65,7 +65,7 @@ total queue = sum_by (λ (e : Due). e.gap) queue
 abbrev pub dues : List ℕ → List ℕ → List Due
 dues times slots = map (λ i. due i (slice_index times i)) slots
 
--- what is true of a queue's parts: no slot stands in it twice, and the sum of the differences fits in 16 bits
+-- what is true of a queue's parts: no slot is in it twice, and the sum of the differences fits in 16 bits
 pub record IsQueue (times slots : List ℕ) : Type 0 where
   pub all : length times ≡ MOST_NEIGHBORS
   pub within : AllByRecursion (λ i. i < MOST_NEIGHBORS) slots

@@ -20,7 +20,7 @@ fresh name ttl octets = record { msap = name; octets = octets; ttl = ttl; left =
 abbrev pub refreshed : MsapId → ℕ → List ℕ → Neighbor → Neighbor
 refreshed name ttl octets neighbor = if is_named name neighbor then fresh name ttl octets else neighbor
 
--- a new neighbor stands behind the others, a known one stays in its place, and for a dropped one the timer runs at
+-- a new neighbor is put behind the others, a known one stays in its place, and for a dropped one the timer runs at
 -- least as long as its TTL
 abbrev pub learned_as : Learned → Contents → MsapId → ℕ → List ℕ → Contents
 learned_as New table name ttl octets =
@@ -36,12 +36,12 @@ after_learn table name ttl octets = learned_as (learn_answer table name) table n
 
 -- ## The other calls
 
--- the neighbor of this name goes, and the others keep their order
+-- the neighbor of this name is removed, and the others keep their order
 abbrev pub after_forget : Contents → MsapId → Contents
 after_forget table name =
     record table { neighbors = filter (λ neighbor. not (is_named name neighbor)) table.neighbors }
 
--- no neighbor is left, and the timer stands
+-- no neighbor is left, and the timer has ended
 abbrev pub after_purge : Contents → Contents
 after_purge table = record table { neighbors = []; too_many_left = 0 }
 
@@ -50,7 +50,7 @@ abbrev pub aged : Neighbor → Option Neighbor
 aged neighbor =
     if nat_lt 1 neighbor.left then Some (record neighbor { left = neighbor.left - 1 }) else None
 
--- each neighbor has one tick less, and those that have none left go
+-- each neighbor has one tick less, and those that have none left are removed
 abbrev pub after_tick : Contents → Contents
 after_tick table =
     record table { neighbors = filter_map aged table.neighbors; too_many_left = table.too_many_left - 1 }

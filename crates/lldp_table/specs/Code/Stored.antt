@@ -1,4 +1,4 @@
--- What a slot stores, and the tag by which names are told apart at once.
+-- What a slot stores, and the tag that decides most comparisons of names.
 use Rattle.std.specs.Prelude.{◌≡◌, ℕ, ◌≤◌, ◌+◌, ◌*◌, ◌^◌, ◌%◌, List, [], ◌∷◌, take}
 use Rattle.lldp_pdu.specs.Msap.{MsapId}
 use Rattle.lldp_pdu.specs.Lldpdu.{msap_of}

@@ -1,4 +1,5 @@
-//! What those call who embed an agent; the program reads words, and writes frames where they wait.
+//! The calls of a host that embeds an agent; the program itself reads words, and writes frames into
+//! its output.
 use super::{hear, open};
 use lldp_engine::{Command, CommandFault, Mark, Show};
 use std::test::Fail;

@@ -1,7 +1,6 @@
-//! What is refused at opening is told. That no call takes memory behind it the types say, and
-//! tools/gate/refuse-memory.sh sees of the program.
-use super::open;
-use super::whole_shows::NAMES;
+//! What opening refuses is reported. No call takes memory after it: the types say so, and
+//! tools/gate/refuse-memory.sh sees it of the program.
+use super::{NAMES, open};
 use linked_list_allocator::LocalHeap;
 use lldp_engine::OpenFault;
 use lldp_table::Table;
@@ -12,7 +11,7 @@ use std::test::Fail;
 /// A heap that holds more than any opening below.
 const AMPLE: usize = 400_000;
 
-/// The room that the table of a port takes.
+/// Returns the room that the table of a port takes.
 fn table_size(rt: &impl Abort, alloc: Global, limit: u8) -> Result<usize, Fail> {
     assert!(rt; 0 < limit && limit <= 128);
     let heap = LocalHeap::new(alloc, AMPLE)?;
@@ -21,7 +20,7 @@ fn table_size(rt: &impl Abort, alloc: Global, limit: u8) -> Result<usize, Fail> 
     Ok(heap.used())
 }
 
-/// The room that an opening takes in all.
+/// Returns the room that an opening takes in all.
 fn agent_size(rt: &impl Abort, alloc: Global, ports: &[&str], limit: u8) -> Result<usize, Fail> {
     let heap = LocalHeap::new(alloc, AMPLE)?;
     let agent = open(rt, &heap, ports, limit)?;
@@ -29,7 +28,8 @@ fn agent_size(rt: &impl Abort, alloc: Global, ports: &[&str], limit: u8) -> Resu
     Ok(heap.used())
 }
 
-/// In a heap of this size there is no room for the opening, and nothing of it stays.
+/// Checks that in a heap of this size there is no room for the opening, and that nothing of it
+/// stays.
 fn expect_refused(
     rt: &impl Abort,
     alloc: Global,
@@ -45,9 +45,9 @@ fn expect_refused(
     Ok(())
 }
 
-/// Each allocation of an opening is refused in turn: that of the ports, for which there is one unit
-/// too little, and that of the table of each port, behind those before it. If there is just
-/// enough, none is.
+/// Refuses each allocation of an opening in turn: that of the ports, with one unit too little room,
+/// and that of the table of each port, behind those before it. With just enough room, none is
+/// refused.
 fn refuse_each(rt: &impl Abort, alloc: Global, ports: &[&str], limit: u8) -> Result<(), Fail> {
     let table = table_size(rt, alloc, limit)?;
     let all = agent_size(rt, alloc, ports, limit)?;
@@ -74,7 +74,7 @@ fn refused_at_opening(rt: HostRuntime) -> Result<(), Fail> {
     refuse_each(&rt, rt.alloc(), &NAMES, 2)
 }
 
-/// What is wrong with the options is told before memory is asked for.
+/// Checks that faults of the options are reported before memory is taken.
 #[test]
 fn other_faults_first(rt: HostRuntime) -> Result<(), Fail> {
     let none = LocalHeap::new(rt.alloc(), 64)?;

@@ -1,27 +1,9 @@
-//! What opening refuses, that it works if there is memory, and the numbers of faults.
-use super::whole_shows::NAMES;
-use super::{open, open_with, options};
-use crate::rows::OPENINGS;
-use lldp_engine::{CommandFault, OpenFault, Options};
+//! That opening works if there is memory, and the numbers of faults.
+use super::{NAMES, open};
+use lldp_engine::{CommandFault, Mark, OpenFault};
 use std::test::Fail;
 
-#[test]
-fn faults(rt: HostRuntime) -> Result<(), Fail> {
-    for row in OPENINGS {
-        let options = Options {
-            hostname: row.hostname,
-            ..options(row.ports, 32)
-        };
-        let found = match open_with(&rt, rt.alloc(), &options) {
-            Ok(_) => 0,
-            Err(fault) => fault.number(),
-        };
-        assert_eq!(rt; found, row.fault, "{}", row.name);
-    }
-    Ok(())
-}
-
-/// The numbers of the faults.
+/// Checks the numbers of the faults.
 #[test]
 fn numbers_of_faults(rt: HostRuntime) {
     for (fault, number) in [
@@ -50,7 +32,12 @@ fn numbers_of_faults(rt: HostRuntime) {
     }
 }
 
-/// No opening is refused if there is memory: every number of ports, with every limit.
+#[test]
+fn quiet_is_the_default(rt: HostRuntime) {
+    assert_eq!(rt; Mark::default(), Mark::Quiet);
+}
+
+/// Checks that no opening is refused if there is memory: every number of ports, with every limit.
 #[test]
 fn every_size(rt: HostRuntime) -> Result<(), Fail> {
     for ports in 1..65 {

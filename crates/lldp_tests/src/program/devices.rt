@@ -1,12 +1,12 @@
-//! A reader that gives little at a time, a writer that takes little at a time, and that both fail;
-//! and a network.
+//! A reader that returns little at a time, a writer that takes little at a time, and that both
+//! fail; and a network.
 ghost use Rattle.std.specs.Prelude.{◌≤◌};
 
 use std::io::{Error, ErrorKind, Read, Result, Write};
 use std::net::{Net, SocketAddr, TcpListener, TcpStream};
 
-/// Gives its octets in pieces of these sizes, and is interrupted at one call, which is a failure
-/// like any other.
+/// A reader that returns its octets in pieces of these sizes, and is interrupted at one call, which
+/// is a failure like any other.
 #[derive(Drop)]
 pub struct Drip<'a> {
     octets: &'a [u8],
@@ -27,12 +27,12 @@ impl<'a> Drip<'a> {
         }
     }
 
-    /// Gives all at once.
+    /// Returns a reader that returns all at once.
     pub fn whole(octets: &'a [u8]) -> Self {
         Drip::new(octets, usize::MAX, usize::MAX, None)
     }
 
-    /// How often it was read.
+    /// Returns how often it was read.
     pub fn calls(&self) -> usize {
         self.calls
     }
@@ -66,8 +66,8 @@ pub enum Burn {
     AtFlush,
 }
 
-/// Takes pieces of this size, and fails once after so many octets, or if it is flushed. What is
-/// written after that shows. It counts how often it is flushed.
+/// A writer that takes pieces of this size, and fails once after so many octets, or if it is
+/// flushed. What is written after that is kept too. It counts how often it is flushed.
 #[derive(Drop)]
 pub struct Fuse {
     octets: [u8; 4096],
@@ -91,17 +91,17 @@ impl Fuse {
         }
     }
 
-    /// Never fails.
+    /// Returns a writer that never fails.
     pub fn endless() -> Self {
         Fuse::new(usize::MAX, usize::MAX, Burn::Error)
     }
 
-    /// What it took.
+    /// Returns what it took.
     pub fn taken(&self) -> &[u8] {
         &self.octets[..self.len]
     }
 
-    /// How often it was flushed.
+    /// Returns how often it was flushed.
     pub fn flushes(&self) -> usize {
         self.flushes
     }
@@ -134,7 +134,7 @@ impl Write for Fuse {
     }
 }
 
-/// A network with one port, 127.0.0.1:4711, at which clients may wait already, or with none.
+/// A network with one port, 127.0.0.1:4711, where clients may already wait, or with none.
 #[derive(Drop)]
 pub struct Network<'a> {
     pub listener: Option<&'a TcpListener>,

@@ -9,8 +9,8 @@ use std::alloc::Global;
 use std::process::Abort;
 use std::test::Fail;
 
-/// The tick whose LF was read was done, and the other one was not: one second was counted, and the
-/// next frame comes with the thirtieth from there.
+/// Checks that the tick whose LF was read was done, and the other one was not: one second was
+/// counted, and the next frame is sent at the thirtieth from there.
 #[test]
 fn reader_that_fails_inside_a_line(rt: HostRuntime) -> Result<(), Fail> {
     let rows: &[(&[u8], Option<usize>, Result<(), RunFault>, &str)] = &[
@@ -78,8 +78,8 @@ const FULL_TABLE: &[(&str, &str)] = &[
     ("show neighbors\n", SHOWN_LATER),
 ];
 
-/// Runs the full table by a reader that gives an octet at each call and fails at one, and compares
-/// what was written until then.
+/// Runs the full table with a reader that returns an octet at each call and fails at one, and
+/// compares what was written until then.
 fn fails_at_call(
     rt: &(impl Abort + AllocGlobal),
     input: &str,
@@ -94,8 +94,8 @@ fn fails_at_call(
     Ok(())
 }
 
-/// The lines whose LF came before the read that fails were done, no others, and the reader is not
-/// asked again.
+/// Checks that the lines whose LF came before the failed read were done, no others, and that the
+/// reader is not called again.
 #[test]
 fn reader_that_fails(rt: HostRuntime) -> Result<(), Fail> {
     let mut input = String::new(rt.alloc());
@@ -111,11 +111,11 @@ fn reader_that_fails(rt: HostRuntime) -> Result<(), Fail> {
         }
         output.push_str(text)?;
     }
-    // The call that would have answered the end.
+    // The call that would have returned the end.
     fails_at_call(&rt, input.as_str(), call, output.as_str())
 }
 
-/// Lines of which the first five and the eighth send a frame each, and what they send.
+/// Nine lines, and what they send: the first five and the eighth send a frame each.
 const LINES: [&str; 9] = [
     "tick\n", "update\n", "update\n", "update\n", "update\n", "update\n", "update\n", "tick\n",
     "tick\n",
@@ -126,10 +126,10 @@ const FRAMES: [&str; 6] = [SENT; 6];
 /// How many octets the line of a sent frame has, its LF among them.
 const SENT_OCTETS: usize = 141;
 
-/// Lines behind them. There is credit for one frame.
+/// Further lines. There is credit for one frame.
 const MORE: [&str; 2] = ["update\n", "update\n"];
 
-/// What was sent then, the frames among it that were not written.
+/// What was then sent, including the frames that were not written.
 const SENT_SEVEN: [&str; 2] = ["lldp.eth0.sent=7", "lldp.eth0.shutdowns=0"];
 
 /// Runs the lines with a writer that fails after so many octets.
@@ -149,7 +149,7 @@ fn cut_off_at(
     Ok(())
 }
 
-/// The lines that were not done if so many frames were written whole, and more.
+/// Returns the lines that were not done if so many frames were written whole, and the further ones.
 fn lines_left(alloc: Global, frames: usize) -> Result<String, Fail> {
     let done = if frames < 5 { frames + 1 } else { 8 };
     let mut input = LINES[done..].concat(alloc)?;
@@ -159,7 +159,7 @@ fn lines_left(alloc: Global, frames: usize) -> Result<String, Fail> {
     Ok(input)
 }
 
-/// What those lines write.
+/// Returns what those lines write.
 fn frames_left(rt: &(impl Abort + AllocGlobal), frames: usize) -> Result<String, Fail> {
     let mut output = FRAMES[frames.saturating_add(1).min(6)..].concat(rt.alloc())?;
     output.push_str(SENT)?;
@@ -167,7 +167,7 @@ fn frames_left(rt: &(impl Abort + AllocGlobal), frames: usize) -> Result<String,
 }
 
 /// Runs the lines with a writer that fails after so many octets, and then those that were not done,
-/// and more.
+/// and the further ones.
 fn fails_at(rt: &(impl Abort + AllocGlobal), octets: usize, burn: Burn) -> Result<(), Fail> {
     let mut agent = open(rt, &sending())?;
     cut_off_at(rt, &mut agent, octets, burn)?;
@@ -181,8 +181,8 @@ fn fails_at(rt: &(impl Abort + AllocGlobal), octets: usize, burn: Burn) -> Resul
     Ok(())
 }
 
-/// Exactly the octets before the fault were written, and the agent stands for the events up to the
-/// one whose output failed. If none fails, all were written.
+/// Checks that exactly the octets before the fault were written, and that the agent stands for the
+/// events up to the one whose output failed. If no write fails, all were written.
 #[test]
 fn writer_that_fails(rt: HostRuntime) -> Result<(), Fail> {
     for octets in 0..6 * SENT_OCTETS {
@@ -200,7 +200,8 @@ fn writer_that_fails(rt: HostRuntime) -> Result<(), Fail> {
     Ok(())
 }
 
-/// The frame that was not written whole counts as sent, and the line behind its own was not done.
+/// Checks that the frame that was not written whole counts as sent, and that the line behind its
+/// own was not done.
 #[test]
 fn writer_that_fails_inside_a_frame(rt: HostRuntime) -> Result<(), Fail> {
     let mut agent = open(&rt, &sending())?;
@@ -213,7 +214,7 @@ fn writer_that_fails_inside_a_frame(rt: HostRuntime) -> Result<(), Fail> {
     Ok(())
 }
 
-/// Exactly the octets before the fault were written, wherever it comes.
+/// Checks that exactly the octets before the fault were written, wherever it comes.
 #[test]
 fn writer_that_fails_inside_a_show(rt: HostRuntime) -> Result<(), Fail> {
     for octets in 0..OUTPUT.len() {

@@ -1,4 +1,4 @@
-//! The program where its words ask to listen.
+//! The program when its words ask to listen.
 use super::devices::{Drip, Fuse, Network};
 use super::sockets::{ASK, ASK_IN_VAIN, Client, LEARN, LEAVE, listen, read_all, send_all};
 use super::statuses::expect_status;
@@ -11,7 +11,7 @@ const DONE: (u8, &str) = (0, "");
 
 const SOCKET_FAILED: (u8, &str) = (1, "lldpa: socket failed\n");
 
-/// Runs the program, which leaves its streams alone, and compares what it answers.
+/// Runs the program, which does not use its streams, and compares what it answers.
 fn run(
     rt: &(impl Abort + AllocGlobal),
     net: &impl Net<Listener = TcpListener, Stream = TcpStream>,
@@ -26,7 +26,8 @@ fn run(
     Ok(())
 }
 
-/// Clients connect and send, the program runs with the words of each row, and they read.
+/// Connects clients and lets them send, runs the program with the words of each row, and lets them
+/// read.
 fn serve_all(
     rt: &(impl Abort + AllocGlobal + Net<Stream = TcpStream, Listener = TcpListener>),
     clients: &[Client<'_>],
@@ -43,7 +44,7 @@ fn serve_all(
     read_all(rt, waiting)
 }
 
-/// The port and the number of connections, as the words give them.
+/// Checks the port and the number of connections that the words give.
 #[test]
 fn port_and_connections(rt: HostRuntime) -> Result<(), Fail> {
     let rows: &[(&[&str], Option<(u16, u16)>)] = &[
@@ -63,7 +64,7 @@ fn port_and_connections(rt: HostRuntime) -> Result<(), Fail> {
     Ok(())
 }
 
-/// So many clients as were asked for are served, and the next one is not.
+/// Checks that so many clients as were asked for are served, and the next one is not.
 #[test]
 fn serves_so_many(rt: HostRuntime) -> Result<(), Fail> {
     let two = "lldpa --listen 4711 --receive-only eth0 --connections 2";
@@ -72,14 +73,15 @@ fn serves_so_many(rt: HostRuntime) -> Result<(), Fail> {
     serve_all(&rt, &clients, &[(two, DONE), (one, DONE), (one, DONE)])
 }
 
-/// A fault of one connection is told when all were served.
+/// Checks that a fault of one connection is reported after all were served.
 #[test]
 fn faulty_connection(rt: HostRuntime) -> Result<(), Fail> {
     let words = "lldpa --receive-only --listen=4711 --connections=2 eth0";
     serve_all(&rt, &[LEAVE, ASK_IN_VAIN], &[(words, SOCKET_FAILED)])
 }
 
-/// Nobody comes, or the port is another. The opening is refused before a port is bound.
+/// Checks the answer if no client comes, or the port is another. The opening is refused before a
+/// port is bound.
 #[test]
 fn no_client(rt: HostRuntime) -> Result<(), Fail> {
     let rows: &[(&str, (u8, &str))] = &[
@@ -94,7 +96,7 @@ fn no_client(rt: HostRuntime) -> Result<(), Fail> {
     serve_all(&rt, &[], rows)
 }
 
-/// A port of this host at which somebody else listens.
+/// Checks the answer at a port of this host at which another program listens.
 #[test]
 fn port_in_use(rt: HostRuntime) -> Result<(), Fail> {
     let listener = listen(&rt)?;

@@ -54,7 +54,7 @@ lldp.eth0.octets=0
 lldp.eth0.too-many=no
 ";
 
-/// What an agent on one port is opened with if no option is given.
+/// Returns the options of an agent on one port if no option is given.
 pub fn sending() -> Options<'static> {
     Options {
         ports: &["eth0"],
@@ -70,7 +70,7 @@ pub fn sending() -> Options<'static> {
     }
 }
 
-/// The same if it only receives, of so many neighbors at most.
+/// Returns the same options if it only receives, of so many neighbors at most.
 pub fn only_receiving(max_neighbors: u8) -> Options<'static> {
     let mut options = sending();
     options.max_neighbors = max_neighbors;
@@ -83,7 +83,7 @@ pub fn open(rt: &(impl Abort + AllocGlobal), options: &Options<'_>) -> Result<Ag
     Ok(Agent::open(rt.alloc(), options)?)
 }
 
-/// Sees that the counters of eth0 begin with these lines.
+/// Checks that the counters of eth0 begin with these lines.
 pub fn expect_counters(rt: &impl Abort, agent: &Agent, wanted: &[&str]) {
     for (place, line) in (0..u32::MAX).zip(wanted) {
         let Some(shown) = agent.show_line(&Show::Statistics, place) else {
@@ -93,7 +93,7 @@ pub fn expect_counters(rt: &impl Abort, agent: &Agent, wanted: &[&str]) {
     }
 }
 
-/// Runs over these devices, and compares the answer and what was written. A loop tells its place.
+/// Runs over these devices, and compares the answer and what was written. A loop passes its place.
 pub fn expect_run(
     rt: &(impl Abort + AllocGlobal),
     agent: &mut Agent,
@@ -111,7 +111,7 @@ pub fn expect_run(
     assert_eq!(rt; fuse.taken(), wanted.1, "at {place}");
 }
 
-/// Octet by octet, and in two pieces, cut at every place. A first piece of all is the whole.
+/// Runs octet by octet, and in two pieces, cut at every place. A first piece of all is the whole.
 #[test]
 fn any_pieces(rt: HostRuntime) -> Result<(), Fail> {
     for first in 1..=INPUT.len() {
@@ -124,7 +124,7 @@ fn any_pieces(rt: HostRuntime) -> Result<(), Fail> {
     Ok(())
 }
 
-/// The text of an input: what a caller knows of it from public contracts alone.
+/// Returns the text of an input: what a caller knows of it from public contracts alone.
 pub fn text_of_input(
     rt: &(impl Abort + AllocGlobal),
     agent: &mut Agent,
@@ -151,7 +151,7 @@ fn runs_octets(rt: HostRuntime) -> Result<(), Fail> {
     Ok(())
 }
 
-/// Each adapter asks its stream, and passes on what that answers.
+/// Checks that each adapter calls its stream, and passes on what that answers.
 #[test]
 fn adapters_ask(rt: HostRuntime) -> Result<(), Fail> {
     let mut drip = Drip::new(b"abc", 2, 2, Some(2));

@@ -14,7 +14,7 @@ use std::time::Duration;
 
 const SHOW: &str = "show neighbors\n";
 
-/// What it gives if the neighbor of `HEARD` is held.
+/// What it writes if the neighbor of `HEARD` is held.
 const SHOWN: &str = "lldp.eth0.neighbors=1
 lldp.eth0.octets=20
 lldp.eth0.too-many=no
@@ -24,23 +24,23 @@ lldp.eth0.1.ttl=120
 lldp.eth0.1.expires=120
 ";
 
-/// A client: what it sends, and what it is answered. One without an answer does not read, and is
-/// gone.
+/// A client: what it sends, and what it is answered. One without an answer does not read, and
+/// leaves.
 pub type Client<'a> = (&'a [&'a str], Option<&'a str>);
 
-/// It tells of a neighbor.
+/// A client that sends a neighbor's frame.
 pub const LEARN: Client<'static> = (&[HEARD], Some(""));
 
-/// It asks for the neighbors, of which there is one.
+/// A client that asks for the neighbors when there is one.
 pub const ASK: Client<'static> = (&[SHOW], Some(SHOWN));
 
-/// It asks for the neighbors, of which there is none.
+/// A client that asks for the neighbors when there are none.
 pub const ASK_IN_VAIN: Client<'static> = (&[SHOW], Some(NONE));
 
-/// It asks for more than it ever reads.
+/// A client that asks for more than it ever reads.
 pub const LEAVE: Client<'static> = (&[SHOW; 200], None);
 
-/// A listener at a free port. If nobody waits there, accepting fails.
+/// Returns a listener at a free port. If no client waits there, accepting fails.
 pub fn listen(
     rt: &(impl Abort + AllocGlobal + Net<Stream = TcpStream, Listener = TcpListener>),
 ) -> io::Result<TcpListener> {
@@ -49,7 +49,7 @@ pub fn listen(
     Ok(listener)
 }
 
-/// A connection to a listener, which waits for at most ten seconds.
+/// Connects to a listener. The connection waits for at most ten seconds.
 fn connect(
     rt: &(impl Abort + AllocGlobal + Net<Stream = TcpStream, Listener = TcpListener>),
     listener: &TcpListener,
@@ -59,7 +59,7 @@ fn connect(
     Ok(client)
 }
 
-/// Connects the clients, and sends what they send. Gives those that wait for an answer.
+/// Connects the clients, and sends what they send. Returns those that wait for an answer.
 pub fn send_all<'a>(
     rt: &(impl Abort + AllocGlobal + Net<Stream = TcpStream, Listener = TcpListener>),
     listener: &TcpListener,
@@ -79,7 +79,7 @@ pub fn send_all<'a>(
     Ok(waiting)
 }
 
-/// Compares all that they are sent.
+/// Compares all that they receive.
 pub fn read_all(
     rt: &(impl Abort + AllocGlobal),
     waiting: Vec<(TcpStream, &str)>,
@@ -108,8 +108,8 @@ impl Server {
         })
     }
 
-    /// Clients connect and send, it serves so many connections and answers so, each time in turn,
-    /// and they read.
+    /// Lets clients connect and send, serves so many connections and compares the answer, each time
+    /// in turn, and lets them read.
     fn serves(
         &mut self,
         rt: &(impl Abort + AllocGlobal + Net<Stream = TcpStream, Listener = TcpListener>),
@@ -130,7 +130,7 @@ fn two_connections(rt: HostRuntime) -> Result<(), Fail> {
     Server::open(&rt)?.serves(&rt, &[LEARN, ASK], &[(2, Ok(0))])
 }
 
-/// Nobody is served who was not asked for.
+/// Checks that no client is served that was not asked for.
 #[test]
 fn no_connections(rt: HostRuntime) -> Result<(), Fail> {
     let mut server = Server::open(&rt)?;
@@ -138,7 +138,7 @@ fn no_connections(rt: HostRuntime) -> Result<(), Fail> {
     server.serves(&rt, &[LEARN, ASK], &[(0, Ok(0)), (1, Ok(0)), (1, Ok(0))])
 }
 
-/// The next client is served whatever became of the one before it.
+/// Checks that the next client is served whatever became of the one before it.
 #[test]
 fn client_that_does_not_read(rt: HostRuntime) -> Result<(), Fail> {
     let nothing: Client<'_> = (&[], Some(""));
@@ -147,8 +147,8 @@ fn client_that_does_not_read(rt: HostRuntime) -> Result<(), Fail> {
     Server::open(&rt)?.serves(&rt, &clients, &[(5, Ok(1))])
 }
 
-/// A client that leaves with an answer which it did not read may be a fault or none, and the next
-/// one is served.
+/// Checks that a client that leaves without reading an answer may be a fault or not, and that the
+/// next one is served.
 #[test]
 fn client_that_leaves(rt: HostRuntime) -> Result<(), Fail> {
     let mut server = Server::open(&rt)?;
@@ -159,7 +159,7 @@ fn client_that_leaves(rt: HostRuntime) -> Result<(), Fail> {
     read_all(&rt, waiting)
 }
 
-/// If nobody can be accepted, what came before counts.
+/// Checks that if no client can be accepted, what came before counts.
 #[test]
 fn nobody_to_accept(rt: HostRuntime) -> Result<(), Fail> {
     let mut server = Server::open(&rt)?;
@@ -167,14 +167,14 @@ fn nobody_to_accept(rt: HostRuntime) -> Result<(), Fail> {
     server.serves(&rt, &[ASK], &[(1, Ok(0))])
 }
 
-/// What it has counted behind a thousand frames.
+/// The counters after a thousand frames.
 const HEARD_ALL: [&str; 3] = [
     "lldp.eth0.sent=0",
     "lldp.eth0.shutdowns=0",
     "lldp.eth0.received=1000",
 ];
 
-/// One agent goes through them all.
+/// Checks that one agent serves them all.
 #[test]
 fn many_connections(rt: HostRuntime) -> Result<(), Fail> {
     let mut server = Server::open(&rt)?;
@@ -185,8 +185,8 @@ fn many_connections(rt: HostRuntime) -> Result<(), Fail> {
     Ok(())
 }
 
-/// What comes over a connection whose client reads each answer before it sends its next lines, and
-/// then is gone. It fails if an answer is another.
+/// A connection whose client reads each answer before it sends its next lines, and then leaves. It
+/// fails if an answer differs.
 #[derive(Drop)]
 struct Conversation<'a> {
     client: Option<TcpStream>,
@@ -246,7 +246,8 @@ fn converse(
     server.serves(rt, &[ASK], &[(1, Ok(0))])
 }
 
-/// Each answer comes before the next line is sent, and without the connection being closed.
+/// Checks that each answer comes before the next line is sent, and without the connection being
+/// closed.
 #[test]
 fn answers_come_at_once(rt: HostRuntime) -> Result<(), Fail> {
     let steps = [
@@ -261,7 +262,7 @@ fn answers_come_at_once(rt: HostRuntime) -> Result<(), Fail> {
     converse(&rt, &steps, Ok(()))
 }
 
-/// A client that is gone with an answer that it did not read.
+/// Checks the answer to a client that left without reading an answer.
 #[test]
 fn client_that_resets(rt: HostRuntime) -> Result<(), Fail> {
     let steps = [(HEARD, ""), ("show neighbors\nrx eth0", "")];

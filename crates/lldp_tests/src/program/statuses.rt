@@ -8,7 +8,7 @@ use std::net::{Net, TcpListener, TcpStream};
 use std::process::Abort;
 use std::test::Fail;
 
-/// What `show neighbors` gives if none is held.
+/// What `show neighbors` writes if no neighbor is held.
 pub const NONE: &str = "lldp.eth0.neighbors=0\nlldp.eth0.octets=0\nlldp.eth0.too-many=no\n";
 
 const READ_FAILED: &str = "lldpa: read failed\n";
@@ -20,8 +20,8 @@ const FAR: usize = usize::MAX;
 
 const OFFLINE: Network<'static> = Network { listener: None };
 
-/// Runs the program with words, given with spaces between them, and compares its status and what it
-/// tells, which is taken an octet at a time.
+/// Runs the program with words, separated by spaces, and compares its status and what it writes of
+/// faults, an octet at a time.
 pub fn expect_status(
     rt: &(impl Abort + AllocGlobal),
     net: &impl Net<Listener = TcpListener, Stream = TcpStream>,
@@ -38,7 +38,7 @@ pub fn expect_status(
     Ok(())
 }
 
-/// Whatever became of the run, what was written is flushed once.
+/// Checks that what was written is flushed once, whatever became of the run.
 #[test]
 fn streams_that_fail(rt: HostRuntime) -> Result<(), Fail> {
     let words = "lldpa --receive-only eth0";
@@ -61,7 +61,7 @@ fn streams_that_fail(rt: HostRuntime) -> Result<(), Fail> {
     Ok(())
 }
 
-/// Wherever the writing ends, and at the flush.
+/// Checks the status wherever the writing ends, and at the flush.
 #[test]
 fn help_that_cannot_be_written(rt: HostRuntime) -> Result<(), Fail> {
     let wanted = (1, WRITE_FAILED);
@@ -80,8 +80,8 @@ fn help_that_cannot_be_written(rt: HostRuntime) -> Result<(), Fail> {
     Ok(())
 }
 
-/// No words at all count as the name alone. Without `--listen` the number of connections changes
-/// nothing.
+/// Checks that no words at all count as the name alone, and that without `--listen` the number of
+/// connections changes nothing.
 #[test]
 fn no_words_and_no_listen(rt: HostRuntime) -> Result<(), Fail> {
     let rows: &[(&str, (u8, &str), &str)] = &[
@@ -97,7 +97,8 @@ fn no_words_and_no_listen(rt: HostRuntime) -> Result<(), Fail> {
     Ok(())
 }
 
-/// What is wrong with the words is told in all its lines, and nothing is read or written.
+/// Checks that what is wrong with the words is reported in all its lines, and nothing is read or
+/// written.
 #[test]
 fn words_with_a_fault(rt: HostRuntime) -> Result<(), Fail> {
     let told = "error: unexpected argument '--no-such' found
@@ -117,7 +118,7 @@ For more information, try '--help'.
     Ok(())
 }
 
-/// The messages of faults are the lines that the program tells.
+/// Checks that the messages of faults are the lines that the program writes.
 #[test]
 fn texts_of_faults(rt: HostRuntime) -> Result<(), Fail> {
     let read = format!(in rt.alloc(); "{}", RunFault::Read)?;
@@ -129,7 +130,7 @@ fn texts_of_faults(rt: HostRuntime) -> Result<(), Fail> {
     Ok(())
 }
 
-/// No trace of so many reads can be run in a test.
+/// Checks the text of a fault that no test can bring about: no test can read so often.
 #[test]
 fn text_of_input_too_long(rt: HostRuntime) -> Result<(), Fail> {
     let told = format!(in rt.alloc(); "{}", RunFault::InputTooLong)?;

@@ -2,7 +2,7 @@
 use Rattle.std.specs.Prelude.{◌≡◌, ℕ, ◌<◌, ◌+◌, ◌*◌, ◌/◌, ◌%◌, List, slice_index, nat_lt, if◌then◌else◌, Some, None, Ok}
 use Rattle.hex.specs.Hex.{hex_digit_value, pair_value, lower_digits}
 
--- v is the digit's value, or not below 16 if c is no digit
+-- v is the digit's value, or not below 16 if c is not a digit
 abbrev pub IsValue : ℕ → ℕ → Type 0
 IsValue c v = hex_digit_value c ≡ (if nat_lt v 16 then Some v else None)
 

@@ -1,4 +1,4 @@
--- What is shown of a neighbor tells who it is.
+-- What is shown of a neighbor identifies it.
 use Rattle.std.specs.Prelude.{◌≡◌, ℕ, List}
 use Rattle.lldp_pdu.specs.Tlv.{AreOctets}
 use Rattle.lldp_pdu.specs.Msap.{IsIdentifier, MsapId}

@@ -8,7 +8,7 @@ use Rattle.lldp_text.specs.Number.{number_of, is_number}
 use Rattle.lldp_text.specs.Words.{words_of, is_separator, is_quote}
 use Rattle.lldp_text.specs.Capabilities.{capability_names, on_or_off}
 
--- The numbers of the faults of commands, and the lines that tell them.
+-- The numbers of the faults of commands, and the lines that report them.
 pub record TellFaults : Type 0 where
   pub numbers : map number_of_fault (Unknown ∷ NoSuchPort ∷ Number ∷ Range ∷ Text ∷ Extra ∷ Quote ∷ InUse ∷ [])
       ≡ 1 ∷ 2 ∷ 3 ∷ 4 ∷ 5 ∷ 6 ∷ 7 ∷ 8 ∷ []

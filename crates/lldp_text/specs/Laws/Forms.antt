@@ -17,8 +17,8 @@ pub record IsText (text : List ℕ) : Type 0 where
   pub most : length text ≤ 255
   pub printable : AllByRecursion (λ octet. (0x20 ≤ octet) × (octet ≤ 0x7e)) text
 
--- How a text is written, from its first octet: a backslash stands twice, what is from the space to the tilde stands as it is, and any
--- other octet is a backslash, `x` and its two hexadecimal digits.
+-- How a text is written, from its first octet: a backslash is doubled, what is from the space to the tilde is
+-- unchanged, and any other octet is a backslash, `x` and its two hexadecimal digits.
 pub record IsEscaped (octet : ℕ) (text : List ℕ) : Type 0 where
   pub none : escaped [] ≡ []
   pub backslash : escaped (0x5c ∷ text) ≡ 0x5c ∷ 0x5c ∷ escaped text
@@ -58,7 +58,7 @@ pub record IsManaged (a : Address) : Type 0 where
 abbrev pub unhandled : List ℕ → List ℕ
 unhandled body = 0x75 ∷ 0x6e ∷ 0x68 ∷ 0x61 ∷ 0x6e ∷ 0x64 ∷ 0x6c ∷ 0x65 ∷ 0x64 ∷ 0x3d ∷ encode_lower body
 
--- Identifiers that are no texts, by the subtypes of a MAC address and a network address: `mac=` and six octets, `ip=`
+-- Identifiers that are not texts, by the subtypes of a MAC address and a network address: `mac=` and six octets, `ip=`
 -- and an address of its length, and `unhandled=` and all octets of every other, also of the subtypes 0 and 8 to 255.
 pub record IsIdentified (mac network : ℕ) (text : List ℕ → List ℕ) (subtype family : ℕ) (octets : List ℕ) : Type 0 where
   pub mac_address : length octets ≡ 6 → text (mac ∷ octets) ≡ 0x6d ∷ 0x61 ∷ 0x63 ∷ 0x3d ∷ mac_text octets
@@ -78,7 +78,7 @@ shown_from caps bit (name ∷ names) =
     else [])
     ++ shown_from caps (bit + 1) names
 
--- The keys of kept TLVs, and what stands behind each.
+-- The keys of kept TLVs, and what follows each.
 pub record HasKeys (body : List ℕ) : Type 0 where
   -- port.descr=
   pub port : tlv_text (record { kind = 4; body = body }) ≡ (0x70 ∷ 0x6f ∷ 0x72 ∷ 0x74 ∷ 0x2e ∷ 0x64 ∷ 0x65 ∷ 0x73 ∷ 0x63 ∷ 0x72 ∷ 0x3d ∷ []) ++ escaped body
@@ -95,6 +95,6 @@ pub record HasKeys (body : List ℕ) : Type 0 where
   -- unknown.KIND=
   pub reserved : (kind : ℕ) → 9 ≤ kind → kind ≤ 126 →
       tlv_text (record { kind = kind; body = body }) ≡ (0x75 ∷ 0x6e ∷ 0x6b ∷ 0x6e ∷ 0x6f ∷ 0x77 ∷ 0x6e ∷ 0x2e ∷ []) ++ decimal kind ++ (0x3d ∷ []) ++ encode_lower body
-  -- org.OUI.SUBTYPE=, the body being what stands behind these four octets
+  -- org.OUI.SUBTYPE=, with what follows these four octets as the body
   pub specific : (a b c subtype : ℕ) →
       tlv_text (record { kind = 127; body = a ∷ b ∷ c ∷ subtype ∷ body }) ≡ (0x6f ∷ 0x72 ∷ 0x67 ∷ 0x2e ∷ []) ++ encode_lower (a ∷ b ∷ c ∷ []) ++ (0x2e ∷ []) ++ decimal subtype ++ (0x3d ∷ []) ++ encode_lower body

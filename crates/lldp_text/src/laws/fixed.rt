@@ -1,4 +1,4 @@
-//! What stands fixed, octet by octet: the parts that octets play, texts, values, words and numbers.
+//! What is fixed, octet by octet: the roles of octets, texts, values, words and numbers.
 ghost use Rattle.std.specs.Prelude.{ℕ, List};
 ghost use Rattle.lldp_text.specs.Laws.FixedTexts.{PlayParts, TellFaults, WriteWords, AreRead, AreSplit};
 ghost use Rattle.lldp_text.specs.Laws.FixedValues.{AreWritten, AreIdentified, AreAddressed};
@@ -8,13 +8,13 @@ pub fn octets_play_fixed_parts()
     ensures { PlayParts }
 {}
 
-/// Each fault has its number and its line, and the words of capabilities stand octet by octet.
+/// Each fault has its number and its line, and the words of capabilities have these octets.
 pub fn texts_have_fixed_octets()
     ensures faults { TellFaults }
     ensures words { WriteWords }
 {}
 
-/// Addresses, capabilities, texts and identifiers stand octet by octet.
+/// Addresses, capabilities, texts and identifiers are written with these octets.
 pub fn values_have_fixed_octets()
     ensures written { AreWritten }
     ensures identified { (text : List ℕ) → AreIdentified text }

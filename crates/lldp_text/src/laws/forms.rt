@@ -9,7 +9,8 @@ ghost use Rattle.lldp_text.specs.Identifier.{chassis_text, port_text};
 ghost use Rattle.lldp_text.specs.Laws.FixedTexts.{names_of_capabilities};
 ghost use Rattle.lldp_text.specs.Laws.Forms.{IsText, IsEscaped, IsJoined, IsManaged, IsIdentified, shown_from, HasKeys};
 
-/// A text has at most 255 octets, each from the space to the tilde, and nothing else is one.
+/// A text has at most 255 octets, each from the space to the tilde, and anything else is not a
+/// text.
 pub fn texts_are_printable()
     ensures { (text : List ℕ) → (is_text text ≡ true) ↔ IsText text }
 {}

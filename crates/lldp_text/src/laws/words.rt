@@ -6,15 +6,15 @@ ghost use Rattle.std.specs.Str.Parse.{digits_value};
 ghost use Rattle.lldp_text.specs.Number.{number_of, IsOfDigits};
 ghost use Rattle.lldp_text.specs.declared.fault.CommandFault.TheVariants.{Number, Range};
 
-/// The words of a line are those that the grammar gives it, both ways, and it has none if a
-/// quote stands wrongly.
+/// The words of a line are those that the grammar gives it, both ways, and it has none if a quote
+/// is misplaced.
 pub fn words_are_spelled()
     ensures { (line : List ℕ) (words : List (List ℕ)) →
         (words_of line ≡ Some words) ↔ AreWords line words }
 {}
 
-/// A word of digits alone writes its value, however many they are, and is out of the range exactly
-/// if that is; every other word is no number.
+/// A word of digits alone writes its value, however many digits it has, and is out of the range
+/// exactly if its value is. Every other word is not a number.
 pub fn words_of_digits_alone_are_numbers()
     ensures within { (word : List ℕ) (least greatest : ℕ) → IsOfDigits word →
         least ≤ digits_value 10 word → digits_value 10 word ≤ greatest →

@@ -1,5 +1,5 @@
--- The machine: what it holds, and one step of it. Callers compute with it; what it means is said in `Moments`, and
--- `Standing` joins the two.
+-- The machine: what it holds, and one step of it. Callers compute with it; `Moments` says what it means, and `Standing`
+-- joins the two.
 use Rattle.std.specs.Prelude.{ℕ, ◌+◌, ◌-◌, Bool, true, false, ◌&&◌, ◌==◌, nat_lt, min, if◌then◌else◌}
 use Rattle.lldp_transmit.specs.History.{Settings}
 use Rattle.lldp_transmit.specs.declared.event.Cause.{Cause}
@@ -37,7 +37,7 @@ opened s = record {
   up = true;
 }
 
--- a wanted frame goes if credit is left, else it waits
+-- a wanted frame is sent if credit is left, else it waits
 abbrev pub served : Machine → Machine × Mark
 served t = (record t { waiting = t.credit == 0; credit = t.credit - 1 }, if t.credit == 0 then Quiet else Ordinary)
 
@@ -54,7 +54,7 @@ counted t =
       timer = t.timer - 1;
     }
 
--- a tick: the timer of an active port may end, and a frame that waits may go; another port may start
+-- a tick: the timer of an active port may end, and a frame that waits may be sent; another port may start
 abbrev pub ticked : Machine → ℕ → Machine × Mark
 ticked t interval =
     if t.active
@@ -76,7 +76,7 @@ stopped t =
     then (record t { allowed = false; active = false; wait = t.reinit }, Shutdown)
     else (record t { allowed = false }, Quiet)
 
--- one event, with the tx-interval in force after it: the machine that it leaves, and the frame that goes
+-- one event, with the tx-interval in force after it: the machine that it leaves, and the frame that is sent
 abbrev pub stepped : Machine → Cause → ℕ → Machine × Mark
 stepped t Tick interval = ticked t interval
 stepped t Change interval = if t.active then signalled t interval else (t, Quiet)

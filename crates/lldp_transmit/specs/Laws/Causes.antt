@@ -1,4 +1,5 @@
--- When a port may transmit and whether its link is up, and where frames go, said of the causes in its history alone.
+-- When a port may transmit, whether its link is up, and when frames are sent, in terms of the causes in its history
+-- only.
 use Rattle.std.specs.Prelude.{◌≡◌, ◌⊎◌, Bool, true, false, ◌∷◌}
 use Rattle.lldp_transmit.specs.declared.event.Cause.{Cause}
 use Rattle.lldp_transmit.specs.declared.event.Cause.TheVariants.{Tick, Change, Neighbor, Stop, Allow, Down, Up}

@@ -1,8 +1,8 @@
 """lldpa-live's end of the log: what is handed over here is written by a process of its own.
 
 lldpa-live never waits for it, nor is it woken by it: it looks for answers when it has its turn.
-What the disk does not take in time waits, within bounds; what finds no room there is lost, and
-counted, and then a new file has to begin, since a trace with a gap replays to something else.
+What the disk does not take in time waits, within bounds. What finds no room is lost, and counted;
+then a new file has to begin, since a trace with a gap replays to something else.
 """
 
 from __future__ import annotations
@@ -72,7 +72,7 @@ class Logbook:
             self.lost += lines
 
     def send(self, kind: int, octets: bytes, lines: int) -> None:
-        """Sends the process a message, whose answer is awaited from now on."""
+        """Sends the process a message, and awaits its answer from now on."""
         assert self.pipes is not None
         if not self.unanswered:
             self.waiting.begin()
@@ -81,7 +81,8 @@ class Logbook:
         self.pipes.send(kind, octets)
 
     def wants_beginning(self) -> bool:
-        """Whether a new file should begin now: the file has its size, or its disk is back."""
+        """Returns whether a new file should begin now: the file has its size, or its disk is
+        back."""
         if self.is_whole:
             return not self.trouble and (self.has_stalled or self.size >= self.least)
         return not self.unanswered and now() >= self.next_try
@@ -99,8 +100,8 @@ class Logbook:
             self.take(answer)
         if self.unanswered and self.waiting.look() >= SECONDS_TO_STALL and not self.trouble:
             self.trouble = "stalled"
-            self.report(f"the log in {self.files.path} has stood still for "
-                        f"{SECONDS_TO_STALL:.0f} seconds; lldpa-live goes on")
+            self.report(f"the log in {self.files.path} has made no progress for "
+                        f"{SECONDS_TO_STALL:.0f} seconds; lldpa-live continues")
 
     def take(self, answer: writer.Answer) -> None:
         """Takes the answer to the first message that has none."""
@@ -116,7 +117,7 @@ class Logbook:
     def go_on(self, name: str) -> None:
         """Notes that something was written to the file of that name."""
         if self.trouble:
-            self.report(f"the log goes on in {os.path.join(self.files.path, name)}; "
+            self.report(f"the log continues in {os.path.join(self.files.path, name)}; "
                         f"{self.lost - self.lost_told} lines were not written")
             self.has_stalled = self.is_whole and self.size > 0 and self.trouble == "stalled"
             self.lost_told = self.lost
@@ -127,7 +128,7 @@ class Logbook:
         self.is_whole = False
         self.next_try = now() + SECONDS_BETWEEN_TRIES
         if not self.trouble:
-            self.report(f"the log in {self.files.path} stops, lldpa-live goes on: {text}")
+            self.report(f"the log in {self.files.path} stops, lldpa-live continues: {text}")
         if number != errno.EBADF:  # by which the process says that the file has ended before
             self.trouble = "full" if number in OF_FULL_DISKS else "stalled"
 
@@ -140,7 +141,7 @@ class Logbook:
         self.close_pipes()
 
     def close_pipes(self) -> None:
-        """Lets go of the process, which ends with it."""
+        """Closes the pipes to the process, which ends it."""
         if self.pipes is not None:
             self.pipes.close()
             self.pipes = None

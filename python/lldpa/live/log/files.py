@@ -1,4 +1,4 @@
-"""The files of a log: each in its turn, all together in bounds, whole lines in each.
+"""The files of a log: one after another, all together in bounds, whole lines in each.
 
 Whatever is done here may take as long as the disk likes: it runs in a process of its own.
 """
@@ -18,12 +18,12 @@ NEW_FILE = os.O_WRONLY | os.O_APPEND | os.O_CREAT | os.O_EXCL | os.O_NOFOLLOW | 
 FOLDER = os.O_RDONLY | os.O_DIRECTORY | os.O_CLOEXEC
 MOST_OF_A_SECOND = 1000  # files
 LOST_FOUND = "lost+found"  # of a file system that begins in the folder
-NO_ROOM = "there is no room within --log-keep"
+NO_ROOM = "no room is left within --log-keep"
 
 
 class LogFiles:
-    """A folder with files that follow one another, of so many octets together at most; the oldest
-    give way. `folder` is its open descriptor, so that it is found whatever stands above it."""
+    """A folder with files that follow one another, of at most so many octets together; the oldest
+    are removed. `folder` is its open descriptor, so that it is found whatever its path becomes."""
 
     def __init__(self, path: str, folder: int, keep: int) -> None:
         self.path = path
@@ -35,7 +35,7 @@ class LogFiles:
         self.others: dict[str, int] = {}  # sizes of the older ones, oldest first
 
     def begin(self, octets: bytes) -> None:
-        """Begins a new file with these octets. Raises OSError where that fails."""
+        """Begins a new file with these octets. Raises OSError if that fails."""
         self.close()
         if os.fstat(self.folder).st_nlink == 0:
             self.reopen()
@@ -45,14 +45,14 @@ class LogFiles:
         self.write(octets)
 
     def reopen(self) -> None:
-        """Opens the folder anew, since it was removed; makes one where there is none."""
+        """Opens the folder again, since it was removed; makes one if there is none."""
         os.makedirs(self.path, exist_ok=True)
         folder = os.open(self.path, FOLDER)
         os.close(self.folder)
         self.folder = folder
 
     def write(self, octets: bytes) -> None:
-        """Adds octets to the file, all or none. Raises OSError where that fails; then the file has
+        """Adds octets to the file, all or none. Raises OSError if that fails; then the file has
         ended behind what was added before."""
         if self.file is None:
             raise OSError(errno.EBADF, os.strerror(errno.EBADF))
@@ -70,7 +70,7 @@ class LogFiles:
             raise
 
     def make_room(self, octets: int) -> None:
-        """Removes the oldest files until so many octets more have room, but never this one."""
+        """Removes the oldest files until so many more octets have room, but never this one."""
         while sum(self.others.values()) + self.size + octets > self.keep:
             if not self.others:
                 raise OSError(errno.ENOSPC, NO_ROOM)
@@ -110,19 +110,19 @@ def open_folder(path: str, user: Optional[int]) -> int:
 
 
 def is_ours(folder: int) -> bool:
-    """Whether root and this user alone can put something into a folder."""
+    """Returns whether only root and this user can put something into a folder."""
     told = os.fstat(folder)
     return told.st_uid in (0, os.geteuid()) and not told.st_mode & (stat.S_IWGRP | stat.S_IWOTH)
 
 
 def check_folder(path: str, folder: int) -> None:
-    """Raises PermissionError where this process may make no files in its folder."""
+    """Raises PermissionError if this process may not make files in its folder."""
     if not os.access(".", os.W_OK | os.X_OK, dir_fd=folder):
-        raise PermissionError(errno.EACCES, "the log's user may make no files there", path)
+        raise PermissionError(errno.EACCES, "the log's user may not create files there", path)
 
 
 def sizes_of(folder: int) -> dict[str, int]:
-    """The sizes of the files of logs in a folder, oldest first."""
+    """Returns the sizes of the files of logs in a folder, oldest first."""
     found: dict[str, int] = {}
     names = [name for name in os.listdir(folder) if OURS.fullmatch(name)]
     for name in sorted(names, key=place_of):
@@ -132,7 +132,7 @@ def sizes_of(folder: int) -> dict[str, int]:
 
 
 def place_of(name: str) -> tuple[str, int]:
-    """What puts the names of files into the order in which they began."""
+    """Returns the key that sorts the names of files in the order in which they began."""
     found = OURS.fullmatch(name)
     assert found is not None
     return found[1], int(found[2] or 1)

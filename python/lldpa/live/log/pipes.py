@@ -1,7 +1,7 @@
 """lldpa-live's ends of the pipes to and from the process of its log: nothing here waits for it.
 
-Its answers wake nobody: who wants them looks for those that have come in. (A pair of sockets would
-do for both ways, but the reading of an answer wakes a process that waits at the same socket.)
+Its answers wake nobody: they are looked for when they are wanted. (A pair of sockets would do for
+both ways, but the reading of an answer wakes a process that waits at the same socket.)
 """
 
 from __future__ import annotations
@@ -42,7 +42,7 @@ class LogPipes:
             sent = os.write(self.messages, self.unsent)
         except BlockingIOError:
             sent = 0
-        except OSError:  # the process has ended, which `answers` tells
+        except OSError:  # the process has ended, which `answers` reports
             sent = len(self.unsent)
         del self.unsent[:sent]
         if self.awaits_room != bool(self.unsent):
@@ -58,7 +58,7 @@ class LogPipes:
             loop.remove_writer(self.messages)
 
     def answers(self) -> list[writer.Answer]:
-        """The answers that have come in. Raises EOFError where the process has ended."""
+        """Returns the answers that have come in. Raises EOFError if the process has ended."""
         try:
             octets = os.read(self.answered, MOST_OF_ANSWERS)
         except BlockingIOError:

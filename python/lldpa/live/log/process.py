@@ -31,8 +31,8 @@ class Answer(NamedTuple):
 
 
 def start(files: LogFiles, messages: int, answers: int) -> int:
-    """Starts the process at the ends of two pipes, which are its own from now on, and gives its
-    number. It ends when no more messages can come."""
+    """Starts the process at the ends of two pipes, which it then owns, and returns its number. It
+    ends when no more messages can come."""
     process = os.fork()
     if process == 0:
         run(files, messages, answers)
@@ -42,9 +42,9 @@ def start(files: LogFiles, messages: int, answers: int) -> int:
 
 
 def run(files: LogFiles, messages: int, answers: int) -> NoReturn:
-    """What the process does until lldpa-live has gone, or closes its pipe."""
+    """Runs the process until lldpa-live has gone, or closes its pipe."""
     try:
-        os.setsid()  # Ctrl-C is not for it
+        os.setsid()  # so that Ctrl-C does not reach it
         name_process(NAME)
         for number in (signal.SIGINT, signal.SIGTERM, signal.SIGHUP):
             signal.signal(number, signal.SIG_IGN)
@@ -71,7 +71,7 @@ def keep_only(*kept: int) -> None:
 
 
 def done(files: LogFiles, kind: int, octets: bytes) -> bytes:
-    """Does what a message says, and gives the answer."""
+    """Does what a message says, and returns the answer."""
     try:
         if kind == BEGIN:
             files.begin(octets)
@@ -83,13 +83,13 @@ def done(files: LogFiles, kind: int, octets: bytes) -> bytes:
 
 
 def answer(number: int, text: str) -> bytes:
-    """An answer as it is sent."""
+    """Returns an answer as it is sent."""
     octets = text.encode("utf-8", "surrogateescape")[:MOST_OF_TEXT]
     return ANSWER.pack(number, len(octets)) + octets
 
 
 def answers_in(octets: bytes) -> tuple[list[Answer], bytes]:
-    """The whole answers in what was sent, and what is left of it."""
+    """Returns the whole answers in what was sent, and what is left of it."""
     answers = []
     while len(octets) >= ANSWER.size:
         number, length = ANSWER.unpack_from(octets)
@@ -103,7 +103,7 @@ def answers_in(octets: bytes) -> tuple[list[Answer], bytes]:
 
 
 def next_message(messages: BinaryIO) -> Optional[tuple[int, bytes]]:
-    """The next message, None where it does not come whole any more."""
+    """Returns the next message, or None if it does not come whole any more."""
     head = messages.read(HEAD.size)
     if len(head) < HEAD.size:
         return None

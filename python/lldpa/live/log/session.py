@@ -1,8 +1,8 @@
-"""The log of a session: the trace that the agent was told, with the wall clock as comments.
+"""The log of a session: the trace that the agent was sent, with the wall clock as comments.
 
 Each of its files can be replayed alone: `lldpa WORDS < FILE`, with the words of its first line. The
-first one of a session gives the session's answers to the octet, a later one the tables that were
-there: it begins with what brings a new agent to where this one is.
+first one of a session gives the session's answers to the octet, a later one the tables: it begins
+with what brings a new agent to the state of this one.
 """
 
 from __future__ import annotations
@@ -23,29 +23,29 @@ TICK = b"tick"
 
 
 class Session:
-    """A log in the files of a folder, or none where no folder is given."""
+    """A log in the files of a folder, or none if no folder is given."""
 
     def __init__(self, folder: Optional[str], most: int, keep: int, user: Optional[int],
                  report: Callable[[str], None]) -> None:
-        """Opens the folder, and makes it for that user where there is none. A file is followed by
-        the next at `most` megabytes, and all together have `keep` at most. Raises OSError where
-        there can be no such folder."""
+        """Opens the folder, and makes it for that user if there is none. A file is followed by the
+        next at `most` megabytes, and all together have at most `keep`. Raises OSError if there can
+        be no such folder."""
         self.words: Sequence[str] = ()
         self.clock: Optional[int] = None  # the second of the last comment
         self.kept: list[bytes] = []  # lines that were not handed over yet
-        self.kept_entries = 0  # of which they are
+        self.kept_entries = 0  # that they come from
         self.book: Optional[Logbook] = None
         if folder is not None:
             files = LogFiles(folder, open_folder(folder, user), keep * MEGABYTE)
             self.book = Logbook(files, most * MEGABYTE, report)
 
     def check(self) -> None:
-        """Raises PermissionError where the files can't be made, now that rights are given up."""
+        """Raises PermissionError if the files can't be made, now that rights are given up."""
         if self.book is not None:
             check_folder(self.book.files.path, self.book.files.folder)
 
     def begin(self, words: Sequence[str], lines: Iterable[str] = ()) -> None:
-        """Begins a file: notes the agent's words, and the lines that it is told in advance."""
+        """Begins a file: notes the agent's words, and the lines that it is sent in advance."""
         self.words = words
         if self.book is not None:
             self.hand_over()
@@ -55,7 +55,7 @@ class Session:
 
     def write(self, entries: Sequence[Tuple[float, bytes]]) -> None:
         """Notes lines with their moments, and before those of each second the wall clock. Seconds
-        in which nothing else happens are kept for a while, since handing over has a price.
+        in which nothing else happens are kept for a while, since handing over has a cost.
         """
         if self.book is None:
             return
@@ -78,18 +78,18 @@ class Session:
         self.kept, self.kept_entries = [], 0
 
     def wants_beginning(self) -> bool:
-        """Whether a new file should begin now."""
+        """Returns whether a new file should begin now."""
         return self.book is not None and self.book.wants_beginning()
 
     def state(self) -> str:
-        """What has become of it: `off`, `on`, `stalled` or `full`."""
+        """Returns what has become of it: `off`, `on`, `stalled` or `full`."""
         if self.book is None:
             return "off"
         self.book.look()
         return self.book.trouble or "on"
 
     def lost(self) -> int:
-        """How many lines could not be written."""
+        """Returns how many lines could not be written."""
         return 0 if self.book is None else self.book.lost
 
     async def close(self, patience: float) -> None:

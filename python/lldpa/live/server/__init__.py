@@ -1,1 +1,1 @@
-"""The control socket and the console of lldpa-live: who asks, and what is answered."""
+"""The control socket and the console of lldpa-live: which clients ask, and what is answered."""

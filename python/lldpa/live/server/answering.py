@@ -14,14 +14,14 @@ from ...organizational.kinds import load
 
 HELP = (
     "  neighbors [PORT..]        a table of the neighbors",
-    "  details [PORT..]          all that they say",
+    "  details [PORT..]          all that neighbors say",
     "  interfaces [PORT..]       the state of the ports",
-    "  statistics [PORT..]       the counters; statistics summary: their sums",
+    "  statistics [PORT..]       the counters, or with summary their sums",
     "  show neighbors | statistics | chassis | configuration",
     "  configure ...             changes the agent, see lldpa(1)",
-    "  update                    sends the present state",
-    "  live                      what lldpa-live says of itself",
-    "  help                      this",
+    "  update                    sends the current state",
+    "  live                      the state of lldpa-live itself",
+    "  help                      this help",
 )
 
 UNKNOWN = "unknown command"
@@ -31,17 +31,18 @@ Ask = Callable[[bytes], Awaitable[List[bytes]]]
 
 
 async def ports_of(ask: Ask) -> Sequence[Port]:
-    """The ports with their neighbors."""
-    return read_show([line.decode("ascii") for line in await ask(b"show neighbors")]).ports
+    """Returns the ports with their neighbors, none while the agent does not answer."""
+    lines = [line.decode("ascii") for line in await ask(b"show neighbors")]
+    return () if "".join(lines).startswith(REFUSAL) else read_show(lines).ports
 
 
 def table_of(ports: Sequence[Port]) -> list[bytes]:
-    """The table of neighbors for standard output."""
+    """Returns the table of neighbors for standard output."""
     return encoded(table(ports, terminal_width()))
 
 
 async def answered(ask: Ask, line: bytes) -> list[bytes]:
-    """The answer to a line, for standard output; `ask` gives that of lldpa-live."""
+    """Returns the answer to a line, for standard output; `ask` returns that of lldpa-live."""
     words = words_of(line.decode("latin-1"))
     if words == ["help"]:
         return encoded(HELP)
@@ -59,7 +60,7 @@ async def answered(ask: Ask, line: bytes) -> list[bytes]:
 
 
 async def asked(ask: Ask, words: List[str]) -> list[bytes]:
-    """The answer to a command. Raises Refused where a word has no meaning."""
+    """Returns the answer to a command. Raises Refused if a word has no meaning."""
     one = question(words)
     answers = []
     for line in one.lines:
@@ -71,5 +72,5 @@ async def asked(ask: Ask, words: List[str]) -> list[bytes]:
 
 
 def encoded(lines: Iterable[str]) -> list[bytes]:
-    """Lines for standard output."""
+    """Encodes lines for standard output."""
     return [line.encode("utf-8", "backslashreplace") for line in lines]

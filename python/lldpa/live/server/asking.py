@@ -1,7 +1,7 @@
-"""Questions to an lldpa-live: which words it takes, and whom they are for.
+"""Questions to an lldpa-live: which words it accepts, and what they are for.
 
 `show ..`, `configure ..` and `update` are the agent's commands; `live` asks lldpa-live itself.
-`tick`, `rx`, `up` and `down` are refused: what comes in, and how time goes, lldpa-live alone tells.
+`tick`, `rx`, `up` and `down` are refused: only lldpa-live says what comes in, and how time passes.
 """
 
 from __future__ import annotations
@@ -17,7 +17,7 @@ OF_THE_BRIDGE = (b"tick", b"rx", b"up", b"down")
 
 
 def first_word(line: bytes) -> bytes:
-    """The first word of a line, as the agent reads it."""
+    """Returns the first word of a line, as the agent reads it."""
     line = line.lstrip(b" \t")
     if line.startswith(b'"'):
         return line[1:].partition(b'"')[0]
@@ -25,8 +25,9 @@ def first_word(line: bytes) -> bytes:
 
 
 def refusal(line: bytes, may_change: Callable[[], bool]) -> Optional[list[bytes]]:
-    """The answer to a client's line that nobody is asked: one that is too long, says nothing, is
-    for lldpa-live alone to tell, changes the agent and may not, or is none. None for all others."""
+    """Returns the answer to a client's line that goes to no agent: one that is too long, says
+    nothing, is only for lldpa-live to say, changes the agent and may not, or is not a line. None
+    for all others."""
     words = line.lstrip(b" \t")
     answer = refusal_to_all(line)
     if answer is not None:
@@ -42,7 +43,8 @@ def refusal(line: bytes, may_change: Callable[[], bool]) -> Optional[list[bytes]
 
 
 def refusal_to_all(line: bytes) -> Optional[list[bytes]]:
-    """The answer to a line that goes to no agent, whoever says it; None for all others."""
+    """Returns the answer to a line that goes to no agent, whoever sends it, or None for all
+    others."""
     if len(line) > LONGEST_LINE:
         return [b"error: line too long"]
     if first_word(line) in OF_THE_BRIDGE:

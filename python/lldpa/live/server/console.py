@@ -1,4 +1,4 @@
-"""Standard streams of a program that must never be made to wait by them."""
+"""Standard streams of a program that must never have to wait for them."""
 
 from __future__ import annotations
 
@@ -13,7 +13,8 @@ from ...output import INPUT, OUTPUT
 
 
 class Console:
-    """Lines from standard input, and lines to standard output, each awaited without blocking."""
+    """Reads lines from standard input, and writes lines to standard output, each awaited without
+    blocking."""
 
     def __init__(self) -> None:
         self.begun = b""
@@ -21,7 +22,8 @@ class Console:
         self.is_terminal = os.isatty(INPUT) and os.isatty(OUTPUT)
 
     async def read_line(self) -> Optional[bytes]:
-        """The next line without its LF, None at the end. Of one that is too long, what shows it."""
+        """Returns the next line without its LF, None at the end. Of one that is too long, it
+        returns enough to show that."""
         while b"\n" not in self.begun and not self.is_at_end:
             await self.read_some()
         line, _, self.begun = self.begun.partition(b"\n")
@@ -30,17 +32,17 @@ class Console:
         return line
 
     async def read_some(self) -> None:
-        """Reads what is there."""
+        """Reads what has come."""
         await ready(INPUT, is_output=False)
         octets = b""
-        with suppress(OSError):  # of a terminal that is gone
+        with suppress(OSError):  # if a terminal is gone
             octets = os.read(INPUT, LONGEST_LINE)
         self.is_at_end = not octets
         if len(self.begun) <= LONGEST_LINE or b"\n" in octets:
             self.begun += octets
 
     async def write(self, lines: Sequence[bytes]) -> None:
-        """Writes lines, as fast as they are read; they are lost where nobody reads any more."""
+        """Writes lines, as fast as they are read; they are lost if nobody reads any more."""
         octets = b"".join(line + b"\n" for line in lines)
         with suppress(OSError):
             while octets:

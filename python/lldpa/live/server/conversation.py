@@ -18,15 +18,16 @@ SECONDS_BETWEEN_LOOKS = 0.1
 
 
 def load_answers(is_once: bool) -> None:
-    """Loads what answers people, where somebody may ask: it takes 2 MB. The user that lldpa-live
-    becomes perhaps cannot read its files."""
+    """Loads what answers people, if somebody may ask: it takes 2 MB. The user that lldpa-live
+    becomes may not be able to read its files."""
     is_null = os.path.samestat(os.fstat(INPUT), os.stat(os.devnull))
     if is_once or not is_null:
         from . import answering  # noqa: F401
 
 
 async def once(desk: Desk, seconds: int) -> int:
-    """Waits until each port has a neighbor, prints the table, and tells by its status if so."""
+    """Waits until each port has a neighbor, prints the table, and returns a status that says if
+    so."""
     from .answering import ports_of, table_of
     last = now() + seconds
     ports: Sequence[Port] = []
@@ -40,12 +41,12 @@ async def once(desk: Desk, seconds: int) -> int:
 
 
 def are_complete(ports: Sequence[Port]) -> bool:
-    """Whether there are ports, and each has a neighbor."""
+    """Returns whether there are ports, and each has a neighbor."""
     return bool(ports) and all(port.neighbors for port in ports)
 
 
 async def serve(desk: Desk, stopping: asyncio.Event, stays: bool) -> int:
-    """Answers the lines of standard input, one after the other."""
+    """Answers the lines of standard input, one after another."""
     console = Console()
     if console.is_terminal:
         names = " ".join(desk.names)

@@ -1,4 +1,4 @@
-"""Where questions come in: each is refused, answered at once, or handed on to the agent."""
+"""Takes all questions: each is refused, answered at once, or passed on to the agent."""
 
 from __future__ import annotations
 
@@ -14,8 +14,8 @@ Ask = Callable[[bytes], Awaitable[List[bytes]]]
 
 
 class Desk:
-    """Answers for lldpa-live. `about` gives what it says of itself; once there is an agent,
-    `ask_agent` hands a line on, unless there is `silence`."""
+    """Answers for lldpa-live. `about` returns what it says of itself; once there is an agent,
+    `ask_agent` passes a line on, unless there is `silence`."""
 
     def __init__(self, names: Sequence[str], about: Callable[[], List[str]]) -> None:
         self.names = names
@@ -24,7 +24,7 @@ class Desk:
         self.silence: Optional[asyncio.Event] = None  # of the agent
 
     async def ask(self, line: bytes) -> List[bytes]:
-        """Returns the answer to a line of someone who may do all.
+        """Returns the answer to a line of someone who may do everything.
 
         Raises Ended if the agent or lldpa-live has ended.
         """

@@ -16,7 +16,7 @@ WAITING_CLIENTS = 256
 
 
 class InUse(LldpaFault, OSError):
-    """Somebody answers at this path already."""
+    """Another process already answers at this path."""
 
     def __init__(self, path: str) -> None:
         super().__init__(errno.EADDRINUSE, "another lldpa-live answers at this control path", path)
@@ -26,7 +26,7 @@ class Listening:
     """A listening socket at a path, its own until it is closed or the process ends. A folder that
     is missing is made.
 
-    Raises `InUse` where another process has the path, and OSError where no socket can be there.
+    Raises `InUse` if another process has the path, and OSError if no socket can be there.
     """
 
     def __init__(self, path: str, group: Optional[int] = None) -> None:
@@ -58,7 +58,7 @@ class Listening:
         return new
 
     def close(self) -> None:
-        """Removes the socket, where the process may still do so, and lets go of the path."""
+        """Removes the socket, if the process may still do so, and gives up the path."""
         self.socket.close()
         with contextlib.suppress(OSError):
             os.unlink(self.path)
@@ -68,7 +68,8 @@ class Listening:
 
 
 def locked(path: str) -> Optional[int]:
-    """Opens and locks a file, None where another has locked it. The end of a process unlocks it."""
+    """Opens and locks a file. Returns None if another has locked it. The end of a process unlocks
+    it."""
     lock = os.open(path, os.O_RDWR | os.O_CREAT | os.O_NOFOLLOW, 0o600)
     try:
         fcntl.flock(lock, fcntl.LOCK_EX | fcntl.LOCK_NB)
@@ -85,7 +86,7 @@ def remove_stale(path: str) -> None:
     except FileNotFoundError:
         return
     if not stat.S_ISSOCK(mode):
-        raise FileExistsError(errno.EEXIST, "this is no socket", path)
+        raise FileExistsError(errno.EEXIST, "this is not a socket", path)
     with socket.socket(socket.AF_UNIX, socket.SOCK_STREAM) as probe:
         probe.setblocking(False)
         try:
@@ -93,18 +94,18 @@ def remove_stale(path: str) -> None:
         except ConnectionRefusedError:
             os.unlink(path)
             return
-        except BlockingIOError:  # somebody listens whose queue is full
+        except BlockingIOError:  # somebody listens, with a full queue
             pass
     raise InUse(path)
 
 
 def hand_over(path: str, group: int) -> None:
     """Lets a group use the socket at a path, by its descriptor: whoever may write to the folder can
-    put something else there. Raises OSError if that is no socket."""
+    put something else there. Raises OSError if that is not a socket."""
     place = os.open(path, os.O_PATH | os.O_NOFOLLOW | os.O_CLOEXEC)
     try:
         if not stat.S_ISSOCK(os.fstat(place).st_mode):
-            raise FileExistsError(errno.EEXIST, "this is no socket", path)
+            raise FileExistsError(errno.EEXIST, "this is not a socket", path)
         os.chown(f"/proc/self/fd/{place}", -1, group)
         os.chmod(f"/proc/self/fd/{place}", 0o660)
     finally:
@@ -112,7 +113,7 @@ def hand_over(path: str, group: int) -> None:
 
 
 def listener_at(path: str, group: Optional[int]) -> socket.socket:
-    """A listening socket, of mode 0600 from its first moment on, then 0660 for a group."""
+    """Returns a listening socket, of mode 0600 from its first moment on, then 0660 for a group."""
     listener = socket.socket(socket.AF_UNIX, socket.SOCK_STREAM)
     try:
         os.fchmod(listener.fileno(), 0o600)

@@ -1,4 +1,4 @@
-"""Who asks at the control socket, and what that user may do."""
+"""The user at the other end of the control socket, and what that user may do."""
 
 from __future__ import annotations
 
@@ -23,10 +23,12 @@ class Peer:
         self.groups = {group, *further_groups(connection)}
 
     def may_change(self, path: str) -> bool:
-        """Whether it may write to the socket at this path as root, as the owner or by its group.
+        """Returns whether it may write to the socket at this path as root, as the owner or by its
+        group.
 
-        The kernel lets nobody connect without write permission. So this refuses whom a mode that
-        was widened for all (0666) let in to ask, and who has lost the right since connecting.
+        The kernel lets nobody connect without write permission. So this refuses those that may only
+        ask, since the mode was widened for all (0666), and those that have lost the right since
+        connecting.
         """
         if self.user == 0:
             return True
@@ -39,7 +41,7 @@ class Peer:
         return now.st_gid in self.groups and bool(now.st_mode & stat.S_IWGRP)
 
     def is_preferred(self, path: str) -> bool:
-        """Whether it is root, or owns the socket at this path."""
+        """Returns whether it is root, or owns the socket at this path."""
         try:
             owner = os.lstat(path).st_uid
         except OSError:
@@ -48,7 +50,7 @@ class Peer:
 
 
 def further_groups(connection: socket.socket) -> tuple[int, ...]:
-    """The supplementary groups of the process at the other end, none where it has over 256."""
+    """Returns the supplementary groups of the process at the other end, none if it has over 256."""
     try:
         octets = connection.getsockopt(socket.SOL_SOCKET, SO_PEERGROUPS, MOST_OCTETS_OF_GROUPS)
     except OSError:

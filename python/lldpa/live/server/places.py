@@ -1,4 +1,4 @@
-"""Places at the control socket: how many clients are served, and who gives way."""
+"""Places at the control socket: how many clients are served, and which are ended for others."""
 
 from __future__ import annotations
 
@@ -26,8 +26,8 @@ class Places:
         self.clients: set[Place] = set()
 
     def admit(self, client: Place, is_preferred: bool) -> bool:
-        """Whether there is a place for one more, who then has it; a client that has been idle for a
-        minute makes room for it. Root and the owner are preferred."""
+        """Returns whether there is a place for one more, which then has it; a client that has been
+        idle for a minute is ended for it. Root and the owner are preferred."""
         most = MOST_CLIENTS + KEPT if is_preferred else MOST_CLIENTS
         if len(self.clients) >= most and not self.end_idle():
             return False
@@ -35,7 +35,8 @@ class Places:
         return True
 
     def end_idle(self) -> bool:
-        """Ends the client that has been idle longest, if that is a minute; tells whether it did."""
+        """Ends the client that has been idle longest, if that is a minute; returns whether it
+        did."""
         idle = [client for client in self.clients if client.idle_since is not None
                 and time.monotonic() - client.idle_since >= SECONDS_OF_IDLENESS]
         for client in sorted(idle, key=lambda one: one.idle_since or 0.0):
@@ -45,5 +46,5 @@ class Places:
         return False
 
     def leave(self, client: Place) -> None:
-        """Gives back the place of a client."""
+        """Takes back the place of a client."""
         self.clients.discard(client)

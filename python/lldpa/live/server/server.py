@@ -1,10 +1,10 @@
 """The control socket, at which a running lldpa-live answers what `lldpa.client` asks.
 
-Which words it takes is said in `asking`.
+`asking` says which words it accepts.
 
-Who may connect is said by the socket's mode: 0600, or 0660 for the members of a group. They may
-do all. If the mode is widened to 0666, all may ask, and `configure` and `update` stay with root,
-the owner and the group (see `Peer.may_change`).
+The socket's mode says who may connect: 0600, or 0660 for the members of a group. They may do
+everything. If the mode is widened to 0666, everybody may ask, and `configure` and `update` stay
+with root, the owner and the group (see `Peer.may_change`).
 """
 
 from __future__ import annotations
@@ -26,15 +26,15 @@ from .peer import Peer
 from .places import Place, Places
 
 SECONDS_TO_READ = 10.0
-SECONDS_BETWEEN_LOOKS = 2.0  # whether the socket is there
+SECONDS_BETWEEN_LOOKS = 2.0  # for the socket
 MOST_UNREAD = 64 * 1024 * 1024  # octets of all answers together that wait for their readers
 
 Ask = Callable[[bytes], Awaitable["list[bytes]"]]
 
 
 async def read_line(reader: asyncio.StreamReader) -> Optional[bytes]:
-    """The next line without its LF, or None at the end. Of a line that is too long it gives a part
-    that is too long as well, and holds no more of it."""
+    """Returns the next line without its LF, or None at the end. Of a line that is too long it
+    returns a part that is too long as well, and holds no more of it."""
     part = b""
     while True:
         try:
@@ -49,7 +49,7 @@ async def read_line(reader: asyncio.StreamReader) -> Optional[bytes]:
 class Server:
     """Serves the control socket at a path: asks what clients ask, one question after another.
 
-    `ask` gives the lines of an answer or raises `Refused`; where it raises `Ended` there is no
+    `ask` returns the lines of an answer or raises `Refused`. If it raises `Ended` there is no
     answer, and the connection ends. `group` is the name of a group whose members may connect.
     """
 
@@ -58,7 +58,7 @@ class Server:
         self.ask = ask
         self.group = None if group is None else number_of_group(group)
         self.listening: Optional[Listening] = None
-        self.pause: Optional[asyncio.TimerHandle] = None  # in which no client is taken
+        self.pause: Optional[asyncio.TimerHandle] = None  # in which no client is accepted
         self.keeping: Optional[asyncio.Future[None]] = None
         self.places = Places()
         self.serving: set[asyncio.Future[None]] = set()
@@ -67,12 +67,12 @@ class Server:
     def bind(self) -> None:
         """Takes the path, while lldpa-live still has the right to; clients wait until `start`.
 
-        Raises `InUse` where another lldpa-live answers there, OSError where there can be no socket.
+        Raises `InUse` if another lldpa-live answers there, OSError if no socket can be there.
         """
         self.listening = Listening(self.path, self.group)
 
     async def start(self) -> None:
-        """Begins to serve, and takes the path before where `bind` has not."""
+        """Begins to serve, and takes the path first if `bind` has not."""
         if self.listening is None:
             self.bind()
         assert self.listening is not None
@@ -81,21 +81,21 @@ class Server:
         self.keeping = asyncio.ensure_future(self.keep_path())
 
     async def keep_path(self) -> None:
-        """Makes the socket anew if it was removed."""
+        """Makes the socket again if it was removed."""
         while True:
             await asyncio.sleep(SECONDS_BETWEEN_LOOKS)
             if self.listening is not None and not os.path.lexists(self.path):
                 self.renew(self.listening)
 
     def renew(self, before: Listening) -> None:
-        """Makes the socket anew, as far as there is the right to."""
+        """Makes the socket again, as far as there is the right to."""
         asyncio.get_running_loop().remove_reader(before.socket)
         with suppress(OSError):
             self.listening = before.renewed()
         self.await_clients()
 
     async def close(self) -> None:
-        """Ends every connection at once, and lets go of the path."""
+        """Ends every connection at once, and gives up the path."""
         if self.pause is not None:
             self.pause.cancel()
         if self.keeping is not None:
@@ -110,12 +110,12 @@ class Server:
         await asyncio.gather(*tasks, return_exceptions=True)
 
     def await_clients(self) -> None:
-        """Takes each client that comes from now on."""
+        """Accepts each client that comes from now on."""
         if self.listening is not None:
             asyncio.get_running_loop().add_reader(self.listening.socket, self.accept)
 
     def accept(self) -> None:
-        """Takes a client that has come; while too many files are open, none for a second."""
+        """Accepts a client that has come; while too many files are open, none for a second."""
         assert self.listening is not None
         try:
             connection, _ = self.listening.socket.accept()
@@ -130,7 +130,7 @@ class Server:
         self.take(connection)
 
     def take(self, connection: socket.socket) -> None:
-        """Gives a client its place, or tells it that there is none."""
+        """Gives a client its place, or answers that there is none."""
         peer, client = Peer(connection), Place()
         is_served = self.places.admit(client, peer.is_preferred(self.path))
         client.task = asyncio.ensure_future(self.serve(connection, peer, client, is_served))
@@ -141,7 +141,7 @@ class Server:
 
     async def serve(self, connection: socket.socket, peer: Peer, client: Place,
                     is_served: bool) -> None:
-        """Answers one client until it goes, reads too slowly, or the agent or lldpa-live ends."""
+        """Answers one client until it leaves, reads too slowly, or the agent or lldpa-live ends."""
         reader, writer = await asyncio.open_unix_connection(sock=connection, limit=LONGEST_LINE)
         writer.transport.set_write_buffer_limits(high=0)
         try:
@@ -158,7 +158,7 @@ class Server:
             writer.transport.abort()
 
     async def answer(self, line: bytes, peer: Peer) -> list[bytes]:
-        """The lines that answer a question of this peer."""
+        """Returns the lines that answer a question of this peer."""
         answer = refusal(line, lambda: peer.may_change(self.path))
         if answer is not None:
             return answer
@@ -171,7 +171,7 @@ class Server:
             return [b"error: " + refused.text.encode("ascii", "backslashreplace")]
 
     async def send(self, writer: asyncio.StreamWriter, lines: list[bytes]) -> None:
-        """Sends an answer, and ends the connection where it is not read soon enough."""
+        """Sends an answer, and ends the connection if it is not read soon enough."""
         answer = b"".join(line + b"\n" for line in [b"=%d" % len(lines), *lines])
         self.unread[writer] = len(answer)
         self.end_slowest()
@@ -193,7 +193,7 @@ class Server:
 
 
 def number_of_group(name: str) -> int:
-    """The number of a group. Raises LookupError where there is none of that name."""
+    """Returns the number of a group. Raises LookupError if there is no such group."""
     try:
         return grp.getgrnam(name).gr_gid
     except KeyError:

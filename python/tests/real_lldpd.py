@@ -1,13 +1,17 @@
-"""A real lldpd, for the scripts that compare it with this repository's programs."""
+"""For tests and scripts: a real lldpd beside this repository's programs."""
 from __future__ import annotations
 
 import json
 import os
 import re
+import shutil
 import subprocess
+import unittest
 from typing import Any
 
 from patience import eventually
+
+beside_lldpd = unittest.skipUnless(shutil.which("lldpd"), "it needs Debian's package lldpd")
 
 
 class Lldpd:
@@ -16,7 +20,8 @@ class Lldpd:
     def __init__(self, namespace: str, folder: str, *words: str) -> None:
         os.makedirs("/run/lldpd", exist_ok=True)
         self.socket = os.path.join(folder, namespace)
-        command = ["ip", "netns", "exec", namespace, "lldpd", "-d", "-u", self.socket, "-O", "/dev/null"]
+        command = ["ip", "netns", "exec", namespace, "lldpd", "-d", "-u", self.socket, "-O",
+                   "/dev/null"]
         self.process = subprocess.Popen([*command, *words], stdin=subprocess.DEVNULL,
                                         stdout=subprocess.DEVNULL, stderr=subprocess.DEVNULL)
         if not eventually(lambda: self.ask("-f", "keyvalue", "show", "configuration")):
@@ -28,13 +33,18 @@ class Lldpd:
         return subprocess.run(command, capture_output=True, check=False).stdout
 
     def tell(self, command: str) -> None:
-        """Tells it a command, in which quotes hold a word together."""
+        """Sends it a command, in which quotes hold a word together."""
         self.ask(*(word.strip('"') for word in re.findall(r'"[^"]*"|\S+', command)))
 
     def neighbors(self) -> list[Any]:
         """Returns the interfaces with neighbors that it shows."""
         shown = json.loads(self.ask("-f", "json0", "show", "neighbors", "details") or "{}")
         return [one for part in shown.get("lldp", []) for one in part.get("interface", [])]
+
+    def values(self, key: str) -> set[str]:
+        """Returns the values that its neighbors have for a key, such as `peer0.chassis.mac`."""
+        shown = self.ask("-f", "keyvalue", "show", "neighbors").decode()
+        return set(re.findall(rf"^lldp\.{re.escape(key)}=(.*)$", shown, re.M))
 
     def close(self) -> None:
         """Ends it."""

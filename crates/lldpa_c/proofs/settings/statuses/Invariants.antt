@@ -1,0 +1,10 @@
+use Rattle.std.proofs.Common.{◌≡◌, length, map, take}
+use Rattle.lldpa_c.specs.Settings.{status_number}
+use Rattle.lldpa_c.proofs.settings.statuses.Given as goal
+
+-- the ports so far are told
+abbrev pub invariant-loop-port : goal.invariant-loop-port
+invariant-loop-port l = record {
+  told : take l.port l.statuses ≡ map (λ port. status_number port.status) (take l.port l.agent.ports);
+  room : length l.statuses ≡ 64;
+}

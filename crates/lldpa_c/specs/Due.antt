@@ -1,0 +1,71 @@
+-- In how many ticks something happens, if nothing but ticks comes.
+use Rattle.std.specs.Prelude.{◌≡◌, ℕ, ◌+◌, ◌-◌, ◌<◌, ◌≤◌, ◌&&◌, nat_lt, min, if◌then◌else◌, List, [], ◌∷◌, map, Option, Some, None}
+use Rattle.lldp_table.specs.Events.{Neighbor}
+use Rattle.lldp_transmit.specs.Code.Machine.{Machine}
+use Rattle.lldp_engine.specs.declared.port.counters.Counters.{Counters}
+use Rattle.lldp_engine.specs.Counters.{wrapped}
+use Rattle.lldp_engine.specs.AgentState.{AgentState, PortState}
+use Rattle.lldp_engine.specs.Past.{Past}
+use Rattle.lldp_engine.specs.Standing.{Stands}
+use Rattle.lldpa_c.specs.declared.due.TheConstants.{NEVER}
+use Rattle.lldpa_c.specs.Ticks.{ticked, IsQuiet}
+
+-- the lesser of two numbers, if there are any
+abbrev pub sooner : Option ℕ → Option ℕ → Option ℕ
+sooner None b = b
+sooner (Some a) None = Some a
+sooner (Some a) (Some b) = Some (min a b)
+
+-- ticks until a machine sends: its timer ends, a frame that waits goes, or the port may start
+abbrev pub until_sends : Machine → Option ℕ
+until_sends m =
+    if m.active
+    then (if m.waiting then Some 1 else (if nat_lt 0 m.timer then Some m.timer else None))
+    else (if m.allowed && m.up then Some m.wait else None)
+
+-- the fewest ticks that are left of one of these neighbors
+abbrev pub least_left : List Neighbor → Option ℕ
+least_left [] = None
+least_left (neighbor ∷ neighbors) = sooner (Some neighbor.left) (least_left neighbors)
+
+-- ticks until one of these ports sends, or a neighbor of theirs ages out; 0 is at the next tick, as 1 is
+abbrev pub due_on : List PortState → Option ℕ
+due_on [] = None
+due_on (port ∷ ports) = sooner (sooner (least_left port.table.neighbors) (until_sends port.machine)) (due_on ports)
+
+-- a machine, the counters, a port and an agent without what ticks alone change: the credit and the two clocks, the high
+-- part of a sum that wraps, and the seconds that are left
+abbrev pub timeless_machine : Machine → Machine
+timeless_machine m = record m { credit = 0; wait = 0; timer = 0 }
+
+abbrev pub timeless_counters : Counters → Counters
+timeless_counters c = record c { ageouts = wrapped c.ageouts }
+
+abbrev pub timeless_neighbors : List Neighbor → List Neighbor
+timeless_neighbors neighbors = map (λ (neighbor : Neighbor). record neighbor { left = 0 }) neighbors
+
+abbrev pub timeless_port : PortState → PortState
+timeless_port p = record {
+  name = p.name;
+  status = p.status;
+  table = record {
+    capacity = p.table.capacity;
+    limit = p.table.limit;
+    neighbors = timeless_neighbors p.table.neighbors;
+    too_many_left = 0;
+  };
+  machine = timeless_machine p.machine;
+  counters = timeless_counters p.counters;
+}
+
+abbrev pub timeless : AgentState → AgentState
+timeless agent = record { configuration = agent.configuration; ports = map timeless_port agent.ports }
+
+-- So many ticks are due: at none before the last of them a port sends or a neighbor ages out, and at that one, if the
+-- agent stands for a past, something of it is. NEVER is for no tick. The ticks before it change nothing but clocks.
+pub record IsDue (agent : AgentState) (seconds : ℕ) : Type 0 where
+  pub first : 1 ≤ seconds
+  pub quiet : (k : ℕ) → k + 1 < seconds → IsQuiet (ticked k agent)
+  pub same : (k : ℕ) → k < seconds → timeless (ticked k agent) ≡ timeless agent
+  pub never : seconds ≡ NEVER → (k : ℕ) → IsQuiet (ticked k agent)
+  pub there : seconds < NEVER → (past : Past) → Stands past agent → IsQuiet (ticked (seconds - 1) agent) → ⊥

@@ -1,0 +1,42 @@
+-- What a port counted and how an agent is configured, as C is told it.
+use Rattle.std.specs.Prelude.{◌≡◌, ℕ, length, map, take}
+use Rattle.lldp_engine.specs.declared.port.counters.Counters.{Counters}
+use Rattle.lldp_engine.specs.declared.port.status.Status.{Status}
+use Rattle.lldp_engine.specs.declared.port.status.Status.TheVariants.{RxAndTx, RxOnly, TxOnly, Disabled}
+use Rattle.lldp_engine.specs.Configuration.{sent_ttl}
+use Rattle.lldp_engine.specs.AgentState.{AgentState}
+use Rattle.lldpa_c.specs.declared.settings.LldpaStatistics.{LldpaStatistics}
+use Rattle.lldpa_c.specs.declared.settings.LldpaConfiguration.{LldpaConfiguration}
+
+-- each counter by its own name
+abbrev pub statistics_of : Counters → LldpaStatistics
+statistics_of c = record {
+  sent = c.sent;
+  shutdowns = c.shutdowns;
+  received = c.received;
+  discarded = c.discarded;
+  errors = c.errors;
+  tlvs_discarded = c.tlvs_discarded;
+  unrecognized = c.unrecognized;
+  ageouts = c.ageouts;
+  drops = c.drops;
+}
+
+-- the numbers of statuses
+abbrev pub status_number : Status → ℕ
+status_number RxAndTx = 0
+status_number RxOnly = 1
+status_number TxOnly = 2
+status_number Disabled = 3
+
+-- What is in force is told: each number, and the status of each port in the order of opening.
+pub record TellsConfiguration (agent : AgentState) (told : LldpaConfiguration) : Type 0 where
+  pub interval : told.interval ≡ agent.configuration.interval
+  pub hold : told.hold ≡ agent.configuration.hold
+  pub ttl : told.ttl ≡ sent_ttl agent.configuration
+  pub reinit : told.reinit ≡ agent.configuration.reinit
+  pub fast_init : told.fast_init ≡ agent.configuration.fast_init
+  pub credit_max : told.credit_max ≡ agent.configuration.credit_max
+  pub max_neighbors : told.max_neighbors ≡ agent.configuration.limit
+  pub ports : told.ports ≡ length agent.ports
+  pub status : take told.ports told.status ≡ map (λ port. status_number port.status) agent.ports

@@ -1,0 +1,95 @@
+//! In how many seconds something is due.
+ghost use Rattle.std.specs.Prelude.{◌≡◌};
+ghost use Rattle.lldp_transmit.specs.Code.Parts.{machine_of_parts};
+ghost use Rattle.lldpa_c.specs.Answer.{answer_of};
+ghost use Rattle.lldpa_c.specs.Due.{sooner, until_sends, least_left, due_on, IsDue};
+ghost use Rattle.lldpa_c.specs.Frame.{Keeps};
+ghost use Rattle.lldpa_c.specs.Held.{open_checks};
+
+use crate::answer::{NOT_OPEN, OK};
+use crate::holder::LldpaAgent;
+use lldp_engine::Agent;
+use lldp_table::Table;
+use lldp_transmit::Parts;
+use std::alloc::Global;
+
+/// Nothing will be due.
+pub const NEVER: u32 = u32::MAX;
+
+/// Returns the lesser of two numbers of ticks, if there are any.
+fn sooner(a: Option<u16>, b: Option<u16>) -> Option<u16>
+    ensures { result ≡ sooner a b }
+{
+    match (a, b) {
+        (Some(a), Some(b)) => Some(a.min(b)),
+        (None, other) | (other, None) => other,
+    }
+}
+
+/// Returns the ticks until a machine sends.
+fn until_sends(machine: &Parts) -> Option<u16>
+    ensures { result ≡ until_sends (machine_of_parts machine.now) }
+{
+    if machine.active {
+        if machine.waiting {
+            Some(1)
+        } else if machine.timer > 0 {
+            Some(machine.timer)
+        } else {
+            None
+        }
+    } else if machine.allowed && machine.up {
+        Some(u16::from(machine.wait))
+    } else {
+        None
+    }
+}
+
+/// Returns the fewest ticks that are left of a neighbor.
+fn least_left(table: &Table<Global>) -> Option<u16>
+    ensures { result ≡ least_left table.now.shown.neighbors }
+{
+    let mut least = None;
+    for entry in table.entries() {
+        least = sooner(least, Some(entry.left()));
+    }
+    least
+}
+
+/// Returns the ticks until a port sends or a neighbor ages out.
+fn due_on(agent: &Agent) -> Option<u16>
+    ensures { result ≡ due_on agent.now.ports }
+{
+    let mut due = None;
+    for port in 0..agent.ports() {
+        let sends = until_sends(&agent.machine(port).parts());
+        due = sooner(due, sooner(least_left(agent.table(port)), sends));
+    }
+    due
+}
+
+/// Returns the seconds until something is due.
+fn seconds_of(agent: &Agent) -> u32
+    ensures { IsDue agent.now result }
+{
+    match due_on(agent) {
+        Some(ticks) => u32::from(ticks.max(1)),
+        None => NEVER,
+    }
+}
+
+/// Tells in how many seconds a port sends or a neighbor ages out, if nothing but time passes.
+#[unsafe(no_mangle)]
+pub extern "C" fn lldpa_due(alloc: Global, agent: &mut LldpaAgent, seconds: &mut u32) -> u8
+    ensures due { result ≡ 0 → IsDue agent.old.held.agent seconds.new }
+    ensures answer { result ≡ answer_of (open_checks agent.old) }
+    ensures kept { Keeps agent.old agent.new }
+    ensures refused { ¬ (result ≡ 0) → seconds.new ≡ seconds.old }
+{
+    let Some(held) = agent.take(alloc) else {
+        return NOT_OPEN;
+    };
+    *seconds = seconds_of(&held);
+    agent.put(held);
+    OK
+}

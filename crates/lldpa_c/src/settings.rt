@@ -1,0 +1,151 @@
+//! What a port counted, and how an agent is configured.
+ghost use Rattle.std.specs.Prelude.{◌≡◌, Some, length, map, take, slice_get};
+ghost use Rattle.std.specs.Option.{option_map};
+ghost use Rattle.lldpa_c.specs.Answer.{answer_of};
+ghost use Rattle.lldpa_c.specs.Frame.{Keeps};
+ghost use Rattle.lldpa_c.specs.Held.{count_checks, open_checks};
+ghost use Rattle.lldpa_c.specs.Settings.{statistics_of, status_number, TellsConfiguration};
+
+use crate::answer::{NO_PORT, NOT_OPEN, OK};
+use crate::holder::LldpaAgent;
+use lldp_engine::{Agent, Counters, Status};
+use std::alloc::Global;
+
+/// What a port counted, each modulo 2^32.
+#[repr(C)]
+#[derive(Clone, Copy)]
+pub struct LldpaStatistics {
+    pub sent: u32,
+    pub shutdowns: u32,
+    pub received: u32,
+    pub discarded: u32,
+    pub errors: u32,
+    pub tlvs_discarded: u32,
+    pub unrecognized: u32,
+    pub ageouts: u32,
+    pub drops: u32,
+}
+
+/// How an agent is configured.
+#[repr(C)]
+#[derive(Clone, Copy)]
+pub struct LldpaConfiguration {
+    pub interval: u32,
+    pub hold: u32,
+    /// The time to live of an ordinary frame.
+    pub ttl: u32,
+    pub reinit: u32,
+    pub fast_init: u32,
+    pub credit_max: u32,
+    /// The limit in force.
+    pub max_neighbors: u32,
+    pub ports: u32,
+    /// The number of the status of each port.
+    pub status: [u8; 64],
+}
+
+/// Returns the counters for C.
+fn statistics_of(counters: &Counters) -> LldpaStatistics
+    ensures { result ≡ statistics_of counters.now }
+{
+    LldpaStatistics {
+        sent: counters.sent,
+        shutdowns: counters.shutdowns,
+        received: counters.received,
+        discarded: counters.discarded,
+        errors: counters.errors,
+        tlvs_discarded: counters.tlvs_discarded,
+        unrecognized: counters.unrecognized,
+        ageouts: counters.ageouts,
+        drops: counters.drops,
+    }
+}
+
+/// Tells what a port counted.
+#[unsafe(no_mangle)]
+pub extern "C" fn lldpa_statistics(
+    alloc: Global,
+    agent: &mut LldpaAgent,
+    port: u32,
+    told: &mut LldpaStatistics,
+) -> u8
+    ensures told { result ≡ 0 → option_map (λ p. statistics_of p.counters)
+        (slice_get agent.old.held.agent.ports port) ≡ Some told.new }
+    ensures answer { result ≡ answer_of (count_checks agent.old port) }
+    ensures kept { Keeps agent.old agent.new }
+    ensures refused { ¬ (result ≡ 0) → told.new ≡ told.old }
+{
+    let Some(held) = agent.take(alloc) else {
+        return NOT_OPEN;
+    };
+    if port >= u32::from(held.ports()) {
+        agent.put(held);
+        return NO_PORT;
+    }
+    *told = statistics_of(held.counters(port as u8));
+    agent.put(held);
+    OK
+}
+
+/// Returns the number of a status.
+fn status_number(status: Status) -> u8
+    ensures { result ≡ status_number status }
+{
+    match status {
+        Status::RxAndTx => 0,
+        Status::RxOnly => 1,
+        Status::TxOnly => 2,
+        Status::Disabled => 3,
+    }
+}
+
+/// Returns the numbers of the statuses of the ports.
+fn statuses(agent: &Agent) -> [u8; 64]
+    ensures { take (length agent.now.ports) result
+        ≡ map (λ p. status_number p.status) agent.now.ports }
+{
+    let mut statuses = [0; 64];
+    for port in 0..agent.ports() {
+        statuses[port as usize] = status_number(agent.status(port));
+    }
+    statuses
+}
+
+/// Returns the configuration for C.
+fn configuration_of(agent: &Agent) -> LldpaConfiguration
+    ensures { TellsConfiguration agent.now result }
+{
+    let status = statuses(agent);
+    let c = agent.configuration();
+    LldpaConfiguration {
+        interval: u32::from(c.interval),
+        hold: u32::from(c.hold),
+        ttl: u32::from(c.ttl()),
+        reinit: u32::from(c.reinit),
+        fast_init: u32::from(c.fast_init),
+        credit_max: u32::from(c.credit_max),
+        max_neighbors: u32::from(c.limit),
+        ports: u32::from(agent.ports()),
+        status,
+    }
+}
+
+/// Tells how an agent is configured.
+#[unsafe(no_mangle)]
+pub extern "C" fn lldpa_configuration(
+    alloc: Global,
+    agent: &mut LldpaAgent,
+    told: &mut LldpaConfiguration,
+) -> u8
+    ensures told { result ≡ 0 → TellsConfiguration agent.old.held.agent told.new }
+    ensures answer { result ≡ answer_of (open_checks agent.old) }
+    ensures kept { Keeps agent.old agent.new }
+    ensures refused { ¬ (result ≡ 0) → told.new ≡ told.old }
+{
+    let Some(held) = agent.take(alloc) else {
+        return NOT_OPEN;
+    };
+    *told = configuration_of(&held);
+    agent.put(held);
+    OK
+}

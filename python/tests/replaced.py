@@ -1,0 +1,70 @@
+"""For tests: an lldpa-live with neighbors whose table must stay while its agent is replaced."""
+
+from __future__ import annotations
+
+import os
+import socket
+import time
+from pathlib import Path
+from typing import Optional
+
+from lldpa import Neighbor, read_show
+from lldpa.live.senders import tlvs_of
+from patience import eventually
+from running_live import Live, OnLinks
+from served import numbered, tlv
+
+LONG = 600  # seconds that frames of these tests last
+
+
+def address_in(octets: bytes) -> Optional[str]:
+    """Returns the IPv4 management address that a frame announces."""
+    for kind, body in tlvs_of(octets):
+        if kind == 8 and body[:2] == b"\5\1":
+            return socket.inet_ntoa(body[2:6])
+    return None
+
+
+class Replaced(OnLinks):
+    """With a port that has neighbors, whose table stays."""
+
+    links = 2
+
+    def setUp(self) -> None:
+        super().setUp()
+        self.log = Path(self.wires.folder, "log")
+        os.chmod(self.wires.folder, 0o777)
+        self.peers = [self.peer("peer0"), self.peer("peer1")]
+
+    def begun(self, *words: str) -> Live:
+        """Starts an lldpa-live with a log and three neighbors, which came in different seconds."""
+        live = self.live("--log", str(self.log), "--events", *words, "eth0", "eth1")
+        for number in (3, 1, 2):
+            self.peers[0].send(numbered(number, LONG + number, tlv(5, b"sw%d" % number)))
+            self.assertTrue(eventually(lambda: f"came: sw{number}" in live.errors()))
+        self.peers[1].send(numbered(9, LONG))
+        self.assertTrue(eventually(lambda: live.neighbors("eth1") == 1))
+        return live
+
+    def neighbors(self, live: Live) -> list[Neighbor]:
+        """Returns the neighbors without their seconds left, which come last."""
+        return read_show(live.ask("show neighbors")).neighbors
+
+    def stays(self, before: list[Neighbor], began: float, live: Live) -> None:
+        """Checks that all neighbors are there as before, and that their seconds left went on."""
+        after, went = self.neighbors(live), time.monotonic() - began
+        self.assertEqual([(one.port, one.place, one.id, one.said) for one in after],
+                         [(one.port, one.place, one.id, one.said) for one in before])
+        for old, new in zip(before, after):
+            self.assertAlmostEqual(old.expires - new.expires, went, delta=2)
+
+    def hears_address(self, address: Optional[str], peer: int = 0, seconds: float = 8) -> bool:
+        """Returns whether a peer comes to hear frames with that address, and no shutdown before."""
+        last = time.monotonic() + seconds
+        while (left := last - time.monotonic()) > 0:
+            octets = self.peers[peer].hears(left)
+            if octets is not None:
+                self.assertNotIn(tlv(3, b"\0\0"), octets)
+                if address_in(octets) == address:
+                    return True
+        return False

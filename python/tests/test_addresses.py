@@ -1,0 +1,187 @@
+"""The management address of this host is followed: an agent that announces it takes over."""
+
+from __future__ import annotations
+
+import shutil
+import signal
+import subprocess
+import time
+import unittest
+from pathlib import Path
+from typing import Optional
+
+from lldpa.client import since_of
+from patience import by_the_clock, eventually
+from real_lldpd import Lldpd, beside_lldpd
+from replaced import Replaced, address_in
+from replays import Moments, differing, sent
+from running_live import on_links
+from wires import Peer, inside, ip
+
+SECONDS_TO_PEERS = 8.0
+STEPS = ((["add 192.0.2.7/24"], "192.0.2.7"),
+         (["add 198.51.100.7/24", "del 192.0.2.7/24"], "198.51.100.7"),
+         (["del 198.51.100.7/24"], None))
+
+
+def makes(kind: str) -> bool:
+    """Returns whether this kernel has interfaces of a kind."""
+    made = [subprocess.run(["ip", "link", word, "lldpa-try", "type", kind], check=False,
+                           capture_output=True).returncode == 0 for word in ("add", "del")]
+    return all(made)
+
+
+@on_links
+@beside_lldpd
+@unittest.skipUnless(shutil.which("tshark"), "it needs Debian's package tshark")
+class AtPeers(Replaced):
+    """What real peers have: lldpd at both links, tshark at the second one."""
+
+    def setUp(self) -> None:
+        super().setUp()
+        self.lldpd = Lldpd(self.wires.there, self.wires.folder, "-r", "-I", "peer0,peer1")
+        self.addCleanup(self.lldpd.close)
+        self.watched = self.output("lldpcli", "-u", self.lldpd.socket, "-f", "keyvalue", "watch")
+        self.captured = self.output("tshark", "-l", "-n", "-i", "peer1", "-f",
+                                    "inbound and ether proto 0x88cc", "-T", "fields", "-e",
+                                    "lldp.time_to_live", "-e", "lldp.mgn.addr.ip4")
+        self.assertTrue(eventually(lambda: "Capturing" in self.captured.read_text()))
+
+    def output(self, *words: str) -> Path:
+        """Starts a program at the peer's side, and returns the file that it writes to."""
+        path = Path(self.wires.folder, words[0])
+        with inside(self.wires.there), path.open("wb") as file:
+            program = subprocess.Popen(words, stdin=subprocess.DEVNULL, stdout=file, stderr=file)
+        self.addCleanup(program.wait)
+        self.addCleanup(program.terminate)
+        return path
+
+    def is_there(self, address: Optional[str]) -> bool:
+        """Returns whether both peers have that address of this host, or none, by its last frame."""
+        wanted = set() if address is None else {address}
+        last = self.captured.read_text().splitlines()[-1]
+        return (last == f"121\t{address or ''}"
+                and all(self.lldpd.values(f"{peer}.chassis.mgmt-ip") == wanted
+                        for peer in ("peer0", "peer1")))
+
+    def is_followed_at(self, interface: str) -> None:
+        """Adds, changes and removes an address of an interface."""
+        live = self.begun()
+        self.assertTrue(eventually(lambda: self.is_there(None)))
+        before, began, since = self.neighbors(live), time.monotonic(), since_of(live.ask("live"))
+        moments = Moments(live)
+        moments.take()
+        for changes, address in STEPS:
+            changed = time.monotonic()
+            for change in changes:
+                ip("-n", self.wires.here, "address", *change.split(), "dev", interface)
+            self.assertTrue(eventually(lambda: self.is_there(address)), (address, live.errors()))
+            self.assertLess(time.monotonic() - changed, SECONDS_TO_PEERS)
+            moments.take()
+        self.stays(before, began, live)
+        self.assertEqual(since_of(live.ask("live")), since)
+        self.assertNotIn("lldp-deleted.", self.watched.read_text())
+        live.signal(signal.SIGTERM)
+        self.assertEqual(live.ends(), 0)
+        self.assertTrue(eventually(lambda: "lldp-deleted.peer1" in self.watched.read_text()))
+        self.assertEqual(differing(self.log, moments), [])
+        for port, peer in zip(("eth0", "eth1"), self.peers):
+            self.assertEqual(frames_of(peer), sent(self.log, port))
+
+    @by_the_clock
+    def test_an_address_of_a_port_is_at_the_peers(self) -> None:
+        self.is_followed_at("eth0")
+
+    @by_the_clock
+    def test_an_address_of_a_bridge_above_a_port_is_at_the_peers(self) -> None:
+        self.is_followed_above("bridge")
+
+    @by_the_clock
+    @unittest.skipUnless(makes("bond"), "it needs a kernel with bonds")
+    def test_an_address_of_a_bond_above_a_port_is_at_the_peers(self) -> None:
+        self.is_followed_above("bond")
+
+    @by_the_clock
+    @unittest.skipUnless(makes("team"), "it needs a kernel with teams")
+    def test_an_address_of_a_team_above_a_port_is_at_the_peers(self) -> None:
+        self.is_followed_above("team")
+
+    def is_followed_above(self, kind: str) -> None:
+        """Puts an interface of that kind above the first port, and follows its addresses."""
+        ip("-n", self.wires.here, "link", "add", "above0", "type", kind)
+        for words in ("eth0 down", "eth0 master above0", "eth0 up", "above0 up"):
+            ip("-n", self.wires.here, "link", "set", *words.split())
+        eventually(self.wires.all_up)
+        self.is_followed_at("above0")
+
+
+def frames_of(peer: Peer) -> list[bytes]:
+    """Returns the frames that a peer has heard."""
+    return list(iter(lambda: peer.hears(0.5), None))
+
+
+@on_links
+class Addresses(Replaced):
+    """The management address of this host is followed."""
+
+    def add(self, address: str, interface: str = "eth0", word: str = "add") -> None:
+        """Gives this host an address, or removes it."""
+        ip("-n", self.wires.here, "address", word, f"{address}/24", "dev", interface)
+
+    def test_an_address_that_comes_changes_and_goes_is_at_the_peer(self) -> None:
+        live = self.begun()
+        self.assertIsNone(address_in(self.peers[0].hears() or b""))
+        before, began = self.neighbors(live), time.monotonic()
+        since = since_of(live.ask("live"))
+        moments = Moments(live)
+        moments.take()
+        self.add("192.0.2.7")
+        self.assertTrue(self.hears_address("192.0.2.7"))
+        self.assertTrue(self.hears_address("192.0.2.7", 1))
+        moments.take()
+        self.add("198.51.100.7")
+        self.add("192.0.2.7", word="del")
+        self.assertTrue(self.hears_address("198.51.100.7"))
+        moments.take()
+        self.add("198.51.100.7", word="del")
+        self.assertTrue(self.hears_address(None))
+        self.stays(before, began, live)
+        self.assertEqual(since_of(live.ask("live")), since)
+        moments.take()
+        self.assertEqual(live.errors().count("the management address is"), 3)
+        self.assertNotIn("gone", live.errors())
+        self.assertEqual(live.errors().count("came"), 4)
+        live.signal(signal.SIGTERM)
+        self.assertEqual(live.ends(), 0)
+        self.assertEqual(differing(self.log, moments), [])
+
+    def test_an_address_of_the_bridge_above_a_port_is_followed(self) -> None:
+        here = self.wires.here
+        ip("-n", here, "link", "add", "br0", "type", "bridge")
+        ip("-n", here, "link", "set", "br0", "up")
+        ip("-n", here, "link", "set", "eth0", "master", "br0")
+        self.begun()
+        self.add("192.0.2.9", "br0")
+        self.assertTrue(self.hears_address("192.0.2.9"))
+        ip("-n", here, "link", "set", "eth0", "nomaster")
+        self.assertTrue(self.hears_address(None))
+
+    def test_an_address_that_goes_again_within_two_seconds_changes_nothing(self) -> None:
+        live = self.begun()
+        agent = live.agent()
+        self.add("192.0.2.7")
+        self.add("192.0.2.7", word="del")
+        told = live.seconds_told()
+        self.assertTrue(eventually(lambda: live.seconds_told() >= told + 4))
+        self.assertEqual(live.agent(), agent)
+
+    def test_an_address_that_was_given_or_refused_is_not_followed(self) -> None:
+        for words in (["--no-management", "eth0"], ["eth0", "--", "--management", "192.0.2.1"]):
+            live = self.live(*words)
+            agent = live.agent()
+            self.add("192.0.2.7")
+            told = live.seconds_told()
+            self.assertTrue(eventually(lambda: live.seconds_told() >= told + 4))
+            self.assertEqual(live.agent(), agent)
+            live.close()
+            self.add("192.0.2.7", word="del")

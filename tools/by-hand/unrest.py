@@ -1,0 +1,268 @@
+"""Everything at once to an lldpa-live, for tools/by-hand/flood-log.py --minutes."""
+from __future__ import annotations
+
+import os
+import random
+import signal
+import threading
+import time
+from pathlib import Path
+from typing import Callable
+
+from lldpa import Refused, read_show
+from lldpa.client import since_of
+from lldpa.live.senders import said_by
+from patience import eventually
+from replays import CLOCK, Moments, differing
+from running_live import Live
+from served import numbered, tlv
+from wires import Peer, Wires, ip
+
+SECONDS_BETWEEN_ENDS = 63  # of agents: a second one within 60 ends lldpa-live
+HOSTILE_A_TURN, SECONDS_OF_A_TURN = 50, 0.05
+SECONDS_OF_A_WORD = 0.2  # so that a port hears fewer than 64 a second
+MOST_GROWTH = 1500  # KiB
+QUIET = 5  # neighbors
+REFUSED = ("rx eth1 00", "tick", "no such command", "configure lldp tx-hold 0", "x" * 4096)
+
+
+def hostile_frames(choice: random.Random) -> list[bytes]:
+    """Returns frames of 60 neighbors, half of them cut, altered or longer than they may be."""
+    frames = []
+    for number in range(2000):
+        octets = bytearray(numbered(100 + number % 60, 600, tlv(5, b"h%d" % number)))
+        if number % 2:
+            octets[choice.randrange(12, len(octets))] = choice.randrange(256)
+        if number % 5 == 1:
+            octets = octets[:choice.randrange(14, len(octets))]
+        if number % 7 == 1:
+            octets += choice.randbytes(choice.randrange(1400))
+        frames.append(bytes(octets))
+    return frames
+
+
+def resident(number: int) -> int:
+    """Returns the resident set of a process in KiB."""
+    return int(Path(f"/proc/{number}/status").read_text().split("VmRSS:")[1].split()[0])
+
+
+class Unrest:
+    """An lldpa-live with a hostile port, a quiet one, and one whose interface comes and goes."""
+
+    def __init__(self, wires: Wires) -> None:
+        self.wires, self.choice = wires, random.Random(1)
+        self.log, self.settings = Path(wires.folder, "log"), Path(wires.folder, "settings.conf")
+        os.chmod(wires.folder, 0o777)
+        self.settings.write_text("")
+        self.live = Live(wires, "--stay", "--events", "--forget-on-down", "--config",
+                         str(self.settings), "--log", str(self.log), "--log-most", "8",
+                         "eth0", "eth1", "eth2")
+        self.moments = Moments(self.live)
+        self.quiet, self.far = Peer(wires, "peer1"), Peer(wires, "peer2")
+        self.frames = hostile_frames(self.choice)
+        self.able = {said.id for frame in self.frames if (said := said_by(frame)) is not None}
+        self.sent: list[bytes] = []
+        self.expected: dict[str, str] = {}  # the last word of each quiet neighbor
+        self.wrong: list[str] = []
+        self.late = 0  # looks that a frame was not there for, and then was
+        self.done: dict[str, int] = {}
+        self.figures: list[tuple[float, int, int]] = []  # seconds, KiB and descriptors
+        self.agents: list[int] = []  # KiB of each, after the same time
+        self.began = self.agent_began = time.monotonic()
+        self.is_over = threading.Event()
+        self.is_there = True  # the interface eth2
+
+    def flood(self) -> None:
+        """Sends hostile frames, 1,000 a second, until it is over."""
+        peer = Peer(self.wires, "peer0")
+        while not self.is_over.wait(SECONDS_OF_A_TURN):
+            for frame in self.choice.sample(self.frames, HOSTILE_A_TURN):
+                peer.send(frame[:1514])
+        peer.close()
+
+    def speak(self) -> None:
+        """Has a quiet neighbor say something new."""
+        number = len(self.sent)
+        octets = numbered(number % QUIET, 600, tlv(5, b"word %d" % number))
+        said = said_by(octets)
+        assert said is not None
+        self.expected[said.id] = f"word {number}"
+        self.sent.append(octets)
+        self.quiet.send(octets)
+
+    def look(self) -> None:
+        """Compares the tables with what was sent."""
+        try:
+            ports = {port.name: port for port in read_show(self.live.ask("show neighbors")).ports}
+        except Refused as refused:
+            self.note(f"refused: {refused.text}")
+            return
+        said = {one.id: dict(one.said)["chassis.name"] for one in ports["eth1"].neighbors}
+        if said != self.expected:  # a busy kernel may hand a frame over behind the question
+            self.late += 1
+            time.sleep(SECONDS_OF_A_WORD)
+            said = {one.id: one.name for one in read_show(self.live.ask("show neighbors")).neighbors
+                    if one.port == "eth1"}
+        if said != self.expected:
+            self.wrong.append(f"{time.monotonic() - self.began:.0f} s: eth1 has {said}, "
+                              f"not {self.expected}")
+        false = {one.id for one in ports["eth0"].neighbors} - self.able
+        if false or len(ports["eth2"].neighbors) > self.is_there:
+            self.wrong.append(f"false neighbors: {false} {ports['eth2']}")
+
+    def note(self, what: str) -> None:
+        """Counts what was done, or said."""
+        self.done[what] = self.done.get(what, 0) + 1
+
+    def act(self) -> None:
+        """Does something."""
+        what: Callable[[], None] = self.choice.choice(
+            [self.reload, self.question, self.configure, self.address, self.come_or_go,
+             self.stand_still, self.link])
+        self.note(what.__name__)
+        try:
+            what()
+        except Refused as refused:
+            self.note(f"refused: {refused.text}")
+
+    def reload(self) -> None:
+        """Has other settings read."""
+        self.settings.write_text(f"configure lldp tx-interval {self.choice.randrange(5, 60)}\n"
+                                 f"configure lldp tx-hold {self.choice.choice([0, 4, 9])}\n")
+        for _ in range(self.choice.choice([1, 300])):
+            self.live.signal(signal.SIGHUP)
+
+    def question(self) -> None:
+        """Asks what is answered, and what is refused."""
+        for what in ("live", "show statistics", "show chassis", "show configuration"):
+            self.live.ask(what)
+        for line in REFUSED:
+            if not self.live.ask_refused(line):
+                self.wrong.append(f"not refused: {line[:40]}")
+
+    def configure(self) -> None:
+        """Sets something by the control socket, and has the present state sent."""
+        for line in (f"configure system description d{self.choice.randrange(99)}", "update",
+                     f"configure lldp tx-hold {self.choice.randrange(2, 9)}"):
+            self.live.ask(line)
+
+    def address(self) -> None:
+        """Gives this host another address, which another agent is to announce."""
+        ip("-n", self.wires.here, "address", "flush", "dev", "eth1")
+        if self.choice.random() < 0.7:
+            ip("-n", self.wires.here, "address", "add", f"192.0.2.{self.choice.randrange(1, 9)}/24",
+               "dev", "eth1")
+
+    def come_or_go(self) -> None:
+        """Takes an interface away, or makes it anew and has somebody send there."""
+        if self.is_there:
+            self.far.close()
+            self.wires.remove_link("eth2")
+        else:
+            self.wires.add_link(2)
+            self.far = Peer(self.wires, "peer2")
+        self.is_there = not self.is_there
+        where = "present" if self.is_there else "awaited"
+        if not eventually(lambda: f"live.eth2.interface={where}" in self.live.ask("live")):
+            self.wrong.append(f"eth2 is not {where}")
+        if self.is_there:
+            self.far.send(numbered(77, 600))
+
+    def stand_still(self) -> None:
+        """Lets lldpa-live stand still while an interface is replaced."""
+        self.live.signal(signal.SIGSTOP)
+        if self.is_there:
+            self.far.close()
+            self.wires.remove_link("eth2")
+            self.wires.add_link(2)
+            self.far = Peer(self.wires, "peer2")
+        time.sleep(self.choice.random())
+        self.live.signal(signal.SIGCONT)
+
+    def link(self) -> None:
+        """Takes the carrier of the interface away for a while."""
+        if self.is_there:
+            for state in ("down", "up"):
+                self.wires.set_link("peer2", state)
+                time.sleep(self.choice.random() / 2)
+
+    def end_agent(self) -> None:
+        """Kills the agent, or stops it for good, and notes what it took."""
+        agent, word = self.live.agent(), "another one replaces it"
+        before = self.live.errors().count(word)
+        number = self.choice.choice([signal.SIGKILL, signal.SIGSTOP])
+        self.note(number.name)
+        os.kill(agent, number)
+        while self.live.errors().count(word) == before and self.live.process.poll() is None:
+            self.speak()
+            self.look()
+            time.sleep(SECONDS_OF_A_WORD)
+        self.agent_began = time.monotonic()
+
+    def measure(self) -> None:
+        """Notes what lldpa-live takes."""
+        number = self.live.process.pid
+        descriptors = len(os.listdir(f"/proc/{number}/fd"))
+        self.figures.append((time.monotonic() - self.began, resident(number), descriptors))
+
+    def run(self, seconds: float) -> None:
+        """Goes on for so long."""
+        threading.Thread(target=self.flood, daemon=True).start()
+        for _ in range(QUIET):
+            self.speak()
+        self.look()
+        self.since = self.quiet_since()
+        while time.monotonic() < self.began + seconds and self.live.process.poll() is None:
+            self.speak()
+            self.act()
+            self.speak()
+            self.look()
+            self.measure()
+            if time.monotonic() > self.agent_began + SECONDS_BETWEEN_ENDS:
+                self.agents.append(resident(self.live.agent()))
+                self.end_agent()
+            elif self.choice.random() < 0.02:
+                self.moments.take()
+        self.is_over.set()
+
+    def quiet_since(self) -> dict[tuple[str, str], str]:
+        """Returns since when the quiet neighbors are there."""
+        since = since_of(self.live.ask("live"))
+        return {key: came for key, came in since.items() if key[0] == "eth1"}
+
+    def logged(self) -> list[str]:
+        """Returns the quiet port's frames that the log has, without those of the files' heads."""
+        lines: list[str] = []
+        for path in sorted(self.log.iterdir(), key=lambda one: one.stat().st_mtime_ns):
+            text = path.read_text()
+            found = CLOCK.search(text)
+            lines += text[found.start():].splitlines() if found else []
+        return [line for line in lines if line.startswith("rx eth1 ")]
+
+    def by_minutes(self, place: int) -> list[int]:
+        """Returns the least figure of each whole minute, or of all if there is none."""
+        minutes: dict[int, int] = {}
+        whole = self.figures[-1][0] // 60 * 60 or 60
+        for figure in (one for one in self.figures if one[0] < whole):
+            minute = int(figure[0] // 60)
+            minutes[minute] = min(figure[place], minutes.get(minute, figure[place]))
+        return [*minutes.values()]
+
+    def judge(self, judge: Callable[[object, str], None]) -> None:
+        """Ends lldpa-live, and judges all."""
+        same = self.quiet_since() == self.since
+        self.live.signal(signal.SIGTERM)
+        judge(self.live.ends() == 0, f"it ended with status {self.live.process.returncode}")
+        judge(not self.wrong, f"all tables were right: {self.wrong[:4]}")
+        judge(same, f"since when the quiet neighbors are there did not change: {self.since}")
+        wanted = [f"rx eth1 {octets.hex()}" for octets in self.sent]
+        judge(self.logged() == wanted, f"all {len(wanted)} frames of the quiet port are in the log")
+        wrong = differing(self.log, self.moments)
+        judge(not wrong, f"{len(self.moments.answers)} moments replay alone: {wrong}")
+        for place, what, growth in ((1, "KiB", MOST_GROWTH), (2, "descriptors", 0)):
+            least = self.by_minutes(place)  # a question has a descriptor for a moment
+            judge(least[-1] <= least[min(1, len(least) - 1)] + growth,
+                  f"lldpa-live: {what}, at most {max(one[place] for one in self.figures)}, "
+                  f"the least of each minute: {least}")
+        judge(max(self.agents) <= min(self.agents) + MOST_GROWTH, f"agents, KiB: {self.agents}")
+        print(f"{self.late} frames came late", self.done, flush=True)

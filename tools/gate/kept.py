@@ -1,0 +1,85 @@
+#!/usr/bin/env python3
+"""Keeps the count of a part of the gate as long as nothing that it reads has changed.
+
+    tools/gate/kept.py NAME COMMAND ..
+
+Runs the command, unless the files of READ and the versions of the compilers are those with which it last passed here.
+If something was skipped, the count is not kept. The states are in out/kept, which git ignores, so a clean clone runs
+everything. tools/mutants/try.py notes there which crates it tried. The last line is `N passed, M failed`.
+"""
+from __future__ import annotations
+
+import hashlib
+import pathlib
+import re
+import subprocess
+import sys
+from collections.abc import Iterable
+
+TOP = pathlib.Path(__file__).resolve().parents[2]
+KEPT = TOP / "out" / "kept"
+# what tools/library/check-library.py and check-arm64.py read
+READ = ("crates", "crates.txt", "rust", "examples", "docs/LIBRARY.md", "docs/lab.pcap", "tools/library", "tools/release",
+        "tools/model", "tools/gate/examples.py", "tools/gate/counts.py")
+COMPILERS = (("rt", "version"), ("cc", "--version"), ("cargo", "--version"), ("qemu-aarch64", "--version"))
+
+
+def written_by(command: Iterable[str]) -> str:
+    """Returns what a command writes, or nothing if it is not installed."""
+    try:
+        return subprocess.run([*command], cwd=TOP, stdout=subprocess.PIPE, text=True, check=False).stdout
+    except FileNotFoundError:
+        return ""
+
+
+def state_of(names: Iterable[str], words: str = "") -> str:
+    """Returns a digest of files, of those in folders, and of some words. What git ignores is left out."""
+    listed = written_by(["git", "ls-files", "-coz", "--exclude-standard", "--", *names]).split("\0")
+    digest = hashlib.sha256(words.encode())
+    for name in sorted(set(listed)):
+        if (TOP / name).is_file():
+            digest.update(f"{name}\0".encode() + hashlib.sha256((TOP / name).read_bytes()).digest())
+    return digest.hexdigest()
+
+
+def notes() -> dict[str, list[str]]:
+    """Returns what was noted, by its name: a state, and how many checks passed."""
+    lines = KEPT.read_text().splitlines() if KEPT.exists() else []
+    return {name: noted for name, *noted in map(str.split, lines)}
+
+
+def note(name: str, state: str, passed: int) -> None:
+    """Notes that so many checks passed in that state."""
+    KEPT.parent.mkdir(exist_ok=True)
+    noted = {**notes(), name: [state, str(passed)]}
+    KEPT.write_text("".join(f"{' '.join([one, *rest])}\n" for one, rest in sorted(noted.items())))
+
+
+def run(command: list[str]) -> tuple[int, list[str]]:
+    """Runs a command. Returns its status and its lines, each of which is printed as it comes."""
+    lines = []
+    with subprocess.Popen(command, stdout=subprocess.PIPE, stderr=subprocess.STDOUT, text=True) as ran:
+        assert ran.stdout is not None
+        for line in ran.stdout:
+            print(line, end="", flush=True)
+            lines.append(line)
+    return ran.returncode, lines
+
+
+def main() -> int:
+    """Runs the command, or prints its count again."""
+    name, *command = sys.argv[1:]
+    state = state_of(READ, "".join(map(written_by, COMPILERS)))
+    kept, passed = notes().get(name, ["", "0"])
+    if kept == state:
+        print(f"kept: nothing that it reads has changed since it passed here\n{passed} passed, 0 failed")
+        return 0
+    status, lines = run(command)
+    last = re.fullmatch(r"(\d+) passed, 0 failed\n", lines[-1]) if lines else None
+    if status == 0 and last and not any(line.startswith("skipped: ") for line in lines):
+        note(name, state, int(last[1]))
+    return status
+
+
+if __name__ == "__main__":
+    sys.exit(main())
