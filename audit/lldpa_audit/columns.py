@@ -131,7 +131,7 @@ class Columns:
 
     def texts(self, fields: Sequence[str]) -> Sequence[str]:
         """The texts of the other columns of a row."""
-        return [fields[at].strip() for at in self._others]
+        return tuple([fields[at].strip() for at in self._others])
 
     def position(self, fields: Sequence[str]) -> str:
         """The position at a rear port at which a front port is; 1 unless the file says it."""
