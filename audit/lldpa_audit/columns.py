@@ -87,10 +87,10 @@ class Columns:
 
     def rows(self, line: int, fields: Sequence[str]) -> Sequence[Row]:
         """The ends that a row joins; none where it has a fault, or joins no ports of networks."""
-        if any(fields[len(self._names):]):
+        if len(fields) > len(self._names) and any(fields[len(self._names):]):
             self._faults.add(line, f"it has {len(fields)} fields under {len(self._names)} columns")
             return ()
-        texts = [fields[at].strip() if at < len(fields) else "" for at in self._places]
+        texts = [fields[at].strip() for at in self._places]
         if self._is_of_netbox:
             if self._joins_no_ports(fields, texts):
                 self.left_out += 1
@@ -111,9 +111,7 @@ class Columns:
 
     def _kind(self, fields: Sequence[str], at: Optional[int]) -> str:
         """A type as NetBox's exports have it: `dcim.frontport` or `front port`."""
-        if at is None or at >= len(fields):
-            return ""
-        return fields[at].strip().lower().replace(" ", "")
+        return "" if at is None else fields[at].strip().lower().replace(" ", "")
 
     def are_at_panels(self, fields: Sequence[str]) -> tuple[bool, bool]:
         """Whether each side of a cable of NetBox is a port of a panel."""
@@ -133,12 +131,12 @@ class Columns:
 
     def texts(self, fields: Sequence[str]) -> Sequence[str]:
         """The texts of the other columns of a row."""
-        return [fields[at].strip() if at < len(fields) else "" for at in self._others]
+        return [fields[at].strip() for at in self._others]
 
     def position(self, fields: Sequence[str]) -> str:
         """The position at a rear port at which a front port is; 1 unless the file says it."""
         at = self._place_of(POSITIONS)
-        return (fields[at].strip() if at is not None and at < len(fields) else "") or "1"
+        return (fields[at].strip() if at is not None else "") or "1"
 
     @property
     def can_read(self) -> bool:

@@ -23,8 +23,8 @@ class Differences:
         for differences, rule in self._looser:
             key = rule.end(end)
             if rule.answers(neighbor, key):
-                by_name = key in rule.ends(neighbor)
-                return words_of(differences) if by_name else "it names its aggregate"
+                is_so = self._names.vendor_names or key in rule.ends(neighbor)
+                return words_of(differences) if is_so else "it names its aggregate"
         return None
 
     def of_ends(self, one: End, other: End) -> Optional[str]:

@@ -1,13 +1,19 @@
 """Judges what is seen at the ports of hosts by a plan. audit/README.md defines each verdict."""
 from __future__ import annotations
 
+from collections import defaultdict
 from enum import Enum
-from typing import Iterator, NamedTuple, Optional, Sequence
+from functools import cached_property
+from typing import Iterator, Mapping, NamedTuple, Optional, Sequence, Union
 
 from .bundles import Bundles
 from .names import End, Seen
 from .plan import Plan, Wish
 from .seen.tables import Tables, KnownPort
+
+
+# an end is exchanged neither with itself nor with the one that it wants, but with the next
+MOST_TRIED = 3
 
 
 class Verdict(Enum):
@@ -61,28 +67,33 @@ class Judge:
         self._bundles = Bundles(plan, tables) if self.names.vendor_names else None
 
     def planned(self) -> Iterator[Finding]:
-        """The findings on the planned ends of the audited hosts."""
-        hosts, ends = self.tables.hosts, self.tables.ends
-        for end, wish in self.plan.ends.items():
-            if end.host in hosts:
-                yield self.finding(end, wish, ends.get(end), ends.get(wish.wanted))
+        """Yields the findings on the planned ends of the audited hosts."""
+        hosts, ends, items = self.tables.hosts, self.tables.ends, iter(self.plan.ends.items())
+        for (one, wish), (other, other_wish) in zip(items, items):  # the two ends of a link
+            told, other_told = ends.get(one), ends.get(other)
+            is_right = ((told is None or self.has_only(told, other))
+                        and (other_told is None or self.has_only(other_told, one)))
+            if one.host in hosts:
+                yield self.finding(one, wish, told, is_right)
+            if other.host in hosts:
+                yield self.finding(other, other_wish, other_told, is_right)
 
     def unplanned(self) -> Iterator[Finding]:
         """The findings on ports beside the plan."""
-        for end in sorted(self.tables.ends.keys() - self.plan.ends.keys()):
+        for end in self.tables.beside(self.plan):
             told = self.tables.ends[end]
             if told.neighbors and end not in self.plan.unknown:
                 yield Finding(told.end, Verdict.UNPLANNED, None, told.neighbors)
 
-    def finding(self, end: End, wish: Wish, told: Optional[KnownPort],
-                other: Optional[KnownPort]) -> Finding:
-        """The finding on a planned end, by what is told of it and of the end that it wants."""
+    def finding(self, end: End, wish: Wish, told: Optional[KnownPort], is_right: bool) -> Finding:
+        """Returns the finding on a planned end. `is_right` tells whether each end of its link that
+        is known of has the other one alone."""
         if told is None:
             return Finding(wish.end, Verdict.NO_DATA, wish.wants)
         if self._bundles is not None and self.is_of_another_bundle(self._bundles, end,
                                                                    wish.wanted, told):
             return Finding(wish.end, Verdict.WRONG, wish.wants, told.neighbors)
-        if self.has_only(told, wish.wanted) and (other is None or self.has_only(other, end)):
+        if is_right:
             return Finding(wish.end, Verdict.RIGHT, wish.wants, told.neighbors)
         verdict = self.verdict(end, wish.wanted, told.neighbors)
         if verdict is Verdict.WRONG:
@@ -134,20 +145,39 @@ class Judge:
         Each has what the other one wants, and not what it wants itself. Where there are several it
         is the first one of the plan.
         """
-        wishes = [self.plan.ends[key] for key in self.ends(neighbor) if key in self.plan.ends]
-        others = {wish.wanted for wish in wishes} - {end, wanted}
-        for other in sorted(others, key=lambda other: self.plan.ends[other].place):
+        ends = (key for key in self.names.ends(neighbor) if key in self.plan.ends)
+        others = {self.plan.ends[key].wanted for key in ends}
+        for host in self.hosts_of_aggregate(neighbor):
+            others.update(self._with_another.get((host, wanted), ()),
+                          self._with_another.get((host, wanted.host), ()))
+        for other in sorted(others - {end, wanted}, key=lambda other: self.plan.ends[other].place):
             its_wish = self.plan.ends[other]
             if self.has_alone(other, wanted) and not self.sees(other, its_wish.wanted):
                 return its_wish.end
         return None
 
-    def ends(self, neighbor: Seen) -> Iterator[End]:
-        """Each end that a neighbor answers to: one that names its aggregate may be any member."""
-        yield from self.names.ends(neighbor)
-        for host in map(self.names.host, neighbor.hosts):
-            if self.names.is_any_member(neighbor, host):
-                yield from self.plan.ends_of_hosts.get(host, ())
+    def hosts_of_aggregate(self, neighbor: Seen) -> set[str]:
+        """Returns the hosts of which a neighbor that names its aggregate may be each port."""
+        return {host for host in map(self.names.host, neighbor.hosts)
+                if self.names.is_any_member(neighbor, host)}
+
+    @cached_property
+    def _with_another(self) -> Mapping[tuple[str, Union[End, str]], Sequence[End]]:
+        """The first ends of the plan that have another one alone than they want: by the host that
+        they want, and by what they have, which is an end, or any of a host."""
+        found: dict[tuple[str, Union[End, str]], list[End]] = defaultdict(list)
+        for end, wish in self.plan.ends.items():
+            told = self.tables.ends.get(end)
+            if told is None or len(told.neighbors) != 1 or self.has_only(told, wish.wanted):
+                continue
+            neighbor = told.neighbors[0]
+            heard: set[Union[End, str]] = {*self.names.ends(neighbor),
+                                           *self.hosts_of_aggregate(neighbor)}
+            for one in heard:
+                some = found[wish.wanted.host, one]
+                if len(some) < MOST_TRIED:
+                    some.append(end)
+        return found
 
     def has_alone(self, end: End, other: End) -> bool:
         """Whether an end has one neighbor, who answers to the other end."""

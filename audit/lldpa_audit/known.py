@@ -56,7 +56,7 @@ def read_known(file: str, names: Names, today: datetime.date) -> Known:
         faults.add(line, f"the first line is not {','.join(COLUMNS)}")
         rows = iter(())
     for line, row in rows:
-        fields = [field.strip() for field in row] + [""] * (len(COLUMNS) - len(row))
+        fields = [field.strip() for field in row]
         until = date_of(fields[3])
         if len(fields) != len(COLUMNS) or not fields[0] or not fields[2] or until is None:
             faults.add(line, "it has no host, no reason, or no date such as 2026-12-31")

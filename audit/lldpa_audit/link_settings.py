@@ -2,6 +2,7 @@
 from __future__ import annotations
 
 import re
+from functools import lru_cache
 from typing import NamedTuple, Optional
 
 # a MAU type's name begins with its speed: 100BaseTXFD, 1000baseKX, 10GigBaseLR, 40GbaseCR4, 2p5GigT
@@ -13,6 +14,7 @@ GIGA = 1000
 NUMBER = re.compile(r"[0-9]{1,5}")
 ID = re.compile(r"[0-9]{1,10}")
 MOST = 65535
+MOST_KEPT = 4096
 
 
 class Settings(NamedTuple):
@@ -33,6 +35,7 @@ class Settings(NamedTuple):
 NO_SETTINGS = Settings()
 
 
+@lru_cache(MOST_KEPT)  # a network has few settings, and many ports
 def settings_of(max_frame_size: str, pvid: str, mau_type: str, aggregation: str
                 ) -> Optional[Settings]:
     """Settings as lldpcli writes them; None where nothing is said. Its texts are empty where there

@@ -1,6 +1,7 @@
 """A plan of the cabling: which end is to be joined to which."""
 from __future__ import annotations
 
+from collections import defaultdict
 from functools import cached_property
 from typing import Iterable, Mapping, NamedTuple, Optional, Sequence, Set
 
@@ -105,9 +106,9 @@ class Plan:
     @cached_property
     def ends_of_hosts(self) -> Mapping[str, Sequence[End]]:
         """The planned ends of each host, all as they are compared."""
-        ends: dict[str, list[End]] = {}
+        ends: dict[str, list[End]] = defaultdict(list)
         for key in self.ends:
-            ends.setdefault(key.host, []).append(key)
+            ends[key.host].append(key)
         return ends
 
     def details(self, end: End) -> Sequence[tuple[str, str]]:

@@ -157,7 +157,7 @@ def read_panels(file: str, names: Names, faults: Faults) -> Panels:
 def without_panels(links: Iterable[Link], read: PlanFile) -> Iterator[Link]:
     """Yields the links that end at no panel, by the file's own word."""
     for link in links:
-        if link.one not in read.at_panels and link.other not in read.at_panels:
+        if not read.at_panels or not {link.one, link.other} & read.at_panels.keys():
             yield link
 
 

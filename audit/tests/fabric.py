@@ -1,4 +1,4 @@
-"""For tests: a fabric of 2,000 links, with panels, trunks and breakouts, and 100 faults in it.
+"""For tests: a fabric of 2,000 links, with panels, trunks, LAGs and breakouts, and 100 faults in it.
 
 What is plugged where is kept as pairs of ends, and what each end hears follows from that alone. A
 fault changes what is plugged, a host's name, or what a host says and hears. It has ends of its own,
@@ -40,6 +40,7 @@ class Fabric:
         self.beside: Dict[End, List[End]] = defaultdict(list)
         self.hidden: Set[End] = set()
         self.frames: Dict[str, int] = {}
+        self.lags = dict(lags())
         self.faults: List[Fault] = []
         self.servers = [f"srv{number:03}" for number in range(1, SERVERS + 1)]
         self.dice.shuffle(self.servers)
@@ -206,7 +207,13 @@ class Fabric:
         """Who is heard at an end: the name and the port of each."""
         found = [] if end in self.deaf else [
             peer for peer in [self.peer.get(end)] if peer is not None and peer not in self.mute]
-        return [(self.names.get(host, host), port) for host, port in [*found, *self.beside[end]]]
+        return [(self.names.get(end[0], end[0]), self.said(end))
+                for end in [*found, *self.beside[end]]]
+
+    def said(self, end: End) -> str:
+        """What an end says in place of its port's name: some servers name the LAG."""
+        is_named = end in self.lags and end[0].startswith("srv") and end[0].endswith("0")
+        return self.lags[end][0] if is_named else end[1]
 
     def hosts(self) -> Dict[str, Dict[str, List[End]]]:
         """What each planned host hears at each of its ports, but for those that are hidden."""
@@ -229,6 +236,16 @@ def links() -> Iterator[Tuple[End, End]]:
     for number in range(LEAFS + 4):
         for lane, end in enumerate(lanes_of(number)):
             yield end, (f"stor{number + 1:02}", f"p{lane}")
+
+
+def lags() -> Iterator[Tuple[End, Tuple[str, int]]]:
+    """Yields the ends of LAGs, each with the name and the number that the LAG has at its host. Each
+    fifth server has two, of two links to one leaf."""
+    for one, other in links():
+        if other[0].startswith("srv") and other[0][-1] in "05":
+            number, side = int(other[0][3:]), int(other[1][3:]) % 2
+            yield one, (f"bond{number}", number)
+            yield other, (f"bond{side}", 1 + side)
 
 
 def lanes_of(number: int) -> Iterator[End]:

@@ -64,7 +64,7 @@ class Neighbors(unittest.TestCase):
         self.assertEqual(first.ports, ("swp1", "02:00:5e:00:53:03"))
         self.assertEqual((second.hosts, second.ports), (("a.neighbors=1",), ("eth0",)))
         self.assertEqual((nameless.hosts, nameless.ports), ((), ()))
-        self.assertEqual(ports["b"], [])
+        self.assertEqual(list(ports["b"]), [])
         self.assertEqual(ports["c"][0].ports, ("eth1", "uplink = 7"))
 
     def test_cut_short(self) -> None:

@@ -117,26 +117,26 @@ class Network:
         return {**self.verdicts, **dict.fromkeys(deaf, "one-sided")}
 
 
-def show_of(ports, tlvs=()):
-    """A show, with these TLVs of each neighbor."""
+def show_of(ports, tlvs=lambda neighbor: ()):
+    """A show, in which each neighbor has the TLVs that `tlvs` returns for it."""
     return "".join(line + "\n" for port, neighbors in ports.items() for line in show_of_port(port, neighbors, tlvs))
 
 
-def tree_of(ports):
+def tree_of(ports, tlvs=lambda neighbor: SETTINGS):
     """What lldpcli shows in detail of neighbors that came 12 minutes ago."""
-    show = read_show(show_of(ports, SETTINGS).splitlines())
+    show = read_show(show_of(ports, tlvs).splitlines())
     since = {(one.port, one.id): "1970-01-01T00:00:00Z" for one in show.neighbors}
     return neighbors(Told(show, since, {}, 725), None, Depth.DETAILS)
 
 
 def of_lldpcli(form):
     """What writes a form of lldpcli's."""
-    return lambda ports: OF_LLDPCLI[form](tree_of(ports)) + "\n"
+    return lambda *words: OF_LLDPCLI[form](tree_of(*words)) + "\n"
 
 
-def xml(ports):
+def xml(*words):
     """The form xml, which lldpctl does not have."""
-    return '<?xml version="1.0" encoding="UTF-8"?>\n' + element(tree_of(ports))
+    return '<?xml version="1.0" encoding="UTF-8"?>\n' + element(tree_of(*words))
 
 
 def element(node, front=""):
@@ -167,7 +167,7 @@ def show_of_port(port, neighbors, tlvs):
         yield f"{front}chassis.descr=Debian GNU/Linux 12 (bookworm) Linux 6.1.0-18-amd64"
         yield f"{front}chassis.caps=Bridge:on,Router:on,Station:off"
         yield f"{front}chassis.mgmt=10.0.{number >> 8}.{number & 255},2,1,"
-        yield from (f"{front}org.{kind}={octets}" for kind, octets in tlvs)
+        yield from (f"{front}org.{kind}={octets}" for kind, octets in tlvs((host, port_id)))
 
 
 def faults_found(words):

@@ -31,8 +31,7 @@ class Hints:
         return places
 
     def _ports_beside_the_plan(self) -> dict[End, End]:
-        beside = self.tables.ends.keys() - self.plan.ends.keys()
-        ends = [self.tables.ends[key].end for key in sorted(beside)]
+        ends = [self.tables.ends[key].end for key in self.tables.beside(self.plan)]
         return {self.differences.loosest(end): end for end in ends}
 
     def place(self, end: End) -> str:

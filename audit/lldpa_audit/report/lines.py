@@ -38,8 +38,8 @@ class FaultLines:
         self.plan = plan
         self.names = tables.names
         self.mismatches = mismatches or {}
-        right = Verdict.RIGHT
-        faults = [one for one in findings if one.verdict not in (right, Verdict.KNOWN)]
+        right, known = Verdict.RIGHT, Verdict.KNOWN
+        faults = [one for one in findings if one.verdict is not right and one.verdict is not known]
         if self.mismatches:
             faults += [one for one in findings
                        if one.verdict is right and one.end in self.mismatches]
@@ -144,11 +144,13 @@ class FaultLines:
         return RANKS.index(fault.verdict), not fault.has
 
     def _beside(self, faults: Faults, ends: Sequence[End]) -> list[End]:
-        """The port beside the plan at which an end of a link is, which the link's line names."""
-        found = []
+        """Returns the ports beside the plan that the line of a link names: at which an end of it
+        is, or which is heard at an end."""
+        found: dict[End, None] = {}
         for end in ends:
-            place = self.hints.seen.get(end)
-            key = self.names.end(place) if place is not None else None
-            if key in faults.left and faults.left[key].verdict is Verdict.UNPLANNED:
-                found.append(key)
-        return list(dict.fromkeys(found))
+            place, neighbor = self.hints.seen.get(end), faults.only(faults.left[end])
+            keys = [*self.names.ends(neighbor)] if neighbor is not None else []
+            keys += [self.names.end(place)] if place is not None else []
+            found.update((key, None) for key in keys if key in faults.left
+                         and faults.left[key].verdict is Verdict.UNPLANNED)
+        return list(found)

@@ -25,12 +25,12 @@ def renamed(faults: Faults) -> Iterator[Repair]:
 
 
 def has_port(faults: Faults, neighbor: Seen, wanted: End) -> bool:
-    """Whether a neighbor has the port of the end that is wanted, at another host."""
+    """Whether a neighbor has, or may have, the port of the end that is wanted, at another host."""
     names = faults.names
-    hosts = set(map(names.host, neighbor.hosts))
-    return wanted.host not in hosts and any(
-        wanted.port in names.ports(names.host(neighbor.hosts[0]), port)
-        for port in names.heeded(neighbor))
+    hosts = [*map(names.host, neighbor.hosts)]
+    return wanted.host not in hosts and (
+        names.is_any_member(neighbor, hosts[0])
+        or any(wanted.port in names.ports(hosts[0], port) for port in names.heeded(neighbor)))
 
 
 def is_heard_rightly(faults: Faults, host: str) -> bool:

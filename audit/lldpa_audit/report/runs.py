@@ -2,6 +2,7 @@
 from __future__ import annotations
 
 import re
+from collections import Counter
 from typing import Iterator, Optional, Sequence
 
 from ..judging import Finding, Verdict
@@ -12,13 +13,14 @@ from .repairs import HAVE_ANOTHER, HAVE_NOBODY, Faults, Repair
 SHORTEST = 3
 FAR = (*HAVE_ANOTHER, *HAVE_NOBODY, Verdict.DISAGREES)
 # a lane of a port that is broken out: swp1s0 of swp1, et-0/0/0:0 of et-0/0/0, Et1/1/1 of Et1/1
-LANE = re.compile(r"(.*[0-9])s([0-9])|(.*[0-9]):([0-9])|([A-Za-z]+[0-9]+/[0-9]+)/([0-9])")
+LANE = re.compile(r"(.*[0-9])[s:][0-9]|([A-Za-z]+[0-9]+/[0-9]+)/[0-9]")
 
 
 def shifted(faults: Faults) -> Iterator[Repair]:
     """Yields a repair for each run of ports that have what the next one wants, or the one before.
     """
-    for host in dict.fromkeys(key.host for key, _ in faults):
+    counts = Counter(key.host for key, fault in faults if faults.only(fault))
+    for host in (host for host, count in counts.items() if count >= SHORTEST):
         ports = sorted(faults.plan.ends_of_hosts.get(host, ()), key=by_port)
         places = {key: place for place, key in enumerate(ports)}
         steps = [step_of(faults, key, places) for key in ports]
@@ -53,14 +55,9 @@ def repair_of_run(faults: Faults, ports: Sequence[End], begin: int, end: int, st
 
 def turned(faults: Faults) -> Iterator[Repair]:
     """Yields a repair for each port whose lanes have one another's links."""
-    lanes: dict[End, list[End]] = {}
-    for key in faults.plan.ends:
-        base = base_of(key.port)
-        if base:
-            lanes.setdefault(End(key.host, base), []).append(key)
-    for group in lanes.values():
+    for whole, group in lanes(faults).items():
         wrong = [key for key in group if key in faults.left
-                 and faults.meant(faults.left[key]) in group]
+                 and port_of(faults.meant(faults.left[key])) == whole]
         if len(wrong) >= SHORTEST:
             wrong.sort(key=by_port)
             yield repair(faults, "turned", wrong, "turned: the lanes of one port have one "
@@ -69,12 +66,7 @@ def turned(faults: Faults) -> Iterator[Repair]:
 
 def broken_out(faults: Faults) -> Iterator[Repair]:
     """Yields a repair for each port that is broken out and was not to be, or the reverse."""
-    lanes: dict[End, list[End]] = {}
-    for key, fault in faults:
-        base = base_of(key.port)
-        if base:
-            lanes.setdefault(End(key.host, base), []).append(key)
-    for whole, group in lanes.items():
+    for whole, group in lanes(faults).items():
         one = faults.left.get(whole)
         if one is None:
             continue
@@ -125,7 +117,17 @@ def of_ports(faults: Faults, keys: Sequence[End]) -> str:
     return names[0] if len(keys) == 1 else f"{names[0]} to {names[1]}"
 
 
-def base_of(port: str) -> str:
-    """The port of which a port is a lane; empty where its name is that of no lane."""
-    found = LANE.fullmatch(port)
-    return "" if found is None else next(one for one in found.groups() if one)
+def lanes(faults: Faults) -> dict[End, list[End]]:
+    """Returns the lanes with a fault of each port that is broken out."""
+    found: dict[End, list[End]] = {}
+    for key, _ in faults:
+        whole = port_of(key)
+        if whole is not None:
+            found.setdefault(whole, []).append(key)
+    return found
+
+
+def port_of(lane: Optional[End]) -> Optional[End]:
+    """Returns the port of which an end is a lane; None if its name is not that of a lane."""
+    found = LANE.fullmatch(lane.port) if lane is not None else None
+    return None if lane is None or found is None else End(lane.host, found[1] or found[2])

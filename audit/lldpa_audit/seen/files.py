@@ -16,7 +16,8 @@ from .listing import Listing, SeenFault
 
 # one process reads fewer files sooner than several have begun
 MANY = 100
-FILES_AT_A_TIME = 20
+# a process hands on the names in so many files once
+FILES_AT_A_TIME = 100
 # more than the show of 64 ports with 128 neighbors each has; what is read takes up to 30 times it
 MOST_OCTETS = 32 * 1024 * 1024
 
@@ -93,6 +94,7 @@ def read_files(whats: Sequence[What]) -> Iterator[SeenFile]:
     if len(whats) < MANY or processors < 2:
         return map(read_found, whats)
     pool = ProcessPoolExecutor(processors)
-    read = pool.map(read_found, whats, chunksize=FILES_AT_A_TIME)
+    at_a_time = min(FILES_AT_A_TIME, len(whats) // (4 * processors) + 1)
+    read = pool.map(read_found, whats, chunksize=at_a_time)
     pool.shutdown(wait=False)
     return read

@@ -7,9 +7,9 @@ from ..names import NAMELESS, Seen, escaped
 from ..ages import worded
 from ..link_settings import Settings, none_if_empty, number
 from .listing import Ports
-from .neighbor import clean
+from .neighbor import clean, neighbor
 from .prometheus import Answers, Hosts, Labels, PrometheusFault
-from .shows import seen_neighbor
+from .shows import plain
 
 # the labels of a neighbor; where a target has labels of these names, `exported_` stands before them
 PARTS = ("port", "chassis", "port_id_kind", "port_id", "name", "management", "port_descr",
@@ -78,10 +78,9 @@ def ports_of(answers: Answers, hosts: Hosts) -> dict[str, Ports]:
 def neighbor_of(_: str, chassis: str, kind: str, port_id: str, name: str, management: str,
                 port_descr: str, max_frame_size: str, pvid: str) -> Seen:
     """A neighbor by its labels."""
-    said = (("chassis.name", name), ("chassis.mgmt", management), ("port.descr", port_descr))
-    seen = seen_neighbor(chassis, kind, port_id, [pair for pair in said if pair[1]])
-    settings = Settings(number(max_frame_size) or None, number(pvid) or None)
-    return seen._replace(settings=none_if_empty(settings))
+    settings = none_if_empty(Settings(number(max_frame_size) or None, number(pvid) or None))
+    return neighbor(plain(chassis), kind, plain(port_id), plain(name), plain(port_descr),
+                    [plain(management)], settings)
 
 
 def label(labels: Labels, name: str) -> str:

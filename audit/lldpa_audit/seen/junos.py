@@ -9,7 +9,7 @@ from typing import Any, Mapping
 from ..names import Seen
 from .fields import kind_of, listed
 from .listing import Listing, SeenFault
-from .neighbor import Said, neighbor
+from .neighbor import neighbor
 
 LIST, ENTRY = "lldp-neighbors-information", "lldp-neighbor-information"
 PORTS = ("lldp-local-port-id", "lldp-local-interface")
@@ -34,19 +34,19 @@ def read_junos(tree: Any) -> Listing:
             port = first(entry, *PORTS)
             if not port:
                 raise SeenFault(f"a neighbor without {PORTS[0]}: the list is not of `detail`")
-            ports.setdefault(port, []).append(neighbor(said(entry, port)))
+            ports.setdefault(port, []).append(seen(entry, port))
     return Listing(dict(ports), True)
 
 
-def said(entry: Mapping[str, Any], port: str) -> Said:
-    """What a neighbor says."""
+def seen(entry: Mapping[str, Any], port: str) -> Seen:
+    """Returns a neighbor."""
     chassis, port_id = first(entry, "lldp-remote-chassis-id"), first(entry, "lldp-remote-port-id")
     if not chassis or not port_id:
         raise SeenFault(f"{port!r} has a neighbor without chassis ID or port ID")
-    address = first(entry, "lldp-remote-management-address")
-    return Said(chassis, kind_of(first(entry, "lldp-remote-port-id-subtype")), port_id,
-                first(entry, "lldp-remote-system-name"),
-                first(entry, "lldp-remote-port-description"), [address] if address else [])
+    return neighbor(chassis, kind_of(first(entry, "lldp-remote-port-id-subtype")), port_id,
+                    first(entry, "lldp-remote-system-name"),
+                    first(entry, "lldp-remote-port-description"),
+                    [first(entry, "lldp-remote-management-address")])
 
 
 def first(entry: Mapping[str, Any], *names: str) -> str:

@@ -8,7 +8,7 @@ from lldpa.agent.show import CHASSIS_KINDS, PORT_KINDS
 
 from ..link_settings import settings_of
 from .listing import Listing, SeenFault, need_few_lines
-from .neighbor import Said
+from .neighbor import neighbor
 from .protocols import Heard, by_ports
 
 # the first line of each neighbor; a port's name may have dots
@@ -61,8 +61,9 @@ def heard_of(port: str, via: str, values: Values, line: int) -> Heard:
     pvid = next((vlan for vlan, is_pvid in vlans if is_pvid == "yes"), "")
     settings = settings_of(first("port.mfs"), pvid, first("port.auto-negotiation.current"),
                            first("port.aggregation"))
-    return Heard(port, via, Said(chassis, kind, port_id, first("chassis.name"),
-                                 first("port.descr"), values.get("chassis.mgmt-ip", ()), settings))
+    seen = neighbor(chassis, kind, port_id, first("chassis.name"), first("port.descr"),
+                    values.get("chassis.mgmt-ip", ()), settings)
+    return Heard(port, via, seen)
 
 
 def identifier(of: str, kinds: set[str], values: Values, line: int) -> tuple[str, str]:

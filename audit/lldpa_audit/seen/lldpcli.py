@@ -10,7 +10,7 @@ from typing import Any, Iterator
 
 from ..link_settings import settings_of
 from .listing import Listing, SeenFault
-from .neighbor import Said
+from .neighbor import neighbor
 from .protocols import Heard, by_ports
 
 Node = Any
@@ -54,8 +54,9 @@ def heard_of(port: str, node: Node) -> Heard:
         text(first(first(itself, "auto-negotiation"), "current")),
         text(first(itself, "aggregation")))
     addresses = [text(one) for one in nodes(chassis, "mgmt-ip")]
-    return Heard(port, via, Said(text(chassis_id), text(first(port_id, "type")), text(port_id),
-                                 name, text(first(itself, "descr")), addresses, settings))
+    seen = neighbor(text(chassis_id), text(first(port_id, "type")), text(port_id), name,
+                    text(first(itself, "descr")), addresses, settings)
+    return Heard(port, via, seen)
 
 
 def chassis_of(node: Node) -> tuple[str, Node]:
@@ -75,8 +76,10 @@ def nodes(node: Node, name: str) -> list[Node]:
 
 def first(node: Node, name: str) -> Node:
     """The first node that a name leads to; one without anything where there is none."""
-    found = nodes(node, name)
-    return found[0] if found else {}
+    found = node.get(name) if isinstance(node, dict) else None
+    if isinstance(found, list):
+        found = found[0] if found else None
+    return {} if found is None else found
 
 
 def text(node: Node) -> str:

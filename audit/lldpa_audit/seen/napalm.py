@@ -10,7 +10,7 @@ from typing import Any, Sequence
 
 from ..names import Seen
 from .listing import Listing, Ports, SeenFault
-from .neighbor import Said, neighbor
+from .neighbor import neighbor
 
 # what nornir, salt and others put around the ports
 GETTERS = ("lldp_neighbors_detail", "lldp_neighbors")
@@ -21,7 +21,7 @@ ABSENT = ("", "N/A")
 
 def read_napalm(tree: Any) -> Listing:
     """The neighbors of each port. Raises SeenFault where the JSON is of something else."""
-    ports: Ports = {port: [neighbor(said(one, port)) for one in listed(found, port)]
+    ports: Ports = {port: [seen(one, port) for one in listed(found, port)]
                     for port, found in unwrapped(tree).items()}
     return Listing(ports, True)
 
@@ -50,8 +50,8 @@ def listed(found: Any, port: str) -> Sequence[Any]:
     raise SeenFault(f"it is JSON, but of no list that is known: {port!r} leads to no list")
 
 
-def said(node: Any, port: str) -> Said:
-    """What is told of a neighbor."""
+def seen(node: Any, port: str) -> Seen:
+    """Returns a neighbor."""
     if not isinstance(node, dict):
         raise SeenFault(f"{port!r} has something else in place of a neighbor")
     name = field(node, "remote_system_name") or field(node, "hostname")
@@ -60,7 +60,7 @@ def said(node: Any, port: str) -> Said:
     if not (name or chassis) or not (port_id or field(node, "remote_port_description")):
         raise SeenFault(f"{port!r} has a neighbor without a name of its host or of its port")
     kind = "local" if port_id.isdecimal() else "ifname"
-    return Said(chassis, kind, port_id, name, field(node, "remote_port_description"))
+    return neighbor(chassis, kind, port_id, name, field(node, "remote_port_description"))
 
 
 def field(node: dict[str, Any], name: str) -> str:

@@ -10,7 +10,7 @@ from typing import Iterator
 
 from ..link_settings import settings_of
 from .listing import Listing, SeenFault, need_few_lines
-from .neighbor import Said
+from .neighbor import neighbor
 from .protocols import Heard, by_ports
 
 BEGIN = re.compile(r"Interface: +(?! )(.+?), via: (\S+?)(?:,.*)?")
@@ -61,5 +61,6 @@ def heard_of(port: str, via: str, values: Values) -> Heard:
     pvids = filter(None, map(PVID.fullmatch, values.get("VLAN", ())))
     settings = settings_of(first("MFS"), next((found[1] for found in pvids), ""),
                            first("MAU oper type"), first("aggregation"))
-    return Heard(port, via, Said(chassis, kind, port_id, first("SysName"), first("PortDescr"),
-                                 values.get("MgmtIP", ()), settings))
+    seen = neighbor(chassis, kind, port_id, first("SysName"), first("PortDescr"),
+                    values.get("MgmtIP", ()), settings)
+    return Heard(port, via, seen)

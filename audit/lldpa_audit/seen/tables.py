@@ -1,6 +1,7 @@
 """What is known of the audited hosts: the neighbors of their ports."""
 from __future__ import annotations
 
+from itertools import filterfalse
 from typing import Mapping, NamedTuple, Sequence
 
 from ..names import End, Names, Seen, shown
@@ -65,6 +66,10 @@ class Tables:
         for key, wish in plan.ends.items():
             if key.host in self._listed and key not in self.ends and not self.reason(key):
                 self.ends[key] = KnownPort(wish.end, ())
+
+    def beside(self, plan: Plan) -> list[End]:
+        """Returns the known ports that are not planned, in order."""
+        return sorted(filterfalse(plan.ends.__contains__, self.ends))
 
     def add_reason(self, host: str, port: str, reason: str) -> None:
         """Why a port is not known, or further ports of a host where the port's name is empty."""
