@@ -2,11 +2,28 @@
 from __future__ import annotations
 
 from collections import Counter
-from typing import Optional
+from typing import NamedTuple, Optional
 
 from .names import End
 from .plan import Plan
 from .seen.tables import Tables
+
+
+Side = tuple[str, str, bool, int]
+
+
+class Pair(NamedTuple):
+    """The aggregates of two hosts that the ends of a link tell."""
+
+    host: str
+    other_host: str
+    ours: int
+    theirs: int
+
+    def sides(self) -> tuple[Side, Side]:
+        """Returns each of its aggregates, between these two hosts."""
+        return ((self.host, self.other_host, True, self.ours),
+                (self.host, self.other_host, False, self.theirs))
 
 
 class Bundles:
@@ -18,29 +35,33 @@ class Bundles:
 
     def __init__(self, plan: Plan, tables: Tables) -> None:
         self._tables = tables
-        self._counts: dict[tuple[str, str], Counter[tuple[int, int]]] = {}
+        self._counts: Counter[Pair] = Counter()
         for end, wish in plan.ends.items():
             pair = self._pair(end, wish.wanted)
             if pair is not None:
-                counts = self._counts.setdefault((end.host, wish.wanted.host), Counter())
-                counts[pair] += 1
+                self._counts[pair] += 1
+        # the two greatest counts of the pairs that share a side
+        self._greatest: dict[Side, list[int]] = {}
+        for pair, times in self._counts.items():
+            for side in pair.sides():
+                greatest = self._greatest.get(side, [0, 0])
+                self._greatest[side] = sorted([*greatest, times])[1:]
 
     def part(self, end: End, other: End) -> bool:
-        """Whether the two ends of a planned link are of aggregates that do not belong together."""
+        """Returns whether the two ends of a planned link are of aggregates that do not belong
+        together."""
         pair = self._pair(end, other)
-        if pair is None:
-            return False
-        counts = self._counts[end.host, other.host]
-        return any(times >= counts[pair] for its, times in counts.items()
-                   if its != pair and (its[0] == pair[0] or its[1] == pair[1]))
+        return pair is not None and any(self._greatest[side][0] >= self._counts[pair]
+                                        for side in pair.sides())
 
-    def _pair(self, end: End, other: End) -> Optional[tuple[int, int]]:
-        """The aggregates of which both ends of a link tell; None where one does not."""
+    def _pair(self, end: End, other: End) -> Optional[Pair]:
+        """Returns the aggregates of which both ends of a link tell; None if one does not."""
         ours, theirs = self._heard(other, end.host), self._heard(end, other.host)
-        return None if ours is None or theirs is None else (ours, theirs)
+        return None if ours is None or theirs is None else Pair(end.host, other.host, ours, theirs)
 
     def _heard(self, end: End, host: str) -> Optional[int]:
-        """The aggregate that the only neighbor of an end tells, if that neighbor is of a host."""
+        """Returns the aggregate that the only neighbor of an end names, if that neighbor is of a
+        host."""
         told = self._tables.ends.get(end)
         if told is None or len(told.neighbors) != 1:
             return None

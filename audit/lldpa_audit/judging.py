@@ -1,13 +1,19 @@
 """Judges what is seen at the ports of hosts by a plan. audit/README.md defines each verdict."""
 from __future__ import annotations
 
+from collections import defaultdict
 from enum import Enum
-from typing import Iterator, NamedTuple, Optional, Sequence
+from functools import cached_property
+from typing import Iterator, Mapping, NamedTuple, Optional, Sequence, Union
 
 from .bundles import Bundles
 from .names import End, Seen
 from .plan import Plan, Wish
 from .seen.tables import Tables, KnownPort
+
+
+# an end is exchanged neither with itself nor with the one that it wants, but with the next
+MOST_TRIED = 3
 
 
 class Verdict(Enum):
@@ -42,9 +48,10 @@ class Finding(NamedTuple):
 
 
 def audit(plan: Plan, tables: Tables, planned_only: bool = False) -> list[Finding]:
-    """A finding for each planned end of the audited hosts, and for each other port with a neighbor.
+    """Returns a finding for each planned end of the audited hosts, and for each other port with a
+    neighbor.
 
-    They stand in the order of the plan; those beside it follow.
+    They are in the order of the plan; the unplanned ones follow.
     """
     judge = Judge(plan, tables)
     findings = list(judge.planned())
@@ -61,28 +68,33 @@ class Judge:
         self._bundles = Bundles(plan, tables) if self.names.vendor_names else None
 
     def planned(self) -> Iterator[Finding]:
-        """The findings on the planned ends of the audited hosts."""
-        hosts, ends = self.tables.hosts, self.tables.ends
-        for end, wish in self.plan.ends.items():
-            if end.host in hosts:
-                yield self.finding(end, wish, ends.get(end), ends.get(wish.wanted))
+        """Yields the findings on the planned ends of the audited hosts."""
+        hosts, ends, items = self.tables.hosts, self.tables.ends, iter(self.plan.ends.items())
+        for (one, wish), (other, other_wish) in zip(items, items):  # the two ends of a link
+            told, other_told = ends.get(one), ends.get(other)
+            is_right = ((told is None or self.has_only(told, other))
+                        and (other_told is None or self.has_only(other_told, one)))
+            if one.host in hosts:
+                yield self.finding(one, wish, told, is_right)
+            if other.host in hosts:
+                yield self.finding(other, other_wish, other_told, is_right)
 
     def unplanned(self) -> Iterator[Finding]:
-        """The findings on ports beside the plan."""
-        for end in sorted(self.tables.ends.keys() - self.plan.ends.keys()):
+        """Returns the findings on ports that are not in the plan."""
+        for end in self.tables.beside(self.plan):
             told = self.tables.ends[end]
             if told.neighbors and end not in self.plan.unknown:
                 yield Finding(told.end, Verdict.UNPLANNED, None, told.neighbors)
 
-    def finding(self, end: End, wish: Wish, told: Optional[KnownPort],
-                other: Optional[KnownPort]) -> Finding:
-        """The finding on a planned end, by what is told of it and of the end that it wants."""
+    def finding(self, end: End, wish: Wish, told: Optional[KnownPort], is_right: bool) -> Finding:
+        """Returns the finding on a planned end. `is_right` says whether each end of its link that
+        is known of has the other one alone."""
         if told is None:
             return Finding(wish.end, Verdict.NO_DATA, wish.wants)
         if self._bundles is not None and self.is_of_another_bundle(self._bundles, end,
                                                                    wish.wanted, told):
             return Finding(wish.end, Verdict.WRONG, wish.wants, told.neighbors)
-        if self.has_only(told, wish.wanted) and (other is None or self.has_only(other, end)):
+        if is_right:
             return Finding(wish.end, Verdict.RIGHT, wish.wants, told.neighbors)
         verdict = self.verdict(end, wish.wanted, told.neighbors)
         if verdict is Verdict.WRONG:
@@ -93,8 +105,8 @@ class Judge:
 
     def is_of_another_bundle(self, bundles: Bundles, end: End, wanted: End, told: KnownPort
                              ) -> bool:
-        """Whether the one neighbor of an end names an aggregate in place of its port, and that is
-        not the one to which the link belongs."""
+        """Returns whether the one neighbor of an end names an aggregate in place of its port, and
+        that is not the one to which the link belongs."""
         if len(told.neighbors) != 1:
             return False
         neighbor = told.neighbors[0]
@@ -103,11 +115,11 @@ class Judge:
                 and bundles.part(end, wanted))
 
     def has_only(self, told: KnownPort, end: End) -> bool:
-        """Whether a port has one neighbor, who answers to an end."""
+        """Returns whether a port has one neighbor, which answers to an end."""
         return len(told.neighbors) == 1 and self.names.answers(told.neighbors[0], end)
 
     def verdict(self, end: End, wanted: End, neighbors: Sequence[Seen]) -> Verdict:
-        """The verdict on an end that is told of. One that is swapped is still wrong here."""
+        """Returns the verdict on an end that is known. One that is swapped is still wrong here."""
         if not neighbors:
             return Verdict.ONE_SIDED if self.sees(wanted, end) else Verdict.SILENT
         if len(neighbors) > 1:
@@ -121,7 +133,7 @@ class Judge:
         return Verdict.DISAGREES if other.neighbors else Verdict.ONE_SIDED
 
     def sees(self, end: End, other: End) -> bool:
-        """Whether one of an end's neighbors answers to the other end."""
+        """Returns whether one of an end's neighbors answers to the other end."""
         told = self.tables.ends.get(end)
         for one in told.neighbors if told is not None else ():
             if self.names.answers(one, other):
@@ -129,27 +141,46 @@ class Judge:
         return False
 
     def partner(self, end: End, wanted: End, neighbor: Seen) -> Optional[End]:
-        """The end of another link with which an end is swapped that has this neighbor alone.
+        """Returns the end of another link with which an end is swapped that has only this neighbor.
 
-        Each has what the other one wants, and not what it wants itself. Where there are several it
-        is the first one of the plan.
+        Each has what the other one wants, and not what it wants itself. If there are several, it is
+        the first one of the plan.
         """
-        wishes = [self.plan.ends[key] for key in self.ends(neighbor) if key in self.plan.ends]
-        others = {wish.wanted for wish in wishes} - {end, wanted}
-        for other in sorted(others, key=lambda other: self.plan.ends[other].place):
+        ends = (key for key in self.names.ends(neighbor) if key in self.plan.ends)
+        others = {self.plan.ends[key].wanted for key in ends}
+        for host in self.hosts_of_aggregate(neighbor):
+            others.update(self._with_another.get((host, wanted), ()),
+                          self._with_another.get((host, wanted.host), ()))
+        for other in sorted(others - {end, wanted}, key=lambda other: self.plan.ends[other].place):
             its_wish = self.plan.ends[other]
             if self.has_alone(other, wanted) and not self.sees(other, its_wish.wanted):
                 return its_wish.end
         return None
 
-    def ends(self, neighbor: Seen) -> Iterator[End]:
-        """Each end that a neighbor answers to: one that names its aggregate may be any member."""
-        yield from self.names.ends(neighbor)
-        for host in map(self.names.host, neighbor.hosts):
-            if self.names.is_any_member(neighbor, host):
-                yield from self.plan.ends_of_hosts.get(host, ())
+    def hosts_of_aggregate(self, neighbor: Seen) -> set[str]:
+        """Returns the hosts of which a neighbor that names its aggregate may be each port."""
+        return {host for host in map(self.names.host, neighbor.hosts)
+                if self.names.is_any_member(neighbor, host)}
+
+    @cached_property
+    def _with_another(self) -> Mapping[tuple[str, Union[End, str]], Sequence[End]]:
+        """Returns the first ends of the plan that have only another neighbor than they want: by the
+        host that they want, and by what they have, which is an end, or any of a host."""
+        found: dict[tuple[str, Union[End, str]], list[End]] = defaultdict(list)
+        for end, wish in self.plan.ends.items():
+            told = self.tables.ends.get(end)
+            if told is None or len(told.neighbors) != 1 or self.has_only(told, wish.wanted):
+                continue
+            neighbor = told.neighbors[0]
+            heard: set[Union[End, str]] = {*self.names.ends(neighbor),
+                                           *self.hosts_of_aggregate(neighbor)}
+            for one in heard:
+                some = found[wish.wanted.host, one]
+                if len(some) < MOST_TRIED:
+                    some.append(end)
+        return found
 
     def has_alone(self, end: End, other: End) -> bool:
-        """Whether an end has one neighbor, who answers to the other end."""
+        """Returns whether an end has one neighbor, which answers to the other end."""
         told = self.tables.ends.get(end)
         return told is not None and self.has_only(told, other)

@@ -16,14 +16,14 @@ COLUMNS = ["host", "port", "reason", "until"]
 class Known(NamedTuple):
     """The reasons by end, all as they are compared; the port of a whole host is empty.
 
-    `notes` tells of those whose last day is over, which are judged.
+    `notes` names those whose last day is over, which are judged.
     """
 
     reasons: dict[End, str]
     notes: Sequence[str]
 
     def reason(self, names: Names, end: Optional[End]) -> str:
-        """Why an end is not judged; empty where it is."""
+        """Returns why an end is not judged, or an empty text if it is."""
         if end is None:
             return ""
         key = names.end(end)
@@ -56,7 +56,7 @@ def read_known(file: str, names: Names, today: datetime.date) -> Known:
         faults.add(line, f"the first line is not {','.join(COLUMNS)}")
         rows = iter(())
     for line, row in rows:
-        fields = [field.strip() for field in row] + [""] * (len(COLUMNS) - len(row))
+        fields = [field.strip() for field in row]
         until = date_of(fields[3])
         if len(fields) != len(COLUMNS) or not fields[0] or not fields[2] or until is None:
             faults.add(line, "it has no host, no reason, or no date such as 2026-12-31")

@@ -11,7 +11,8 @@ COMMENT = "#"
 
 
 def rows_of(text: str, faults: Faults) -> Iterator[tuple[int, list[str]]]:
-    """Yields each row that is not blank and no comment, with its line; the first is the header.
+    """Yields each row that is not blank and not a comment, with its line; the first is the header.
+    Rows that are shorter than the header end in empty fields.
 
     A comment is a line in front of the header that begins with `#`, or a row behind it whose first
     field begins with `#` and that has fewer fields than the header. A field in quotes may have line
@@ -35,13 +36,13 @@ def rows_of(text: str, faults: Faults) -> Iterator[tuple[int, list[str]]]:
         if len(row) >= width or not row[0].lstrip().startswith(COMMENT):
             width = width or len(row)
             lines.is_behind_header = True
-            yield lines.begin, row
+            yield lines.begin, row if len(row) >= width else row + [""] * (width - len(row))
         elif lines.number > lines.begin:
             faults.add(lines.begin, "a comment with a quote in it that ends in a further line")
 
 
 def separator_of(text: str) -> str:
-    """The separator that the header has most often."""
+    """Returns the separator that the header has most often."""
     header = next((line for line in lines_of(text) if begins_header(line)), "")
     return max(SEPARATORS, key=header.count)
 
@@ -78,10 +79,10 @@ def lines_of(text: str) -> Iterator[str]:
 
 
 def has_fields(line: str) -> bool:
-    """Whether a line is not blank."""
+    """Returns whether a line is not blank."""
     return bool(line.strip(" \t\r,;"))
 
 
 def begins_header(line: str) -> bool:
-    """Whether a line is neither blank nor, as a line in front of the header, a comment."""
+    """Returns whether a line is neither blank nor a comment before the header."""
     return has_fields(line) and not line.lstrip().startswith(COMMENT)

@@ -3,10 +3,12 @@ from __future__ import annotations
 
 import os
 import random
+import sys
 import unittest
 from typing import Dict, List, Sequence, Tuple
 
 from lldpa_audit.judging import Finding, Verdict, audit
+from lldpa_audit.link_settings import Settings
 from lldpa_audit.names import NAMELESS, End, Names, Seen
 from lldpa_audit.plan import Link, Plan
 from lldpa_audit.planfault import PlanFault
@@ -43,7 +45,7 @@ class Case:
     def random_pairs(self) -> List[Tuple[End, End]]:
         ends = [End(host, port) for host in self.hosts for port in self.ports]
         self.rng.shuffle(ends)
-        size = self.rng.randint(2, len(ends)) // 2 * 2
+        size = self.rng.randint(2, max(2, len(ends))) // 2 * 2
         return list(zip(ends[:size:2], ends[1:size:2]))
 
     def random_neighbors(self, end: End) -> List[Seen]:
@@ -55,7 +57,8 @@ class Case:
         return neighbors
 
     def somebody(self, end: End) -> Seen:
-        """One who answers to an end, or has nearly its name, or answers to another one as well."""
+        """Returns a neighbor that answers to an end, or has nearly its name, or answers to another
+        one as well."""
         if self.rng.random() < 0.2:
             return Seen((self.like(end.host, HOSTS),), (self.like(end.port, PORTS),))
         if self.rng.random() < 0.2:
@@ -67,7 +70,7 @@ class Case:
         return Seen((end.host,), (end.port,))
 
     def like(self, name: str, names: Sequence[str]) -> str:
-        """A name that begins with the same letter."""
+        """Returns a name that begins with the same letter."""
         alike = [one for one in names if one[0].lower() == name[0].lower()]
         return self.rng.choice(alike or [name])
 
@@ -135,3 +138,36 @@ class RandomPlans(unittest.TestCase):
                 self.assertEqual(finding.partner, judge.partners(end)[0])
         beside = [tuple(one.end) for one in findings if one.verdict is Verdict.UNPLANNED]
         self.assertEqual(sorted(beside), sorted(judge.unplanned()))
+
+
+class Aggregates(unittest.TestCase):
+    """Hosts of very many ports that name their aggregates: twice the links cost twice as much."""
+
+    def steps(self, links: int, peer: str, numbers: int) -> int:
+        """Returns how many lines are run to judge the links of a host that hears a peer, in so many
+        aggregates. It is the same on any machine."""
+        names, count = Names(vendor_names=True), 0
+        plan = Plan("p", [Link(End(one, f"eth{at}"), End(other, f"eth{at}"), None)
+                          for one, other in (("a", "b"), ("c", "d")) for at in range(links)], names)
+        tables = Tables(names)
+        for host, other in (("a", peer), ("b", "a"), ("c", "x"), ("d", "x")):
+            tables.add_ports(host, {
+                f"eth{at}": [Seen((other,), ("bond0",), aggregated=True,
+                                  settings=Settings(aggregation=at % numbers))]
+                for at in range(links)})
+
+        def step(*_: object) -> object:
+            nonlocal count
+            count += 1
+            return step
+        sys.settrace(step)  # type: ignore[arg-type]
+        try:
+            audit(plan, tables)
+        finally:
+            sys.settrace(None)
+        return count
+
+    def test_cost(self) -> None:
+        for peer, numbers in (("b", 1), ("b", 1000), ("d", 1), ("d", 1000)):
+            few, many = self.steps(100, peer, numbers), self.steps(200, peer, numbers)
+            self.assertLess(many, 2.2 * few, (peer, numbers))

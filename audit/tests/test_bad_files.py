@@ -26,7 +26,7 @@ SECONDS = 40
 
 
 def block(kind: int, body: bytes) -> bytes:
-    """A block of pcapng."""
+    """Returns a block of pcapng."""
     size = struct.pack("<I", 12 + len(body))
     return struct.pack("<I", kind) + size + body + size
 
@@ -39,13 +39,13 @@ class Hostile(InAFolder):
     """Each test has a folder."""
 
     def within(self, body: Callable[[], object]) -> None:
-        """A body ends before a square would, in seconds of the processor."""
+        """Checks that a body ends before a square would, in seconds of the processor."""
         begin = sum(os.times()[:4])
         body()
         self.assertLess(sum(os.times()[:4]) - begin, SECONDS)
 
     def fault_of(self, octets: bytes) -> str:
-        """What is wrong with a list."""
+        """Returns what is wrong with a list."""
         path = self.folder / "list"
         path.write_bytes(octets)
         read: List[SeenFile] = []
@@ -53,7 +53,7 @@ class Hostile(InAFolder):
         return read[0].fault
 
     def plan_fault(self, text: str, panels: str = "") -> str:
-        """What is wrong with a plan."""
+        """Returns what is wrong with a plan."""
         plan = self.file("plan", text)
         with self.assertRaises(PlanFault) as raised:
             read_plan(plan, Names(), None, self.file("panels", panels) if panels else None)
@@ -94,7 +94,7 @@ class Plans(Hostile):
 
 
 def edges_of_text(text: str) -> object:
-    """The edges of a text, by the reader itself."""
+    """Returns the edges of a text, by the reader itself."""
     from lldpa_audit.dot import edges_of
     return edges_of(text)
 

@@ -1,5 +1,5 @@
-"""A fabric of 2,000 links with 100 faults of 20 kinds, seen in many forms: each fault is told, and
-nothing else."""
+"""A fabric of 2,000 links with 100 faults of 20 kinds, seen in many forms: each fault is reported,
+and nothing else."""
 from __future__ import annotations
 
 import json
@@ -8,12 +8,12 @@ import random
 import sys
 import unittest
 from pathlib import Path
-from typing import Any, Dict, List, Set, Tuple
+from typing import Any, Dict, List, Sequence, Set, Tuple
 
 import fabric_plans
 import vendors
 from auditing import InAFolder, run
-from fabric import Fabric
+from fabric import End, Fabric
 
 sys.path.append(str(Path(__file__).resolve().parents[1] / "tools"))
 import cabling  # noqa: E402
@@ -33,37 +33,39 @@ class Faults(InAFolder):
         self.fabric = Fabric(SEED)
         self.assertEqual((len(self.fabric.links), len(self.fabric.faults)), (2000, 100))
         self.assertEqual(len({fault.kind for fault in self.fabric.faults}), 20)
-        self.words = ["--panels", self.file("panels.csv", fabric_plans.panels()), "--settings"]
+        self.assertEqual(len(self.fabric.lags), 640)
+        self.words = ["--panels", self.file("panels.csv", fabric_plans.panels()), "--settings",
+                      "--vendor-names"]
+        self.lags = {(self.fabric.names.get(end[0], end[0]), self.fabric.said(end)): number
+                     for end, (_, number) in self.fabric.lags.items()}
         (self.folder / "seen").mkdir()
         self.write_lists()
 
     def write_lists(self) -> None:
-        """Writes what each host sees, in the forms in turn; shows where a port is hidden, and where
-        frame sizes are compared."""
-        forms = sorted(FORMS)
-        self.assertGreater(len(forms), 9)
-        planned = self.fabric.planned
-        of_shows = {*(host for host, _ in self.fabric.hidden), *self.fabric.frames,
-                    *(planned[end][0] for end in planned if end[0] in self.fabric.frames)}
-        for number, (host, ports) in enumerate(self.fabric.hosts().items()):
+        """Writes what each host sees, in the forms in turn: shows if a port is hidden, and forms
+        that say everything if frame sizes are compared, or somebody names a LAG."""
+        self.assertGreater(len(FORMS), 9)
+        fabric = self.fabric
+        of_shows = {host for host, _ in fabric.hidden}
+        for number, (host, ports) in enumerate(fabric.hosts().items()):
+            peers = {fabric.planned[end][0] for end in fabric.planned if end[0] == host}
+            names_lag = any(port.startswith("bond") for some in ports.values() for _, port in some)
+            is_full = names_lag or not fabric.frames.keys().isdisjoint({host, *peers})
+            forms = sorted(cabling.FORMS if is_full else FORMS)
             form = "show" if host in of_shows else forms[number % len(forms)]
-            text = self.shown(host, ports) if form == "show" else FORMS[form](
-                {port: some for port, some in ports.items() if some})
-            self.file(f"seen/{host}", text)
+            heard = ports if form == "show" else {one: some for one, some in ports.items() if some}
+            words = [self.tlvs] if form in cabling.FORMS else []
+            self.file(f"seen/{host}", FORMS[form](heard, *words))
 
-    def shown(self, host: str, ports: Any) -> str:
-        """A show, in which each neighbor tells its frame size."""
-        lines = cabling.show_of(ports).splitlines()
-        for port, neighbors in ports.items():
-            for place, (name, _) in enumerate(neighbors, 1):
-                size = self.fabric.frames.get(name, 9216)
-                at = max(at for at, line in enumerate(lines)
-                         if line.startswith(f"lldp.{port}.{place}."))
-                lines.insert(at + 1, f"lldp.{port}.{place}.org.00120f.4={size:04x}")
-        return "".join(f"{line}\n" for line in lines)
+    def tlvs(self, neighbor: End) -> Sequence[Tuple[str, str]]:
+        """Returns the frame size of a neighbor, and the number of its LAG."""
+        size = self.fabric.frames.get(neighbor[0], 9216)
+        lag = self.lags.get(neighbor)
+        told = [] if lag is None else [("00120f.3", f"03{lag:08x}")]
+        return [("00120f.4", f"{size:04x}"), *told]
 
     def audited(self, plan: str) -> Any:
-        """The JSON of an audit, without what is not the same each time."""
+        """Returns the JSON of an audit, without what is not the same each time."""
         ran = run(plan, *self.words, "--json", str(self.folder / "seen"))
         self.assertEqual(ran.returncode, 1, ran.stderr)
         return json.loads(ran.stdout)
@@ -84,7 +86,8 @@ class Faults(InAFolder):
                              wanted, name)
 
     def need_each_fault(self, told: Any) -> None:
-        """Each repair is of one planted fault, and each fault has as few repairs as it may."""
+        """Checks that each repair is of one planted fault, and that each fault has as few repairs
+        as it may."""
         of_ends = {end: fault for fault in self.fabric.faults for end in fault.ends}
         kinds: Dict[int, List[str]] = {}
         for repair in told["repairs"]:
@@ -100,7 +103,8 @@ class Faults(InAFolder):
             self.assertTrue(0 < count <= fault.most, (fault, kinds.get(id(fault))))
 
     def need_true_neighbors(self, told: Any) -> None:
-        """What an end is told to have is what it has, and nothing that is wrong is right."""
+        """Checks that what an end is reported to have is what it has, and that nothing wrong is
+        called right."""
         wrong: Set[Tuple[str, str]] = set()
         for one in told["ends"]:
             end = one["host"], one["port"]

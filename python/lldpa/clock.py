@@ -2,24 +2,14 @@
 
 from __future__ import annotations
 
-import re
 import time
-from datetime import datetime
 
-WRITTEN = re.compile("[0-9]{4}-[0-9]{2}-[0-9]{2}T[0-9]{2}:[0-9]{2}:[0-9]{2}Z")
 UTC = "%Y-%m-%dT%H:%M:%SZ"  # in logs and shows
 
 
 def written(seconds: float) -> str:
     """Returns a time of the wall clock, in seconds since 1970, as `2026-11-23T19:40:00Z`."""
     return time.strftime(UTC, time.gmtime(seconds))
-
-
-def seconds_of(text: str) -> int:
-    """Returns the seconds since 1970 of such a text. Raises ValueError for any other."""
-    if not WRITTEN.fullmatch(text):
-        raise ValueError(f"not a time as lldpa-live writes it: {text!r}")
-    return int(datetime.fromisoformat(f"{text[:-1]}+00:00").timestamp())
 
 
 def now() -> float:

@@ -1,6 +1,7 @@
 """Standard streams of a program that reports failures of its output: closed, full, or not read."""
 from __future__ import annotations
 
+import argparse
 import io
 import locale
 import os
@@ -105,3 +106,9 @@ def complain(name: str, text: str) -> None:
     with suppress(OSError):
         if select.select([], [ERRORS], [], 0)[1]:
             os.write(ERRORS, octets + b"\n")
+
+
+def plain_help(prog: str) -> argparse.HelpFormatter:
+    """Returns the writer of a program's help, in 80 columns. (To know the terminal's, argparse
+    loads 1 MB at each start.)"""
+    return argparse.RawDescriptionHelpFormatter(prog, width=78)

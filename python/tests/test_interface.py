@@ -2,11 +2,16 @@
 
 from __future__ import annotations
 
+import asyncio
 import select
 import time
+from types import SimpleNamespace
 
 from lldpa.live.interface import Frame, Interface
 from lldpa.live.links import Links
+from lldpa.live.ports import Ports
+from lldpa.live.relay import Relay
+from lldpa.live.seconds import LEAST_CHANGE, Seconds
 from lldpa.limits import LONGEST_FRAME
 
 from running_live import OnLinks, on_links
@@ -127,3 +132,21 @@ class TestInterface(OnLinks):
         eventually(lambda: sum_of_both() >= 20_000)
         self.assertEqual(sum_of_both(), 20_000)
         self.assertGreater(self.interface.drops, 0)
+
+    def test_a_question_comes_after_a_frame_whose_stamp_is_a_little_late(self) -> None:
+        self.interface.take(self.number)
+        ports, seconds = Ports([self.interface], [], print), Seconds()
+        seconds.ahead -= 0.9 * LEAST_CHANGE  # so little is not noticed
+        frames: list[tuple[float, Frame]] = []
+
+        async def turn(most: int) -> float:
+            moment = ports.read(seconds, most)
+            frames.extend(ports.frames_until(moment))
+            return moment
+
+        for count in range(1, 101):
+            self.sender.send(numbered(count))
+            self.assertTrue(select.select([self.interface.socket], [], [], SECONDS)[0])
+            asyncio.run(Relay.catch_up(SimpleNamespace(turn=turn, ports=ports)))
+            self.assertEqual(len(frames), count)
+        ports.readable.close()

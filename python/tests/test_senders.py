@@ -9,7 +9,7 @@ from typing import Dict, Optional
 from running_live import OnLinks, on_links
 from lldpa import Agent
 from lldpa.client.live_lines import LiveLines, since_of
-from lldpa.clock import seconds_of
+from lldpa.client.times import seconds_of
 from lldpa.live.senders import MOST_OF_A_PORT, Senders, said_by
 from patience import eventually
 from served import PROGRAM, frame, numbered, tlv

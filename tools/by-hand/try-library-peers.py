@@ -21,11 +21,11 @@ import re
 import subprocess
 import sys
 import tempfile
-from typing import Iterator
 
 TOP = pathlib.Path(__file__).resolve().parents[2]
-sys.path.append(str(TOP / "tools" / "model"))
+sys.path += [str(TOP / "tools" / "model"), str(TOP / "tools" / "gate"), str(TOP / "python")]
 import fuzz  # noqa: E402
+from lldpa.capture.packets import packets_of  # noqa: E402
 from library_peers import Frame, Told, compared, fault_of_ours, verdicts  # noqa: E402
 
 STANDARD = TOP / "docs" / "STANDARD.md"
@@ -33,22 +33,13 @@ OURS = "the library"
 SAME = ("the same", "the same as the model")
 
 
-def pcap_frames(path: pathlib.Path) -> Iterator[bytes]:
-    """Returns the frames of a capture."""
-    octets = path.read_bytes()
-    order, at = ("little" if octets[3] == 0xa1 else "big"), 24
-    while at + 16 <= len(octets):
-        end = at + 16 + int.from_bytes(octets[at + 8:at + 12], order)  # type: ignore[arg-type]
-        yield octets[at + 16:end]
-        at = end
-
-
 def captured_frames(paths: list[pathlib.Path]) -> list[bytes]:
     """Returns the frames of captures and of traces, each once."""
     found: dict[bytes, None] = {}
     for path in paths:
         if path.suffix == ".pcap":
-            found.update(dict.fromkeys(pcap_frames(path)))
+            with path.open("rb") as file:
+                found.update(dict.fromkeys(packet.octets for packet in packets_of(file)))
             continue
         for digits in re.findall(rb"^rx \S+ ((?:[0-9a-fA-F]{2})+)$", path.read_bytes(), re.M):
             found[bytes.fromhex(digits.decode())] = None

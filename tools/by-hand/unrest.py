@@ -64,6 +64,7 @@ class Unrest:
         self.sent: list[bytes] = []
         self.expected: dict[str, str] = {}  # the last word of each quiet neighbor
         self.wrong: list[str] = []
+        self.late = 0  # looks that a frame was not there for, and then was
         self.done: dict[str, int] = {}
         self.figures: list[tuple[float, int, int]] = []  # seconds, KiB and descriptors
         self.agents: list[int] = []  # KiB of each, after the same time
@@ -97,6 +98,11 @@ class Unrest:
             self.note(f"refused: {refused.text}")
             return
         said = {one.id: dict(one.said)["chassis.name"] for one in ports["eth1"].neighbors}
+        if said != self.expected:  # a busy kernel may hand a frame over behind the question
+            self.late += 1
+            time.sleep(SECONDS_OF_A_WORD)
+            said = {one.id: one.name for one in read_show(self.live.ask("show neighbors")).neighbors
+                    if one.port == "eth1"}
         if said != self.expected:
             self.wrong.append(f"{time.monotonic() - self.began:.0f} s: eth1 has {said}, "
                               f"not {self.expected}")
@@ -234,9 +240,10 @@ class Unrest:
         return [line for line in lines if line.startswith("rx eth1 ")]
 
     def by_minutes(self, place: int) -> list[int]:
-        """Returns the least figure of each minute."""
+        """Returns the least figure of each whole minute, or of all if there is none."""
         minutes: dict[int, int] = {}
-        for figure in self.figures:
+        whole = self.figures[-1][0] // 60 * 60 or 60
+        for figure in (one for one in self.figures if one[0] < whole):
             minute = int(figure[0] // 60)
             minutes[minute] = min(figure[place], minutes.get(minute, figure[place]))
         return [*minutes.values()]
@@ -258,4 +265,4 @@ class Unrest:
                   f"lldpa-live: {what}, at most {max(one[place] for one in self.figures)}, "
                   f"the least of each minute: {least}")
         judge(max(self.agents) <= min(self.agents) + MOST_GROWTH, f"agents, KiB: {self.agents}")
-        print(self.done, flush=True)
+        print(f"{self.late} frames came late", self.done, flush=True)

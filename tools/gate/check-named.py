@@ -3,10 +3,9 @@
 prover must refuse, and each worked example, row and vector is a transcript, a test, or a part of
 tools/gate/check.sh. A theorem alone does not count.
 
-    tools/gate/check-named.py           the last line is `N passed, M failed`
-    tools/gate/check-named.py --list    prints each name with where it is tried
+    tools/gate/check-named.py
 
-`rt ci` sees that the edits are refused and that the tests pass.
+`rt ci` sees that the edits are refused and that the tests pass. The last line is `N passed, M failed`.
 """
 from __future__ import annotations
 
@@ -117,9 +116,6 @@ def fault_of(kind: str, text: str) -> str | None:
 def main() -> int:
     """Reads the list, and counts its lines."""
     lines = [line for line in NAMED.read_text().splitlines() if line and not line.startswith("#")]
-    if sys.argv[1:] == ["--list"]:
-        print("\n".join(lines))
-        return 0
     counts = Counts()
     for line in lines:
         kind, _, text = line.partition(" ")

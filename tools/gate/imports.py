@@ -2,13 +2,13 @@
 """Computes which part of the Python packages imports which, and fails at a cycle or at an import
 that goes the wrong way.
 
-    tools/gate/imports.py [--list]
+    tools/gate/imports.py
 
 The parts of a folder are its files and its folders. If a file below one part imports from below
 another, the first part imports the second, wherever the import is in the file. The parts of
 each folder must have an order in which each imports only earlier ones. Besides, lldpa imports
-nothing of lldpa_audit, and lldpa.client nothing of lldpa.live. --list prints what each part
-imports. The last line is `N passed, M failed`, counted by folder and by rule.
+nothing of lldpa_audit, and lldpa.client nothing of lldpa.live. The last line is `N passed, M failed`,
+counted by folder and by rule.
 """
 from __future__ import annotations
 
@@ -91,11 +91,6 @@ def main() -> int:
     known = modules()
     pairs = imports(known)
     told = graphs(pairs)
-    if sys.argv[1:] == ["--list"]:
-        for folder, graph in sorted(told.items()):
-            for part, others in sorted(graph.items()):
-                print(f"{folder or 'all'}: {part} imports {', '.join(sorted(others))}")
-        return 0
     counts = Counts()
     for folder, graph in sorted(told.items()):
         counts.judge(cycle_in(graph), f"a cycle in {folder or 'all'}")

@@ -35,7 +35,7 @@ class Count(NamedTuple):
 
     @property
     def text(self) -> str:
-        """The count without the ages, which is the same whenever it is made."""
+        """Returns the count without the ages, which is the same whenever it is made."""
         wrong = self.planned - self.right - self.unseen - self.known
         text = f"{self.planned} planned: {self.right} right, {wrong} not"
         if self.known:
@@ -50,7 +50,7 @@ class Count(NamedTuple):
 
     @property
     def is_all_right(self) -> bool:
-        """Whether there is no fault in what was looked at."""
+        """Returns whether there is no fault in what was looked at."""
         is_right = self.right + self.unseen + self.known == self.planned
         return is_right and not self.unplanned and not self.mismatches
 
@@ -58,20 +58,19 @@ class Count(NamedTuple):
 def count(findings: Sequence[Finding], plan: Plan, tables: Tables, mismatches: int = 0) -> Count:
     """Counts findings, and the planned ends beside them."""
     unseen = {key: name for key, name in plan.hosts.items() if key not in tables.hosts}
-    is_right, beside = Verdict.RIGHT, Verdict.UNPLANNED
-    right = sum(1 for finding in findings if finding.verdict is is_right)
-    unplanned = sum(1 for finding in findings if finding.verdict is beside)
-    known = [finding for finding in findings if finding.verdict is Verdict.KNOWN]
-    planned_known = sum(1 for finding in known if finding.wants is not None)
-    judged = len(findings) - unplanned - (len(known) - planned_known)
+    is_right = Verdict.RIGHT
+    others = [finding for finding in findings if finding.verdict is not is_right]
+    unplanned = sum(1 for finding in others if finding.verdict is Verdict.UNPLANNED)
+    known = sum(1 for finding in others if finding.verdict is Verdict.KNOWN and finding.wants)
+    judged = sum(1 for finding in others if finding.wants) + len(findings) - len(others)
     hosts = sorted(unseen.values(), key=lambda name: natural(name, {}))
     ages = ages_of(tables.times, time.time()) if tables.times else None
-    return Count(len(plan.ends), right, unplanned, len(plan.ends) - judged, hosts, mismatches, ages,
-                 planned_known)
+    return Count(len(plan.ends), len(findings) - len(others), unplanned, len(plan.ends) - judged,
+                 hosts, mismatches, ages, known)
 
 
 def named(hosts: Sequence[str]) -> str:
-    """The first of some hosts, and how many more there are."""
+    """Returns the first of some hosts, and how many more there are."""
     names = [shown(host) for host in hosts[:MOST_NAMED]]
     more = len(hosts) - len(names)
     return ", ".join([*names, f"{more} more"] if more else names)

@@ -25,7 +25,7 @@ WIDEST = 48
 # how much of what the plan says further of a cable stands in its line
 MOST_DETAILS, LONGEST_DETAIL = 4, 40
 
-# which end of a link is told first: the one that is wrong
+# which end of a link is reported first: the one that is wrong
 RANKS = (Verdict.WRONG, Verdict.SWAPPED, Verdict.DOUBLED, Verdict.EXTRA, Verdict.NO_DATA,
          Verdict.ONE_SIDED, Verdict.SILENT, Verdict.DISAGREES)
 
@@ -38,8 +38,8 @@ class FaultLines:
         self.plan = plan
         self.names = tables.names
         self.mismatches = mismatches or {}
-        right = Verdict.RIGHT
-        faults = [one for one in findings if one.verdict not in (right, Verdict.KNOWN)]
+        right, known = Verdict.RIGHT, Verdict.KNOWN
+        faults = [one for one in findings if one.verdict is not right and one.verdict is not known]
         if self.mismatches:
             faults += [one for one in findings
                        if one.verdict is right and one.end in self.mismatches]
@@ -55,8 +55,8 @@ class FaultLines:
                           for fault in repair.mends}
 
     def lines(self, by: str = "") -> list[str]:
-        """The lines, with the places in a column of their own; those of each text of a column of
-        the plan stand together, below a line with it."""
+        """Returns the lines, with the places in a column of their own; those of each text of a
+        column of the plan are together, below a line with it."""
         told = [(self.column(one, by), self.place(one), f"{one.text}{self.details(one)}")
                 for one in self.repairs]
         width = max((len(place) for _, place, _ in told if len(place) <= WIDEST), default=0)
@@ -70,16 +70,16 @@ class FaultLines:
         return lines
 
     def column(self, repair: Repair, by: str) -> str:
-        """What a column of the plan says of the cable at which a repair begins."""
+        """Returns what a column of the plan says of the cable at which a repair begins."""
         details = self.plan.details(self.names.end(repair.end)) if by else ()
         return next((text for name, text in details if key_of(name) == key_of(by)), "")
 
     def place(self, repair: Repair) -> str:
-        """Where a repair begins, as its line says it."""
+        """Returns where a repair begins, as its line says it."""
         return repair.place or self.hints.place(repair.end)
 
     def details(self, repair: Repair) -> str:
-        """What else the plan says of the cable of a repair."""
+        """Returns what else the plan says of the cable of a repair."""
         key = self.names.end(repair.end)
         wish = self.plan.ends.get(key)
         if wish is None or repair.place:
@@ -91,7 +91,7 @@ class FaultLines:
         return f" [{printable(text_of(', '.join(texts)))}]" if texts else ""
 
     def links_of(self, repair: Repair) -> int:
-        """How many planned links a repair mends."""
+        """Returns how many planned links a repair mends."""
         wishes = [self.plan.ends.get(self.names.end(fault.end)) for fault in repair.mends]
         return len({wish.place // 2 for wish in wishes if wish is not None})
 
@@ -140,15 +140,18 @@ class FaultLines:
                              faults.take(dict.fromkeys([key, *there])))
 
     def _rank(self, fault: Finding) -> tuple[int, bool]:
-        """The end of a link that is wrong comes first; of two that hear it, the one that hears."""
+        """Returns the key that sorts the end of a link that is wrong first, and if both are, the
+        one that hears the other."""
         return RANKS.index(fault.verdict), not fault.has
 
     def _beside(self, faults: Faults, ends: Sequence[End]) -> list[End]:
-        """The port beside the plan at which an end of a link is, which the link's line names."""
-        found = []
+        """Returns the ports beside the plan that the line of a link names: at which an end of it
+        is, or which is heard at an end."""
+        found: dict[End, None] = {}
         for end in ends:
-            place = self.hints.seen.get(end)
-            key = self.names.end(place) if place is not None else None
-            if key in faults.left and faults.left[key].verdict is Verdict.UNPLANNED:
-                found.append(key)
-        return list(dict.fromkeys(found))
+            place, neighbor = self.hints.seen.get(end), faults.only(faults.left[end])
+            keys = [*self.names.ends(neighbor)] if neighbor is not None else []
+            keys += [self.names.end(place)] if place is not None else []
+            found.update((key, None) for key in keys if key in faults.left
+                         and faults.left[key].verdict is Verdict.UNPLANNED)
+        return list(found)

@@ -2,6 +2,7 @@
 from __future__ import annotations
 
 import re
+from collections import Counter
 from typing import Iterator, Optional, Sequence
 
 from ..judging import Finding, Verdict
@@ -12,13 +13,14 @@ from .repairs import HAVE_ANOTHER, HAVE_NOBODY, Faults, Repair
 SHORTEST = 3
 FAR = (*HAVE_ANOTHER, *HAVE_NOBODY, Verdict.DISAGREES)
 # a lane of a port that is broken out: swp1s0 of swp1, et-0/0/0:0 of et-0/0/0, Et1/1/1 of Et1/1
-LANE = re.compile(r"(.*[0-9])s([0-9])|(.*[0-9]):([0-9])|([A-Za-z]+[0-9]+/[0-9]+)/([0-9])")
+LANE = re.compile(r"(.*[0-9])[s:][0-9]|([A-Za-z]+[0-9]+/[0-9]+)/[0-9]")
 
 
 def shifted(faults: Faults) -> Iterator[Repair]:
     """Yields a repair for each run of ports that have what the next one wants, or the one before.
     """
-    for host in dict.fromkeys(key.host for key, _ in faults):
+    counts = Counter(key.host for key, fault in faults if faults.only(fault))
+    for host in (host for host, count in counts.items() if count >= SHORTEST):
         ports = sorted(faults.plan.ends_of_hosts.get(host, ()), key=by_port)
         places = {key: place for place, key in enumerate(ports)}
         steps = [step_of(faults, key, places) for key in ports]
@@ -32,14 +34,16 @@ def shifted(faults: Faults) -> Iterator[Repair]:
 
 
 def step_of(faults: Faults, key: End, places: dict[End, int]) -> int:
-    """How many ports further the end is that ought to have what an end has; 0 if there is none."""
+    """Returns how many ports further the end is that ought to have what an end has, or 0 if there
+    is none."""
     fault = faults.left.get(key)
     meant = faults.meant(fault) if fault is not None else None
     return places[meant] - places[key] if meant in places else 0
 
 
 def repair_of_run(faults: Faults, ports: Sequence[End], begin: int, end: int, step: int) -> Repair:
-    """The repair of ports that are shifted by one; the one behind the last may have nobody."""
+    """Returns the repair of ports that are shifted by one; the one after the last may have no
+    neighbor."""
     run = list(ports[begin:end])
     behind = end if step > 0 else begin - 1
     if 0 <= behind < len(ports):
@@ -53,14 +57,9 @@ def repair_of_run(faults: Faults, ports: Sequence[End], begin: int, end: int, st
 
 def turned(faults: Faults) -> Iterator[Repair]:
     """Yields a repair for each port whose lanes have one another's links."""
-    lanes: dict[End, list[End]] = {}
-    for key in faults.plan.ends:
-        base = base_of(key.port)
-        if base:
-            lanes.setdefault(End(key.host, base), []).append(key)
-    for group in lanes.values():
+    for whole, group in lanes(faults).items():
         wrong = [key for key in group if key in faults.left
-                 and faults.meant(faults.left[key]) in group]
+                 and port_of(faults.meant(faults.left[key])) == whole]
         if len(wrong) >= SHORTEST:
             wrong.sort(key=by_port)
             yield repair(faults, "turned", wrong, "turned: the lanes of one port have one "
@@ -69,12 +68,7 @@ def turned(faults: Faults) -> Iterator[Repair]:
 
 def broken_out(faults: Faults) -> Iterator[Repair]:
     """Yields a repair for each port that is broken out and was not to be, or the reverse."""
-    lanes: dict[End, list[End]] = {}
-    for key, fault in faults:
-        base = base_of(key.port)
-        if base:
-            lanes.setdefault(End(key.host, base), []).append(key)
-    for whole, group in lanes.items():
+    for whole, group in lanes(faults).items():
         one = faults.left.get(whole)
         if one is None:
             continue
@@ -101,7 +95,7 @@ def looped(faults: Faults) -> Iterator[Repair]:
 
 
 def own_end(faults: Faults, key: End, fault: Finding) -> Optional[End]:
-    """The end of the same host that is heard at an end that has one neighbor."""
+    """Returns the end of the same host that is heard at an end that has one neighbor."""
     if len(fault.has) != 1 or fault.verdict not in (*HAVE_ANOTHER, Verdict.UNPLANNED):
         return None
     ends = [end for end in faults.names.ends(fault.has[0]) if end.host == key.host]
@@ -111,7 +105,7 @@ def own_end(faults: Faults, key: End, fault: Finding) -> Optional[End]:
 
 def repair(faults: Faults, kind: str, keys: Sequence[End], text: str, places: Sequence[End]
            ) -> Repair:
-    """A repair of several ports of one host, and of the other ends of their links."""
+    """Returns a repair of several ports of one host, and of the other ends of their links."""
     first = faults.left[places[0]].end
     host = "" if len(faults.hints.tables.hosts) == 1 else f"{shown(first.host)} "
     ends = faults.with_far(keys, FAR)
@@ -120,12 +114,22 @@ def repair(faults: Faults, kind: str, keys: Sequence[End], text: str, places: Se
 
 
 def of_ports(faults: Faults, keys: Sequence[End]) -> str:
-    """The first and the last of some ports."""
+    """Returns the first and the last of some ports."""
     names = [shown(faults.left[key].end.port) for key in (keys[0], keys[-1])]
     return names[0] if len(keys) == 1 else f"{names[0]} to {names[1]}"
 
 
-def base_of(port: str) -> str:
-    """The port of which a port is a lane; empty where its name is that of no lane."""
-    found = LANE.fullmatch(port)
-    return "" if found is None else next(one for one in found.groups() if one)
+def lanes(faults: Faults) -> dict[End, list[End]]:
+    """Returns the lanes with a fault of each port that is broken out."""
+    found: dict[End, list[End]] = {}
+    for key, _ in faults:
+        whole = port_of(key)
+        if whole is not None:
+            found.setdefault(whole, []).append(key)
+    return found
+
+
+def port_of(lane: Optional[End]) -> Optional[End]:
+    """Returns the port of which an end is a lane; None if its name is not that of a lane."""
+    found = LANE.fullmatch(lane.port) if lane is not None else None
+    return None if lane is None or found is None else End(lane.host, found[1] or found[2])

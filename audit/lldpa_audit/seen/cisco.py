@@ -12,7 +12,7 @@ from ..link_settings import settings_of
 from ..names import Seen
 from .fields import ABSENT
 from .listing import Listing, SeenFault, need_few_lines
-from .neighbor import Said, neighbor
+from .neighbor import neighbor
 from .ports import port_kind
 
 LINE = re.compile(r" *(Local Intf|Local Port id|Chassis id|Port id|Port Description|System Name|"
@@ -25,7 +25,7 @@ Values = dict[str, str]
 
 
 def read_cisco(octets: bytes) -> Listing:
-    """The neighbors of each port. Raises SeenFault."""
+    """Returns the neighbors of each port. Raises SeenFault."""
     need_few_lines(octets)
     text = octets.decode(errors="surrogateescape").replace("\r\n", "\n")
     ports: dict[str, list[Seen]] = {}
@@ -34,7 +34,7 @@ def read_cisco(octets: bytes) -> Listing:
         port = values.get("Local Intf") or values.get("Local Port id", "")
         if not port or not values.get("Chassis id") or not values.get("Port id"):
             raise SeenFault(f"{port!r} has a neighbor without chassis ID or port ID")
-        ports.setdefault(port, []).append(neighbor(said(values)))
+        ports.setdefault(port, []).append(seen(values))
         count += 1
     totals = TOTAL.findall(text)
     if not totals or int(totals[-1]) != count:
@@ -59,11 +59,11 @@ def neighbors(text: str) -> Iterator[Values]:
         yield values
 
 
-def said(values: Values) -> Said:
-    """What a neighbor says."""
+def seen(values: Values) -> Seen:
+    """Returns a neighbor."""
     settings = settings_of(values.get("Max Frame Size", ""), values.get("Vlan ID", ""), "", "")
     keys = ("IP", "Management Address", "Management Address IPV6")
     addresses = [values[key] for key in keys if values.get(key)]
-    return Said(values["Chassis id"], port_kind(values["Port id"]), values["Port id"],
-                values.get("System Name", ""), values.get("Port Description", ""), addresses,
-                settings)
+    return neighbor(values["Chassis id"], port_kind(values["Port id"]), values["Port id"],
+                    values.get("System Name", ""), values.get("Port Description", ""), addresses,
+                    settings)

@@ -9,48 +9,48 @@ from typing import Any, Mapping
 from ..names import Seen
 from .fields import kind_of, listed
 from .listing import Listing, SeenFault
-from .neighbor import Said, neighbor
+from .neighbor import neighbor
 
 LIST, ENTRY = "lldp-neighbors-information", "lldp-neighbor-information"
 PORTS = ("lldp-local-port-id", "lldp-local-interface")
 
 
 def is_junos(tree: Any) -> bool:
-    """Whether JSON or XML is of this form."""
+    """Returns whether JSON or XML is of this form."""
     return isinstance(inner(tree), dict) and LIST in inner(tree)
 
 
 def inner(tree: Any) -> Any:
-    """The answer without what XML has around it."""
+    """Returns the answer without what XML has around it."""
     reply = tree.get("rpc-reply") if isinstance(tree, dict) else None
     return reply[0] if isinstance(reply, list) and reply else tree
 
 
 def read_junos(tree: Any) -> Listing:
-    """The neighbors of each port. Raises SeenFault."""
+    """Returns the neighbors of each port. Raises SeenFault."""
     ports: dict[str, list[Seen]] = {}
     for one in listed(inner(tree)[LIST], LIST):
         for entry in listed(one.get(ENTRY, []), LIST):
             port = first(entry, *PORTS)
             if not port:
                 raise SeenFault(f"a neighbor without {PORTS[0]}: the list is not of `detail`")
-            ports.setdefault(port, []).append(neighbor(said(entry, port)))
+            ports.setdefault(port, []).append(seen(entry, port))
     return Listing(dict(ports), True)
 
 
-def said(entry: Mapping[str, Any], port: str) -> Said:
-    """What a neighbor says."""
+def seen(entry: Mapping[str, Any], port: str) -> Seen:
+    """Returns a neighbor."""
     chassis, port_id = first(entry, "lldp-remote-chassis-id"), first(entry, "lldp-remote-port-id")
     if not chassis or not port_id:
         raise SeenFault(f"{port!r} has a neighbor without chassis ID or port ID")
-    address = first(entry, "lldp-remote-management-address")
-    return Said(chassis, kind_of(first(entry, "lldp-remote-port-id-subtype")), port_id,
-                first(entry, "lldp-remote-system-name"),
-                first(entry, "lldp-remote-port-description"), [address] if address else [])
+    return neighbor(chassis, kind_of(first(entry, "lldp-remote-port-id-subtype")), port_id,
+                    first(entry, "lldp-remote-system-name"),
+                    first(entry, "lldp-remote-port-description"),
+                    [first(entry, "lldp-remote-management-address")])
 
 
 def first(entry: Mapping[str, Any], *names: str) -> str:
-    """The text of the first of some fields that is there; empty where none is."""
+    """Returns the text of the first of some fields that exists, or an empty text."""
     for name in names:
         found = entry.get(name)
         node = found[0] if isinstance(found, list) and found else found

@@ -10,7 +10,7 @@ from typing import Any, Sequence
 
 from ..names import Seen
 from .listing import Listing, Ports, SeenFault
-from .neighbor import Said, neighbor
+from .neighbor import neighbor
 
 # what nornir, salt and others put around the ports
 GETTERS = ("lldp_neighbors_detail", "lldp_neighbors")
@@ -20,21 +20,21 @@ ABSENT = ("", "N/A")
 
 
 def read_napalm(tree: Any) -> Listing:
-    """The neighbors of each port. Raises SeenFault where the JSON is of something else."""
-    ports: Ports = {port: [neighbor(said(one, port)) for one in listed(found, port)]
+    """Returns the neighbors of each port. Raises SeenFault if the JSON is of something else."""
+    ports: Ports = {port: [seen(one, port) for one in listed(found, port)]
                     for port, found in unwrapped(tree).items()}
     return Listing(ports, True)
 
 
 def is_napalm(tree: Any) -> bool:
-    """Whether JSON has ports that lead to lists of neighbors, or what stands around such."""
+    """Returns whether JSON has ports that lead to lists of neighbors, or a wrapper of such."""
     if not isinstance(tree, dict) or any(name in tree for name in WRAPPERS):
         return isinstance(tree, dict)
     return all(isinstance(found, list) for found in tree.values())
 
 
 def unwrapped(tree: Any) -> dict[str, Any]:
-    """The ports, without what stands around them."""
+    """Returns the ports, without their wrapper."""
     while isinstance(tree, dict):
         inner = next((name for name in WRAPPERS if name in tree), None)
         if inner is None:
@@ -44,14 +44,14 @@ def unwrapped(tree: Any) -> dict[str, Any]:
 
 
 def listed(found: Any, port: str) -> Sequence[Any]:
-    """The neighbors of a port."""
+    """Returns the neighbors of a port."""
     if isinstance(found, list):
         return found
     raise SeenFault(f"it is JSON, but of no list that is known: {port!r} leads to no list")
 
 
-def said(node: Any, port: str) -> Said:
-    """What is told of a neighbor."""
+def seen(node: Any, port: str) -> Seen:
+    """Returns a neighbor."""
     if not isinstance(node, dict):
         raise SeenFault(f"{port!r} has something else in place of a neighbor")
     name = field(node, "remote_system_name") or field(node, "hostname")
@@ -60,10 +60,10 @@ def said(node: Any, port: str) -> Said:
     if not (name or chassis) or not (port_id or field(node, "remote_port_description")):
         raise SeenFault(f"{port!r} has a neighbor without a name of its host or of its port")
     kind = "local" if port_id.isdecimal() else "ifname"
-    return Said(chassis, kind, port_id, name, field(node, "remote_port_description"))
+    return neighbor(chassis, kind, port_id, name, field(node, "remote_port_description"))
 
 
 def field(node: dict[str, Any], name: str) -> str:
-    """A field's text, empty where there is none."""
+    """Returns a field's text, empty if there is none."""
     found = node.get(name)
     return found if isinstance(found, str) and found not in ABSENT else ""

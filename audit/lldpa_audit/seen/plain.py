@@ -10,7 +10,7 @@ from typing import Iterator
 
 from ..link_settings import settings_of
 from .listing import Listing, SeenFault, need_few_lines
-from .neighbor import Said
+from .neighbor import neighbor
 from .protocols import Heard, by_ports
 
 BEGIN = re.compile(r"Interface: +(?! )(.+?), via: (\S+?)(?:,.*)?")
@@ -25,7 +25,7 @@ Values = dict[str, list[str]]
 
 
 def read_plain(octets: bytes) -> Listing:
-    """The neighbors of each port. Raises SeenFault."""
+    """Returns the neighbors of each port. Raises SeenFault."""
     need_few_lines(octets)
     text = octets.decode(errors="surrogateescape").replace("\r\n", "\n")
     if not text.endswith(HEAD.decode()):
@@ -34,7 +34,7 @@ def read_plain(octets: bytes) -> Listing:
 
 
 def neighbors(text: str) -> Iterator[tuple[str, str, Values]]:
-    """The port of each neighbor, its protocol and its values."""
+    """Returns the port of each neighbor, its protocol and its values."""
     for block in text.split(HEAD.decode())[2:-1]:
         lines = block.split("\n")
         begin = BEGIN.fullmatch(lines[0])
@@ -51,7 +51,7 @@ def neighbors(text: str) -> Iterator[tuple[str, str, Values]]:
 
 
 def heard_of(port: str, via: str, values: Values) -> Heard:
-    """A neighbor by its values."""
+    """Returns a neighbor by its values."""
     def first(key: str) -> str:
         return values.get(key, [""])[0]
     if "ChassisID" not in values or "PortID" not in values:
@@ -61,5 +61,6 @@ def heard_of(port: str, via: str, values: Values) -> Heard:
     pvids = filter(None, map(PVID.fullmatch, values.get("VLAN", ())))
     settings = settings_of(first("MFS"), next((found[1] for found in pvids), ""),
                            first("MAU oper type"), first("aggregation"))
-    return Heard(port, via, Said(chassis, kind, port_id, first("SysName"), first("PortDescr"),
-                                 values.get("MgmtIP", ()), settings))
+    seen = neighbor(chassis, kind, port_id, first("SysName"), first("PortDescr"),
+                    values.get("MgmtIP", ()), settings)
+    return Heard(port, via, seen)

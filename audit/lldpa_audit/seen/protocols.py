@@ -6,7 +6,6 @@ from typing import Iterable, Iterator, NamedTuple, Sequence
 
 from ..names import Seen
 from .listing import Ports
-from .neighbor import Said, neighbor
 
 LLDP = "LLDP"
 
@@ -16,11 +15,11 @@ class Heard(NamedTuple):
 
     port: str
     via: str
-    said: Said
+    seen: Seen
 
 
 def by_ports(heard: Iterable[Heard]) -> Ports:
-    """The neighbors of each port."""
+    """Returns the neighbors of each port."""
     of_ports: dict[str, list[Heard]] = {}
     for one in heard:
         of_ports.setdefault(one.port, []).append(one)
@@ -32,10 +31,11 @@ def each_once(heard: Sequence[Heard]) -> Sequence[Seen]:
 
     They are the same if a name of the host and a name of the port are the same.
     """
-    seen = [neighbor(one.said) for one in heard]
-    by_lldp = {name for one, of in zip(seen, heard) if of.via == LLDP for name in names_of(one)}
-    return [one for one, of in zip(seen, heard)
-            if of.via == LLDP or by_lldp.isdisjoint(names_of(one))]
+    if all(one.via == LLDP for one in heard):
+        return tuple([one.seen for one in heard])
+    by_lldp = {name for one in heard if one.via == LLDP for name in names_of(one.seen)}
+    return [one.seen for one in heard
+            if one.via == LLDP or by_lldp.isdisjoint(names_of(one.seen))]
 
 
 def names_of(one: Seen) -> Iterator[tuple[str, str]]:

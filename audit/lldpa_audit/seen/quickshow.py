@@ -15,7 +15,8 @@ NUMBER = "(?:0|[1-9][0-9]{0,18})"
 TEXT = "[ -~]*"
 
 # Its groups: what each line begins with, the port's name, the neighbor's chassis ID, the kind of
-# its port ID, that ID, and the further lines without the last line feed.
+# its port ID, that ID, what it says first in the usual order, and the further lines without the
+# last line feed.
 USUAL_PORT = re.compile(
     r"^(?P<port>lldp\.([A-Za-z0-9_/:-]{1,15})\.)neighbors=1\n"
     rf"(?P=port)octets={NUMBER}\n"
@@ -26,6 +27,11 @@ USUAL_PORT = re.compile(
     rf"=({TEXT})\n"
     rf"(?P=port)1\.ttl={NUMBER}\n"
     rf"(?P=port)1\.expires={NUMBER}"
+    rf"(?:\n(?P=port)1\.port\.descr=({TEXT}))?"
+    rf"(?:\n(?P=port)1\.chassis\.name=({TEXT}))?"
+    rf"(?:\n(?P=port)1\.chassis\.descr={TEXT})?"
+    rf"(?:\n(?P=port)1\.chassis\.caps={TEXT})?"
+    rf"(?:\n(?P=port)1\.chassis\.mgmt=({TEXT}))?"
     rf"((?:\n(?P=port)1\.{SAID_KEY}={TEXT})*)\n", re.MULTILINE)
 
 # the lines among the further ones that name the neighbor, or tell of its link: key and value

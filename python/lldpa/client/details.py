@@ -5,8 +5,8 @@ from __future__ import annotations
 import time
 from typing import Iterator, List, Mapping, Optional, Sequence, Tuple
 
-from .. import clock
 from .live_lines import Since
+from .times import seconds_of
 from ..organizational import rows_of, said_by
 from .people import address_text, identifier_text, name_of, port_of
 from ..agent.show import Counters, Identifier, Neighbor, Port, counted
@@ -92,7 +92,7 @@ def heard(neighbor: Neighbor, since: Optional[str]) -> str:
 def local_time(utc: str) -> str:
     """Returns a time of an lldpa-live as people here write it."""
     try:
-        seconds = clock.seconds_of(utc)
+        seconds = seconds_of(utc)
     except ValueError:
         return printable(utc)
     return time.strftime("%Y-%m-%d %H:%M:%S", time.localtime(seconds))

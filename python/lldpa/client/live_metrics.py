@@ -4,9 +4,9 @@ from __future__ import annotations
 
 from typing import Iterator, Mapping, NamedTuple, Optional
 
-from .. import clock
 from .exposition import lines_of
 from .live_lines import LiveLines
+from .times import seconds_of
 
 UP = ("lldpa_up", "gauge", "Whether lldpa-live and its agent answer, 1 or 0.")
 
@@ -55,7 +55,7 @@ def live_lines(told: LiveLines) -> Iterator[str]:
     """Returns the metrics of an lldpa-live, without those of what it does not say."""
     yield from lines_of(*UP, [({}, int(told.is_up))])
     if "began" in told.own:
-        start = clock.seconds_of(told.own["began"])
+        start = seconds_of(told.own["began"])
         yield from lines_of("lldpa_start_time_seconds", "gauge",
                             "When lldpa-live started, in seconds since 1970.", [({}, start)])
     for state in STATES:

@@ -81,7 +81,7 @@ def read_words(words: Optional[Sequence[str]]) -> argparse.Namespace:
         prog="lldpa-ctl",
         description="Asks a running lldpa-live who the neighbors are, and prints its answers.",
         epilog=EPILOG,
-        formatter_class=argparse.RawDescriptionHelpFormatter,
+        formatter_class=output.plain_help,
         allow_abbrev=False,
     )
     parser.add_argument("--control", metavar="PATH", default=DEFAULT_PATH,

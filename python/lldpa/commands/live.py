@@ -14,7 +14,7 @@ from ..live.given import Given
 from ..live.patterns import is_able, is_pattern, parts_of
 from ..live.reporting import report_all, report_fault
 from ..live.running import live
-from ..output import INPUT, missing_streams
+from ..output import INPUT, missing_streams, plain_help
 from ..version import add_version
 from ..limits import MOST_PORTS
 
@@ -93,7 +93,7 @@ def the_parser() -> argparse.ArgumentParser:
     """Returns the parser of the words before `--`."""
     parser = argparse.ArgumentParser(prog="lldpa-live", usage=USAGE, description=__doc__,
                                      epilog=EPILOG, allow_abbrev=False,
-                                     formatter_class=argparse.RawDescriptionHelpFormatter)
+                                     formatter_class=plain_help)
     add_version(parser)
     parser.add_argument("ports", nargs="+", metavar="PORT",
                         help="an Ethernet interface, or a pattern: 'swp*', '!swp3'")

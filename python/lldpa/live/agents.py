@@ -4,9 +4,9 @@ one is given the state of the one before, in the form of the head of a log's fil
 from __future__ import annotations
 
 import asyncio
+import os
 import signal
 from dataclasses import replace
-from shutil import which
 from typing import Callable, List, Optional, Sequence
 
 from ..agent.child import Child, Ended, words_of
@@ -63,7 +63,7 @@ class Agents:
         """Opens an agent: a child, unless one that listens was given."""
         if self.given.connect is None:
             program, *words = words_of(self.names, self.given.program, self.options)
-            child = Child([which(program) or program, *words], ENVIRONMENT, NOT_FOR_IT)
+            child = Child([found(program), *words], ENVIRONMENT, NOT_FOR_IT)
             return await AsyncAgent.of_child(child, self.outbox.take, timeout=None)
         check_listener(self.given.connect)
         connecting = AsyncAgent.connect(self.given.connect, on_frame=self.outbox.take,
@@ -170,3 +170,13 @@ class Agents:
         self.outbox.frames.clear()
         self.session.begin(self.words(), head)
         return patient.agent
+
+
+def found(program: str) -> str:
+    """Returns the path of a program: an agent's environment has no search path. (`shutil.which`
+    does the same, and loads 1 MB.)"""
+    if os.path.dirname(program):
+        return program
+    paths = (os.path.join(folder, program) for folder in os.get_exec_path())
+    return next((path for path in paths if os.path.isfile(path) and os.access(path, os.X_OK)),
+                program)

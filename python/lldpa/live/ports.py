@@ -124,8 +124,8 @@ class Ports:
             port.limit_drops += 1
 
     def have_more(self) -> bool:
-        """Returns whether frames were left in a socket."""
-        return any(port.has_more for port in self.by_name.values())
+        """Returns whether frames were left in a socket, or wait for their moment."""
+        return bool(self.waiting) or any(port.has_more for port in self.by_name.values())
 
     def frames_until(self, moment: float) -> Iterable[tuple[float, Frame]]:
         """Takes out the frames up to a moment, in their order."""

@@ -4,12 +4,12 @@ from __future__ import annotations
 from enum import Enum
 from typing import Iterable, Iterator, List, Mapping, NamedTuple, Optional, Sequence
 
-from .. import clock
 from ..client.live_lines import LiveLines, Since
 from ..agent.framing import Refused
 from ..agent.show import (Configuration, Counters, Identifier, LocalChassis, Neighbor, Show,
                           read_show)
 from ..client.tallies import summed
+from ..client.times import seconds_of
 from ..node import Node, yes
 from ..organizational import known_to_lldpd
 from ..organizational.kinds import nodes_in
@@ -74,7 +74,7 @@ def presence(told: Told, neighbor: Neighbor) -> Iterator["tuple[str, str, str]"]
     if number is not None:
         yield "rid", "RID", str(number)
     if came is not None:
-        seconds = told.now - clock.seconds_of(came)
+        seconds = told.now - seconds_of(came)
         yield "age", "Time", age(max(0, int(seconds)))
 
 

@@ -91,6 +91,10 @@ static void use(lldpa_agent *agent)
     lldpa_lines lines;
     lldpa_news news;
     lldpa_held neighbor;
+    lldpa_ticks_taken taken;
+    lldpa_statistics_told counted;
+    lldpa_configuration_told set;
+    uint32_t count;
     size_t length;
     for (int tick = 0; tick < 200; tick++) {
         holds(lldpa_tick(agent, &marks, NULL) == LLDPA_OK, "a tick");
@@ -102,12 +106,17 @@ static void use(lldpa_agent *agent)
               "a frame");
         holds(lldpa_neighbor(agent, 0, 0, room, sizeof room, &neighbor) <= LLDPA_OUT_OF_RANGE, "a neighbor");
         holds(lldpa_link(agent, 1, tick % 3 != 0, &marks) == LLDPA_OK, "a link");
+        holds(lldpa_ticks(agent, 2, &marks, &taken) == LLDPA_OK, "several ticks");
+        holds(lldpa_neighbor_count(agent, 0, &count) == LLDPA_OK, "a count of neighbors");
+        holds(lldpa_statistics(agent, 0, &counted) == LLDPA_OK, "what a port counted");
+        holds(lldpa_configuration(agent, &set) == LLDPA_OK, "a configuration");
     }
     command(agent, "configure system hostname other", LLDPA_OK);
     command(agent, "configure lldp max-neighbors 1", LLDPA_IN_USE);
     command(agent, "configure ports eth1 lldp status disabled", LLDPA_OK);
     command(agent, "show neighbors x", LLDPA_EXTRA);
     for (uint8_t show = LLDPA_SHOW_NEIGHBORS; show <= LLDPA_SHOW_CONFIGURATION; show++) {
+        holds(lldpa_show_line(agent, show, 0, room, sizeof room, &length) == LLDPA_OK, "a line");
         for (lines.next = 0, lines.done = false; !lines.done;) {
             uint32_t from = lines.next;
             holds(lldpa_show_lines(agent, show, from, room, sizeof room, &lines) == LLDPA_OK, "a show");

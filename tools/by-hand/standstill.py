@@ -1,0 +1,43 @@
+#!/usr/bin/env python3
+"""Runs a command, and lets all that it starts stand still now and then, as on a busy machine.
+
+    tools/by-hand/standstill.py COMMAND ..
+
+Every 10 to 20 seconds its processes are frozen for 2 to 8 seconds. `tools/gate/test-python.py` and each other part of
+the gate must pass so too. It needs Linux, root, and control groups of either version. Its status is the command's.
+"""
+import os
+import pathlib
+import random
+import subprocess
+import sys
+import time
+
+CGROUPS = pathlib.Path("/sys/fs/cgroup")
+IS_OLD = (CGROUPS / "freezer").is_dir()
+GROUP = CGROUPS / ("freezer" if IS_OLD else "") / f"standstill-{os.getpid()}"
+
+
+def freeze(is_frozen: bool) -> None:
+    """Freezes the group, or lets it run again."""
+    if IS_OLD:
+        (GROUP / "freezer.state").write_text("FROZEN" if is_frozen else "THAWED")
+    else:
+        (GROUP / "cgroup.freeze").write_text("1" if is_frozen else "0")
+
+
+def main() -> int:
+    """Runs the command in a group of its own."""
+    GROUP.mkdir()
+    with subprocess.Popen(["sh", "-c", f'echo $$ > {GROUP}/cgroup.procs && exec "$@"', "sh", *sys.argv[1:]]) as command:
+        while command.poll() is None:
+            time.sleep(random.uniform(10, 20))
+            freeze(True)
+            time.sleep(random.uniform(2, 8))
+            freeze(False)
+    subprocess.run(["rmdir", GROUP], check=False)
+    return command.returncode
+
+
+if __name__ == "__main__":
+    sys.exit(main())
