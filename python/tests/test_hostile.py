@@ -10,6 +10,7 @@ import time
 import unittest
 from contextlib import suppress
 from pathlib import Path
+from unittest import mock
 
 from lldpa.client.connection import Client, Gone
 from patience import by_the_clock, eventually
@@ -63,9 +64,10 @@ class Hostile(FilesCase):
         with Client(path, seconds=2) as client:
             self.assertEqual(client.ask("update"), ["a"] * 9)
 
+    @mock.patch("lldpa.client.connection.MOST_OCTETS", 1_000_000)  # in place of 128 MB
     def test_neither_a_line_nor_an_answer_is_without_end(self) -> None:
         for octets, text in ((b"=1\n" + b"a" * 70_000, "a line of more than 64 kB"),
-                             (b"=99999999\n" + b"\n" * 9_000_000, "more than 128 MB"),
+                             (b"=99999999\n" + b"\n" * 70_000, "more than 128 MB"),
                              (b"=" + b"9" * 5000 + b"\n", "not an answer of lldpa-live")):
             with Client(self.answers(octets, pause=30)) as client:
                 with self.assertRaisesRegex(Gone, text):
