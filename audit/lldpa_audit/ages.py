@@ -20,21 +20,23 @@ class Ages(NamedTuple):
 
 
 def ages_of(times: Sequence[float], now: float) -> Ages:
-    """The ages of sources by their times, of which there is one at least, in seconds since 1970.
+    """Returns the ages of sources by their times, of which there is at least one, in seconds since
+    1970.
 
-    What comes from the future is new."""
+    What comes from the future is new.
+    """
     return Ages(max(now - max(times), 0.0), max(now - min(times), 0.0))
 
 
 def worded(seconds: float) -> str:
-    """A span in the greatest unit of which it has one at least: `3 days`."""
+    """Returns a span in the greatest unit of which it has at least one: `3 days`."""
     _, size, name = next((unit for unit in UNITS if seconds >= unit[1]), UNITS[-1])
     count = int(seconds // size)
     return f"{count} {name}{'' if count == 1 else 's'}"
 
 
 def seconds_of(text: str) -> float:
-    """The seconds of a span such as `90`, `15m`, `12h` or `1d`. Raises ValueError."""
+    """Returns the seconds of a span such as `90`, `15m`, `12h` or `1d`. Raises ValueError."""
     found = SPAN.fullmatch(text)
     if found is None:
         raise ValueError(text)

@@ -11,7 +11,7 @@ COLUMNS = ["host", "port", "alias"]
 
 
 def read_aliases(file: str, names: Names) -> Aliases:
-    """The further names of a file, as they are compared. Raises PlanFault and OSError.
+    """Returns the further names of a file, as they are compared. Raises PlanFault and OSError.
 
     A row without a port names a host, one without a host a port of any host. Several rows may give
     one further name to several ports of a host: a neighbor of that name answers to each.

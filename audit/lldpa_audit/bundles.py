@@ -48,7 +48,8 @@ class Bundles:
                 self._greatest[side] = sorted([*greatest, times])[1:]
 
     def part(self, end: End, other: End) -> bool:
-        """Whether the two ends of a planned link are of aggregates that do not belong together."""
+        """Returns whether the two ends of a planned link are of aggregates that do not belong
+        together."""
         pair = self._pair(end, other)
         return pair is not None and any(self._greatest[side][0] >= self._counts[pair]
                                         for side in pair.sides())
@@ -59,7 +60,8 @@ class Bundles:
         return None if ours is None or theirs is None else Pair(end.host, other.host, ours, theirs)
 
     def _heard(self, end: End, host: str) -> Optional[int]:
-        """The aggregate that the only neighbor of an end tells, if that neighbor is of a host."""
+        """Returns the aggregate that the only neighbor of an end names, if that neighbor is of a
+        host."""
         told = self._tables.ends.get(end)
         if told is None or len(told.neighbors) != 1:
             return None

@@ -38,7 +38,7 @@ Row = Sequence[str]
 class Columns:
     """Reads rows by the header of their file. Raises nothing: what is wrong is a fault.
 
-    `others` names the columns that are read for details, and `has_types` tells whether there are
+    `others` names the columns that are read for details, and `has_types` says whether there are
     types of ports. `left_out` counts the rows that join no ports of networks.
     """
 
@@ -61,7 +61,7 @@ class Columns:
         self.left_out = 0
 
     def _found(self, given: Optional[Mapping[str, str]]) -> tuple[Sequence[str], bool]:
-        """The names of the four columns, and whether they are NetBox's."""
+        """Returns the names of the four columns, and whether they are NetBox's."""
         if given:
             return [key_of(given.get(name, name)) for name in COLUMNS], False
         for form in NETBOX:
@@ -71,7 +71,7 @@ class Columns:
         return of_panels, False
 
     def _has_all(self, line: int) -> bool:
-        """Whether each column is there once."""
+        """Returns whether each column is there once."""
         count = self._faults.count
         for name in self._columns:
             times = self._names.count(name)
@@ -82,11 +82,12 @@ class Columns:
         return self._faults.count == count
 
     def _place_of(self, names: Sequence[str]) -> Optional[int]:
-        """The place of the first of these columns that is there."""
+        """Returns the place of the first of these columns that exists."""
         return next((self._names.index(name) for name in names if name in self._names), None)
 
     def rows(self, line: int, fields: Sequence[str]) -> Sequence[Row]:
-        """The ends that a row joins; none where it has a fault, or joins no ports of networks."""
+        """Returns the ends that a row joins, or none if it has a fault, or joins no ports of
+        networks."""
         if len(fields) > len(self._names) and any(fields[len(self._names):]):
             self._faults.add(line, f"it has {len(fields)} fields under {len(self._names)} columns")
             return ()
@@ -103,23 +104,25 @@ class Columns:
         return (texts,)
 
     def _joins_no_ports(self, fields: Sequence[str], texts: Sequence[str]) -> bool:
-        """Whether a cable of NetBox carries no network, or has nothing at one of its sides."""
+        """Returns whether a cable of NetBox carries no network, or has nothing at one of its
+        sides."""
         kinds = [self._kind(fields, at) for at in self._sides]
         return (not any(texts[:2]) or not any(texts[2:])
                 or any(kind.endswith(NO_PORTS) for kind in kinds)
                 or self._kind(fields, self._type) == POWER)
 
     def _kind(self, fields: Sequence[str], at: Optional[int]) -> str:
-        """A type as NetBox's exports have it: `dcim.frontport` or `front port`."""
+        """Returns a type as NetBox's exports have it: `dcim.frontport` or `front port`."""
         return "" if at is None else fields[at].strip().lower().replace(" ", "")
 
     def are_at_panels(self, fields: Sequence[str]) -> tuple[bool, bool]:
-        """Whether each side of a cable of NetBox is a port of a panel."""
+        """Returns whether each side of a cable of NetBox is a port of a panel."""
         one, other = [self._kind(fields, at).endswith(OF_PANELS) for at in self._sides]
         return one, other
 
     def _terminations(self, line: int, texts: Sequence[str]) -> Sequence[Row]:
-        """The pairs of a cable with several ends at each side: the first two, the second two .."""
+        """Returns the pairs of a cable with several ends at each side: the first two, the second
+        two .."""
         host, ports, peer, peer_ports = [re.split(r",\s+", text) for text in texts]
         count = len(ports)
         if len(peer_ports) != count or {len(host), len(peer)} - {1, count}:
@@ -130,27 +133,27 @@ class Columns:
         return list(zip(hosts, ports, peers, peer_ports))
 
     def texts(self, fields: Sequence[str]) -> Sequence[str]:
-        """The texts of the other columns of a row."""
+        """Returns the texts of the other columns of a row."""
         return tuple([fields[at].strip() for at in self._others])
 
     def position(self, fields: Sequence[str]) -> str:
-        """The position at a rear port at which a front port is; 1 unless the file says it."""
+        """Returns the position of a front port at its rear port, 1 unless the file says it."""
         at = self._place_of(POSITIONS)
         return (fields[at].strip() if at is not None else "") or "1"
 
     @property
     def can_read(self) -> bool:
-        """Whether the header names what is needed."""
+        """Returns whether the header names what is needed."""
         return bool(self._places)
 
 
 def key_of(name: str) -> str:
-    """A column's name as it is compared: `Side A` is `side_a`."""
+    """Returns a column's name as it is compared: `Side A` is `side_a`."""
     return "_".join(name.lower().split())
 
 
 def given_columns(text: str) -> Mapping[str, str]:
-    """The columns of an option, such as `host=device,port=interface`. Raises ValueError."""
+    """Returns the columns of an option, such as `host=device,port=interface`. Raises ValueError."""
     pairs = [part.partition("=") for part in text.split(",")]
     columns = {name.strip(): column.strip() for name, _, column in pairs}
     if len(columns) < len(pairs) or not set(columns) <= set(COLUMNS) or not all(columns.values()):

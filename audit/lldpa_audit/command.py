@@ -72,12 +72,12 @@ class Audit:
         return 0 if is_right and not is_damaged else 1
 
     def known(self, names: Names) -> Known:
-        """The faults that are known."""
+        """Returns the faults that are known."""
         file = self.given.known
         return read_known(file, names, datetime.date.today()) if file else NOTHING_KNOWN
 
     def names(self) -> Names:
-        """How names are compared."""
+        """Returns how names are compared."""
         given = self.given
         rules = given.ignore_case, given.short_names, given.vendor_names
         aliases = read_aliases(given.aliases, Names(*rules)) if given.aliases else NO_ALIASES
@@ -104,13 +104,13 @@ class Audit:
             write(self.given.svg, drawn(report, self.given.only_faults))
 
     def say(self, text: str) -> None:
-        """A line on standard error."""
+        """Writes a line on standard error."""
         self.progress.clear()
         output.complain(NAME, text)
 
 
 def status_of(words: Optional[Sequence[str]]) -> int:
-    """The status, if the output does not fail."""
+    """Returns the status, if the output does not fail."""
     given = read_words(words)
     program = Audit(given)
     try:
@@ -131,5 +131,5 @@ def status_of(words: Optional[Sequence[str]]) -> int:
 
 
 def main(words: Optional[Sequence[str]] = None) -> int:
-    """The program: 0 where all is right, 1 where something is not, 2 where it cannot be told."""
+    """Runs the program: 0 if all is right, 1 if something is not, 2 if it cannot be known."""
     return output.run(NAME, lambda: status_of(words), 2, errors="backslashreplace")

@@ -17,7 +17,7 @@ class Differences:
         self._looser = [(differences, names.looser(*differences)) for differences in DIFFERENCES]
 
     def of_neighbor(self, neighbor: Seen, end: End) -> Optional[str]:
-        """What alone keeps a neighbor from answering to an end."""
+        """Returns the only difference that keeps a neighbor from answering to an end."""
         if self._names.answers(neighbor, self._names.end(end)):
             return None
         for differences, rule in self._looser:
@@ -28,14 +28,14 @@ class Differences:
         return None
 
     def of_ends(self, one: End, other: End) -> Optional[str]:
-        """What alone differs between two ends."""
+        """Returns the only difference between two ends."""
         for differences, rule in self._looser:
             if rule.end(one) == rule.end(other):
                 return words_of(differences)
         return None
 
     def loosest(self, end: End) -> End:
-        """An end as it is compared where all differences pass."""
+        """Returns an end as it is compared if all differences are allowed."""
         return self._looser[-1][1].end(end)
 
 

@@ -37,14 +37,15 @@ Edges = Generator[DotEdge, None, Side]
 
 
 def edges_of(text: str) -> Iterator[DotEdge]:
-    """The edges of all graphs of a file in order. Raises DotFault, behind the edges before it."""
+    """Returns the edges of all graphs of a file in order. Raises DotFault, after the edges before
+    it."""
     if "\0" in text:
         raise DotFault("an octet that is 0", text.index("\0"))
     yield from Parser(text).graphs()
 
 
 def is_dot(text: str) -> bool:
-    """Whether a text begins as a graph does."""
+    """Returns whether a text begins as a graph does."""
     try:
         parser = Parser(text)
         parser.begin_of_graph()
@@ -65,13 +66,13 @@ class Parser:
         self.next: Token = next(self._tokens)
 
     def graphs(self) -> Iterator[DotEdge]:
-        """The edges of each graph up to the end."""
+        """Returns the edges of each graph up to the end."""
         while self.next.kind != END:
             self.begin_of_graph()
             yield from self.statements(1)
 
     def begin_of_graph(self) -> None:
-        """`[strict] (graph | digraph) [NAME]`, in front of a brace."""
+        """Takes `[strict] (graph | digraph) [NAME]`, before a brace."""
         if self.next.kind == "strict":
             self.take()
         if self.next.kind not in ("graph", "digraph"):
@@ -83,7 +84,7 @@ class Parser:
             raise self.fault("'{'")
 
     def statements(self, depth: int) -> Edges:
-        """`{ statement .. }`; gives the nodes in it as a side of an edge."""
+        """Takes `{ statement .. }`, and returns the nodes in it as a side of an edge."""
         if depth > DEEPEST:
             raise DotFault(f"subgraphs are nested more than {DEEPEST} deep", self.next.place)
         self.expect("{")
@@ -96,7 +97,7 @@ class Parser:
         return nodes
 
     def statement(self, depth: int) -> Edges:
-        """One statement; gives the nodes in it as a side of an edge."""
+        """Takes one statement, and returns the nodes in it as a side of an edge."""
         if self.next.kind in ("graph", "node", "edge"):
             self.defaults()
             return ()
@@ -123,7 +124,8 @@ class Parser:
         return OF_SUBGRAPH if has_nodes else ()
 
     def side(self, first: Optional[str], depth: int) -> Edges:
-        """A side of an edge: a subgraph, or nodes, of which the first name may be taken already."""
+        """Takes a side of an edge: a subgraph, or nodes, of which the first name may already be
+        taken."""
         if first is None and self.next.kind in ("subgraph", "{"):
             return (yield from self.subgraph(depth))
         nodes = [self.node(self.name() if first is None else first)]
@@ -135,7 +137,7 @@ class Parser:
         return nodes
 
     def subgraph(self, depth: int) -> Edges:
-        """`[subgraph [NAME]] { .. }`; one of a name that was there before has its nodes too."""
+        """Takes `[subgraph [NAME]] { .. }`. An earlier subgraph of that name adds its nodes."""
         name = None
         if self.next.kind == "subgraph":
             self.take()
@@ -146,7 +148,7 @@ class Parser:
         return OF_SUBGRAPH if nodes or name in self._filled else ()
 
     def node(self, name: str) -> Node:
-        """A node behind its name: `[: PORT [: COMPASS POINT]]`."""
+        """Takes a node behind its name: `[: PORT [: COMPASS POINT]]`."""
         if self.next.kind != ":":
             return Node(name, None)
         self.take()
@@ -158,7 +160,7 @@ class Parser:
         return Node(name, port)
 
     def defaults(self) -> None:
-        """`(graph | node | edge) [NAME =] [ .. ]`."""
+        """Takes `(graph | node | edge) [NAME =] [ .. ]`."""
         self.take()
         if self.is_name():
             self.name()
@@ -168,7 +170,7 @@ class Parser:
         self.attributes()
 
     def attributes(self) -> None:
-        """Any number of `[ NAME = NAME .. ]`, parted by commas, semicolons or nothing."""
+        """Takes any number of `[ NAME = NAME .. ]`, separated by commas, semicolons or nothing."""
         while self.next.kind == "[":
             self.take()
             while self.next.kind != "]":
@@ -180,7 +182,7 @@ class Parser:
             self.take()
 
     def is_name(self) -> bool:
-        """Whether a name comes next."""
+        """Returns whether a name comes next."""
         return self.next.kind in (PLAIN, QUOTED)
 
     def name(self) -> str:
@@ -210,7 +212,7 @@ class Parser:
         return token
 
     def fault(self, expected: str) -> DotFault:
-        """What was expected in place of the next word, or why that is none."""
+        """Returns what was expected in place of the next word, or why that is not a word."""
         if self.next.kind == BAD:
             return DotFault(self.next.text, self.next.place)
         found = "the end" if self.next.kind == END else repr(self.next.text)

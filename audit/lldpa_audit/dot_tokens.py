@@ -8,7 +8,7 @@ from lldpa.faults import LldpaFault
 
 KEYWORDS = {"strict", "graph", "digraph", "subgraph", "node", "edge"}
 
-# a token's kind, where it is no keyword and no mark; the text of BAD says why it is none
+# a token's kind, if it is neither keyword nor mark; the text of BAD says why it is not a token
 PLAIN, QUOTED, END, BAD = "a name", "a text", "the end", "no word"
 
 LETTER = r"A-Za-z_\u0080-\U0010ffff"
@@ -29,7 +29,7 @@ WORD = re.compile(r'[^\s;,:{}\[\]="<>]*')
 
 
 class DotFault(LldpaFault):
-    """Why a text is no DOT, or none that can be a plan, and its place in the text."""
+    """Why a text is not DOT, or cannot be a plan, and its place in the text."""
 
     def __init__(self, text: str, place: int) -> None:
         super().__init__(text)
@@ -45,7 +45,7 @@ class Token(NamedTuple):
 
 
 def tokens(text: str) -> Iterator[Token]:
-    """The words of a text, and END behind them, or BAD behind the last that can be read."""
+    """Returns the words of a text, and END behind them, or BAD behind the last that can be read."""
     try:
         at = yield from words(text)
         yield Token(END, "", at)
@@ -54,7 +54,7 @@ def tokens(text: str) -> Iterator[Token]:
 
 
 def words(text: str) -> Generator[Token, None, int]:
-    """The words of a text, and where it ends. Raises DotFault."""
+    """Returns the words of a text, and where it ends. Raises DotFault."""
     at, begin_of_name = 0, None
     while found := TOKEN.match(text, at):
         group, at = found.lastindex or 0, found.end()
@@ -78,7 +78,7 @@ def words(text: str) -> Generator[Token, None, int]:
 
 
 def no_token(text: str, at: int) -> DotFault:
-    """What is wrong where no word begins."""
+    """Returns what is wrong if no word begins."""
     found = REST.match(text, at)
     at = found.end() if found else at
     if text.startswith('"', at):
@@ -89,21 +89,23 @@ def no_token(text: str, at: int) -> DotFault:
 
 
 def in_two(text: str, begin: int) -> DotFault:
-    """A word such as `10.0.0.1` or `leaf-1`, which graphviz takes for two, and nobody means so."""
+    """Returns a word such as `10.0.0.1` or `leaf-1`, which graphviz splits in two, and nobody means
+    so."""
     found = WORD.match(text, begin)
     word = found[0] if found else ""
     return DotFault(f"{word!r} must stand in quotes", begin)
 
 
 def unescaped(text: str) -> str:
-    """A text of quotes. DOT knows one escape, that of a quote; a line that ends so goes on."""
+    """Returns a text of quotes. DOT has one escape, that of a quote; a line that ends so
+    continues."""
     if "\\" not in text:
         return text
     return ESCAPE.sub(lambda found: ESCAPES.get(found[1], ""), text)
 
 
 def end_of_angles(text: str, begin: int) -> int:
-    """The place behind the angle that closes the one at the begin."""
+    """Returns the place behind the angle that closes the one at the beginning."""
     depth = 0
     for found in ANGLE.finditer(text, begin):
         depth += 1 if found[0] == "<" else -1

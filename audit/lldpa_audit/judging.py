@@ -48,9 +48,10 @@ class Finding(NamedTuple):
 
 
 def audit(plan: Plan, tables: Tables, planned_only: bool = False) -> list[Finding]:
-    """A finding for each planned end of the audited hosts, and for each other port with a neighbor.
+    """Returns a finding for each planned end of the audited hosts, and for each other port with a
+    neighbor.
 
-    They stand in the order of the plan; those beside it follow.
+    They are in the order of the plan; the unplanned ones follow.
     """
     judge = Judge(plan, tables)
     findings = list(judge.planned())
@@ -79,14 +80,14 @@ class Judge:
                 yield self.finding(other, other_wish, other_told, is_right)
 
     def unplanned(self) -> Iterator[Finding]:
-        """The findings on ports beside the plan."""
+        """Returns the findings on ports that are not in the plan."""
         for end in self.tables.beside(self.plan):
             told = self.tables.ends[end]
             if told.neighbors and end not in self.plan.unknown:
                 yield Finding(told.end, Verdict.UNPLANNED, None, told.neighbors)
 
     def finding(self, end: End, wish: Wish, told: Optional[KnownPort], is_right: bool) -> Finding:
-        """Returns the finding on a planned end. `is_right` tells whether each end of its link that
+        """Returns the finding on a planned end. `is_right` says whether each end of its link that
         is known of has the other one alone."""
         if told is None:
             return Finding(wish.end, Verdict.NO_DATA, wish.wants)
@@ -104,8 +105,8 @@ class Judge:
 
     def is_of_another_bundle(self, bundles: Bundles, end: End, wanted: End, told: KnownPort
                              ) -> bool:
-        """Whether the one neighbor of an end names an aggregate in place of its port, and that is
-        not the one to which the link belongs."""
+        """Returns whether the one neighbor of an end names an aggregate in place of its port, and
+        that is not the one to which the link belongs."""
         if len(told.neighbors) != 1:
             return False
         neighbor = told.neighbors[0]
@@ -114,11 +115,11 @@ class Judge:
                 and bundles.part(end, wanted))
 
     def has_only(self, told: KnownPort, end: End) -> bool:
-        """Whether a port has one neighbor, who answers to an end."""
+        """Returns whether a port has one neighbor, which answers to an end."""
         return len(told.neighbors) == 1 and self.names.answers(told.neighbors[0], end)
 
     def verdict(self, end: End, wanted: End, neighbors: Sequence[Seen]) -> Verdict:
-        """The verdict on an end that is told of. One that is swapped is still wrong here."""
+        """Returns the verdict on an end that is known. One that is swapped is still wrong here."""
         if not neighbors:
             return Verdict.ONE_SIDED if self.sees(wanted, end) else Verdict.SILENT
         if len(neighbors) > 1:
@@ -132,7 +133,7 @@ class Judge:
         return Verdict.DISAGREES if other.neighbors else Verdict.ONE_SIDED
 
     def sees(self, end: End, other: End) -> bool:
-        """Whether one of an end's neighbors answers to the other end."""
+        """Returns whether one of an end's neighbors answers to the other end."""
         told = self.tables.ends.get(end)
         for one in told.neighbors if told is not None else ():
             if self.names.answers(one, other):
@@ -140,10 +141,10 @@ class Judge:
         return False
 
     def partner(self, end: End, wanted: End, neighbor: Seen) -> Optional[End]:
-        """The end of another link with which an end is swapped that has this neighbor alone.
+        """Returns the end of another link with which an end is swapped that has only this neighbor.
 
-        Each has what the other one wants, and not what it wants itself. Where there are several it
-        is the first one of the plan.
+        Each has what the other one wants, and not what it wants itself. If there are several, it is
+        the first one of the plan.
         """
         ends = (key for key in self.names.ends(neighbor) if key in self.plan.ends)
         others = {self.plan.ends[key].wanted for key in ends}
@@ -168,8 +169,8 @@ class Judge:
 
     @cached_property
     def _with_another(self) -> Mapping[tuple[str, Union[End, str]], Sequence[End]]:
-        """The first ends of the plan that have another one alone than they want: by the host that
-        they want, and by what they have, which is an end, or any of a host."""
+        """Returns the first ends of the plan that have only another neighbor than they want: by the
+        host that they want, and by what they have, which is an end, or any of a host."""
         found: dict[tuple[str, Union[End, str]], list[End]] = defaultdict(list)
         for end, wish in self.plan.ends.items():
             told = self.tables.ends.get(end)
@@ -185,6 +186,6 @@ class Judge:
         return found
 
     def has_alone(self, end: End, other: End) -> bool:
-        """Whether an end has one neighbor, who answers to the other end."""
+        """Returns whether an end has one neighbor, which answers to the other end."""
         told = self.tables.ends.get(end)
         return told is not None and self.has_only(told, other)

@@ -16,14 +16,14 @@ COLUMNS = ["host", "port", "reason", "until"]
 class Known(NamedTuple):
     """The reasons by end, all as they are compared; the port of a whole host is empty.
 
-    `notes` tells of those whose last day is over, which are judged.
+    `notes` names those whose last day is over, which are judged.
     """
 
     reasons: dict[End, str]
     notes: Sequence[str]
 
     def reason(self, names: Names, end: Optional[End]) -> str:
-        """Why an end is not judged; empty where it is."""
+        """Returns why an end is not judged, or an empty text if it is."""
         if end is None:
             return ""
         key = names.end(end)

@@ -18,7 +18,7 @@ MOST_KEPT = 4096
 
 
 class Settings(NamedTuple):
-    """What a port says of its link; None where it does not say it.
+    """What a port says of its link; None if it does not say it.
 
     The maximum frame size is in octets, the speed in Mb/s. No port says a PVID of 0, which stands
     for none. Duplex is `full` or `half`. `aggregation` is the number of the aggregate at that host.
@@ -38,8 +38,8 @@ NO_SETTINGS = Settings()
 @lru_cache(MOST_KEPT)  # a network has few settings, and many ports
 def settings_of(max_frame_size: str, pvid: str, mau_type: str, aggregation: str
                 ) -> Optional[Settings]:
-    """Settings as lldpcli writes them; None where nothing is said. Its texts are empty where there
-    is none, and it writes nothing of a port that is not aggregated."""
+    """Returns settings as lldpcli writes them; None if nothing is said. Its texts are empty if
+    there is none, and it writes nothing of a port that is not aggregated."""
     speed, duplex = speed_and_duplex(mau_type)
     return none_if_empty(Settings(number(max_frame_size) or None, number(pvid) or None, speed,
                                   duplex, True if aggregation else None,
@@ -47,18 +47,18 @@ def settings_of(max_frame_size: str, pvid: str, mau_type: str, aggregation: str
 
 
 def none_if_empty(settings: Settings) -> Optional[Settings]:
-    """Settings, or None where nothing is said."""
+    """Returns settings, or None if nothing is said."""
     return None if settings == NO_SETTINGS else settings
 
 
 def number(text: str) -> Optional[int]:
-    """A number of two octets; None where the text is none."""
+    """Returns a number of two octets, or None if the text is not one."""
     found = int(text) if NUMBER.fullmatch(text) else MOST + 1
     return found if found <= MOST else None
 
 
 def speed_and_duplex(mau_type: str) -> tuple[Optional[int], Optional[str]]:
-    """The speed in Mb/s and the duplex mode, as far as the name of a MAU type tells them."""
+    """Returns the speed in Mb/s and the duplex mode, as far as the name of a MAU type says them."""
     duplex = "full" if FULL.search(mau_type) else "half" if HALF.search(mau_type) else None
     found = SPEED.match(mau_type)
     if found is None:

@@ -27,10 +27,10 @@ class Mismatch(NamedTuple):
 
 def mismatches(findings: Iterable[Finding], tables: Tables, plan: Optional[Plan] = None
                ) -> dict[End, Mismatch]:
-    """The mismatch of each right link that has one, at its first end in the plan.
+    """Returns the mismatch of each right link that has one, at its first end in the plan.
 
-    What a port says is known from its neighbor at the other end. Where the plan has columns mtu,
-    speed or pvid, what each end says is compared with them as well.
+    What a port says is known from its neighbor at the other end. If the plan has columns mtu, speed
+    or pvid, what each end says is compared with them as well.
     """
     right = {tables.names.end(one.end): one for one in findings if one.verdict is Verdict.RIGHT}
     found: dict[End, Mismatch] = {}
@@ -49,7 +49,7 @@ def mismatches(findings: Iterable[Finding], tables: Tables, plan: Optional[Plan]
 
 def mismatch(end: End, other: End, said: Optional[Settings], its: Optional[Settings]
              ) -> Optional[Mismatch]:
-    """In what the ends of a link differ."""
+    """Returns in what the ends of a link differ."""
     pairs = list(differing(said, its)) if said is not None and its is not None else []
     if not pairs:
         return None
@@ -75,7 +75,7 @@ def differing(one: Settings, other: Settings) -> Iterator[tuple[str, str, str, s
 
 
 def expected(plan: Plan, key: End) -> Settings:
-    """What the plan's columns say of a link: mtu, speed in Mb/s, pvid."""
+    """Returns what the plan's columns say of a link: mtu, speed in Mb/s, pvid."""
     texts: Mapping[str, str] = {key_of(name): text for name, text in plan.details(key)}
     speed = texts.get("speed", "")
     return Settings(number(texts.get("mtu", "")), number(texts.get("pvid", "")),
@@ -84,7 +84,7 @@ def expected(plan: Plan, key: End) -> Settings:
 
 def unlike_plan(end: End, other: End, said: Optional[Settings], its: Optional[Settings],
                 wanted: Settings) -> Optional[Mismatch]:
-    """In what the ends of a link say otherwise than the plan."""
+    """Returns in what the ends of a link differ from the plan."""
     texts = []
     for place, one in ((end, said), (other, its)):
         pairs = list(differing(one, wanted)) if one is not None else []

@@ -26,8 +26,8 @@ class End(NamedTuple):
 class Seen(NamedTuple):
     """A neighbor as an audit looks at it: the names of its host and of its port, the best first.
 
-    `aggregated` tells whether its port is a member of an aggregate by its own words, and `settings`
-    what else it says of its link. `is_named` tells whether its Port ID is the name or the alias of
+    `aggregated` says whether its port is a member of an aggregate by its own words, and `settings`
+    what else it says of its link. `is_named` says whether its Port ID is the name or the alias of
     an interface; it is the first of its ports then.
     """
 
@@ -46,7 +46,7 @@ class Seen(NamedTuple):
 
     @property
     def ids(self) -> str:
-        """What tells it from another neighbor of the same names."""
+        """Returns what distinguishes it from another neighbor of the same names."""
         return f"chassis {shown(self.chassis)}, port {shown(self.port_id)}"
 
 
@@ -55,7 +55,7 @@ NAMELESS = Seen((), ())
 
 
 class Aliases(NamedTuple):
-    """Further names: of hosts, and of the ports of a host, or of any where the host is empty.
+    """Further names: of hosts, and of the ports of a host, or of any if the host is empty.
 
     All stand as they are compared. A port's further name may be that of several ports.
     """
@@ -86,7 +86,7 @@ class Names:
         self._ports: dict[str, str] = {}
 
     def host(self, name: str) -> str:
-        """A host's name as it is compared."""
+        """Returns a host's name as it is compared."""
         if self._is_strict:
             return name
         key = self._hosts.get(name)
@@ -96,7 +96,7 @@ class Names:
         return key
 
     def plain_host(self, name: str) -> str:
-        """A host's name as it is compared, but for its aliases."""
+        """Returns a host's name as it is compared, except for its aliases."""
         if self.vendor_names:
             name = plain(name)
         if self.short_names:
@@ -104,7 +104,7 @@ class Names:
         return name.casefold() if self.ignore_case else name
 
     def plain_port(self, name: str) -> str:
-        """A port's name as it is compared, but for its aliases."""
+        """Returns a port's name as it is compared, except for its aliases."""
         key = self._ports.get(name)
         if key is None:
             key = plain_port(name) if self.vendor_names else name
@@ -112,13 +112,14 @@ class Names:
         return key
 
     def ports(self, host: str, name: str) -> Sequence[str]:
-        """The ports that a name stands for, as they are compared, at a host that is, too."""
+        """Returns the ports that a name stands for, as they are compared, at a host that is
+        compared too."""
         port = self.plain_port(name)
         aliases = self.aliases.ports
         return aliases.get(End(host, port)) or aliases.get(End("", port)) or (port,)
 
     def end(self, end: End) -> End:
-        """An end as it is compared. A name of several ports stays that name."""
+        """Returns an end as it is compared. A name of several ports is unchanged."""
         if self._is_strict:
             return end
         host = self.host(end.host)
@@ -126,7 +127,7 @@ class Names:
         return End(host, ports[0] if len(ports) == 1 else self.plain_port(end.port))
 
     def answers(self, neighbor: Seen, end: End) -> bool:
-        """Whether a neighbor answers to an end, which is given as it is compared."""
+        """Returns whether a neighbor answers to an end, which is given as it is compared."""
         if self._is_strict:
             ports = neighbor.ports
             return (end.host in neighbor.hosts and end.port in ports
@@ -137,33 +138,36 @@ class Names:
                 or any(end.port in self.ports(end.host, port) for port in self.heeded(neighbor)))
 
     def heeded(self, neighbor: Seen) -> Sequence[str]:
-        """The names of a neighbor's port that count: all, or the planned one of an interface."""
+        """Returns the names of a neighbor's port that count: all, or the planned one of an
+        interface."""
         ports = neighbor.ports
         if neighbor.is_named and len(ports) > 1 and self.is_planned(neighbor):
             return ports[:1]
         return ports
 
     def is_planned(self, neighbor: Seen) -> bool:
-        """Whether a port of the name that is a neighbor's Port ID is planned anywhere."""
+        """Returns whether a port with the name in a neighbor's Port ID is planned anywhere."""
         if self._is_strict:
             return neighbor.ports[0] in self.planned_ports
         return any(port in self.planned_ports for name in neighbor.hosts
                    for port in self.ports(self.host(name), neighbor.ports[0]))
 
     def is_any_member(self, neighbor: Seen, host: str) -> bool:
-        """Whether a neighbor of a host, as it is compared, names an aggregate in place of its port
-        and no alias says which ports are its members: it may be each port."""
+        """Returns whether a neighbor of a host, as it is compared, names an aggregate in place of
+        its port and no alias says which ports are its members: it may be each port."""
         return (self.vendor_names and neighbor.aggregated
                 and any(is_aggregate(port) and not self.has_alias(host, port)
                         for port in self.heeded(neighbor)))
 
     def has_alias(self, host: str, name: str) -> bool:
-        """Whether the name of a port is an alias at a host, which is given as it is compared."""
+        """Returns whether the name of a port is an alias at a host, which is given as it is
+        compared."""
         port, aliases = self.plain_port(name), self.aliases.ports
         return End(host, port) in aliases or End("", port) in aliases
 
     def ends(self, neighbor: Seen) -> Iterable[End]:
-        """Each end that a neighbor answers to by the names of its port, as it is compared."""
+        """Returns each end that a neighbor answers to by the names of its port, as it is
+        compared."""
         for name in neighbor.hosts:
             host = self.host(name)
             for port in self.heeded(neighbor):
@@ -179,18 +183,18 @@ class Names:
         return looser
 
     def with_domains(self) -> Names:
-        """The same rules, with hosts' names compared whole."""
+        """Returns the same rules, with hosts' names compared whole."""
         return Names(self.ignore_case, False, self.vendor_names, self.aliases)
 
 
 def without_domain(name: str) -> str:
-    """A host's name up to its first dot. An IPv4 address has dots and no domain."""
+    """Returns a host's name up to its first dot. An IPv4 address has dots and no domain."""
     short = name.partition(".")[0]
     return short if short and not is_address(name) else name
 
 
 def is_address(name: str) -> bool:
-    """Whether a name is an IP address."""
+    """Returns whether a name is an IP address."""
     try:
         ipaddress.ip_address(name)
     except ValueError:
@@ -199,21 +203,21 @@ def is_address(name: str) -> bool:
 
 
 def shown(name: str) -> str:
-    """A name as a line has it: with octets for what a terminal does not show, in quotes if it has a
-    blank, and cut if it is longer than any that a neighbor says."""
+    """Returns a name as a line has it: with octets for what a terminal does not show, in quotes if
+    it has a blank, and cut if it is longer than any that a neighbor says."""
     text = printable(text_of(name if len(name) <= LONGEST else name[:LONGEST] + CUT))
     return text if text and " " not in text else f'"{text}"'
 
 
 def escaped(letter: str) -> str:
-    """The octets of a letter in hexadecimal, as a show writes them."""
+    """Returns the octets of a letter in hexadecimal, as a show writes them."""
     is_octet = "\udc80" <= letter <= "\udcff"
     octets = letter.encode(errors="surrogateescape" if is_octet else "surrogatepass")
     return "".join(f"\\x{octet:02x}" for octet in octets)
 
 
 def text_of(name: str) -> str:
-    """A name as Unicode text: with an escape for each octet of it that is none."""
+    """Returns a name as Unicode text, with an escape for each octet that is not part of one."""
     if name.isascii():
         return name
     return "".join(escaped(letter) if "\ud800" <= letter <= "\udfff" else letter for letter in name)

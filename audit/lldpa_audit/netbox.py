@@ -8,7 +8,7 @@ from .columns import NO_PORTS, OF_PANELS, POWER
 from .names import End
 from .planfault import Faults
 
-# what else of a cable is told with its faults
+# what else of a cable is reported with its faults
 DETAILS = ("id", "label", "type", "color", "length", "length_unit", "status", "description")
 MOST_VALUES = 3_000_000
 
@@ -28,17 +28,17 @@ class ApiCable(NamedTuple):
 
     @property
     def joins_no_ports(self) -> bool:
-        """Whether it carries no network, or has nothing at one of its sides."""
+        """Returns whether it carries no network, or has nothing at one of its sides."""
         return (self.texts[DETAILS.index("type")] == POWER or not all(self.sides)
                 or any(one.kind in NO_PORTS for side in self.sides for one in side))
 
     def is_at_panel(self, side: int) -> bool:
-        """Whether a side, 0 or 1, has ports of panels."""
+        """Returns whether a side, 0 or 1, has ports of panels."""
         return any(one.kind in OF_PANELS for one in self.sides[side])
 
 
 def is_json(text: str) -> bool:
-    """Whether a plan is JSON: neither CSV nor DOT begins so."""
+    """Returns whether a plan is JSON: neither CSV nor DOT begins so."""
     return text.lstrip()[:1] in ("{", "[")
 
 
@@ -63,7 +63,7 @@ def cables_of(text: str, faults: Faults) -> Iterator[ApiCable]:
 
 
 def pages_of(text: str, faults: Faults) -> Sequence[Any]:
-    """The answers in a text; none where it is no JSON."""
+    """Returns the answers in a text, or none if it is not JSON."""
     if sum(map(text.count, "{[,")) > MOST_VALUES:
         faults.add(None, f"it has over {MOST_VALUES} values")
         return ()
@@ -76,7 +76,7 @@ def pages_of(text: str, faults: Faults) -> Sequence[Any]:
 
 
 def cable_of(node: Any) -> Optional[ApiCable]:
-    """A cable; None where it is none."""
+    """Returns a cable, or None if it is not one."""
     if not isinstance(node, dict):
         return None
     try:
@@ -88,7 +88,7 @@ def cable_of(node: Any) -> Optional[ApiCable]:
 
 
 def termination_of(node: Any) -> Termination:
-    """A side of a cable. Raises KeyError and TypeError where it is none."""
+    """Returns a side of a cable. Raises KeyError and TypeError if it is not one."""
     kind = str(node["object_type"]).partition(".")[2]
     place = node["object"]
     device = place.get("device") or place.get("circuit") or place.get("power_panel")
@@ -97,12 +97,12 @@ def termination_of(node: Any) -> Termination:
 
 
 def text_of(value: Any) -> str:
-    """A value of a cable as text; a choice has its own in `value`."""
+    """Returns a value of a cable as text; a choice has its own in `value`."""
     if isinstance(value, dict):
         value = value.get("value")
     return "" if value is None else str(value)
 
 
 def name_of(node: Any) -> str:
-    """What a fault calls a cable."""
+    """Returns what a fault calls a cable."""
     return f"the cable {node.get('id')}" if isinstance(node, dict) else "something"

@@ -83,7 +83,7 @@ class Panels:
                 yield from self._followed(link.other, self._cable(link, link.one))
 
     def has(self, key: End) -> bool:
-        """Whether an end is at a panel."""
+        """Returns whether an end is at a panel."""
         return key.host in self._hosts
 
     def _cable(self, link: Link, end: End) -> Cable:
@@ -118,7 +118,7 @@ class Panels:
                    Detail(cable.detail.texts, path[::-1]))
 
     def _other_side(self, cable: Cable, positions: list[str]) -> Optional[End]:
-        """The other side of the panel at which a cable ends; None where that is not known.
+        """Returns the other side of the panel at which a cable ends, or None if that is not known.
 
         `positions` has those at which the link has entered trunks and not left them again.
         """

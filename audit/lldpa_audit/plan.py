@@ -22,7 +22,7 @@ NO_DETAIL = Detail()
 
 
 class Link(NamedTuple):
-    """A planned link: its two ends, and the line of each in the plan where that is known.
+    """A planned link: its two ends, and the line of each in the plan if that is known.
 
     Behind panels the two ends are at two cables, each with a line and a detail.
     """
@@ -53,7 +53,7 @@ class Plan:
     of a link follow one another.
 
     No end is joined to two. Raises PlanFault. `columns` names the texts of each detail, `notes` has
-    what of the file is left out, and `unknown` the ends whose cable goes on nobody knows where.
+    what of the file is left out, and `unknown` the ends whose cable continues at an unknown place.
     """
 
     def __init__(self, file: str, links: Iterable[Link], names: Names,
@@ -75,8 +75,8 @@ class Plan:
         names.planned_ports = {key.port for key in self.ends}
 
     def _need_hosts_apart(self, whole: Names, faults: Faults) -> None:
-        """Two hosts that differ in their domains alone would be one, and one's cables the other's.
-        """
+        """Refuses two hosts whose names differ only in their domains: they would be one, and one's
+        cables the other's."""
         firsts: dict[str, str] = {}
         for key, wish in self.ends.items():
             first = firsts.setdefault(key.host, wish.end.host)
@@ -99,21 +99,21 @@ class Plan:
 
     @cached_property
     def ends_of_hosts(self) -> Mapping[str, Sequence[End]]:
-        """The planned ends of each host, all as they are compared."""
+        """Returns the planned ends of each host, all as they are compared."""
         ends: dict[str, list[End]] = defaultdict(list)
         for key in self.ends:
             ends[key.host].append(key)
         return ends
 
     def details(self, end: End) -> Sequence[tuple[str, str]]:
-        """The name and the text of each other column for an end, as it is compared."""
+        """Returns the name and the text of each other column for an end, as it is compared."""
         wish = self.ends.get(end)
         return [(name, text) for name, text in zip(self.columns, wish.detail.texts) if text
                 ] if wish else ()
 
 
 def planned_twice(end: End, before: Optional[Wish], line: Optional[int]) -> str:
-    """The fault of an end that is joined to two, or to itself."""
+    """Returns the fault of an end that is joined to two, or to itself."""
     if before is None or before.line == line is not None:
         return f"{end} is planned twice in it"
     if before.line is None:

@@ -18,7 +18,7 @@ class PlanFault(LldpaFault):
 
 
 class Faults:
-    """Collects the faults of a file, so that all are told at once."""
+    """Collects the faults of a file, so that all are reported at once."""
 
     def __init__(self, file: str) -> None:
         self.file = file
@@ -26,7 +26,7 @@ class Faults:
         self._texts: list[str] = []
 
     def add(self, line: Optional[int], text: str) -> None:
-        """Adds a fault, and its line where it has one. Raises PlanFault after very many."""
+        """Adds a fault, and its line if it has one. Raises PlanFault after very many."""
         self.count += 1
         if self.count > MOST_COUNTED:
             self.end()

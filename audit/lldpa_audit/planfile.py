@@ -69,8 +69,8 @@ class PlanFile:
         return self._links_of_dot() if is_dot(self.text) else self._links_of_csv()
 
     def _kept(self, name: str, line: Optional[int]) -> str:
-        """A name, of which one that stands in many rows is kept once. One that is longer than LLDP
-        can say is a fault."""
+        """Returns a name, which is kept once if it is in many rows. A name longer than LLDP can say
+        is a fault."""
         if len(name) > LONGEST_NAME:
             self.faults.add(line, f"a name in it has {len(name)} characters, and "
                                   f"{LONGEST_NAME} are the most")
@@ -81,7 +81,7 @@ class PlanFile:
         return name
 
     def _end(self, names: Iterable[str], line: Optional[int]) -> End:
-        """An end of these two names."""
+        """Returns an end of these two names."""
         return End(*[self._names.get(name) or self._kept(name, line) for name in names])
 
     def _links_of_dot(self) -> Iterator[Link]:
@@ -186,7 +186,7 @@ def read_panels(file: str, names: Names, faults: Faults) -> Panels:
 
 
 def text_of(file: str) -> str:
-    """The text of a file. Raises PlanFault and OSError."""
+    """Returns the text of a file. Raises PlanFault and OSError."""
     octets = Path(file).read_bytes()
     try:
         return octets.decode("utf-8-sig")
@@ -196,7 +196,7 @@ def text_of(file: str) -> str:
 
 
 def notes_of(file: str, read: PlanFile, followed: Optional[Panels]) -> list[str]:
-    """What of a plan is left out."""
+    """Returns which parts of a plan are left out."""
     notes = []
     dead_ends = followed.dead_ends if followed else ()
     if read.left_out:

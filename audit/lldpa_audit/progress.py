@@ -1,4 +1,4 @@
-"""Tells on a terminal how far a program is, where it takes longer than people wait gladly."""
+"""Shows on a terminal how far a program is, if it takes longer than people wait gladly."""
 from __future__ import annotations
 
 import os
@@ -16,7 +16,7 @@ Item = TypeVar("Item")
 
 
 class Progress:
-    """One line on standard error, which is written anew and is gone at the end."""
+    """One line on standard error, which is written again and again, and removed at the end."""
 
     def __init__(self, name: str, is_on: Optional[bool] = None) -> None:
         self._name = name
@@ -25,7 +25,7 @@ class Progress:
         self._is_shown = False
 
     def over(self, items: Iterable[Item], total: int, what: str) -> Iterator[Item]:
-        """The items, and how many of them were there."""
+        """Returns the items, and reports how many of them there were."""
         if not self._is_on:
             yield from items
             return

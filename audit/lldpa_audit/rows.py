@@ -42,7 +42,7 @@ def rows_of(text: str, faults: Faults) -> Iterator[tuple[int, list[str]]]:
 
 
 def separator_of(text: str) -> str:
-    """The separator that the header has most often."""
+    """Returns the separator that the header has most often."""
     header = next((line for line in lines_of(text) if begins_header(line)), "")
     return max(SEPARATORS, key=header.count)
 
@@ -79,10 +79,10 @@ def lines_of(text: str) -> Iterator[str]:
 
 
 def has_fields(line: str) -> bool:
-    """Whether a line is not blank."""
+    """Returns whether a line is not blank."""
     return bool(line.strip(" \t\r,;"))
 
 
 def begins_header(line: str) -> bool:
-    """Whether a line is neither blank nor, as a line in front of the header, a comment."""
+    """Returns whether a line is neither blank nor a comment before the header."""
     return has_fields(line) and not line.lstrip().startswith(COMMENT)

@@ -55,12 +55,12 @@ def add_reader_options(parser: argparse.ArgumentParser) -> None:
 
 
 def is_nothing_given(given: argparse.Namespace) -> bool:
-    """Whether the words name nothing that is seen."""
+    """Returns whether the words name nothing that is seen."""
     return not (given.what or given.live or given.prometheus)
 
 
 def seconds(text: str) -> float:
-    """A number of seconds of an option."""
+    """Returns a number of seconds of an option."""
     number = float(text)
     if not 0 <= number <= 86400:
         raise ValueError
@@ -68,7 +68,7 @@ def seconds(text: str) -> float:
 
 
 def pattern(text: str) -> re.Pattern[str]:
-    """A regular expression of an option."""
+    """Returns a regular expression of an option."""
     try:
         return re.compile(text)
     except (re.error, RecursionError) as fault:
@@ -76,7 +76,8 @@ def pattern(text: str) -> re.Pattern[str]:
 
 
 def address(text: str) -> str:
-    """The address of a Prometheus. A password in it would be read by each user of this host."""
+    """Returns the address of a Prometheus. A password in it would be read by each user of this
+    host."""
     parts = urlsplit(text)
     if "@" in parts.netloc:
         raise argparse.ArgumentTypeError("a name and a password belong into ~/.netrc, or into the "
@@ -88,7 +89,7 @@ def address(text: str) -> str:
 
 def gathered(given: argparse.Namespace, whats: Sequence[What], files: Iterator[SeenFile],
              plan: Plan, names: Names, say: Say) -> tuple[Tables, bool]:
-    """What is known of the audited hosts, and whether a file of it is damaged."""
+    """Returns what is known of the audited hosts, and whether a file of it is damaged."""
     tables = Tables(names)
     stale_after: Optional[float] = given.stale_after
     gathering = Gathering(tables, given.program, say, inf if stale_after is None else stale_after)
@@ -109,7 +110,7 @@ def gathered(given: argparse.Namespace, whats: Sequence[What], files: Iterator[S
 
 
 def say_of_unplanned(tables: Tables, plan: Plan, say: Say) -> None:
-    """Tells the hosts of which nothing is planned. Raises ValueError where there is no other."""
+    """Reports the hosts of which nothing is planned. Raises ValueError if there is no other."""
     unplanned = [host for key, host in tables.hosts.items() if key not in plan.hosts]
     loose = Names(ignore_case=True, short_names=True)
     like = {loose.host(one): one for one in plan.hosts.values()} if unplanned else {}
@@ -124,5 +125,5 @@ def say_of_unplanned(tables: Tables, plan: Plan, say: Say) -> None:
 
 
 def nearly(like: Optional[str]) -> str:
-    """The planned host that has nearly a host's name, in words."""
+    """Returns the planned host that has nearly a host's name, in words."""
     return f", but {shown(like)}: see --host, --ignore-case, --short-names" if like else ""

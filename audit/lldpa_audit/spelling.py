@@ -53,7 +53,7 @@ AGGREGATE = re.compile(r"(?:port-?channel|po|bundle-ether|be|ae|trk|bridge-aggre
 
 
 def plain(name: str) -> str:
-    """A name of which its letters and addresses have one spelling."""
+    """Returns a name with one spelling of its letters and addresses."""
     if not name.isascii():
         return unicodedata.normalize("NFC", name)
     if MAC.fullmatch(name):
@@ -68,9 +68,9 @@ def plain(name: str) -> str:
 
 
 def plain_port(name: str) -> str:
-    """A port's name in one spelling: `Gi1/0/1` and `GigabitEthernet1/0/1` have the same.
+    """Returns a port's name in one spelling: `Gi1/0/1` and `GigabitEthernet1/0/1` have the same.
 
-    A Linux' `eth0` stays, since a switch may have that and an Ethernet0.
+    A Linux' `eth0` is unchanged, since a switch may have that and an Ethernet0.
     """
     unit = UNIT.fullmatch(name)
     if unit:
@@ -86,5 +86,5 @@ def plain_port(name: str) -> str:
 
 
 def is_aggregate(port: str) -> bool:
-    """Whether a port's name is that of an aggregate of links."""
+    """Returns whether a port's name is that of an aggregate of links."""
     return AGGREGATE.fullmatch(port) is not None

@@ -20,7 +20,7 @@ class TopologyFault(LldpaFault):
 
 
 class Edge(NamedTuple):
-    """An edge: host and port of both its ends, each None where it has no port, and its line."""
+    """An edge: host and port of both its ends, each None if it has no port, and its line."""
 
     one: Optional[tuple[str, str]]
     other: Optional[tuple[str, str]]
@@ -28,9 +28,9 @@ class Edge(NamedTuple):
 
 
 def read_topology(text: str) -> Iterator[Edge]:
-    """The edges of a topology in their order, those of a chain one by one.
+    """Returns the edges of a topology in their order, those of a chain one by one.
 
-    Raises TopologyFault where graphviz would refuse the file, behind the edges before that place.
+    Raises TopologyFault if graphviz would refuse the file, after the edges before that place.
     """
     lines = Lines(text)
     try:
@@ -41,12 +41,12 @@ def read_topology(text: str) -> Iterator[Edge]:
 
 
 def placed(edge: DotEdge, lines: Lines) -> Edge:
-    """An edge and its line."""
+    """Returns an edge and its line."""
     return Edge(host_and_port(edge.one), host_and_port(edge.other), lines.of(edge.place))
 
 
 def host_and_port(node: Node) -> Optional[tuple[str, str]]:
-    """The two names of one end of an edge, if it has both."""
+    """Returns the two names of one end of an edge, if it has both."""
     return (node.name, node.port) if node.name and node.port else None
 
 
@@ -62,7 +62,7 @@ class Lines:
                                       + text.count("\n", begin, begin + STRETCH))
 
     def of(self, place: int) -> int:
-        """The line of a place."""
+        """Returns the line of a place."""
         if not self._place <= place < self._place + STRETCH:
             stretch = place // STRETCH
             self._line = 1 + self._lines_before[stretch]

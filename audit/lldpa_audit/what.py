@@ -9,7 +9,7 @@ from .plan import Plan
 
 
 class What(NamedTuple):
-    """A file of a host, and the port where it is a capture of one.
+    """A file of a host, and the port if it is a capture of one.
 
     One that was found in a folder ends nothing but itself if it cannot be opened.
     """
@@ -21,7 +21,7 @@ class What(NamedTuple):
 
 
 def read_what(word: str, ours: str) -> What:
-    """A word as FILE, PORT=FILE or HOST:FILE: the first of these whose file is there."""
+    """Reads a word as FILE, PORT=FILE or HOST:FILE: the first of these whose file exists."""
     forms = [What(ours, "", word)]
     forms += [What(ours, port, file) for port, file in splits_at(word, "=")]
     forms += [What(host, "", file) for host, file in splits_at(word, ":")]
@@ -30,10 +30,11 @@ def read_what(word: str, ours: str) -> What:
 
 
 def placed(what: What, plan: Plan, names: Names) -> What:
-    """The same as the plan takes it: HOST:PORT=FILE looks like a port with a colon in its name.
+    """Returns the same as the plan takes it: HOST:PORT=FILE looks like a port with a colon in its
+    name.
 
-    It is such a port where the plan has it, or where a number is behind the colon and the plan has
-    no such host, as at `et-0/0/0:1`.
+    It is such a port if the plan has it, or if a number follows the colon and the plan has no such
+    host, as in `et-0/0/0:1`.
     """
     if ":" not in what.port or names.end(End(what.host, what.port)) in plan.ends:
         return what
@@ -46,12 +47,12 @@ def placed(what: What, plan: Plan, names: Names) -> What:
 
 
 def of_hosts(whats: Iterable[What]) -> list[What]:
-    """Those that are not captures of one port."""
+    """Returns those that are not captures of one port."""
     return [what for what in whats if not what.port]
 
 
 def splits_at(word: str, mark: str) -> Iterator[tuple[str, str]]:
-    """What stands before and behind each mark in a word, where neither is empty."""
+    """Returns what precedes and follows each mark in a word, if neither is empty."""
     for at, letter in enumerate(word):
         if letter == mark and 0 < at < len(word) - 1:
             yield word[:at], word[at + 1:]

@@ -27,7 +27,7 @@ lldpa-audit(1) has the verdicts.
 
 
 def read_words(words: Optional[Sequence[str]]) -> argparse.Namespace:
-    """The words of the program. Ends it with status 2 where they are bad."""
+    """Reads the words of the program. Ends it with status 2 if they are wrong."""
     parser = argparse.ArgumentParser(
         prog="lldpa-audit", allow_abbrev=False, epilog=WORDS,
         description="Compares a plan of the cabling with who is seen, and prints what is wrong.",
@@ -50,7 +50,7 @@ def read_words(words: Optional[Sequence[str]]) -> argparse.Namespace:
 
 
 def add_words_of_plan(parser: argparse.ArgumentParser) -> None:
-    """How the plan is read."""
+    """Adds the words for how the plan is read."""
     add = parser.add_argument
     add("--columns", metavar="NAMES", type=columns,
         help="the plan's columns, such as host=device,port=interface,peer=to,peer_port=to_port")
@@ -58,7 +58,7 @@ def add_words_of_plan(parser: argparse.ArgumentParser) -> None:
 
 
 def add_words_of_names(parser: argparse.ArgumentParser) -> None:
-    """Which names are the same."""
+    """Adds the words for which names are the same."""
     add = parser.add_argument
     add("--ignore-case", action="store_true", help="take names for the same that differ in case")
     add("--short-names", action="store_true", help="take hosts' names up to the first dot")
@@ -68,7 +68,7 @@ def add_words_of_names(parser: argparse.ArgumentParser) -> None:
 
 
 def add_words_of_report(parser: argparse.ArgumentParser) -> None:
-    """What is said, and how."""
+    """Adds the words for what is reported, and how."""
     add = parser.add_argument
     add("--all", action="store_true", help="take for a fault what is planned and not looked at")
     add("--planned-only", action="store_true", help="say nothing of ports that are not planned")
@@ -85,7 +85,7 @@ def add_words_of_report(parser: argparse.ArgumentParser) -> None:
 
 
 def columns(text: str) -> "dict[str, str]":
-    """The columns of an option."""
+    """Returns the columns of an option."""
     try:
         return dict(given_columns(text))
     except ValueError:

@@ -25,7 +25,7 @@ def run(*words: str) -> "subprocess.CompletedProcess[str]":
 
 
 def without_ages(text: str) -> str:
-    """What an audit prints, without the ages in its count."""
+    """Returns what an audit prints, without the ages in its count."""
     return re.sub(r"; sources [^\n<]* old$", "", text, flags=re.M)
 
 

@@ -1,4 +1,5 @@
-"""For tests: a fabric of 2,000 links, with panels, trunks, LAGs and breakouts, and 100 faults in it.
+"""For tests: a fabric of 2,000 links, with panels, trunks, LAGs and breakouts, and 100 faults in
+it.
 
 What is plugged where is kept as pairs of ends, and what each end hears follows from that alone. A
 fault changes what is plugged, a host's name, or what a host says and hears. It has ends of its own,
@@ -15,8 +16,8 @@ LEAFS, SPINES, SERVERS = 32, 8, 400
 
 
 class Fault(NamedTuple):
-    """A planted fault: its kind, the ends at which it may be told, the kinds that its repairs may
-    have, and how many of them there may be."""
+    """A planted fault: its kind, the ends at which it may be reported, the kinds that its repairs
+    may have, and how many of them there may be."""
 
     kind: str
     ends: Set[End]
@@ -62,17 +63,18 @@ class Fabric:
                 self.peer.pop(other, None)
 
     def server(self) -> List[End]:
-        """The ends of a server that has no fault yet, eth0 to eth3."""
+        """Returns the ends of a server that has no fault yet, eth0 to eth3."""
         name = self.servers.pop()
         return [(name, f"eth{port}") for port in range(4)]
 
     def told(self, kind: str, ends: Sequence[End], repairs: str, most: int = 1) -> None:
-        """Notes a fault that may be told at these ends and at those that they are planned with."""
+        """Notes a fault that may be reported at these ends and at those that they are planned
+        with."""
         all_ends = {*ends, *(self.planned[end] for end in ends if end in self.planned)}
         self.faults.append(Fault(kind, all_ends, set(repairs.split(",")), most))
 
     def kinds(self) -> Sequence[Callable[[], None]]:
-        """What plants each kind of fault."""
+        """Returns what plants each kind of fault."""
         return (self.swapped, self.unplugged, self.stranger, self.one_sided, self.extra,
                 self.doubled, self.moved, self.renamed, self.capitals, self.domain, self.hide,
                 self.shifted, self.turned, self.not_broken_out, self.loop, self.unplanned,
@@ -157,7 +159,7 @@ class Fabric:
         self.told("turned", lanes, "turned")
 
     def breakout(self) -> List[End]:
-        """The lanes of a breakout that has no fault yet."""
+        """Returns the lanes of a breakout that has no fault yet."""
         number = self.lanes.pop()
         return list(lanes_of(number))
 
@@ -204,19 +206,20 @@ class Fabric:
         self.told("small frames", ends, "mismatch")
 
     def heard(self, end: End) -> List[End]:
-        """Who is heard at an end: the name and the port of each."""
+        """Returns which neighbors an end hears: the name and the port of each."""
         found = [] if end in self.deaf else [
             peer for peer in [self.peer.get(end)] if peer is not None and peer not in self.mute]
         return [(self.names.get(end[0], end[0]), self.said(end))
                 for end in [*found, *self.beside[end]]]
 
     def said(self, end: End) -> str:
-        """What an end says in place of its port's name: some servers name the LAG."""
+        """Returns what an end says in place of its port's name: some servers name the LAG."""
         is_named = end in self.lags and end[0].startswith("srv") and end[0].endswith("0")
         return self.lags[end][0] if is_named else end[1]
 
     def hosts(self) -> Dict[str, Dict[str, List[End]]]:
-        """What each planned host hears at each of its ports, but for those that are hidden."""
+        """Returns what each planned host hears at each of its ports, except those that are
+        hidden."""
         hosts: Dict[str, Dict[str, List[End]]] = defaultdict(dict)
         for end in {*self.planned, *self.peer}:
             if end not in self.hidden and not end[0].startswith("guest"):

@@ -10,7 +10,7 @@ CASSETTE = 12
 
 
 def is_paneled(one: End) -> bool:
-    """Whether a link of a leaf goes through panels: its first twelve servers."""
+    """Returns whether a link of a leaf goes through panels: its first twelve servers."""
     return one[0].startswith("leaf") and one[1][3:].isdecimal() and int(one[1][3:]) <= CASSETTE
 
 
@@ -30,20 +30,20 @@ def cables(links: Sequence[Tuple[End, End]]) -> Iterator[Tuple[End, End, str, st
 
 
 def csv_plan(links: Sequence[Tuple[End, End]]) -> str:
-    """The plan in our own columns, with labels and racks."""
+    """Returns the plan in our own columns, with labels and racks."""
     rows = [f"{a},{b},{c},{d},C{number},r{number % 40}\n"
             for number, ((a, b), (c, d), _, _) in enumerate(cables(links))]
     return "host,port,peer,peer_port,label,rack\n" + "".join(rows)
 
 
 def dot_plan(links: Sequence[Tuple[End, End]]) -> str:
-    """The plan in DOT."""
+    """Returns the plan in DOT."""
     return "graph G {\n" + "".join(f'"{a}":"{b}" -- "{c}":"{d}";\n'
                                    for (a, b), (c, d), _, _ in cables(links)) + "}\n"
 
 
 def netbox_plan(links: Sequence[Tuple[End, End]]) -> str:
-    """The plan as NetBox exports it, with cables of power among others."""
+    """Returns the plan as NetBox exports it, with cables of power among others."""
     rows = [f"{a},{one},{b},{c},{other},{d},cat6,connected,C{number}\n"
             for number, ((a, b), (c, d), one, other) in enumerate(cables(links))]
     power = "pdu1,dcim.poweroutlet,1,leaf01,dcim.powerport,PSU1,power,connected,\n"
@@ -52,7 +52,8 @@ def netbox_plan(links: Sequence[Tuple[End, End]]) -> str:
 
 
 def panels() -> str:
-    """The front ports of the panels as NetBox exports them: cassettes with one rear port."""
+    """Returns the front ports of the panels as NetBox exports them: cassettes with one rear
+    port."""
     return "device,name,rear_port,rear_port_position\n" + "".join(
         f"{side}-leaf{leaf:02},F{port},R1,{port}\n" for side in ("pn", "pf")
         for leaf in range(1, LEAFS + 1) for port in range(1, CASSETTE + 1))

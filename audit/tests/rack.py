@@ -15,25 +15,25 @@ MISSING = "swp44"
 
 
 def wanted(port: str) -> List[str]:
-    """What the plan joins to a port: host01 eth0, host01 eth1, host02 eth0 .."""
+    """Returns what the plan joins to a port: host01 eth0, host01 eth1, host02 eth0 .."""
     number = PORTS.index(port)
     return [f"host{number // 2 + 1:02}", f"eth{number % 2}"]
 
 
 def csv_plan() -> str:
-    """The plan in CSV."""
+    """Returns the plan in CSV."""
     lines = [",".join(["leaf1", port, *wanted(port)]) for port in PORTS]
     return "host,port,peer,peer_port\n" + "".join(line + "\n" for line in lines)
 
 
 def dot_plan() -> str:
-    """The plan in DOT."""
+    """Returns the plan in DOT."""
     edges = [' "leaf1":"{}" -- "{}":"{}";\n'.format(port, *wanted(port)) for port in PORTS]
     return "graph G {\n" + "".join(edges) + "}\n"
 
 
 def heard() -> Dict[str, List[Sequence[str]]]:
-    """Who is heard at each port: the host and the port of each neighbor."""
+    """Returns the neighbors of each port: the host and the port of each."""
     neighbors: Dict[str, List[Sequence[str]]] = {port: [wanted(port)] for port in PORTS}
     neighbors["swp5"], neighbors["swp6"] = neighbors["swp6"], neighbors["swp5"]
     neighbors["swp11"] = []
@@ -57,19 +57,21 @@ LINES = [
 
 
 def lldp_frame(host: str, port: str) -> bytes:
-    """A frame of a host that has its name in the System Name, and its port's in the Port ID."""
+    """Returns a frame of a host that has its name in the System Name, and its port's in the Port
+    ID."""
     chassis = b"\x04\x02" + host.encode()[-5:]
     return frame(chassis, b"\x05" + port.encode(), 120, tlv(5, host.encode()))
 
 
 def frames(port: str) -> List[bytes]:
-    """What is captured at a port: each neighbor twice, and a frame that is no LLDP frame."""
+    """Returns what is captured at a port: each neighbor twice, and a frame that is not an LLDP
+    frame."""
     other = bytes.fromhex("ffffffffffff001122334455 0800".replace(" ", "")) + bytes(46)
     return [other, *[lldp_frame(*neighbor) for neighbor in heard()[port]] * 2, other]
 
 
 def pcap(packets: Sequence[bytes], start: int = START) -> bytes:
-    """A pcap file, its packets 20 seconds apart."""
+    """Returns a pcap file, its packets 20 seconds apart."""
     file = struct.pack("<IHHiIII", 0xA1B2C3D4, 2, 4, 0, 0, 65535, 1)
     for number, octets in enumerate(packets):
         file += struct.pack("<IIII", start + 20 * number, 0, len(octets), len(octets)) + octets
@@ -77,14 +79,14 @@ def pcap(packets: Sequence[bytes], start: int = START) -> bytes:
 
 
 def block(kind: int, body: bytes) -> bytes:
-    """A block of a pcapng file."""
+    """Returns a block of a pcapng file."""
     body += bytes(-len(body) % 4)
     size = struct.pack("<I", 12 + len(body))
     return struct.pack("<I", kind) + size + body + size
 
 
 def pcapng(packets_of: Dict[str, Sequence[bytes]]) -> bytes:
-    """A pcapng file of named interfaces, which take turns."""
+    """Returns a pcapng file of named interfaces, which take turns."""
     file = block(0x0A0D0D0A, struct.pack("<IHHq", 0x1A2B3C4D, 1, 0, -1))
     for name in packets_of:
         octets = name.encode()
@@ -101,7 +103,7 @@ def pcapng(packets_of: Dict[str, Sequence[bytes]]) -> bytes:
 
 
 def whole_ports() -> List[str]:
-    """The ports of which all is known."""
+    """Returns the ports of which all is known."""
     return [port for port in PORTS if port not in (CUT_SHORT, MISSING)]
 
 
@@ -127,7 +129,7 @@ def one_pcapng(folder: Path) -> List[str]:
 
 
 def show(ports: Sequence[str]) -> List[str]:
-    """The `show neighbors` of a real agent that heard what was captured."""
+    """Returns the `show neighbors` of a real agent that heard what was captured."""
     with Agent.start(ports, PROGRAM, receive_only=True) as agent:
         for port in ports:
             for octets in frames(port):

@@ -68,7 +68,7 @@ class SlowJudge:
         return any(self.same_host(host, end[0]) for host in self.audited)
 
     def neighbors(self, end: End) -> Optional[List[Neighbor]]:
-        """None where the end is not known."""
+        """Returns the neighbors, or None if the end is not known."""
         for port, neighbors in self.known.items():
             if self.same_end(port, end):
                 return neighbors
@@ -83,7 +83,7 @@ class SlowJudge:
                 and not self.answers(neighbors[0], self.wants(end)))
 
     def partners(self, end: End) -> List[End]:
-        """The ends that this one is swapped with, in the order of the plan."""
+        """Returns the ends that this one is swapped with, in the order of the plan."""
         if not self.has_only_a_wrong_one(end):
             return []
         return [other for other in self.planned_ends()
@@ -94,7 +94,8 @@ class SlowJudge:
         return self.neighbors(end) is None
 
     def counts(self, end: End) -> Tuple[int, int]:
-        """How many neighbors, and how many of them answer to the end that is wanted."""
+        """Returns how many neighbors there are, and how many of them answer to the end that is
+        wanted."""
         neighbors = self.neighbors(end)
         assert neighbors is not None
         return len(neighbors), len([one for one in neighbors if self.answers(one, self.wants(end))])
@@ -133,7 +134,7 @@ class SlowJudge:
         return self.has_only_a_wrong_one(end) and self.partners(end) == []
 
     def verdicts(self, end: End) -> List[str]:
-        """Each verdict whose definition fits; audit/README.md promises one."""
+        """Returns each verdict whose definition fits; audit/README.md promises one."""
         if self.is_no_data(end):
             return ["no data"]
         definitions = {
@@ -148,7 +149,8 @@ class SlowJudge:
 
 
 def short(host: str) -> str:
-    """A host's name up to its first dot, but for an IPv4 address and a name that begins with it."""
+    """Returns a host's name up to its first dot, except an IPv4 address and a name that begins with
+    it."""
     if re.fullmatch(r"[0-9]+[.][0-9]+[.][0-9]+[.][0-9]+", host) or host.startswith("."):
         return host
     return host.split(".")[0]

@@ -17,7 +17,7 @@ ALIASES = "host,port,alias\nhost01,eth0,bond0\nhost01,eth1,bond0\n"
 
 def neighbor(port: str, host: str, port_id: str, descr: str = "", kind: str = "ifname",
              aggregate: int = 0) -> List[str]:
-    """The lines of a show on a port with one neighbor."""
+    """Returns the lines of a show on a port with one neighbor."""
     lines = [f"lldp.{port}.neighbors=1", f"lldp.{port}.octets=99", f"lldp.{port}.too-many=no",
              f"lldp.{port}.1.chassis.local={host}", f"lldp.{port}.1.port.{kind}={port_id}",
              f"lldp.{port}.1.ttl=120", f"lldp.{port}.1.expires=99"]
@@ -30,16 +30,16 @@ class Audited(InAFolder):
     """Each test writes a plan and shows."""
 
     def plan_of(self, *rows: str) -> str:
-        """The name of a plan with these rows."""
+        """Returns the name of a plan with these rows."""
         return self.file("rows.csv", "".join(f"{row}\n" for row in rows))
 
     def show(self, name: str, *ports: Sequence[str]) -> str:
-        """A word that gives the show of these ports as a host's."""
+        """Returns a word that gives the show of these ports as a host's."""
         text = "".join(f"{line}\n" for port in ports for line in port)
         return f"{name}:{self.file(f'{name}.show', text)}"
 
     def lines(self, *words: str) -> List[str]:
-        """What an audit prints."""
+        """Returns what an audit prints."""
         ran = run(*words)
         self.assertNotIn("Traceback", ran.stderr)
         lines = (ran.stdout + ran.stderr).splitlines()
@@ -126,7 +126,7 @@ class Members(Audited):
 
 
 class Ages(Audited):
-    """What is old is told, and is no data if that is asked for."""
+    """What is old is reported, and does not count as data if that is asked for."""
 
     def test_a_folder_of_last_year(self) -> None:
         plan = self.plan_of(HEADER, "leaf1,swp1,host01,eth0", "leaf2,swp1,host02,eth0")
@@ -148,7 +148,7 @@ class Ages(Audited):
 
 def api_cable(number: int, one: Sequence[str], other: Sequence[str], kind: str = "cat6",
               kinds: str = "interface") -> object:
-    """A cable as NetBox's API lists it; its ends are `HOST PORT`."""
+    """Returns a cable as NetBox's API lists it; its ends are `HOST PORT`."""
     def terminations(ends: Sequence[str]) -> object:
         return [{"object_type": f"dcim.{kinds}", "object_id": 1, "object": {
             "name": end.split()[1], "device": {"name": end.split()[0]}}} for end in ends]

@@ -57,7 +57,8 @@ class Case:
         return neighbors
 
     def somebody(self, end: End) -> Seen:
-        """One who answers to an end, or has nearly its name, or answers to another one as well."""
+        """Returns a neighbor that answers to an end, or has nearly its name, or answers to another
+        one as well."""
         if self.rng.random() < 0.2:
             return Seen((self.like(end.host, HOSTS),), (self.like(end.port, PORTS),))
         if self.rng.random() < 0.2:
@@ -69,7 +70,7 @@ class Case:
         return Seen((end.host,), (end.port,))
 
     def like(self, name: str, names: Sequence[str]) -> str:
-        """A name that begins with the same letter."""
+        """Returns a name that begins with the same letter."""
         alike = [one for one in names if one[0].lower() == name[0].lower()]
         return self.rng.choice(alike or [name])
 
@@ -143,7 +144,7 @@ class Aggregates(unittest.TestCase):
     """Hosts of very many ports that name their aggregates: twice the links cost twice as much."""
 
     def steps(self, links: int, peer: str, numbers: int) -> int:
-        """How many lines are run to judge the links of a host that hears a peer, in so many
+        """Returns how many lines are run to judge the links of a host that hears a peer, in so many
         aggregates. It is the same on any machine."""
         names, count = Names(vendor_names=True), 0
         plan = Plan("p", [Link(End(one, f"eth{at}"), End(other, f"eth{at}"), None)

@@ -18,7 +18,7 @@ class Words(InAFolder):
         self.plan = self.file("plan", "host,port,peer,peer_port\nleaf1,swp1,host01,eth0\n")
 
     def audit(self, *words: str) -> "tuple[int, str, str]":
-        """The status of an audit of leaf1, its output, and what it said."""
+        """Returns the status of an audit of leaf1, its output, and what it said."""
         ran = run(self.plan, "--host", "leaf1", *words)
         return ran.returncode, ran.stdout, ran.stderr
 

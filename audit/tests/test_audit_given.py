@@ -31,7 +31,7 @@ class Given(InAFolder):
         self.octets = rack.pcap([rack.lldp_frame("host01", "eth0")])
 
     def audit(self, *words: str) -> Tuple[int, str, str]:
-        """The status of an audit, its output, and what it said."""
+        """Returns the status of an audit, its output, and what it said."""
         ran = run(self.plan, "--host", "leaf1", *words)
         return ran.returncode, ran.stdout, ran.stderr
 
@@ -41,7 +41,7 @@ class Given(InAFolder):
         return str(self.folder / name)
 
     def show(self, ports: List[str]) -> str:
-        """The text of a show."""
+        """Returns the text of a show."""
         return "".join(line + "\n" for line in rack.show(ports))
 
 

@@ -26,7 +26,7 @@ class FortyEightPorts(InAFolder):
     """Two swapped, one wrong, one silent, one extra, one capture cut short and one missing."""
 
     def check(self, *words: str) -> List[str]:
-        """The lines are those of the faults, and so are the verdicts in JSON."""
+        """Checks that the lines are those of the faults, and so are the verdicts in JSON."""
         ran = run(self.plan, "--host", "leaf1", *words)
         lines = ran.stdout.splitlines()
         self.assertEqual(without_reasons(lines), rack.LINES)
@@ -93,7 +93,7 @@ class Pictures(InAFolder):
     """What --svg draws."""
 
     def draw(self, *words: str) -> "tuple[str, list[str]]":
-        """The picture of an audit, and the colors of its lines."""
+        """Returns the picture of an audit, and the colors of its lines."""
         ran = run(self.plan, "--host", "leaf1", "--svg", f"{self.folder}/p.svg", *words)
         self.assertEqual(ran.returncode, 1)
         root = ElementTree.parse(self.folder / "p.svg").getroot()

@@ -29,7 +29,7 @@ SECONDS = 40
 
 
 def block(kind: int, body: bytes) -> bytes:
-    """A block of pcapng."""
+    """Returns a block of pcapng."""
     size = struct.pack("<I", 12 + len(body))
     return struct.pack("<I", kind) + size + body + size
 
@@ -42,13 +42,13 @@ class Hostile(InAFolder):
     """Each test has a folder."""
 
     def within(self, body: Callable[[], object]) -> None:
-        """A body ends before a square would, in seconds of the processor."""
+        """Checks that a body ends before a square would, in seconds of the processor."""
         begin = sum(os.times()[:4])
         body()
         self.assertLess(sum(os.times()[:4]) - begin, SECONDS)
 
     def fault_of(self, octets: bytes) -> str:
-        """What is wrong with a list."""
+        """Returns what is wrong with a list."""
         path = self.folder / "list"
         path.write_bytes(octets)
         read: List[SeenFile] = []
@@ -56,7 +56,7 @@ class Hostile(InAFolder):
         return read[0].fault
 
     def plan_fault(self, text: str, panels: str = "") -> str:
-        """What is wrong with a plan."""
+        """Returns what is wrong with a plan."""
         plan = self.file("plan", text)
         with self.assertRaises(PlanFault) as raised:
             read_plan(plan, Names(), None, self.file("panels", panels) if panels else None)

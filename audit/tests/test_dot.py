@@ -40,7 +40,7 @@ OURS_OUTSIDE = ("means nothing here", "a text in quotes has no end")
 
 
 def edges(text: str) -> List[Tuple[Node, Node]]:
-    """The edges of a text."""
+    """Returns the edges of a text."""
     return [(tuple(edge.one), tuple(edge.other)) for edge in edges_of(text)]
 
 
@@ -130,7 +130,7 @@ class Large(unittest.TestCase):
         self.assertLess(many, 60)
 
     def seconds_of(self, edges: int) -> float:
-        """The processor time that reading so many edges takes."""
+        """Returns the processor time that reading so many edges takes."""
         lines = [f'"leaf{at // 99}":"swp{at}" -- "spine{at % 97}":"swp{at // 3}" [label="x"];'
                  for at in range(edges)]
         text = "\n".join(["graph G {", *lines, "}", ""])
@@ -151,7 +151,7 @@ class Large(unittest.TestCase):
 
 
 def taken(text: str) -> Tuple[bool, str]:
-    """Whether a file is taken for a whole topology, and what is wrong with it."""
+    """Returns whether a file is taken for a whole topology, and what is wrong with it."""
     try:
         list(read_topology(text))
     except TopologyFault as fault:
@@ -160,7 +160,7 @@ def taken(text: str) -> Tuple[bool, str]:
 
 
 def is_ours_alone(text: str, said: str) -> bool:
-    """Whether we refuse a file for what graphviz does not look at."""
+    """Returns whether only we refuse a file, for what graphviz does not look at."""
     if not said.endswith(OURS_OUTSIDE):
         return said.endswith(OURS_ALONE)
     try:
@@ -171,18 +171,18 @@ def is_ours_alone(text: str, said: str) -> bool:
 
 
 def fault_before(text: str) -> str:
-    """What is wrong with the begin of a file, which may have no graph."""
+    """Returns what is wrong with the beginning of a file, which may have no graph."""
     return taken(text)[1]
 
 
 def is_taken_by_dot(text: str) -> bool:
-    """Whether graphviz takes a file."""
+    """Returns whether graphviz accepts a file."""
     return subprocess.run(["dot", "-Tcanon"], input=text.encode(), check=False,
                           capture_output=True).returncode == 0
 
 
 def damaged(text: str, dice: random.Random) -> str:
-    """A text with pieces that are gone, others, or twice."""
+    """Returns a text with pieces that are gone, changed, or twice."""
     for _ in range(dice.choice([1, 1, 1, 2])):
         at = dice.randrange(len(text) + 1)
         end = min(len(text), at + dice.choice([0, 0, 1, 1, 2, 5, 30]))

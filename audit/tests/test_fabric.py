@@ -1,5 +1,5 @@
-"""A fabric of 2,000 links with 100 faults of 20 kinds, seen in many forms: each fault is told, and
-nothing else."""
+"""A fabric of 2,000 links with 100 faults of 20 kinds, seen in many forms: each fault is reported,
+and nothing else."""
 from __future__ import annotations
 
 import json
@@ -42,8 +42,8 @@ class Faults(InAFolder):
         self.write_lists()
 
     def write_lists(self) -> None:
-        """Writes what each host sees, in the forms in turn: shows where a port is hidden, and forms
-        that tell everything where frame sizes are compared, or somebody names a LAG."""
+        """Writes what each host sees, in the forms in turn: shows if a port is hidden, and forms
+        that say everything if frame sizes are compared, or somebody names a LAG."""
         self.assertGreater(len(FORMS), 9)
         fabric = self.fabric
         of_shows = {host for host, _ in fabric.hidden}
@@ -53,19 +53,19 @@ class Faults(InAFolder):
             is_full = names_lag or not fabric.frames.keys().isdisjoint({host, *peers})
             forms = sorted(cabling.FORMS if is_full else FORMS)
             form = "show" if host in of_shows else forms[number % len(forms)]
-            heard = ports if form == "show" else {port: some for port, some in ports.items() if some}
+            heard = ports if form == "show" else {one: some for one, some in ports.items() if some}
             words = [self.tlvs] if form in cabling.FORMS else []
             self.file(f"seen/{host}", FORMS[form](heard, *words))
 
     def tlvs(self, neighbor: End) -> Sequence[Tuple[str, str]]:
-        """The frame size of a neighbor, and the number of its LAG."""
+        """Returns the frame size of a neighbor, and the number of its LAG."""
         size = self.fabric.frames.get(neighbor[0], 9216)
         lag = self.lags.get(neighbor)
         told = [] if lag is None else [("00120f.3", f"03{lag:08x}")]
         return [("00120f.4", f"{size:04x}"), *told]
 
     def audited(self, plan: str) -> Any:
-        """The JSON of an audit, without what is not the same each time."""
+        """Returns the JSON of an audit, without what is not the same each time."""
         ran = run(plan, *self.words, "--json", str(self.folder / "seen"))
         self.assertEqual(ran.returncode, 1, ran.stderr)
         return json.loads(ran.stdout)
@@ -86,7 +86,8 @@ class Faults(InAFolder):
                              wanted, name)
 
     def need_each_fault(self, told: Any) -> None:
-        """Each repair is of one planted fault, and each fault has as few repairs as it may."""
+        """Checks that each repair is of one planted fault, and that each fault has as few repairs
+        as it may."""
         of_ends = {end: fault for fault in self.fabric.faults for end in fault.ends}
         kinds: Dict[int, List[str]] = {}
         for repair in told["repairs"]:
@@ -102,7 +103,8 @@ class Faults(InAFolder):
             self.assertTrue(0 < count <= fault.most, (fault, kinds.get(id(fault))))
 
     def need_true_neighbors(self, told: Any) -> None:
-        """What an end is told to have is what it has, and nothing that is wrong is right."""
+        """Checks that what an end is reported to have is what it has, and that nothing wrong is
+        called right."""
         wrong: Set[Tuple[str, str]] = set()
         for one in told["ends"]:
             end = one["host"], one["port"]

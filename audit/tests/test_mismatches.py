@@ -1,4 +1,4 @@
-"""What both ends of right links say of them: the mismatches are told, and no other link."""
+"""What both ends of right links say of them: the mismatches are reported, and no other link."""
 from __future__ import annotations
 
 import unittest
@@ -23,7 +23,7 @@ AGGREGATES = ("0300000007", "0100000000", "")
 
 
 def shown(port: str, peer: End, tlvs: Sequence[str]) -> List[str]:
-    """What a show says of a port with one neighbor, which sent these TLVs."""
+    """Returns what a show says of a port with one neighbor, which sent these TLVs."""
     front = f"lldp.{port}."
     return [f"{front}neighbors=1", f"{front}octets=100", f"{front}too-many=no",
             f"{front}1.chassis.mac=02:00:00:00:00:01", f"{front}1.port.ifname={peer.port}",
@@ -32,7 +32,7 @@ def shown(port: str, peer: End, tlvs: Sequence[str]) -> List[str]:
 
 
 def tlvs(size: str = "", vlan: str = "", kind: str = "", aggregate: str = "") -> List[str]:
-    """The TLVs of these contents, as a show has them; none for one that is empty."""
+    """Returns the TLVs of these contents, as a show has them, and none for an empty one."""
     pairs = (("00120f.4", size), ("0080c2.1", vlan), ("00120f.1", kind), ("00120f.3", aggregate))
     return [f"{key}={content}" for key, content in pairs if content]
 
@@ -48,11 +48,11 @@ class Network:
             self.said[link.one] = self.said[link.other] = said
 
     def end(self, number: int) -> End:
-        """An end: the ports of a link are those of two hosts."""
+        """Returns an end: the ports of a link are those of two hosts."""
         return End(f"host{number % 2 + number // 2 // PORTS * 2}", f"p{number // 2 % PORTS}")
 
     def mismatches(self) -> Dict[End, str]:
-        """Those that an audit of the shows tells."""
+        """Returns those that an audit of the shows reports."""
         shows: Dict[str, List[str]] = {}
         for one, other, *_ in self.links:
             shows.setdefault(one.host, []).extend(shown(one.port, other, self.said[other]))

@@ -80,7 +80,7 @@ class Lines(unittest.TestCase):
     """What an audit says with --vendor-names and without."""
 
     def lines(self, names: Names, wants: str, *has: Seen) -> List[str]:
-        """The lines where a 1 wants an end, and has this neighbor, as one, or at two ports."""
+        """Returns the lines if a 1 wants an end, and has this neighbor, as one, or at two ports."""
         links = [Link(End("a", str(number)), End(*wants.replace("N", str(number)).split(" ", 1)),
                       None) for number in range(1, len(has) + 1)]
         plan, tables = Plan("plan", links, names), Tables(names)
@@ -135,7 +135,7 @@ class FurtherNames(InAFolder):
     """--aliases."""
 
     def aliases(self, text: str, names: Names = Names()) -> Aliases:
-        """The aliases of a file."""
+        """Returns the aliases of a file."""
         return read_aliases(self.file("aliases", text), names)
 
     def test_rows(self) -> None:
@@ -207,7 +207,7 @@ class Aggregates(InAFolder):
 
 
 def same(one: str, other: str) -> bool:
-    """Whether two names differ in case alone."""
+    """Returns whether two names differ in case alone."""
     return one.casefold() == other.casefold()
 
 

@@ -9,7 +9,7 @@ from lldpa_audit.report.order import natural
 
 
 def seen(host: str, port: str) -> Seen:
-    """A neighbor of these names."""
+    """Returns a neighbor of these names."""
     return Seen((host,), (port,))
 
 

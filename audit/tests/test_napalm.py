@@ -34,7 +34,7 @@ SHORT: Any = {
 
 
 def read(tree: Any) -> Listing:
-    """What a file of this JSON tells."""
+    """Returns what a file of this JSON says."""
     octets = json.dumps(tree, indent=1).encode()
     reader = reader_of(octets)
     assert reader is not None
@@ -42,7 +42,7 @@ def read(tree: Any) -> Listing:
 
 
 def fault_of(tree: Any) -> Optional[str]:
-    """What is wrong with it."""
+    """Returns what is wrong with it."""
     try:
         return str(read(tree)) and None
     except SeenFault as fault:

@@ -1,4 +1,4 @@
-"""The page of a report: what is on it, and how wide it is in a browser, where there is one."""
+"""The page of a report: what is on it, and how wide it is in a browser, if there is one."""
 from __future__ import annotations
 
 import html
@@ -39,7 +39,7 @@ parent.document.documentElement.setAttribute('data-widths', JSON.stringify([
 
 
 def report_of(ends: int, hosts: int = 20) -> Report:
-    """A report of so many ends with faults of each kind, on so many hosts."""
+    """Returns a report of so many ends with faults of each kind, on so many hosts."""
     links = [Link(End(f"leaf{at % hosts}", f"swp{at}"), End(f"{LONG}{at}", "eth0"), at + 2, None,
                   Detail((f"C{at:05}", "rack <7>"), [End("pp1", f"F{at}"), End("pp1", f"R{at}")]))
              for at in range(ends)]

@@ -28,7 +28,7 @@ leaf1,swp4,host04,eth0,C4,r10,1500
 
 
 def framed(lines: List[str], size: int) -> List[str]:
-    """The lines of a port whose neighbor tells a frame size."""
+    """Returns the lines of a port whose neighbor says a frame size."""
     front = lines[0].partition(".neighbors")[0]
     return [*lines, f"{front}.1.org.00120f.4={size:04x}"]
 

@@ -57,7 +57,7 @@ class Plans(unittest.TestCase):
         self.path = str(Path(holder.name, "plan"))
 
     def links(self, text: str, encoding: str = "utf-8") -> List[Tuple[str, str, str, str]]:
-        """The links of a plan, each once, as it writes them."""
+        """Returns the links of a plan, each once, as it writes them."""
         Path(self.path).write_bytes(text.encode(encoding))
         wishes = list(read_plan(self.path, self.names).ends.values())
         for one, other in zip(wishes[::2], wishes[1::2]):
@@ -65,7 +65,7 @@ class Plans(unittest.TestCase):
         return [(*wish.end, *wish.wants) for wish in wishes[::2]]
 
     def fault(self, text: str, encoding: str = "utf-8") -> str:
-        """What is said of a plan, behind the name of its file."""
+        """Returns what is said of a plan, behind the name of its file."""
         with self.assertRaises(PlanFault) as raised:
             self.links(text, encoding)
         said = str(raised.exception)

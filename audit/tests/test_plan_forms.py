@@ -38,7 +38,7 @@ class Forms(unittest.TestCase):
 
     def plan(self, text: str, columns: Optional[Mapping[str, str]] = None,
              panels: Optional[str] = None) -> Plan:
-        """The plan of a text, through the panels of another."""
+        """Returns the plan of a text, through the panels of another."""
         (self.folder / "plan").write_text(text)
         if panels is not None:
             (self.folder / "panels").write_text(panels)
@@ -46,12 +46,12 @@ class Forms(unittest.TestCase):
                          None if panels is None else str(self.folder / "panels"))
 
     def links(self, plan: Plan) -> List[str]:
-        """Its links, as `a 1 - b 2`."""
+        """Returns its links, as `a 1 - b 2`."""
         wishes = list(plan.ends.values())[::2]
         return [f"{wish.end} - {wish.wants}" for wish in wishes]
 
     def notes(self, plan: Plan) -> List[str]:
-        """Its notes, without the file's name."""
+        """Returns its notes, without the file's name."""
         return [note.partition(": ")[2] for note in plan.notes]
 
 

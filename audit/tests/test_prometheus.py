@@ -25,12 +25,12 @@ leaf2,swp1,host03,eth0
 
 
 def told(instance: str, **labels: str) -> Dict[str, str]:
-    """The labels of a series of a host."""
+    """Returns the labels of a series of a host."""
     return {"job": "node", "instance": instance, **labels}
 
 
 def neighbor(instance: str, port: str, name: str, port_id: str, **more: str) -> Dict[str, str]:
-    """The labels of a neighbor, as lldpa-ctl writes them."""
+    """Returns the labels of a neighbor, as lldpa-ctl writes them."""
     return told(instance, port=port, chassis_kind="mac", chassis="02:00:00:00:00:01", name=name,
                 port_id_kind="ifname", port_id=port_id, port_descr="", management="", **more)
 
@@ -45,18 +45,18 @@ class Fake:
         self.ages: List[Tuple[Dict[str, str], float]] = []
 
     def host(self, instance: str, *ports: str, up: float = 1) -> None:
-        """A host that is scraped, with these ports."""
+        """Returns a host that is scraped, with these ports."""
         self.up.append((told(instance, __name__="up"), up))
         self.too_many += [(told(instance, port=port), 0) for port in ports]
 
     def answers(self) -> Answers:
-        """What is read of it."""
+        """Returns what is read of it."""
         return Answers(*([Sample(*one) for one in some] for some in (self.up, self.too_many)),
                        [Sample(one, 1) for one in self.neighbors],
                        [Sample(*one) for one in self.ages])
 
     def result(self, query: str) -> Any:
-        """The result of a query of the API."""
+        """Returns the result of a query of the API."""
         samples = {"up": self.up, "lldpa_too_many": self.too_many, "vector(time())": [({}, NOW)],
                    "lldpa_neighbor_info": [(one, 1) for one in self.neighbors]}
         found: Any = samples.get(query, self.ages)
@@ -83,14 +83,14 @@ class ApiCase(InAFolder):
         self.url = f"http://127.0.0.1:{self.server.server_port}"
 
     def handler(self) -> Any:
-        """What answers a question."""
+        """Returns what answers a question."""
         test = self
 
         class Handler(BaseHTTPRequestHandler):
             """Answers by the Prometheus of the test."""
 
             def do_POST(self) -> None:
-                """A query."""
+                """Answers a query."""
                 octets = self.rfile.read(int(self.headers["Content-Length"]))
                 words = {key: value[0] for key, value in parse_qs(octets.decode()).items()}
                 test.asked.append((self.path, words, self.headers["Authorization"]))
@@ -108,7 +108,7 @@ class ApiCase(InAFolder):
         return Handler
 
     def audit(self, *words: str) -> Tuple[int, str, str]:
-        """The audit by the server."""
+        """Runs the audit by the server."""
         ran = run(self.plan, "--prometheus", self.url, *words)
         return ran.returncode, ran.stdout, ran.stderr
 
@@ -181,7 +181,7 @@ class Series(unittest.TestCase):
         self.fake = Fake()
 
     def fleet(self, hosts: Hosts = Hosts()) -> Any:
-        """The hosts."""
+        """Returns the hosts."""
         return fleet_of(self.fake.answers(), hosts, 300)
 
     def test_hosts(self) -> None:

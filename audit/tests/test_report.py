@@ -16,17 +16,17 @@ Known = Mapping[str, Sequence[Seen]]
 
 
 def link(one: str, other: str) -> Link:
-    """A planned link of two ends such as `a 1`."""
+    """Returns a planned link of two ends such as `a 1`."""
     return Link(end(one), end(other), None)
 
 
 def end(text: str) -> End:
-    """An end such as `a 1`."""
+    """Returns an end such as `a 1`."""
     return End(*text.split())
 
 
 def seen(text: str, chassis: str = "02:00:00:00:00:01") -> Seen:
-    """A neighbor of these names."""
+    """Returns a neighbor of these names."""
     host, port = text.split()
     return Seen((host, chassis), (port,), chassis, port)
 
@@ -35,7 +35,7 @@ class Reports(unittest.TestCase):
     """Each test is a plan, what is known, and the lines."""
 
     def lines(self, links: Sequence[Link], known: Known, names: Names = Names()) -> List[str]:
-        """The lines and the count."""
+        """Returns the lines and the count."""
         plan, tables = Plan("plan", links, names), Tables(names)
         for port, neighbors in known.items():
             tables.add(*end(port), neighbors)
@@ -171,7 +171,7 @@ class OneLineARepair(Reports):
                  "s1 q1": [seen("l1 p2")], "s2 q1": [seen("l1 p1")]}
 
     def known(self, *ends: str) -> List[str]:
-        """The lines where these ends are known."""
+        """Returns the lines if these ends are known."""
         return self.lines(self.LINKS, {one: self.EXCHANGED[one] for one in ends})
 
     def test_exchange_that_is_seen_from_both_sides(self) -> None:
@@ -208,7 +208,7 @@ class OneLineARepair(Reports):
 
 
 class NotLookedAt(Reports):
-    """The count says what is planned where nothing is given."""
+    """The count says what is planned if nothing is given."""
 
     LINKS = [link("leaf1 1", "leaf2 1"), link("leaf1 2", "leaf3 1")]
 

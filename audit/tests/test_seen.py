@@ -80,7 +80,7 @@ class Neighbors(unittest.TestCase):
 
 
 class QuickWay(unittest.TestCase):
-    """What the quick way takes, the other reads likewise, and each fault is told by its line."""
+    """What the quick way takes, the other reads in the same way, and each fault names its line."""
 
     def test_usual_ports_are_found(self) -> None:
         text = "\n".join(rack.show(rack.PORTS)) + "\n"
@@ -121,7 +121,7 @@ class QuickWay(unittest.TestCase):
 
 
 def told_by(read: Callable[[str], Ports], text: str) -> Union[Ports, str]:
-    """The ports of a show, or what is wrong with it."""
+    """Returns the ports of a show, or what is wrong with it."""
     try:
         return read(text)
     except ShowFault as fault:
@@ -129,7 +129,7 @@ def told_by(read: Callable[[str], Ports], text: str) -> Union[Ports, str]:
 
 
 def damaged(text: str, rng: random.Random) -> str:
-    """Whole lines with a piece that is gone, another, or twice."""
+    """Returns whole lines with a piece that is gone, changed, or twice."""
     at = rng.randrange(len(text))
     end = min(len(text), at + rng.choice([0, 1, 2, 5, 30, 200]))
     line = rng.choice(text.splitlines(keepends=True))

@@ -20,7 +20,7 @@ leaf2.lab,swp2,host04,eth0
 
 
 def keyvalue(*neighbors: Tuple[str, str, str]) -> str:
-    """What lldpcli writes of neighbors: the port, and the neighbor's two names."""
+    """Returns what lldpcli writes of neighbors: the port, and the neighbor's two names."""
     return "".join(
         f"lldp.{port}.via=LLDP\nlldp.{port}.rid=1\nlldp.{port}.chassis.mac=02:00:00:00:00:01\n"
         f"lldp.{port}.chassis.name={host}\nlldp.{port}.port.ifname={name}\n"
@@ -28,7 +28,7 @@ def keyvalue(*neighbors: Tuple[str, str, str]) -> str:
 
 
 def napalm(*neighbors: Tuple[str, str, str]) -> str:
-    """The same in NAPALM's short form."""
+    """Returns the same in NAPALM's short form."""
     ports: Any = {port: [{"hostname": host, "port": name}] for port, host, name in neighbors}
     return json.dumps(ports)
 
@@ -43,7 +43,7 @@ class Folders(InAFolder):
         self.seen = str(self.folder / "seen")
 
     def audit(self, *words: str) -> Tuple[int, str, str]:
-        """The audit of these words, the plan first."""
+        """Runs the audit of these words, the plan first."""
         ran = run(self.plan, "--host", "leaf1", *words)
         return ran.returncode, ran.stdout, ran.stderr
 
@@ -92,7 +92,8 @@ class Folders(InAFolder):
         self.assertEqual((status, err), (2, f"lldpa-audit: {self.seen}: Is a directory\n"))
 
     def test_one_sided(self) -> None:
-        """A list of one end has all whom it hears, so the other end is not heard there."""
+        """Checks that a list of one end has all neighbors that it hears, so the other end is not
+        heard there."""
         self.plan = self.file("plan.csv", "host,port,peer,peer_port\na,1,b,1\na,2,b,2\n")
         one = self.file("one", keyvalue(("1", "b", "1"), ("2", "b", "2")))
         other = self.file("other", keyvalue(("1", "a", "1")))

@@ -43,19 +43,19 @@ SETTINGS: Dict[int, Settings] = {2: Settings(9216, 10, 1000, "full", True, 7),
 
 
 def read(octets: bytes) -> Listing:
-    """What octets of a form tell."""
+    """Returns what octets of a form say."""
     reader = reader_of(octets)
     assert reader is not None
     return reader(octets)
 
 
 def names_of(neighbors: Sequence[Seen]) -> List[Tuple[Tuple[str, ...], Tuple[str, ...]]]:
-    """The names of neighbors."""
+    """Returns the names of neighbors."""
     return [(one.hosts, one.ports) for one in neighbors]
 
 
 def of_our_agent(frames: Sequence[bytes]) -> Sequence[Seen]:
-    """The neighbors that our agent shows when it heard these frames."""
+    """Returns the neighbors that our agent shows when it heard these frames."""
     with Agent.start(["swp1"], PROGRAM, receive_only=True) as agent:
         for octets in frames:
             agent.frame("swp1", octets)
@@ -63,7 +63,7 @@ def of_our_agent(frames: Sequence[bytes]) -> Sequence[Seen]:
 
 
 def fault_of(octets: bytes) -> Optional[str]:
-    """What is wrong with octets; no other exception comes."""
+    """Returns what is wrong with octets; no other exception comes."""
     reader = reader_of(octets)
     try:
         return None if reader is None else str(reader(octets)) and None
@@ -131,7 +131,7 @@ class Lldpcli(unittest.TestCase):
 
 
 class Faults(unittest.TestCase):
-    """What is damaged is a fault that is told, and nothing else."""
+    """What is damaged is a fault that is reported, and nothing else."""
 
     def test_shows_of_something_else(self) -> None:
         interface = '{"lldp":{"interface":{"a":{"status":"RX","chassis":{},"port":{}}}}}'

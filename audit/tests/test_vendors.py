@@ -29,7 +29,7 @@ NEEDED = {"chassisId", "chassis_id", "port_id", "l_port_id", "lldp-local-port-id
 
 
 def read(text: str) -> Listing:
-    """What a file tells."""
+    """Returns what a file says."""
     reader = reader_of(text.encode()[:512])
     if reader is None:
         raise SeenFault("no form")

@@ -11,13 +11,13 @@ Ports = Mapping[str, Sequence[Tuple[str, str]]]
 
 
 def chassis_of(host: str) -> str:
-    """A chassis ID, other for each host."""
+    """Returns a chassis ID, another one for each host."""
     digits = f"{sum(ord(letter) * 7 ** at for at, letter in enumerate(host)) % 16 ** 6:06x}"
     return f"02:00:5e:{digits[:2]}:{digits[2:4]}:{digits[4:]}"
 
 
 def eos(ports: Ports) -> str:
-    """EOS."""
+    """Writes EOS."""
     def one(host: str, port: str) -> Any:
         return {"chassisIdType": "macAddress", "chassisId": chassis_of(host), "systemName": host,
                 "systemDescription": "Arista Networks EOS version 4.31.2F",
@@ -32,7 +32,7 @@ def eos(ports: Ports) -> str:
 
 
 def nxos(ports: Ports) -> str:
-    """NX-OS; one neighbor alone is no list."""
+    """Writes NX-OS; one neighbor alone is not a list."""
     rows = [{"chassis_type": "4", "chassis_id": chassis_of(host), "port_type": "5",
              "port_id": port_id,
              "l_port_id": port, "port_desc": "to the fabric", "sys_name": host,
@@ -51,7 +51,7 @@ JUNOS = (("lldp-local-port-id", 0), ("lldp-remote-chassis-id-subtype", "Mac addr
 
 
 def junos_rows(ports: Ports) -> Sequence[Sequence[Tuple[str, str]]]:
-    """The fields of each neighbor of a Junos."""
+    """Returns the fields of each neighbor of a Junos."""
     told = [(port, chassis_of(host), port_id, host)
             for port, neighbors in ports.items() for host, port_id in neighbors]
     return [[(name, text if isinstance(text, str) else texts[text]) for name, text in JUNOS]
@@ -77,7 +77,7 @@ def junos_xml(ports: Ports) -> str:
 
 
 def nvue(ports: Ports) -> str:
-    """NVUE, in which a neighbor has a name of its own."""
+    """Writes NVUE, in which a neighbor has a name of its own."""
     def one(host: str, port: str) -> Any:
         return {"age": "3600", "chassis": {
             "chassis-id": chassis_of(host), "management-address-ipv4": "10.0.0.1",
@@ -90,7 +90,7 @@ def nvue(ports: Ports) -> str:
 
 
 def networkctl(ports: Ports) -> str:
-    """systemd."""
+    """Writes systemd's form."""
     def one(host: str, port: str) -> Any:
         return {"ChassisID": chassis_of(host), "RawChassisID": [4, 2], "PortID": port,
                 "RawPortID": [5, *port.encode()], "PortDescription": "to the fabric",
@@ -102,7 +102,7 @@ def networkctl(ports: Ports) -> str:
 
 
 def napalm(ports: Ports) -> str:
-    """NAPALM's get_lldp_neighbors_detail."""
+    """Writes NAPALM's get_lldp_neighbors_detail."""
     return json.dumps({port: [{
         "parent_interface": "", "remote_chassis_id": chassis_of(host), "remote_system_name": host,
         "remote_port": port_id, "remote_port_description": "to the fabric",
@@ -111,7 +111,7 @@ def napalm(ports: Ports) -> str:
 
 
 def ios(ports: Ports) -> str:
-    """The text of IOS."""
+    """Writes the text of IOS."""
     blocks = [f"""------------------------------------------------
 Local Intf: {port}
 Chassis id: {chassis_of(host)}
@@ -135,7 +135,7 @@ Vlan ID: 10
 
 
 def nxos_text(ports: Ports) -> str:
-    """The text of NX-OS."""
+    """Writes the text of NX-OS."""
     blocks = [f"""Chassis id: {chassis_of(host)}
 Port id: {port_id}
 Local Port id: {port}

@@ -58,7 +58,7 @@ class Network:
         self.verdicts[rogue] = "unplanned"
 
     def swap(self, link, links):
-        """The cables of two links end at each other's ends."""
+        """Lets the cables of two links end at each other's ends."""
         if not links:
             self.unplug(link, links)
             return
@@ -68,33 +68,33 @@ class Network:
             self.verdicts[end] = "swapped"
 
     def swap_with_stranger(self, link, _):
-        """A cable ends at somebody who is not planned."""
+        """Lets a cable end at a host that is not planned."""
         one, other = link
         self.seen[one], self.seen[other] = [("stranger", f"p{len(self.verdicts)}")], []
         self.verdicts[one], self.verdicts[other] = "wrong", "silent"
 
     def unplug(self, link, _):
-        """There is no cable."""
+        """Removes a cable."""
         for end in link:
             self.seen[end], self.verdicts[end] = [], "silent"
 
     def add_rogue(self, link, _):
-        """Somebody else hangs in."""
+        """Adds a host that is not planned."""
         self.seen[link[0]].append(("rogue", f"p{len(self.verdicts)}"))
         self.verdicts[link[0]] = "extra"
 
     def double(self, link, _):
-        """There are two of one name."""
+        """Adds a second host of one name."""
         self.seen[link[0]] *= 2
         self.verdicts[link[0]] = "doubled"
 
     def deafen(self, link, _):
-        """One end hears nobody."""
+        """Makes one end hear nobody."""
         self.seen[link[1]] = []
         self.verdicts[link[0]] = self.verdicts[link[1]] = "one-sided"
 
     def hide(self, link, _):
-        """An end is in no show."""
+        """Leaves an end out of each show."""
         del self.seen[link[0]]
         self.hidden.append(link)
         self.verdicts[link[0]] = "no data"
@@ -112,35 +112,36 @@ class Network:
         return [str(folder / "plan.csv"), str(folder / "seen")]
 
     def wanted(self, form):
-        """The verdicts. A form of lldpcli's has no port that hears nobody, so a hidden one hears nobody as well."""
+        """Returns the verdicts. A form of lldpcli's has no port that hears nobody, so a hidden one
+        hears nobody as well."""
         deaf = [] if form == "show" else [end for link in self.hidden for end in link]
         return {**self.verdicts, **dict.fromkeys(deaf, "one-sided")}
 
 
 def show_of(ports, tlvs=lambda neighbor: ()):
-    """A show, in which each neighbor has the TLVs that `tlvs` returns for it."""
+    """Returns a show, in which each neighbor has the TLVs that `tlvs` returns for it."""
     return "".join(line + "\n" for port, neighbors in ports.items() for line in show_of_port(port, neighbors, tlvs))
 
 
 def tree_of(ports, tlvs=lambda neighbor: SETTINGS):
-    """What lldpcli shows in detail of neighbors that came 12 minutes ago."""
+    """Returns what lldpcli shows in detail of neighbors that came 12 minutes ago."""
     show = read_show(show_of(ports, tlvs).splitlines())
     since = {(one.port, one.id): "1970-01-01T00:00:00Z" for one in show.neighbors}
     return neighbors(Told(show, since, {}, 725), None, Depth.DETAILS)
 
 
 def of_lldpcli(form):
-    """What writes a form of lldpcli's."""
+    """Returns the writer of a form of lldpcli's."""
     return lambda *words: OF_LLDPCLI[form](tree_of(*words)) + "\n"
 
 
 def xml(*words):
-    """The form xml, which lldpctl does not have."""
+    """Writes the form xml, which lldpctl does not have."""
     return '<?xml version="1.0" encoding="UTF-8"?>\n' + element(tree_of(*words))
 
 
 def element(node, front=""):
-    """A node as an element."""
+    """Returns a node as an element."""
     attributes = "".join(f" {key}={quoteattr(value)}" for key, _, value in node.attributes)
     inner = "".join(element(one, front + " ") for one in node.nodes)
     begin = f"{front}<{node.key} label={quoteattr(node.label)}{attributes}>"
@@ -151,7 +152,7 @@ FORMS = {"show": show_of, **{form: of_lldpcli(form) for form in OF_LLDPCLI}, "xm
 
 
 def show_of_port(port, neighbors, tlvs):
-    """What a show says of a port."""
+    """Returns what a show says of a port."""
     yield f"lldp.{port}.neighbors={len(neighbors)}"
     yield f"lldp.{port}.octets={110 * len(neighbors)}"
     yield f"lldp.{port}.too-many=no"
@@ -171,7 +172,7 @@ def show_of_port(port, neighbors, tlvs):
 
 
 def faults_found(words):
-    """The verdict of each end that is not right, as the audit tells it in JSON."""
+    """Returns the verdict of each end that is not right, from the audit's JSON."""
     told = subprocess.run([*AUDIT, "--json", *words], stdout=subprocess.PIPE, check=False).stdout
     ends = json.loads(told)["ends"]
     return {(end["host"], end["port"]): end["verdict"] for end in ends if end["verdict"] != "right"}

@@ -31,7 +31,7 @@ def audit(program, plan, *words):
 
 
 def version_of_graphviz():
-    """The version of dot, or nothing where there is none."""
+    """Returns the version of dot, or nothing if it is not installed."""
     if not shutil.which("dot"):
         return ""
     told = subprocess.run(["dot", "-V"], capture_output=True, text=True).stderr
@@ -39,7 +39,7 @@ def version_of_graphviz():
 
 
 def check_picture(checks, program, room):
-    """The picture is the one that the pages show."""
+    """Checks that the picture is the one that the pages show."""
     shown = (FOLDER / "audit.svg").read_text()
     wanted, found = DRAWN_BY.search(shown)[1], version_of_graphviz()
     if wanted != found:
@@ -51,7 +51,7 @@ def check_picture(checks, program, room):
 
 
 def check_network(checks, room):
-    """A network with known faults."""
+    """Checks a network with known faults."""
     network = cabling.Network(40, 100)
     found = cabling.faults_found(network.write(room))
     checks.that("each fault of a network is found, and no other", found == network.verdicts)

@@ -53,7 +53,7 @@ def samples():
 
 
 def damaged(octets, dice):
-    """A file with pieces that are gone, others, or there many times."""
+    """Returns a file with pieces that are gone, changed, or repeated many times."""
     for _ in range(dice.choice([1, 1, 2, 4])):
         at = dice.randrange(len(octets) + 1)
         end = min(len(octets), at + dice.choice([0, 1, 2, 4, 16, 64, 256]))
@@ -66,7 +66,8 @@ def damaged(octets, dice):
 
 
 def enlarged(octets, dice):
-    """A file in which a piece stands so often that it has 32 MB; some of them are compressed."""
+    """Returns a file in which a piece is repeated until it has 32 MB; some of them are
+    compressed."""
     at = dice.randrange(len(octets))
     octets = gzip.decompress(octets) if octets.startswith(b"\x1f\x8b") and dice.random() < 0.5 else octets
     at = min(at, len(octets) - 1)
@@ -96,7 +97,7 @@ def read(kind, path):
 
 
 def tried(kind, path):
-    """What is wrong with how a file is read, which a process of its own does; and what it took."""
+    """Returns what is wrong with how a process of its own reads a file, and what it took."""
     child = os.fork()
     if child == 0:
         resource.setrlimit(resource.RLIMIT_CPU, (3 * SECONDS, 3 * SECONDS))

@@ -6,7 +6,7 @@ the verdicts must be the same.
 
 Two namespaces are joined by two links. At the end host01 an lldpd sends over one of them; at the end leaf1 an lldpd and
 an lldpa-live hear it. The cable is planned in several ways, leaf1 begins to send, and a second sender comes. It needs
-Linux, root, and Debian's packages lldpd and iproute2. The last line is `N passed, M failed`; where something is missing
+Linux, root, and Debian's packages lldpd and iproute2. The last line is `N passed, M failed`; if something is missing
 it says so, and the status is 77.
 """
 import os
@@ -47,7 +47,7 @@ class Trial:
         self.children, self.passed, self.failed = [], 0, 0
 
     def start(self, namespace, host, *words):
-        """Starts a program at an end, where it has the host's name."""
+        """Starts a program at an end, at which it has the host's name."""
         inside = f'hostname {host} && exec "$@"'
         self.children.append(subprocess.Popen(
             ["ip", "netns", "exec", namespace, "unshare", "-u", "sh", "-c", inside, "sh", *words],
@@ -59,11 +59,11 @@ class Trial:
         self.wait(f"lldpd of {host}", lambda: self.lldpcli(host, "plain", "show", "configuration"))
 
     def lldpcli(self, host, form, *words):
-        """What lldpcli writes."""
+        """Returns what lldpcli writes."""
         return subprocess.run(["lldpcli", "-u", str(self.room / host), "-f", form, *words], capture_output=True).stdout
 
     def ctl(self, *words):
-        """What lldpa-ctl writes."""
+        """Returns what lldpa-ctl writes."""
         return subprocess.run([sys.executable, str(TOP / "bin" / "lldpa-ctl"), "--control", str(self.room / "control"),
                                *words], capture_output=True).stdout
 
@@ -76,14 +76,14 @@ class Trial:
             time.sleep(0.2)
 
     def audit(self, plan, *files):
-        """The status and the output of an audit of files, each with its host."""
+        """Returns the status and the output of an audit of files, each with its host."""
         (self.room / "plan").write_text(f"host,port,peer,peer_port\n{plan}\n")
         words = [sys.executable, str(TOP / "bin" / "lldpa-audit"), "--program", self.program, "--host", "leaf1"]
         ran = subprocess.run([*words, str(self.room / "plan"), *files], capture_output=True, text=True)
         return ran.returncode, ran.stdout
 
     def listed(self, host, form):
-        """A file of lldpcli's."""
+        """Writes a file of lldpcli's."""
         file = self.room / f"{host}.{form}"
         file.write_bytes(self.lldpcli(host, form, "show", "neighbors", "details"))
         return f"{host}:{file}"
@@ -103,12 +103,12 @@ class Trial:
                     print(f"FAILED: {state}, {name}, {form}: {found}, and not {wanted}")
 
     def run(self):
-        """The link through its states."""
+        """Runs the link through its states."""
         self.start_lldpd(HERE, "leaf1", "-r")
         self.start(HERE, "leaf1", sys.executable, str(TOP / "bin" / "lldpa-live"), "--program", self.program, "--stay",
                    "--control", str(self.room / "control"), "swp1", "swp2", "--", "--receive-only")
         self.wait("lldpa-live", lambda: self.ctl("show", "neighbors"))
-        # lldpcli's keyvalue is empty where nobody is heard, and an empty file says nothing
+        # lldpcli's keyvalue is empty if nobody is heard, and an empty file says nothing
         self.compare("nobody", ["right"], FORMS[1:])
         self.start_lldpd(THERE, "host01", "-I", "eth0")
         self.wait("host01", lambda: self.heard(b"host01"))
@@ -122,7 +122,7 @@ class Trial:
         self.compare("two neighbors", PLANS)
 
     def heard(self, name):
-        """Whether both at leaf1 have heard a neighbor."""
+        """Returns whether both at leaf1 have heard a neighbor."""
         return name in self.lldpcli("leaf1", "json", "show", "neighbors") and name in self.ctl("show", "neighbors")
 
     def end(self):
@@ -134,7 +134,7 @@ class Trial:
 
 
 def missing():
-    """What this needs and does not have."""
+    """Returns what this needs and does not have."""
     if os.geteuid() != 0:
         return "it wants root"
     return next((f"{name} is not installed" for name in ("lldpd", "lldpcli", "ip") if not shutil.which(name)), "")

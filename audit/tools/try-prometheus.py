@@ -7,7 +7,7 @@ of texts, written there by `lldpa-ctl metrics`.
 Two namespaces are joined by two links, an lldpa-live at each end. Prometheus and the exporters listen on 127.0.0.1
 alone. The link is right, then planned otherwise; then one host's metrics are no longer written, and then its exporter
 ends. It needs Linux, root, and Debian's packages prometheus, prometheus-node-exporter and iproute2. The last line is `N
-passed, M failed`; where something is missing it says so, and the status is 77.
+passed, M failed`; if something is missing it says so, and the status is 77.
 """
 import os
 import pathlib
@@ -38,14 +38,14 @@ ALL_RIGHT = (0, "4 planned: 4 right, 0 not\n")
 
 
 def free_port():
-    """A port of 127.0.0.1 at which nothing listens."""
+    """Returns a port of 127.0.0.1 at which nothing listens."""
     with socket.socket() as listener:
         listener.bind(("127.0.0.1", 0))
         return listener.getsockname()[1]
 
 
 def namespace(host):
-    """The name of a host's namespace."""
+    """Returns the name of a host's namespace."""
     return f"lldpa-{host}-{os.getpid()}"
 
 
@@ -87,7 +87,8 @@ class Trial:
                    f"--web.listen-address=127.0.0.1:{self.ports['prometheus']}")
 
     def write_metrics(self):
-        """What a timer does: the metrics of each host, in the folder of its exporter."""
+        """Does what a timer does: writes the metrics of each host, in the folder of its
+        exporter."""
         for host in HOSTS:
             words = [sys.executable, str(TOP / "bin" / "lldpa-ctl"), "--control", str(self.room / f"{host}.control"), "metrics"]
             ran = subprocess.run(words, capture_output=True)
@@ -96,7 +97,7 @@ class Trial:
                 (self.room / host / "lldpa.prom.new").rename(self.room / host / "lldpa.prom")
 
     def audit(self, plan, *words):
-        """The status and the output of an audit; what is said beside them stands behind."""
+        """Returns the status and the output of an audit, followed by what is said."""
         (self.room / "plan.csv").write_text(plan)
         ran = subprocess.run([sys.executable, str(TOP / "bin" / "lldpa-audit"), str(self.room / "plan.csv"), "--prometheus",
                               f"http://127.0.0.1:{self.ports['prometheus']}", "--instance-label", "nodename",
@@ -117,7 +118,7 @@ class Trial:
         print(f"{what}:\n{found[1]}", end="" if found == wanted else f"FAILED: wanted {wanted}\n", flush=True)
 
     def run(self):
-        """The states of the link."""
+        """Runs the link through its states."""
         for host in HOSTS:
             self.start_host(host)
         self.start_prometheus()
@@ -146,14 +147,14 @@ class Trial:
 
 
 def missing():
-    """What this needs and does not have."""
+    """Returns what this needs and does not have."""
     if os.geteuid() != 0:
         return "it wants root"
     return next((f"{name} is not installed" for name in NEEDED if not shutil.which(name)), "")
 
 
 def make_links():
-    """The two namespaces and their links."""
+    """Makes the two namespaces and their links."""
     for host in HOSTS:
         subprocess.run(["ip", "netns", "add", namespace(host)], check=True)
     for one, other in zip(*PORTS.values()):

@@ -10,7 +10,9 @@ import time
 import unittest
 from contextlib import suppress
 from pathlib import Path
+from unittest import mock
 
+from lldpa.client import connection
 from lldpa.client.connection import Client, Gone
 from patience import by_the_clock, eventually
 from served import CTL, REPOSITORY
@@ -64,8 +66,12 @@ class Hostile(FilesCase):
             self.assertEqual(client.ask("update"), ["a"] * 9)
 
     def test_neither_a_line_nor_an_answer_is_without_end(self) -> None:
+        self.assertEqual(connection.MOST_OCTETS, 128 * 2**20)
+        patch = mock.patch.object(connection, "MOST_OCTETS", 1_000_000)
+        self.addCleanup(patch.stop)
+        patch.start()
         for octets, text in ((b"=1\n" + b"a" * 70_000, "a line of more than 64 kB"),
-                             (b"=99999999\n" + b"\n" * 9_000_000, "more than 128 MB"),
+                             (b"=99999999\n" + b"\n" * 70_000, "more than 128 MB"),
                              (b"=" + b"9" * 5000 + b"\n", "not an answer of lldpa-live")):
             with Client(self.answers(octets, pause=30)) as client:
                 with self.assertRaisesRegex(Gone, text):

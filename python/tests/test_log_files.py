@@ -82,6 +82,7 @@ class TestFiles(OnLinks):
         self.assertTrue(live.answers())
         self.assertLessEqual(self.size(), 2_000_001)
 
+    @by_the_clock
     def test_folder_that_is_removed_is_told_and_found_again(self) -> None:
         live = self.live("--log", str(self.folder), "eth0")
         self.assertTrue(eventually(lambda: list(self.folder.iterdir())))
@@ -101,6 +102,7 @@ class TestFiles(OnLinks):
         self.assertEqual(live.ends(), 1)
         self.assertIn(f"{self.folder}: the log's user may not create files there", live.errors())
 
+    @by_the_clock
     def test_folder_that_has_logs_alone_is_taken(self) -> None:
         self.folder.mkdir(mode=0o755)
         for _ in range(2):
@@ -130,6 +132,7 @@ class TestFiles(OnLinks):
         self.assertIsNotNone(peer.hears(2, ttl=0))
         self.assertEqual(live.ends(2), 0)
 
+    @by_the_clock
     def test_killed_process_of_the_log_is_followed_by_another(self) -> None:
         live = self.live("--log", str(self.folder), "eth0")
         os.kill(log_process(live), signal.SIGKILL)

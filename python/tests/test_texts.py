@@ -8,7 +8,7 @@ import unittest
 
 from lldpa.agent.escapes import shown_text
 from lldpa.agent.show import unescaped
-from lldpa.texts import printable, readable, shown_octets, text_of, width_of, wrapped
+from lldpa.texts import is_shown, printable, readable, shown_octets, text_of, width_of, wrapped
 
 SHOWN = ("a", "é", "ß", "Ω", "ж", "א", "ع", "京", "한", "€", "→", "😀", "½", "\\", "~", "¡")
 # controls, breaks, blanks, what turns the direction of writing, joins, fills or selects, private
@@ -36,12 +36,11 @@ class ForPeople(unittest.TestCase):
             self.assertEqual(printable(letter), escaped)
 
     def test_no_letter_of_all_controls_a_terminal(self) -> None:
-        for number in range(0x110000):
-            if not 0xD800 <= number < 0xE000:
-                letter = chr(number)
-                if printable("a" + letter) == "a" + letter:
-                    kind = unicodedata.category(letter)
-                    self.assertTrue(kind[0] in "LMNPS" or letter == " ", hex(number))
+        letters = map(chr, (*range(0xD800), *range(0xE000, 0x110000)))
+        others = [letter for letter in letters
+                  if unicodedata.category(letter)[0] not in "LMNPS" and letter != " "]
+        self.assertGreater(len(others), 900_000)
+        self.assertEqual([letter for letter in others if is_shown(letter)], [])
 
     def test_octets_that_are_no_utf8_are_escaped(self) -> None:
         for octets, shown in ((b"caf\xe9", "caf\\xe9"), (b"\xc3", "\\xc3"),

@@ -35,7 +35,7 @@ class Count(NamedTuple):
 
     @property
     def text(self) -> str:
-        """The count without the ages, which is the same whenever it is made."""
+        """Returns the count without the ages, which is the same whenever it is made."""
         wrong = self.planned - self.right - self.unseen - self.known
         text = f"{self.planned} planned: {self.right} right, {wrong} not"
         if self.known:
@@ -50,7 +50,7 @@ class Count(NamedTuple):
 
     @property
     def is_all_right(self) -> bool:
-        """Whether there is no fault in what was looked at."""
+        """Returns whether there is no fault in what was looked at."""
         is_right = self.right + self.unseen + self.known == self.planned
         return is_right and not self.unplanned and not self.mismatches
 
@@ -70,7 +70,7 @@ def count(findings: Sequence[Finding], plan: Plan, tables: Tables, mismatches: i
 
 
 def named(hosts: Sequence[str]) -> str:
-    """The first of some hosts, and how many more there are."""
+    """Returns the first of some hosts, and how many more there are."""
     names = [shown(host) for host in hosts[:MOST_NAMED]]
     more = len(hosts) - len(names)
     return ", ".join([*names, f"{more} more"] if more else names)

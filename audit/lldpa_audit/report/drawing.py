@@ -29,13 +29,13 @@ class Line(NamedTuple):
 
 
 def pictures_of(host: str, faults: Sequence[Finding], hints: Hints) -> Iterator[str]:
-    """The pictures of a host's faults in SVG, of so many ends each."""
+    """Returns the pictures of a host's faults in SVG, of so many ends each."""
     for begin in range(0, len(faults), ENDS_OF_A_PICTURE):
         yield picture(host, faults[begin:begin + ENDS_OF_A_PICTURE], hints)
 
 
 def picture(host: str, faults: Sequence[Finding], hints: Hints) -> str:
-    """One picture."""
+    """Returns one picture."""
     parts, top = [], MARGIN
     for fault in faults:
         lines = lines_of(fault, hints)
@@ -48,7 +48,7 @@ def picture(host: str, faults: Sequence[Finding], hints: Hints) -> str:
 
 
 def lines_of(fault: Finding, hints: Hints) -> list[Line]:
-    """The lines of an end: to each neighbor, and to the one that is wanted and not there."""
+    """Returns the lines of an end: to each neighbor, and to the wanted one if it is missing."""
     wants, is_wanted = fault.wants, False
     lines = []
     for neighbor in fault.has:
@@ -65,7 +65,7 @@ def lines_of(fault: Finding, hints: Hints) -> list[Line]:
 
 
 def group(fault: Finding, lines: Sequence[Line], top: int) -> str:
-    """The port of an end, its lines, and their peers."""
+    """Returns the port of an end, its lines, and their peers."""
     middle = top + (len(lines) - 1) * ROW // 2
     kind = "unknown" if fault.verdict is Verdict.NO_DATA else "fault"
     parts = [box(PORT_LEFT, PORT_RIGHT, middle, f"port {kind}", shown(fault.end.port))]
@@ -78,7 +78,7 @@ def group(fault: Finding, lines: Sequence[Line], top: int) -> str:
 
 
 def box(left: int, right: int, top: int, style: str, text: str) -> str:
-    """A box with as much of a text as it has room for; the whole is told where one points at it."""
+    """Returns a box with as much of a text as fits; the pointer shows the whole."""
     room = int((right - left - 8) / LETTER)
     seen = text if len(text) <= room else text[:room - 1] + "\N{HORIZONTAL ELLIPSIS}"
     return (f'<g class="{style}"><title>{html.escape(text)}</title>'

@@ -10,7 +10,7 @@ Pair = tuple[Finding, Finding]
 
 
 class Exchanges:
-    """Where each exchange among some faults is told, and how else it could be mended.
+    """Where each exchange among some faults is reported, and how else it could be mended.
 
     Two ends that are swapped with each other are a pair. The other ends of their two links may be a
     pair as well, or one of them is wrong since it has what the exchange makes it have.
@@ -28,15 +28,17 @@ class Exchanges:
                 self._add((fault, twin))
 
     def told_at(self, key: End) -> Optional[End]:
-        """The end in whose line the fault of an end is told, if it is of an exchange."""
+        """Returns the end in whose line the fault of an end is reported, if it is of an
+        exchange."""
         return self._told_at.get(key)
 
     def other_pair(self, fault: Finding) -> Optional[Pair]:
-        """The two ends at the other side of an exchange, which could be exchanged instead."""
+        """Returns the two ends at the other side of an exchange, which could be exchanged
+        instead."""
         return self._others.get(self._names.end(fault.end))
 
     def _twin(self, fault: Finding) -> Optional[Finding]:
-        """The fault of the end that is swapped with this one, as this one is with that."""
+        """Returns the fault of the end that is swapped with this one, as this one is with that."""
         if fault.verdict is not Verdict.SWAPPED or fault.partner is None:
             return None
         twin = self._faults.get(self._names.end(fault.partner))
@@ -57,7 +59,8 @@ class Exchanges:
                 self._told_at[self._names.end(member.end)] = told_at
 
     def _far(self, fault: Finding, twin: Finding) -> Optional[Finding]:
-        """The fault of the end that a swapped one wants, if that has just what the twin is."""
+        """Returns the fault of the end that a swapped one wants, if that has just what the twin
+        is."""
         if fault.wants is None:
             return None
         far = self._faults.get(self._names.end(fault.wants))
@@ -68,7 +71,8 @@ class Exchanges:
         return far if is_of_it and is_free else None
 
     def _order(self, pair: Pair) -> tuple[bool, int]:
-        """A pair at one host comes first, since cables are mostly exchanged at one side."""
+        """Returns the key that sorts a pair at one host first, since cables are mostly exchanged at
+        one side."""
         keys = [self._names.end(fault.end) for fault in pair]
         return keys[0].host != keys[1].host, min(map(self._rank, keys))
 

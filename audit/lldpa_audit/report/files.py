@@ -8,11 +8,11 @@ from lldpa.faults import LldpaFault
 
 
 class FileFault(LldpaFault):
-    """Why there is no such file."""
+    """Why a file cannot be written."""
 
 
 def write(file: str, octets: bytes) -> None:
-    """Writes a file; who reads it never sees a part of it, unless it is no plain file. Raises
+    """Writes a file. A reader never sees a part of it, unless it is not a plain file. Raises
     FileFault."""
     path = Path(file)
     try:

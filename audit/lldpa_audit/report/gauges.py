@@ -12,7 +12,7 @@ from .together import MISMATCH
 
 
 def metrics_of(report: Report) -> bytes:
-    """The metrics."""
+    """Returns the metrics."""
     return "".join(parts(report)).encode()
 
 

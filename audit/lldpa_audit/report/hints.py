@@ -35,19 +35,21 @@ class Hints:
         return {self.differences.loosest(end): end for end in ends}
 
     def place(self, end: End) -> str:
-        """An end as a person at the audited host names it: where there is one host, by its port."""
+        """Returns an end as a person at the audited host names it: by its port if there is one
+        host."""
         is_ours = len(self.tables.hosts) == 1 and self.names.host(end.host) in self.tables.hosts
         return shown(end.port) if is_ours else str(end)
 
     def wanted(self, end: End, wants: End) -> str:
-        """Whom an end wants, and where else that one is seen."""
+        """Returns which end is wanted, and where else that one is seen."""
         place = self.seen.get(self.names.end(wants))
         if place is None or place == end:
             return str(wants)
         return f"{wants} (seen at {self.place(place)})"
 
     def neighbor(self, neighbor: Seen, end: End, wants: Optional[End]) -> str:
-        """Who is seen at an end, and where that one is planned, or in what its name differs."""
+        """Returns which neighbor an end has, and where that is planned, or in what its name
+        differs."""
         differs = self.differences.of_neighbor(neighbor, wants) if wants else None
         if differs:
             return f"{neighbor} ({differs})"
@@ -58,16 +60,17 @@ class Hints:
         return str(wish.end) if is_here else f"{wish.end} (planned at {self.place(wish.wants)})"
 
     def planned(self, neighbor: Seen) -> Optional[Wish]:
-        """The one end of the plan that a neighbor answers to; None where there are several."""
+        """Returns the one end of the plan that a neighbor answers to, or None if there are
+        several."""
         ends = {key for key in self.names.ends(neighbor) if key in self.plan.ends}
         return self.plan.ends[ends.pop()] if len(ends) == 1 else None
 
     def reason(self, end: End) -> str:
-        """Why nothing is known of an end."""
+        """Returns why nothing is known of an end."""
         return self.tables.reason(self.names.end(end)) or self.like(end)
 
     def like(self, end: End) -> str:
-        """A port beside the plan that has nearly the name of an end."""
+        """Returns an unplanned port that has nearly the name of an end."""
         like = self.beside.get(self.differences.loosest(end))
         differs = self.differences.of_ends(like, end) if like else None
         return f"{self.place(like)} is known: {differs}" if like and differs else ""

@@ -14,7 +14,7 @@ NAME = "lldpa-audit"
 
 
 def junit_of(report: Report) -> bytes:
-    """The report in XML."""
+    """Returns the report in XML."""
     return "".join(parts(report)).encode()
 
 
@@ -36,7 +36,7 @@ def parts(report: Report) -> Iterator[str]:
 
 
 def case_of(report: Report, one: Finding) -> tuple[str, str]:
-    """The element that tells what became of an end, empty where it is right, and its text."""
+    """Returns the element that says what became of an end, empty if it is right, and its text."""
     if one.verdict is Verdict.KNOWN:
         return "skipped", one.reason
     text = report.fault_lines.text(one)
@@ -47,5 +47,5 @@ def case_of(report: Report, one: Finding) -> tuple[str, str]:
 
 
 def quoted(text: str) -> str:
-    """A text as the value of an attribute."""
+    """Returns a text as the value of an attribute."""
     return quoteattr(printable(text_of(text)))

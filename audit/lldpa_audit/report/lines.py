@@ -25,7 +25,7 @@ WIDEST = 48
 # how much of what the plan says further of a cable stands in its line
 MOST_DETAILS, LONGEST_DETAIL = 4, 40
 
-# which end of a link is told first: the one that is wrong
+# which end of a link is reported first: the one that is wrong
 RANKS = (Verdict.WRONG, Verdict.SWAPPED, Verdict.DOUBLED, Verdict.EXTRA, Verdict.NO_DATA,
          Verdict.ONE_SIDED, Verdict.SILENT, Verdict.DISAGREES)
 
@@ -55,8 +55,8 @@ class FaultLines:
                           for fault in repair.mends}
 
     def lines(self, by: str = "") -> list[str]:
-        """The lines, with the places in a column of their own; those of each text of a column of
-        the plan stand together, below a line with it."""
+        """Returns the lines, with the places in a column of their own; those of each text of a
+        column of the plan are together, below a line with it."""
         told = [(self.column(one, by), self.place(one), f"{one.text}{self.details(one)}")
                 for one in self.repairs]
         width = max((len(place) for _, place, _ in told if len(place) <= WIDEST), default=0)
@@ -70,16 +70,16 @@ class FaultLines:
         return lines
 
     def column(self, repair: Repair, by: str) -> str:
-        """What a column of the plan says of the cable at which a repair begins."""
+        """Returns what a column of the plan says of the cable at which a repair begins."""
         details = self.plan.details(self.names.end(repair.end)) if by else ()
         return next((text for name, text in details if key_of(name) == key_of(by)), "")
 
     def place(self, repair: Repair) -> str:
-        """Where a repair begins, as its line says it."""
+        """Returns where a repair begins, as its line says it."""
         return repair.place or self.hints.place(repair.end)
 
     def details(self, repair: Repair) -> str:
-        """What else the plan says of the cable of a repair."""
+        """Returns what else the plan says of the cable of a repair."""
         key = self.names.end(repair.end)
         wish = self.plan.ends.get(key)
         if wish is None or repair.place:
@@ -91,7 +91,7 @@ class FaultLines:
         return f" [{printable(text_of(', '.join(texts)))}]" if texts else ""
 
     def links_of(self, repair: Repair) -> int:
-        """How many planned links a repair mends."""
+        """Returns how many planned links a repair mends."""
         wishes = [self.plan.ends.get(self.names.end(fault.end)) for fault in repair.mends]
         return len({frozenset((wish.end, wish.wants)) for wish in wishes if wish is not None})
 
@@ -140,7 +140,8 @@ class FaultLines:
                              faults.take(dict.fromkeys([key, *there])))
 
     def _rank(self, fault: Finding) -> tuple[int, bool]:
-        """The end of a link that is wrong comes first; of two that hear it, the one that hears."""
+        """Returns the key that sorts the end of a link that is wrong first, and if both are, the
+        one that hears the other."""
         return RANKS.index(fault.verdict), not fault.has
 
     def _beside(self, faults: Faults, ends: Sequence[End]) -> list[End]:

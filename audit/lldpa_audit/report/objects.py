@@ -43,7 +43,7 @@ class Objects:
         }
 
     def of_repair(self, number: int, repair: Repair) -> Json:
-        """One repair: its kind, where to go, what is wrong, and the ends that it mends."""
+        """Returns one repair: its kind, where to go, what is wrong, and the ends that it mends."""
         return {
             "number": number,
             "kind": repair.kind,
@@ -58,7 +58,7 @@ class Objects:
         }
 
     def of_finding(self, finding: Finding) -> Json:
-        """One finding."""
+        """Returns one finding."""
         text = self.lines.text(finding)
         is_mismatch = finding.verdict is Verdict.RIGHT and bool(text)
         return {
@@ -74,7 +74,8 @@ class Objects:
         }
 
     def of_plan(self, end: End) -> Dict[str, Json]:
-        """What the plan says of an end: its line, its other columns, and the way through panels."""
+        """Returns what the plan says of an end: its line, its other columns, and the way through
+        panels."""
         key = self.names.end(end)
         wish = self.plan.ends.get(key)
         return {
@@ -85,12 +86,12 @@ class Objects:
 
 
 def json_of_end(end: Optional[End]) -> Json:
-    """The two names of an end."""
+    """Returns the two names of an end."""
     return None if end is None else {"host": text_of(end.host), "port": text_of(end.port)}
 
 
 def json_of_neighbor(neighbor: Seen) -> Json:
-    """Each name that a neighbor answers to, and its identifiers as they were heard."""
+    """Returns each name that a neighbor answers to, and its identifiers as they were heard."""
     return {"host_names": [text_of(name) for name in neighbor.hosts],
             "port_names": [text_of(name) for name in neighbor.ports],
             "chassis": text_of(neighbor.chassis), "port_id": text_of(neighbor.port_id)}

@@ -12,7 +12,7 @@ class HasEnd(Protocol):
 
     @property
     def end(self) -> End:
-        """The end."""
+        """Returns the end."""
 
 
 Item = TypeVar("Item", bound=HasEnd)
@@ -27,7 +27,7 @@ def in_order(items: Iterable[Item]) -> list[Item]:
 
 
 def natural(name: str, keys: dict[str, Key]) -> Key:
-    """What a name is ordered by, which is made once for each name."""
+    """Returns the key by which a name is sorted, which is made once for each name."""
     key = keys.get(name)
     if key is None:
         key = keys[name] = [number(part) if at % 2 else part
@@ -36,11 +36,11 @@ def natural(name: str, keys: dict[str, Key]) -> Key:
 
 
 def number(digits: str) -> tuple[int, str]:
-    """A number of any length, as it is ordered."""
+    """Returns a number of any length, as it is sorted."""
     digits = digits.lstrip("0")
     return len(digits), digits
 
 
 def by_port(end: End) -> Key:
-    """What the ports of one host are ordered by."""
+    """Returns the key by which the ports of one host are sorted."""
     return natural(end.port, {})

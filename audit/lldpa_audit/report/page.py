@@ -19,7 +19,7 @@ FOREIGN = re.compile(r"[^\s<>&;]*[^\x00-\x7f][^\s<>&;]*")
 
 
 def page_of(report: Report) -> bytes:
-    """The page."""
+    """Returns the page."""
     return "".join(Page(report).parts()).encode(errors="backslashreplace")
 
 
@@ -35,7 +35,7 @@ class Page:
             self.hosts.setdefault(self.names.host(fault.end.host), []).append(fault)
 
     def parts(self) -> Iterator[str]:
-        """The page from its begin to its end."""
+        """Returns the page from its beginning to its end."""
         file = text(self.report.plan.file)
         yield ('<!DOCTYPE html>\n<html lang="en">\n<head>\n<meta charset="utf-8">\n'
                '<meta name="viewport" content="width=device-width, initial-scale=1">\n'
@@ -52,7 +52,7 @@ class Page:
         yield "</body>\n</html>\n"
 
     def repairs(self) -> Iterator[str]:
-        """The repairs: what to do, where, and how many links each mends."""
+        """Returns the repairs: what to do, where, and how many links each mends."""
         if not self.lines.repairs:
             return
         yield ("<table class=repairs><caption>Repairs</caption><tr><th>No.<th>Where"
@@ -65,7 +65,7 @@ class Page:
         yield "</table>\n"
 
     def by_kind(self) -> Iterator[str]:
-        """How many ends have each kind of fault."""
+        """Returns how many ends have each kind of fault."""
         counts = Counter(kind_of(fault) for fault in self.lines.told)
         yield "<table><caption>By kind</caption><tr><th>Fault<th>Ends</tr>\n"
         for kind, number in counts.most_common():
@@ -73,7 +73,7 @@ class Page:
         yield "</table>\n"
 
     def by_host(self) -> Iterator[str]:
-        """How many ends with a fault each host has, and of what kinds."""
+        """Returns how many ends with a fault each host has, and of what kinds."""
         yield "<table><caption>By host</caption><tr><th>Host<th>Ends<th>Faults</tr>\n"
         for number, faults in enumerate(self.hosts.values()):
             counts = Counter(kind_of(fault) for fault in faults)
@@ -83,7 +83,7 @@ class Page:
         yield "</table>\n"
 
     def not_looked_at(self) -> Iterator[str]:
-        """The hosts of which nothing is given."""
+        """Returns the hosts of which nothing is given."""
         hosts = self.report.count.hosts
         if hosts:
             names = ", ".join(text(shown(host)) for host in hosts)
@@ -91,7 +91,7 @@ class Page:
                    f"<p>{names}</p></details>\n")
 
     def host(self, number: int, faults: Sequence[Finding]) -> Iterator[str]:
-        """A host: its pictures, and its ends with a fault."""
+        """Returns a host: its pictures, and its ends with a fault."""
         name = faults[0].end.host
         yield f'<section id="h{number}">\n<h2>{text(shown(name))}</h2>\n<div class="pictures">\n'
         for picture in pictures_of(name, faults, self.lines.hints):
@@ -102,7 +102,7 @@ class Page:
         yield "</table>\n</section>\n"
 
     def row(self, fault: Finding) -> str:
-        """An end with a fault, and its row of the plan."""
+        """Returns an end with a fault, and its row of the plan."""
         says = text(self.lines.text(fault))
         number = self.lines.repair_of[self.names.end(fault.end)]
         says += f' <small><a href="#r{number}">repair {number}</a></small>'
@@ -110,7 +110,7 @@ class Page:
                 f"<td>{self.planned(fault.end)}</tr>\n")
 
     def planned(self, end: End) -> str:
-        """The line of the plan in which an end stands, and what else it says there."""
+        """Returns the line of the plan that has an end, and what else it says there."""
         key = self.names.end(end)
         wish = self.report.plan.ends.get(key)
         if wish is None:
@@ -124,10 +124,10 @@ class Page:
 
 
 def kind_of(fault: Finding) -> str:
-    """The kind of a fault; a right link whose ends disagree has a mismatch."""
+    """Returns the kind of a fault; a right link whose ends disagree has a mismatch."""
     return MISMATCH if fault.verdict is Verdict.RIGHT else str(fault.verdict.value)
 
 
 def text(name: str) -> str:
-    """A text as HTML. Each word of it whose letters may run from the right stands by itself."""
+    """Returns a text as HTML. Each word whose letters may run from the right is set apart."""
     return FOREIGN.sub(r"<bdi>\g<0></bdi>", html.escape(printable(text_of(name))))

@@ -14,7 +14,7 @@ from .files import FileFault
 from .order import by_port
 from .report import Report
 
-# where there are more right links than this, they are left out
+# if there are more right links than this, they are left out
 MOST_RIGHT = 500
 SECONDS = 120
 
@@ -48,11 +48,11 @@ class Box:
         self.faults: dict[str, tuple[str, str]] = {}
 
     def port(self, name: str) -> str:
-        """A port of the host, as an edge names it."""
+        """Returns a port of the host, as an edge names it."""
         return f"h{self.number}:p{self.ports.setdefault(name, len(self.ports))}"
 
     def node(self) -> str:
-        """The host as a node: a table with a row for each port."""
+        """Returns the host as a node: a table with a row for each port."""
         ports = sorted(self.ports, key=lambda port: by_port(End(self.name, port)))
         name = f'<B>{text(self.name)}</B></TD>'
         if self.is_left or self.faults:
@@ -65,7 +65,7 @@ class Box:
         return f"h{self.number} [label=<{TABLE}{body}</TABLE>>]\n"
 
     def cells(self, port: str) -> str:
-        """The text of a port's fault, and the port."""
+        """Returns the text of a port's fault, and the port."""
         color, fault = self.faults.get(port, ("", ""))
         words = fault if len(fault) <= LONGEST_TEXT else fault[:LONGEST_TEXT] + " .."
         said = f'<FONT COLOR="{color}">{GAP}{text(words)}{GAP}</FONT>' if fault else ""
@@ -74,7 +74,7 @@ class Box:
         return f'{self.cell(port)}<TD BORDER="0" ALIGN="LEFT">{said}</TD>'
 
     def cell(self, port: str) -> str:
-        """A port."""
+        """Returns a port."""
         begin = f'<TD PORT="p{self.ports[port]}"'
         if port not in self.faults:
             return f"{begin}>{text(port)}</TD>"
@@ -83,7 +83,7 @@ class Box:
 
 
 class Picture:
-    """Hosts and links of a report, those with a fault alone where only these are asked for."""
+    """Hosts and links of a report, only those with a fault if only these are asked for."""
 
     def __init__(self, report: Report, only_faults: bool) -> None:
         self.lines = report.fault_lines
@@ -110,7 +110,7 @@ class Picture:
             self.join(finding.end, other, style)
 
     def links(self, finding: Finding) -> Sequence[tuple[End, str]]:
-        """The ends to which lines go from an end, and the style of each."""
+        """Returns the ends to which lines lead from an end, and the style of each."""
         wants, verdict = finding.wants, finding.verdict
         seen = [self.end(neighbor, wants) for neighbor in finding.has if neighbor != NAMELESS]
         if verdict is Verdict.ONE_SIDED:
@@ -122,14 +122,14 @@ class Picture:
         return links
 
     def end(self, neighbor: Seen, wants: Optional[End]) -> End:
-        """The end at which a neighbor is drawn."""
+        """Returns the end at which a neighbor is drawn."""
         if wants is not None and self.names.answers(neighbor, self.names.end(wants)):
             return wants
         wish = self.lines.hints.planned(neighbor)
         return wish.end if wish else End(neighbor.hosts[0], neighbor.ports[0])
 
     def box(self, end: End) -> Box:
-        """The box of an end's host."""
+        """Returns the box of an end's host."""
         host = self.names.host(end.host)
         box = Box(end.host, len(self.boxes), host in self.left_hosts)
         return self.boxes.setdefault(host, box)
@@ -149,12 +149,12 @@ class Picture:
 
 
 def text(name: str) -> str:
-    """A text as graphviz takes it in a table."""
+    """Returns a text as graphviz takes it in a table."""
     return html.escape(printable(text_of(name)))
 
 
 def drawn(report: Report, only_faults: bool) -> bytes:
-    """The picture of a report in SVG. Raises FileFault."""
+    """Returns the picture of a report in SVG. Raises FileFault."""
     try:
         ran = subprocess.run(["dot", "-Tsvg"], input=str(Picture(report, only_faults)).encode(),
                              capture_output=True, timeout=SECONDS)

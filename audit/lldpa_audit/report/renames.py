@@ -25,7 +25,8 @@ def renamed(faults: Faults) -> Iterator[Repair]:
 
 
 def has_port(faults: Faults, neighbor: Seen, wanted: End) -> bool:
-    """Whether a neighbor has, or may have, the port of the end that is wanted, at another host."""
+    """Returns whether a neighbor has, or may have, the port of the end that is wanted, at another
+    host."""
     names = faults.names
     hosts = [*map(names.host, neighbor.hosts)]
     return wanted.host not in hosts and (
@@ -34,7 +35,7 @@ def has_port(faults: Faults, neighbor: Seen, wanted: End) -> bool:
 
 
 def is_heard_rightly(faults: Faults, host: str) -> bool:
-    """Whether a host is heard by its planned name at one of its links."""
+    """Returns whether a host is heard by its planned name at one of its links."""
     ends, names = faults.hints.tables.ends, faults.names
     return any(names.answers(neighbor, key)
                for key in faults.plan.ends_of_hosts.get(host, ())
@@ -43,12 +44,12 @@ def is_heard_rightly(faults: Faults, host: str) -> bool:
 
 
 def is_miswired(faults: Faults, some: list[tuple[End, Seen]]) -> bool:
-    """Whether the host itself hears others than it wants: then its cables are wrong."""
+    """Returns whether the host itself hears others than it wants: then its cables are wrong."""
     return any(faults.left[end].verdict in HAVE_ANOTHER for end, _ in some if end in faults.left)
 
 
 def repair(faults: Faults, host: str, some: list[tuple[End, Seen]]) -> Repair:
-    """The repair of a host that is heard at these ends by another name."""
+    """Returns the repair of a host that is heard at these ends by another name."""
     name, neighbor = faults.plan.hosts[host], some[0][1]
     differs = faults.hints.differences.of_neighbor(neighbor, some[0][0])
     links = faults.plan.ends_of_hosts[host]
@@ -62,6 +63,6 @@ def repair(faults: Faults, host: str, some: list[tuple[End, Seen]]) -> Repair:
 
 
 def has_neighbors(faults: Faults, key: End) -> bool:
-    """Whether somebody is heard at an end."""
+    """Returns whether an end has a neighbor."""
     told = faults.hints.tables.ends.get(key)
     return told is not None and bool(told.neighbors)

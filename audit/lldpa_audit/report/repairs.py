@@ -46,7 +46,7 @@ class Repair(NamedTuple):
 
     @property
     def to_do(self) -> str:
-        """What mends it."""
+        """Returns what mends it."""
         return TO_DO[self.kind]
 
 
@@ -67,12 +67,12 @@ class Faults:
         return [self.left.pop(key) for key in keys if key in self.left]
 
     def far(self, key: End) -> Optional[End]:
-        """The other end of the planned link of an end."""
+        """Returns the other end of the planned link of an end."""
         wish = self.plan.ends.get(key)
         return wish.wanted if wish else None
 
     def with_far(self, keys: Iterable[End], verdicts: Sequence[Verdict]) -> list[End]:
-        """These ends, and of the other ends of their links those that have such a verdict."""
+        """Returns these ends, and those other ends of their links that have such a verdict."""
         ends = list(keys)
         for key in list(ends):
             far = self.far(key)
@@ -81,11 +81,11 @@ class Faults:
         return ends
 
     def only(self, fault: Finding) -> Optional[Seen]:
-        """The neighbor of an end that has another one than it wants, and no second one."""
+        """Returns the neighbor of an end that has only another one than it wants."""
         return fault.has[0] if fault.verdict in HAVE_ANOTHER and len(fault.has) == 1 else None
 
     def meant(self, fault: Finding) -> Optional[End]:
-        """The end that ought to have what an end has."""
+        """Returns the end that ought to have what an end has."""
         neighbor = self.only(fault)
         wish = self.hints.planned(neighbor) if neighbor is not None else None
         return self.names.end(wish.wants) if wish else None

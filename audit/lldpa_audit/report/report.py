@@ -26,14 +26,14 @@ class Report:
         self.count = count(findings, plan, tables, len(self.fault_lines.mismatches))
 
     def lines(self, by: str = "") -> list[str]:
-        """A line for each fault, under the texts of a column of the plan if one is named, and the
-        count."""
+        """Returns a line for each fault, under the texts of a column of the plan if one is named,
+        and the count."""
         return [*self.fault_lines.lines(by), str(self.count)]
 
     def in_order(self) -> list[Finding]:
-        """The findings by hosts and ports."""
+        """Returns the findings by hosts and ports."""
         return in_order(self.findings)
 
     def as_json(self) -> Json:
-        """The repairs, and every finding."""
+        """Returns the repairs, and every finding."""
         return Objects(self.fault_lines, self.count).of(in_order(self.findings))

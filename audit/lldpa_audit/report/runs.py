@@ -34,14 +34,16 @@ def shifted(faults: Faults) -> Iterator[Repair]:
 
 
 def step_of(faults: Faults, key: End, places: dict[End, int]) -> int:
-    """How many ports further the end is that ought to have what an end has; 0 if there is none."""
+    """Returns how many ports further the end is that ought to have what an end has, or 0 if there
+    is none."""
     fault = faults.left.get(key)
     meant = faults.meant(fault) if fault is not None else None
     return places[meant] - places[key] if meant in places else 0
 
 
 def repair_of_run(faults: Faults, ports: Sequence[End], begin: int, end: int, step: int) -> Repair:
-    """The repair of ports that are shifted by one; the one behind the last may have nobody."""
+    """Returns the repair of ports that are shifted by one; the one after the last may have no
+    neighbor."""
     run = list(ports[begin:end])
     behind = end if step > 0 else begin - 1
     if 0 <= behind < len(ports):
@@ -93,7 +95,7 @@ def looped(faults: Faults) -> Iterator[Repair]:
 
 
 def own_end(faults: Faults, key: End, fault: Finding) -> Optional[End]:
-    """The end of the same host that is heard at an end that has one neighbor."""
+    """Returns the end of the same host that is heard at an end that has one neighbor."""
     if len(fault.has) != 1 or fault.verdict not in (*HAVE_ANOTHER, Verdict.UNPLANNED):
         return None
     ends = [end for end in faults.names.ends(fault.has[0]) if end.host == key.host]
@@ -103,7 +105,7 @@ def own_end(faults: Faults, key: End, fault: Finding) -> Optional[End]:
 
 def repair(faults: Faults, kind: str, keys: Sequence[End], text: str, places: Sequence[End]
            ) -> Repair:
-    """A repair of several ports of one host, and of the other ends of their links."""
+    """Returns a repair of several ports of one host, and of the other ends of their links."""
     first = faults.left[places[0]].end
     host = "" if len(faults.hints.tables.hosts) == 1 else f"{shown(first.host)} "
     ends = faults.with_far(keys, FAR)
@@ -112,7 +114,7 @@ def repair(faults: Faults, kind: str, keys: Sequence[End], text: str, places: Se
 
 
 def of_ports(faults: Faults, keys: Sequence[End]) -> str:
-    """The first and the last of some ports."""
+    """Returns the first and the last of some ports."""
     names = [shown(faults.left[key].end.port) for key in (keys[0], keys[-1])]
     return names[0] if len(keys) == 1 else f"{names[0]} to {names[1]}"
 

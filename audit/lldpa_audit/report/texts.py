@@ -25,11 +25,11 @@ class FaultTexts:
         self.faults = {self.names.end(fault.end): fault for fault in faults}
 
     def other_end(self, fault: Finding) -> Optional[Finding]:
-        """The fault at the other end of the planned link."""
+        """Returns the fault at the other end of the planned link."""
         return self.faults.get(self.names.end(fault.wants)) if fault.wants else None
 
     def text(self, fault: Finding) -> str:
-        """What is wrong at an end; nothing where it is right."""
+        """Returns what is wrong at an end, or nothing if it is right."""
         if fault.verdict is Verdict.KNOWN:
             return f"known: {shown(fault.reason)}"
         if fault.verdict is Verdict.RIGHT:
@@ -52,7 +52,8 @@ class FaultTexts:
         return f"{text} ({reason})" if reason else text
 
     def of_link(self, fault: Finding, other: Optional[Finding]) -> str:
-        """What is wrong at an end of a link, and at its other end, which has a lesser fault."""
+        """Returns what is wrong at an end of a link, and at its other end, which has a lesser
+        fault."""
         text = self.text(fault)
         if other is None or fault.verdict is other.verdict is Verdict.ONE_SIDED:
             return text
@@ -68,14 +69,14 @@ class FaultTexts:
         return f"{text}; {at} has {self.neighbors(other)}"
 
     def swapped(self, fault: Finding, partner: End) -> str:
-        """With whom an end is swapped, and which exchange would mend it as well."""
+        """Returns with which end an end is swapped, and which exchange would mend it as well."""
         has = self.hints.plan.ends[self.names.end(partner)].wants
         text = f"{self.hints.place(partner)}: wants {fault.wants}, has {has}"
         other = self.exchanges.other_pair(fault)
         return f"{text} (or else {other[0].end} with {other[1].end}, not both)" if other else text
 
     def reason(self, fault: Finding) -> str:
-        """Why nothing is known of an end, or heard at it."""
+        """Returns why nothing is known of an end, or heard at it."""
         if fault.verdict is Verdict.NO_DATA:
             return self.hints.reason(fault.end)
         if fault.verdict is not Verdict.SILENT:
@@ -85,7 +86,7 @@ class FaultTexts:
         return self.hints.like(fault.end) or ("which is silent, too" if is_twin else "")
 
     def neighbors(self, fault: Finding) -> str:
-        """The neighbors of an end; the extra ones alone where the one is there who is to be."""
+        """Returns the neighbors of an end, or only the extra ones if the wanted one is there."""
         has = fault.has
         if fault.verdict is Verdict.EXTRA and fault.wants is not None:
             wanted = self.names.end(fault.wants)
@@ -104,7 +105,7 @@ def listed(texts: Sequence[str]) -> str:
 
 
 def who_hears(fault: Finding) -> str:
-    """Which end of a link hears the other one."""
+    """Returns which end of a link hears the other one."""
     if fault.has:
         return f"hears {fault.wants}, is not heard there"
     return f"is heard by {fault.wants}, hears nobody"

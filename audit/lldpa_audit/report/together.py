@@ -16,8 +16,8 @@ FEWEST = 3
 
 def together(faults: Sequence[Finding], found: Mapping[End, Mismatch], names: Names, plan: Plan
              ) -> Iterator[Repair]:
-    """Yields a repair for each host and difference of three links or more, and for each other
-    link with a mismatch. Of two hosts that a link could be told at, it is one most of whose links
+    """Yields a repair for each host and difference of three links or more, and for each other link
+    with a mismatch. Of two hosts at which a link could be reported, it is one most of whose links
     differ so, and of two such hosts that with more."""
     groups: dict[tuple[str, str], list[Finding]] = {}
     for fault in faults:
@@ -38,7 +38,7 @@ def together(faults: Sequence[Finding], found: Mapping[End, Mismatch], names: Na
 
 
 def keys_of(one: Mismatch, names: Names) -> Iterator[tuple[str, str]]:
-    """Yields each host of a link with how it differs, where that is the same at several links."""
+    """Yields each host of a link with how it differs, if that is the same at several links."""
     if one.by_how_much:
         yield names.host(one.ends[0].host), one.by_how_much
         yield names.host(one.ends[1].host), one.opposite
@@ -46,7 +46,8 @@ def keys_of(one: Mismatch, names: Names) -> Iterator[tuple[str, str]]:
 
 def of_host(host: str, by: str, some: Sequence[Finding], found: Mapping[End, Mismatch],
             names: Names) -> Repair:
-    """The repair of a host that differs from its neighbors by the same at several links."""
+    """Returns the repair of a host that differs from its neighbors in the same way at several
+    links."""
     first = found[some[0].end]
     end = next(end for end in first.ends if names.host(end.host) == host)
     example = first.text.partition(": ")[2]

@@ -40,17 +40,18 @@ class Recorded(NamedTuple):
 
     @property
     def passed_over(self) -> str:
-        """The first note of an LLDP frame that could not be read; empty where there is none."""
+        """Returns the first note of an LLDP frame that could not be read, or an empty text."""
         return next((note for note in self.notes if PASSED_OVER in note), "")
 
 
 def read_port(files: Sequence[str], port: str, program: str) -> Recorded:
-    """Captures of one port. Raises OSError, and Ended where the agent does."""
+    """Captures of one port. Raises OSError, and Ended if the agent does."""
     return recorded([Source(file, "p0", {}, MOST_UNPACKED) for file in files], [port], program)
 
 
 def read_interfaces(file: str, program: str) -> Recorded:
-    """A capture that names its interfaces. Raises NoPortNamed for another, OSError and Ended."""
+    """Reads a capture that names its interfaces. Raises NoPortNamed for another, OSError and
+    Ended."""
     try:
         names = interface_names(file)
     except BadCapture as fault:
@@ -60,7 +61,7 @@ def read_interfaces(file: str, program: str) -> Recorded:
 
 
 def interface_names(file: str) -> Sequence[str]:
-    """The names of the Ethernet interfaces of a capture, each once, in their order."""
+    """Returns the names of the Ethernet interfaces of a capture, each once, in their order."""
     with opened(file) as octets:
         is_pcap = isinstance(reader_of(octets, MOST_UNPACKED), PcapReader)
     with opened(file) as octets:
@@ -73,7 +74,8 @@ def interface_names(file: str) -> Sequence[str]:
 
 
 def recorded(sources: Sequence[Source], names: Sequence[str], program: str) -> Recorded:
-    """What agents hold at the end of captures, each of some of the names. Their ports are p0 .."""
+    """Returns what agents hold at the end of captures, each of some of the names. Their ports are
+    p0 .."""
     faults: list[str] = []
     notes: list[str] = []
     times: list[float] = []
@@ -90,14 +92,14 @@ def recorded(sources: Sequence[Source], names: Sequence[str], program: str) -> R
 
 
 def ports_heard(sources: Sequence[Source], ports: Collection[str]) -> list[str]:
-    """Those of the ports of which captures have LLDP frames: others have no neighbor."""
+    """Returns those ports of which captures have LLDP frames: others have no neighbor."""
     lines = frames_of(sources, Told(ignored, ignored), False)
     heard = {line.split(" ", 2)[1] for line in lines}
     return [port for port in ports if port in heard]
 
 
 def ignored(_: str) -> None:
-    """Hears what is told, and does nothing."""
+    """Takes a line, and does nothing."""
 
 
 def asked(lines: Iterator[str], ports: Sequence[str], program: str) -> Iterator[Ports]:

@@ -25,7 +25,7 @@ Values = dict[str, str]
 
 
 def read_cisco(octets: bytes) -> Listing:
-    """The neighbors of each port. Raises SeenFault."""
+    """Returns the neighbors of each port. Raises SeenFault."""
     need_few_lines(octets)
     text = octets.decode(errors="surrogateescape").replace("\r\n", "\n")
     ports: dict[str, list[Seen]] = {}

@@ -13,13 +13,14 @@ KEY = "neighbors_held"
 
 
 def is_ctl_json(tree: Any) -> bool:
-    """Whether JSON is of this form."""
+    """Returns whether JSON is of this form."""
     ports = tree.get("ports") if isinstance(tree, dict) else None
     return isinstance(ports, list) and all(isinstance(one, dict) and KEY in one for one in ports)
 
 
 def read_ctl_json(tree: Any) -> Listing:
-    """The neighbors of each port. Raises SeenFault. A show has each port of its agent, or one."""
+    """Returns the neighbors of each port. Raises SeenFault. A show has each port of its agent, or
+    one."""
     ports: Ports = {}
     for port in tree["ports"]:
         name = needed(port, "name", "ports")

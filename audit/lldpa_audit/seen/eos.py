@@ -13,19 +13,19 @@ KEY = "lldpNeighbors"
 
 
 def is_eos(tree: Any) -> bool:
-    """Whether JSON is of this form."""
+    """Returns whether JSON is of this form."""
     return isinstance(result(tree), dict) and isinstance(result(tree).get(KEY), dict)
 
 
 def result(tree: Any) -> Any:
-    """What a command printed: eAPI answers with a list of such."""
+    """Returns what a command printed: eAPI answers with a list of such."""
     found = tree.get("result") if isinstance(tree, dict) else None
     return next((one for one in found if isinstance(one, dict) and KEY in one), tree
                 ) if isinstance(found, list) else tree
 
 
 def read_eos(tree: Any) -> Listing:
-    """The neighbors of each port. Raises SeenFault."""
+    """Returns the neighbors of each port. Raises SeenFault."""
     ports: Ports = {}
     for port, node in result(tree)[KEY].items():
         some = listed(part({port: node}, port, KEY).get("lldpNeighborInfo"), port)

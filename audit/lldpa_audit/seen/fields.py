@@ -13,13 +13,13 @@ OF_INTERFACES = {"5": "ifname", "1": "ifalias", "interfacename": "ifname", "ifna
 
 
 def text(node: Mapping[str, Any], name: str) -> str:
-    """A field's text or number as text; empty where there is none."""
+    """Returns a field's text or number as text, empty if there is none."""
     found = node.get(name)
     return found if isinstance(found, str) and found not in ABSENT else ""
 
 
 def needed(node: Mapping[str, Any], name: str, port: str) -> str:
-    """A field's text. Raises SeenFault where there is none."""
+    """Returns a field's text. Raises SeenFault if there is none."""
     found = text(node, name)
     if not found:
         raise SeenFault(f"{port!r} has a neighbor without {name}")
@@ -27,7 +27,7 @@ def needed(node: Mapping[str, Any], name: str, port: str) -> str:
 
 
 def part(node: Any, name: str, of: str) -> Mapping[str, Any]:
-    """The object in a field. Raises SeenFault where there is none."""
+    """Returns the object in a field. Raises SeenFault if there is none."""
     found = node.get(name) if isinstance(node, dict) else None
     if not isinstance(found, dict):
         raise SeenFault(f"{of!r} has no {name}")
@@ -35,8 +35,8 @@ def part(node: Any, name: str, of: str) -> Mapping[str, Any]:
 
 
 def listed(node: Any, of: str) -> Sequence[Mapping[str, Any]]:
-    """The objects of a list, which some vendors leave away around a single one. Raises SeenFault.
-    """
+    """Returns the objects of a list, which some vendors omit around a single one. Raises
+    SeenFault."""
     some = [node] if isinstance(node, dict) else node
     if not isinstance(some, list) or not all(isinstance(one, dict) for one in some):
         raise SeenFault(f"{of!r} has no list of objects")
@@ -44,5 +44,5 @@ def listed(node: Any, of: str) -> Sequence[Mapping[str, Any]]:
 
 
 def kind_of(subtype: str) -> str:
-    """The kind of a port ID by a vendor's word or number for its subtype."""
+    """Returns the kind of a port ID by a vendor's word or number for its subtype."""
     return OF_INTERFACES.get(subtype.lower().replace(" ", "").replace("-", ""), "local")

@@ -1,4 +1,4 @@
-"""Reads files of neighbors in any form, with a process for each processor where there are many."""
+"""Reads files of neighbors in any form, with a process for each processor if there are many."""
 from __future__ import annotations
 
 import os
@@ -34,7 +34,7 @@ class SeenFile(NamedTuple):
 
 
 def read_file(path: str) -> SeenFile:
-    """What is in a file. Raises OSError."""
+    """Returns what is in a file. Raises OSError."""
     try:
         with opened(path) as file:
             begin = file.read(len(MAGIC))
@@ -54,12 +54,13 @@ def read_file(path: str) -> SeenFile:
 
 
 def is_text(front: bytes) -> bool:
-    """Whether a file that begins like this is text: no capture has so few control characters."""
+    """Returns whether a file that begins like this is text: no capture has so few control
+    characters."""
     return bool(front) and all(octet >= 0x20 or octet in b"\t\r\n" for octet in front)
 
 
 def rest_of(take: Take) -> bytes:
-    """What is left of a list of neighbors. Raises SeenFault where it is too much for one."""
+    """Returns what is left of a list of neighbors. Raises SeenFault if it is too much for one."""
     octets = taken(take, MOST_OCTETS)
     if len(octets) == MOST_OCTETS:
         raise SeenFault(f"it has over {MOST_OCTETS} octets, and no list has so many")
@@ -67,7 +68,7 @@ def rest_of(take: Take) -> bytes:
 
 
 def taken(take: Take, size: int) -> bytes:
-    """So many octets, or all that there are."""
+    """Returns so many octets, or all that there are."""
     parts: list[bytes] = []
     while size > 0:
         part = take(size)
@@ -79,7 +80,8 @@ def taken(take: Take, size: int) -> bytes:
 
 
 def read_found(what: What) -> SeenFile:
-    """What is in a file. Raises OSError for one that was named, and did not stand in a folder."""
+    """Returns what is in a file. Raises OSError for one that was named, and not found in a
+    folder."""
     try:
         return read_file(what.file)
     except OSError as fault:
@@ -89,7 +91,8 @@ def read_found(what: What) -> SeenFile:
 
 
 def read_files(whats: Sequence[What]) -> Iterator[SeenFile]:
-    """What is in each file, in their order. Many are read from the call on. Raises OSError."""
+    """Returns what is in each file, in their order. Many are read from the call on. Raises
+    OSError."""
     processors = len(os.sched_getaffinity(0))
     if len(whats) < MANY or processors < 2:
         return map(read_found, whats)

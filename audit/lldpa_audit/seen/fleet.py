@@ -11,7 +11,7 @@ from .neighbor import clean, neighbor
 from .prometheus import Answers, Hosts, Labels, PrometheusFault
 from .shows import plain
 
-# the labels of a neighbor; where a target has labels of these names, `exported_` stands before them
+# the labels of a neighbor; if a target has labels of these names, `exported_` precedes them
 PARTS = ("port", "chassis", "port_id_kind", "port_id", "name", "management", "port_descr",
          "max_frame_size", "pvid")
 
@@ -26,7 +26,7 @@ class Fleet(NamedTuple):
 
 
 def fleet_of(answers: Answers, hosts: Hosts, stale_after: float) -> Fleet:
-    """The hosts of a Prometheus. Raises PrometheusFault where it has no series of a host."""
+    """Returns the hosts of a Prometheus. Raises PrometheusFault if it has no series of a host."""
     stale = {one: f"Prometheus: its metrics are {worded(age)} old"
              for one, age in ages(answers, hosts) if age > stale_after}
     ports = {host: of_host for host, of_host in ports_of(answers, hosts).items()
@@ -39,13 +39,14 @@ def fleet_of(answers: Answers, hosts: Hosts, stale_after: float) -> Fleet:
 
 
 def ages(answers: Answers, hosts: Hosts) -> Iterator[tuple[str, float]]:
-    """How old the metrics of hosts are that a node_exporter reads from a file."""
+    """Returns how old the metrics of hosts are that a node_exporter reads from a file."""
     for sample in answers.ages:
         yield hosts.host(sample.labels), sample.value
 
 
 def targets_without(answers: Answers, hosts: Hosts, known: Iterable[str]) -> dict[str, str]:
-    """Why targets have no ports that are known: one that is down, and one without metrics."""
+    """Returns why targets have no ports that are known: one that is down, and one without
+    metrics."""
     reasons: dict[str, str] = {}
     for sample in sorted(answers.up, key=lambda sample: -sample.value):
         host, instance = hosts.host(sample.labels), sample.labels.get("instance", "")
@@ -56,7 +57,8 @@ def targets_without(answers: Answers, hosts: Hosts, known: Iterable[str]) -> dic
 
 
 def ports_of(answers: Answers, hosts: Hosts) -> dict[str, Ports]:
-    """The ports of each host and their neighbors. Two targets of one host may tell the same."""
+    """Returns the ports of each host and their neighbors. Two targets of one host may report the
+    same."""
     told: dict[str, dict[str, dict[Sequence[str], Seen]]] = {}
     full: set[tuple[str, str]] = set()
     for sample in answers.too_many:
@@ -77,14 +79,14 @@ def ports_of(answers: Answers, hosts: Hosts) -> dict[str, Ports]:
 
 def neighbor_of(_: str, chassis: str, kind: str, port_id: str, name: str, management: str,
                 port_descr: str, max_frame_size: str, pvid: str) -> Seen:
-    """A neighbor by its labels."""
+    """Returns a neighbor by its labels."""
     settings = none_if_empty(Settings(number(max_frame_size) or None, number(pvid) or None))
     return neighbor(plain(chassis), kind, plain(port_id), plain(name), plain(port_descr),
                     [plain(management)], settings)
 
 
 def label(labels: Labels, name: str) -> str:
-    """A label as lldpa-ctl wrote it, which is the text of a show."""
+    """Returns a label as lldpa-ctl wrote it, which is the text of a show."""
     text = labels.get(f"exported_{name}", labels.get(name, ""))
     if text.isascii():
         return text

@@ -9,7 +9,7 @@ from lldpa.capture.source import opened
 
 from ..what import What, read_what
 
-# what ends the name of a file, and is no part of a host's name or a port's
+# what ends the name of a file, and is not part of a host's name or a port's
 ENDINGS = (".gz", ".json", ".json0", ".xml", ".keyvalue", ".kv", ".plain", ".txt", ".show", ".out",
            ".pcap", ".pcapng", ".cap")
 LEFT_BY_EDITORS = ("~", ".bak", ".orig", ".swp", ".tmp")
@@ -20,7 +20,7 @@ Say = Callable[[str], None]
 def read_whats(words: Sequence[str], ours: str, say: Say) -> Iterator[What]:
     """Yields what words name, each file of a folder by itself. What is passed over there is said.
 
-    Raises OSError, and ValueError where a folder is empty.
+    Raises OSError, and ValueError if a folder is empty.
     """
     for word in words:
         what = read_what(word, ours)
@@ -55,7 +55,7 @@ def of_host(host: str, folder: str, say: Say) -> Iterator[What]:
 
 
 def entries(folder: str, say: Say) -> Sequence["os.DirEntry[str]"]:
-    """The files and folders in a folder that are not hidden, by their names."""
+    """Returns the files and folders in a folder that are not hidden, by their names."""
     with os.scandir(folder) as found:
         there = sorted((one for one in found if not one.name.startswith(".")),
                        key=lambda one: one.name)
@@ -70,7 +70,8 @@ def entries(folder: str, say: Say) -> Sequence["os.DirEntry[str]"]:
 
 
 def why_passed_over(entry: "os.DirEntry[str]") -> str:
-    """Why what stands in a folder can be no list and no capture; empty where it can."""
+    """Returns why an entry of a folder cannot be a list or a capture, or an empty text if it
+    can."""
     if entry.name.endswith(LEFT_BY_EDITORS):
         return "it is a copy that an editor left"
     if entry.is_dir() or entry.is_file():
@@ -79,16 +80,16 @@ def why_passed_over(entry: "os.DirEntry[str]") -> str:
 
 
 def without_ending(name: str) -> str:
-    """A file's name without what tells its form."""
+    """Returns a file's name without the ending that gives its form."""
     front, ending = os.path.splitext(name)
     return without_ending(front) if front and ending.lower() in ENDINGS else name
 
 
 def is_of_one_port(path: str) -> bool:
-    """Whether a file is a capture in the format of pcap, which names no interface."""
+    """Returns whether a file is a capture in the format of pcap, which names no interface."""
     try:
         with opened(path) as file:
             magic = file.read(4)
     except OSError:
-        return False  # which is told when it is read
+        return False  # which is reported when it is read
     return len(magic) == 4 and form_of(magic) is not None

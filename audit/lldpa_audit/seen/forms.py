@@ -1,4 +1,4 @@
-"""The forms in which neighbors are at hand, each told by how its octets begin."""
+"""The forms in which neighbors are given, each known by how its octets begin."""
 from __future__ import annotations
 
 import re
@@ -35,6 +35,6 @@ FORMS = (
 
 
 def reader_of(front: bytes) -> Optional[Callable[[bytes], Listing]]:
-    """What reads octets that begin like this; None where they have no form, as those of captures.
-    """
+    """Returns the reader of octets that begin like this, or None if they have no form, as those of
+    captures."""
     return next((form.read for form in FORMS if form.begin.match(front)), None)

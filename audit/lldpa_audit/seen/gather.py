@@ -25,8 +25,8 @@ SECONDS_BETWEEN_LOOKS = 0.5
 class Gathering:
     """Puts what is given into tables. What is damaged is said, and its ports are not known.
 
-    Its calls raise OSError for what cannot be read, ValueError for what tells no port or a port
-    twice, and Ended where the agent ends that reads captures.
+    Its calls raise OSError for what cannot be read, ValueError for what names no port or a port
+    twice, and Ended if the agent that reads captures ends.
     """
 
     def __init__(self, tables: Tables, program: str, say: Callable[[str], None],
@@ -74,7 +74,7 @@ class Gathering:
         return age > self.stale_after
 
     def add_recorded(self, host: str, port: str, file: str, recorded: Recorded) -> None:
-        """Takes the ports of captures, all of a host where no port is named. Captures without time
+        """Takes the ports of captures, all of a host if no port is named. Captures without time
         stamps are as old as the file."""
         for note in recorded.notes:
             self.say(note)
@@ -90,7 +90,7 @@ class Gathering:
     def add_heard(self, host: str, port: str, recorded: Recorded) -> None:
         """Takes a port of a capture, but not what it sent itself, which a capture has too.
 
-        One without neighbors is not known where LLDP frames were passed over.
+        One without neighbors is not known if LLDP frames were skipped.
         """
         own = self.tables.names.end(End(host, port))
         neighbors = [one for one in recorded.ports[port] if not self.tables.names.answers(one, own)]
@@ -130,6 +130,6 @@ class Gathering:
 
 
 def modified(file: str) -> float:
-    """When a file was written, in seconds since 1970."""
+    """Returns when a file was written, in seconds since 1970."""
     with opened(file) as octets:
         return os.fstat(octets.fileno()).st_mtime

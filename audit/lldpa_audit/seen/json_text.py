@@ -23,7 +23,7 @@ NAME_LINE = re.compile(r'^( *)"(.*)": ([{\[])$', re.M)
 
 
 def read_json(octets: bytes) -> Listing:
-    """The neighbors of each port. Raises SeenFault."""
+    """Returns the neighbors of each port. Raises SeenFault."""
     if sum(map(octets.count, (b",", b"[", b"{"))) > MOST_VALUES:
         raise SeenFault(f"it has over {MOST_VALUES} values, and no list has so many")
     text = octets.decode("utf-8-sig", "surrogateescape")
@@ -37,7 +37,7 @@ def read_json(octets: bytes) -> Listing:
 
 
 def listing_of(tree: Any) -> Listing:
-    """The neighbors in JSON of any form, or of many hosts. Raises SeenFault."""
+    """Returns the neighbors in JSON of any form, or of many hosts. Raises SeenFault."""
     for is_form, read in FORMS:
         if is_form(tree):
             return read(tree)
@@ -47,12 +47,12 @@ def listing_of(tree: Any) -> Listing:
 
 
 def is_lldpcli(tree: Any) -> bool:
-    """Whether JSON is lldpcli's."""
+    """Returns whether JSON is lldpcli's."""
     return isinstance(tree, dict) and isinstance(tree.get("lldp"), (dict, list))
 
 
 def is_of_hosts(tree: Any) -> bool:
-    """Whether each name leads to a list of some form, as nornir and salt have hosts."""
+    """Returns whether each name leads to a list of some form, as nornir and salt have hosts."""
     return isinstance(tree, dict) and bool(tree) and all(
         isinstance(one, dict) and (is_napalm(one) or any(is_form(one) for is_form, _ in FORMS))
         for one in tree.values())
@@ -64,13 +64,13 @@ FORMS: Sequence[tuple[Callable[[Any], bool], Callable[[Any], Listing]]] = (
 
 
 def parsed(text: str) -> Any:
-    """What JSON says. Names may have octets that are no UTF-8, or control characters, as those of
-    lldpcli have; numbers stay texts, of whatever length."""
+    """Returns what JSON says. Names may have octets that are not UTF-8, or control characters, as
+    those of lldpcli have; numbers stay texts, of whatever length."""
     return json.loads(text, strict=False, parse_int=str, parse_float=str, parse_constant=str)
 
 
 def parsed_with_names_escaped(text: str, fault: json.JSONDecodeError) -> Any:
-    """What lldpcli says where a name has a quote or a backslash, or the fault of the text."""
+    """Returns what lldpcli says if a name has a quote or a backslash, or the fault of the text."""
     text = text.replace("\r\n", "\n")
     text = NAME_LINE.sub(lambda line: f"{line[1]}{json.dumps(line[2])}: {line[3]}", text)
     try:

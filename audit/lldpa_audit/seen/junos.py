@@ -16,18 +16,18 @@ PORTS = ("lldp-local-port-id", "lldp-local-interface")
 
 
 def is_junos(tree: Any) -> bool:
-    """Whether JSON or XML is of this form."""
+    """Returns whether JSON or XML is of this form."""
     return isinstance(inner(tree), dict) and LIST in inner(tree)
 
 
 def inner(tree: Any) -> Any:
-    """The answer without what XML has around it."""
+    """Returns the answer without what XML has around it."""
     reply = tree.get("rpc-reply") if isinstance(tree, dict) else None
     return reply[0] if isinstance(reply, list) and reply else tree
 
 
 def read_junos(tree: Any) -> Listing:
-    """The neighbors of each port. Raises SeenFault."""
+    """Returns the neighbors of each port. Raises SeenFault."""
     ports: dict[str, list[Seen]] = {}
     for one in listed(inner(tree)[LIST], LIST):
         for entry in listed(one.get(ENTRY, []), LIST):
@@ -50,7 +50,7 @@ def seen(entry: Mapping[str, Any], port: str) -> Seen:
 
 
 def first(entry: Mapping[str, Any], *names: str) -> str:
-    """The text of the first of some fields that is there; empty where none is."""
+    """Returns the text of the first of some fields that exists, or an empty text."""
     for name in names:
         found = entry.get(name)
         node = found[0] if isinstance(found, list) and found else found

@@ -21,7 +21,7 @@ Values = dict[str, list[str]]
 
 
 def read_keyvalue(octets: bytes) -> Listing:
-    """The neighbors of each port. Raises SeenFault, which names the line."""
+    """Returns the neighbors of each port. Raises SeenFault, which names the line."""
     need_few_lines(octets)
     text = octets.decode(errors="surrogateescape").replace("\r\n", "\n")
     if not text.endswith("\n"):
@@ -31,7 +31,8 @@ def read_keyvalue(octets: bytes) -> Listing:
 
 
 def neighbors(lines: Sequence[str]) -> Iterator[tuple[str, str, Values, int]]:
-    """The port of each neighbor, its protocol, its values, and the number of its first line."""
+    """Returns the port of each neighbor, its protocol, its values, and the number of its first
+    line."""
     values: Values = {}
     port, via, begin, front = "", "", 0, ""
     for number, line in enumerate(lines, 1):
@@ -52,7 +53,7 @@ def neighbors(lines: Sequence[str]) -> Iterator[tuple[str, str, Values, int]]:
 
 
 def heard_of(port: str, via: str, values: Values, line: int) -> Heard:
-    """A neighbor by its values."""
+    """Returns a neighbor by its values."""
     def first(key: str) -> str:
         return values.get(key, [""])[0]
     _, chassis = identifier("chassis", CHASSIS_KINDS, values, line)
@@ -67,7 +68,7 @@ def heard_of(port: str, via: str, values: Values, line: int) -> Heard:
 
 
 def identifier(of: str, kinds: set[str], values: Values, line: int) -> tuple[str, str]:
-    """The kind of a chassis ID or port ID, and that ID."""
+    """Returns the kind of a chassis ID or port ID, and that ID."""
     for key, found in values.items():
         front, _, kind = key.partition(".")
         if front == of and kind in kinds:

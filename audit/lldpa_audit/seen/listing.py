@@ -16,7 +16,7 @@ class SeenFault(LldpaFault, ValueError):
 
 
 def need_few_lines(octets: bytes) -> None:
-    """Raises SeenFault where there are more lines than any list has: each takes memory."""
+    """Raises SeenFault if there are more lines than any list has: each takes memory."""
     if octets.count(b"\n") > MOST_LINES:
         raise SeenFault(f"it has over {MOST_LINES} lines, and no list has so many")
 

@@ -1,7 +1,7 @@
 """The forms `json`, `json0` and `xml` of lldpcli's `show neighbors`, as one tree of nodes.
 
 In `json0`, as in XML, each name leads to a list of nodes, and a node's text is its `value`. `json`
-has a node alone where there is one, a text in place of a node that has nothing else, and names an
+has a node alone if there is one, a text in place of a node that has nothing else, and names an
 interface, and a chassis that has a System Name, by a name that leads to it.
 """
 from __future__ import annotations
@@ -17,7 +17,7 @@ Node = Any
 
 
 def read_tree(tree: Node) -> Listing:
-    """The neighbors of each port. Raises SeenFault where the tree is of something else."""
+    """Returns the neighbors of each port. Raises SeenFault if the tree is of something else."""
     heard = [heard_of(name, node)
              for lldp in nodes(tree, "lldp")
              for interfaces in nodes(lldp, "interface")
@@ -26,7 +26,7 @@ def read_tree(tree: Node) -> Listing:
 
 
 def named(interfaces: Node) -> Iterator[tuple[str, Node]]:
-    """The name of each interface, and its node."""
+    """Returns the name of each interface, and its node."""
     if not isinstance(interfaces, dict):
         raise SeenFault("it has something else in place of an interface")
     name = interfaces.get("name")
@@ -39,7 +39,7 @@ def named(interfaces: Node) -> Iterator[tuple[str, Node]]:
 
 
 def heard_of(port: str, node: Node) -> Heard:
-    """A neighbor by its node."""
+    """Returns a neighbor by its node."""
     via = text(first(node, "via"))
     if not via:
         raise SeenFault(f"{port} has no protocol: it is not of show neighbors")
@@ -60,7 +60,7 @@ def heard_of(port: str, node: Node) -> Heard:
 
 
 def chassis_of(node: Node) -> tuple[str, Node]:
-    """The System Name and the chassis. A name may be any, as `id` or `name`."""
+    """Returns the System Name and the chassis. A name may be any, as `id` or `name`."""
     chassis = first(node, "chassis")
     if isinstance(chassis, dict) and len(chassis) == 1 and not has_type(first(chassis, "id")):
         name = next(iter(chassis))
@@ -69,13 +69,13 @@ def chassis_of(node: Node) -> tuple[str, Node]:
 
 
 def nodes(node: Node, name: str) -> list[Node]:
-    """The nodes that a name leads to."""
+    """Returns the nodes that a name leads to."""
     found = node.get(name, []) if isinstance(node, dict) else []
     return found if isinstance(found, list) else [found]
 
 
 def first(node: Node, name: str) -> Node:
-    """The first node that a name leads to; one without anything where there is none."""
+    """Returns the first node that a name leads to, or an empty one."""
     found = node.get(name) if isinstance(node, dict) else None
     if isinstance(found, list):
         found = found[0] if found else None
@@ -83,17 +83,17 @@ def first(node: Node, name: str) -> Node:
 
 
 def text(node: Node) -> str:
-    """A node's text."""
+    """Returns a node's text."""
     if isinstance(node, dict):
         node = node.get("value", "")
     return node if isinstance(node, str) else ""
 
 
 def has_type(node: Node) -> bool:
-    """Whether a node is a chassis ID or port ID."""
+    """Returns whether a node is a chassis ID or port ID."""
     return isinstance(node, dict) and isinstance(node.get("type"), str)
 
 
 def is_on(node: Node) -> bool:
-    """Whether a node says yes: true in JSON, and a word in XML."""
+    """Returns whether a node says yes: true in JSON, and a word in XML."""
     return node is True or text(node) == "yes"

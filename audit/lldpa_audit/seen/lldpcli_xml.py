@@ -18,7 +18,7 @@ Node = dict[str, Any]
 
 
 def read_xml(octets: bytes) -> Listing:
-    """The neighbors of each port, of lldpcli's XML or Junos'. Raises SeenFault."""
+    """Returns the neighbors of each port, of lldpcli's XML or Junos'. Raises SeenFault."""
     root = Tree(octets).root
     return read_junos(root) if is_junos(root) else read_tree(root)
 
@@ -45,11 +45,11 @@ class Tree:
             raise SeenFault(f"it is no XML: {fault}") from None
 
     def refuse(self, *_: object) -> None:
-        """A document type, which could declare entities."""
+        """Refuses a document type, which could declare entities."""
         raise SeenFault("it has a document type, which lldpcli's XML has not")
 
     def begin(self, name: str, attributes: dict[str, str]) -> None:
-        """An element begins."""
+        """Begins an element."""
         if len(self.path) > DEEPEST:
             raise SeenFault(f"its elements are more than {DEEPEST} deep")
         self.nodes += 1
@@ -65,9 +65,9 @@ class Tree:
         self.texts.append([])
 
     def end(self, _: str) -> None:
-        """An element ends."""
+        """Ends an element."""
         self.path.pop()["value"] = "".join(self.texts.pop())
 
     def take(self, text: str) -> None:
-        """Some of an element's text."""
+        """Takes some of an element's text."""
         self.texts[-1].append(text)

@@ -20,21 +20,21 @@ ABSENT = ("", "N/A")
 
 
 def read_napalm(tree: Any) -> Listing:
-    """The neighbors of each port. Raises SeenFault where the JSON is of something else."""
+    """Returns the neighbors of each port. Raises SeenFault if the JSON is of something else."""
     ports: Ports = {port: [seen(one, port) for one in listed(found, port)]
                     for port, found in unwrapped(tree).items()}
     return Listing(ports, True)
 
 
 def is_napalm(tree: Any) -> bool:
-    """Whether JSON has ports that lead to lists of neighbors, or what stands around such."""
+    """Returns whether JSON has ports that lead to lists of neighbors, or a wrapper of such."""
     if not isinstance(tree, dict) or any(name in tree for name in WRAPPERS):
         return isinstance(tree, dict)
     return all(isinstance(found, list) for found in tree.values())
 
 
 def unwrapped(tree: Any) -> dict[str, Any]:
-    """The ports, without what stands around them."""
+    """Returns the ports, without their wrapper."""
     while isinstance(tree, dict):
         inner = next((name for name in WRAPPERS if name in tree), None)
         if inner is None:
@@ -44,7 +44,7 @@ def unwrapped(tree: Any) -> dict[str, Any]:
 
 
 def listed(found: Any, port: str) -> Sequence[Any]:
-    """The neighbors of a port."""
+    """Returns the neighbors of a port."""
     if isinstance(found, list):
         return found
     raise SeenFault(f"it is JSON, but of no list that is known: {port!r} leads to no list")
@@ -64,6 +64,6 @@ def seen(node: Any, port: str) -> Seen:
 
 
 def field(node: dict[str, Any], name: str) -> str:
-    """A field's text, empty where there is none."""
+    """Returns a field's text, empty if there is none."""
     found = node.get(name)
     return found if isinstance(found, str) and found not in ABSENT else ""

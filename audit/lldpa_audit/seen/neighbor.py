@@ -1,4 +1,4 @@
-"""A neighbor as an audit looks at it, from what a form tells of it."""
+"""A neighbor as an audit looks at it, from what a form says of it."""
 from __future__ import annotations
 
 import ipaddress
@@ -64,7 +64,7 @@ def clean(text: str) -> str:
 
 
 def names_of_address(address: str) -> Sequence[str]:
-    """An address as it stands, and one of IPv6 in full and as people shorten it."""
+    """Returns an address unchanged, and one of IPv6 in full and as people shorten it."""
     if ":" not in address or address.count(":") == 5 and len(address) == 17:  # a MAC address
         return (address,)
     try:

@@ -13,12 +13,12 @@ KEY = "Neighbors"
 
 
 def is_networkctl(tree: Any) -> bool:
-    """Whether JSON is of this form."""
+    """Returns whether JSON is of this form."""
     return isinstance(tree, dict) and isinstance(tree.get(KEY), list)
 
 
 def read_networkctl(tree: Any) -> Listing:
-    """The neighbors of each port. Raises SeenFault."""
+    """Returns the neighbors of each port. Raises SeenFault."""
     ports: Ports = {}
     for interface in listed(tree[KEY], KEY):
         port = needed(interface, "InterfaceName", KEY)

@@ -10,18 +10,18 @@ from .neighbor import neighbor
 
 
 def is_nvue(tree: Any) -> bool:
-    """Whether JSON is of this form: an interface leads to neighbors below `lldp`."""
+    """Returns whether JSON is of this form: an interface leads to neighbors below `lldp`."""
     return isinstance(tree, dict) and any(neighbors_of(node) is not None for node in tree.values())
 
 
 def neighbors_of(node: Any) -> Any:
-    """What an interface has below `lldp`; None where it has no such thing."""
+    """Returns what an interface has below `lldp`, or None if it has nothing there."""
     lldp = node.get("lldp") if isinstance(node, dict) else None
     return lldp.get("neighbor") if isinstance(lldp, dict) else None
 
 
 def read_nvue(tree: Any) -> Listing:
-    """The neighbors of each port. Raises SeenFault."""
+    """Returns the neighbors of each port. Raises SeenFault."""
     ports: Ports = {}
     for port, node in tree.items():
         found = neighbors_of(node)

@@ -14,12 +14,12 @@ TABLE, ROW = "TABLE_nbor_detail", "ROW_nbor_detail"
 
 
 def is_nxos(tree: Any) -> bool:
-    """Whether JSON is of this form."""
+    """Returns whether JSON is of this form."""
     return isinstance(tree, dict) and isinstance(tree.get(TABLE), (dict, list))
 
 
 def read_nxos(tree: Any) -> Listing:
-    """The neighbors of each port. Raises SeenFault."""
+    """Returns the neighbors of each port. Raises SeenFault."""
     ports: dict[str, list[Seen]] = {}
     for table in listed(tree[TABLE], TABLE):
         for row in listed(table.get(ROW), TABLE):

@@ -25,7 +25,7 @@ Values = dict[str, list[str]]
 
 
 def read_plain(octets: bytes) -> Listing:
-    """The neighbors of each port. Raises SeenFault."""
+    """Returns the neighbors of each port. Raises SeenFault."""
     need_few_lines(octets)
     text = octets.decode(errors="surrogateescape").replace("\r\n", "\n")
     if not text.endswith(HEAD.decode()):
@@ -34,7 +34,7 @@ def read_plain(octets: bytes) -> Listing:
 
 
 def neighbors(text: str) -> Iterator[tuple[str, str, Values]]:
-    """The port of each neighbor, its protocol and its values."""
+    """Returns the port of each neighbor, its protocol and its values."""
     for block in text.split(HEAD.decode())[2:-1]:
         lines = block.split("\n")
         begin = BEGIN.fullmatch(lines[0])
@@ -51,7 +51,7 @@ def neighbors(text: str) -> Iterator[tuple[str, str, Values]]:
 
 
 def heard_of(port: str, via: str, values: Values) -> Heard:
-    """A neighbor by its values."""
+    """Returns a neighbor by its values."""
     def first(key: str) -> str:
         return values.get(key, [""])[0]
     if "ChassisID" not in values or "PortID" not in values:

@@ -8,5 +8,5 @@ NAME = re.compile(r"[A-Za-z][A-Za-z-]*[ /]?[0-9][0-9/:.]*[A-Za-z0-9]*")
 
 
 def port_kind(port_id: str) -> str:
-    """The kind: `ifname` for what looks like the name of an interface, else `local`."""
+    """Returns the kind: `ifname` for what looks like the name of an interface, else `local`."""
     return "ifname" if NAME.fullmatch(port_id) else "local"

@@ -58,19 +58,21 @@ class Answers(NamedTuple):
 
 class Hosts(NamedTuple):
     """Which label of a series has the host's name, and what of it that is: the first group of the
-    pattern that matches it, or all of it where there is no group."""
+    pattern that matches it, or all of it if there is no group."""
 
     label: str = INSTANCE
     pattern: re.Pattern[str] = HOST_OF_INSTANCE
 
     def host(self, labels: Labels) -> str:
-        """The host of a series; empty for one of others, whose label does not match."""
+        """Returns the host of a series, or an empty text for a series of others, whose label does
+        not match."""
         return host_in(labels.get(self.label, ""), self.pattern)
 
 
 @lru_cache(MOST_HOSTS)  # a host has many series
 def host_in(text: str, pattern: re.Pattern[str]) -> str:
-    """The host in the text of a label; empty where the pattern does not match it."""
+    """Returns the host in the text of a label, or an empty text if the pattern does not match
+    it."""
     found = pattern.fullmatch(text)
     if found is None:
         return ""
@@ -79,9 +81,10 @@ def host_in(text: str, pattern: re.Pattern[str]) -> str:
 
 
 def answers_of(url: str, login: str = "") -> Answers:
-    """What a Prometheus has now. `login` is `NAME:PASSWORD`, or empty. Raises PrometheusFault.
+    """Returns what a Prometheus has now. `login` is `NAME:PASSWORD`, or empty. Raises
+    PrometheusFault.
 
-    All of it comes within SECONDS, however slowly the answers drip.
+    All of it comes within SECONDS, however slowly the answers come.
     """
     answers: Queue[Union[Answers, PrometheusFault]] = Queue()
 
@@ -101,7 +104,7 @@ def answers_of(url: str, login: str = "") -> Answers:
 
 
 def asked(url: str, login: str) -> Answers:
-    """The answers to all questions, of one time. Raises PrometheusFault."""
+    """Returns the answers to all questions, of one time. Raises PrometheusFault."""
     times = vector(url, login, "vector(time())", None)
     if len(times) != 1:
         raise no_prometheus(url)
@@ -111,7 +114,7 @@ def asked(url: str, login: str) -> Answers:
 
 
 def vector(url: str, login: str, query: str, time: Optional[float]) -> list[Sample]:
-    """The samples of a query at a time, now where none is given. Raises PrometheusFault."""
+    """Returns the samples of a query at a time, or now if none is given. Raises PrometheusFault."""
     words = {"query": query} if time is None else {"query": query, "time": str(time)}
     told = fetched(url, login, words)
     try:
@@ -124,7 +127,7 @@ def vector(url: str, login: str, query: str, time: Optional[float]) -> list[Samp
 
 
 def no_prometheus(url: str) -> PrometheusFault:
-    """The fault of an answer that is none of the API's."""
+    """Returns the fault of an answer that is not one of the API's."""
     return PrometheusFault(f"{url}: it has no such answer as a Prometheus")
 
 
@@ -133,11 +136,11 @@ class NoRedirects(HTTPRedirectHandler):
 
     def redirect_request(self, req: Any, fp: Any, code: Any, msg: Any, headers: Any,
                          newurl: Any) -> None:
-        """Leaves the redirect as the answer, which is told."""
+        """Leaves the redirect as the answer, which is reported."""
 
 
 def fetched(url: str, login: str, words: Mapping[str, str]) -> Any:
-    """The answer to a question. Raises PrometheusFault."""
+    """Returns the answer to a question. Raises PrometheusFault."""
     try:
         opener = build_opener(NoRedirects)
         with opener.open(request_of(url, login, words), timeout=SECONDS) as answer:
@@ -161,7 +164,7 @@ def fetched(url: str, login: str, words: Mapping[str, str]) -> Any:
 
 
 def request_of(url: str, login: str, words: Mapping[str, str]) -> Request:
-    """The question as HTTP."""
+    """Returns the question as HTTP."""
     parts = urlsplit(url)
     path = f"{parts.path.rstrip('/')}/api/v1/query"
     request = Request(urlunsplit((parts.scheme, parts.netloc, path, "", "")),
@@ -172,8 +175,8 @@ def request_of(url: str, login: str, words: Mapping[str, str]) -> Request:
 
 
 def login_of(url: str, file: Optional[str]) -> str:
-    """`NAME:PASSWORD` for the host of an address, by a file of netrc's form, `~/.netrc` where none
-    is given; empty where it has nothing of that host. Raises PrometheusFault."""
+    """Returns `NAME:PASSWORD` for the host of an address, by a file of netrc's form, `~/.netrc`
+    unless given, or an empty text if it has nothing of that host. Raises PrometheusFault."""
     path = file if file is not None else os.path.expanduser("~/.netrc")
     if file is None and not os.path.exists(path):
         return ""
@@ -187,7 +190,7 @@ def login_of(url: str, file: Optional[str]) -> str:
 
 
 def reason_of(octets: bytes) -> str:
-    """What Prometheus says of a question that it refuses."""
+    """Returns what Prometheus says of a question that it refuses."""
     try:
         return str(json.loads(octets)["error"])
     except (KeyError, RecursionError, TypeError, ValueError):

@@ -19,7 +19,7 @@ class Heard(NamedTuple):
 
 
 def by_ports(heard: Iterable[Heard]) -> Ports:
-    """The neighbors of each port."""
+    """Returns the neighbors of each port."""
     of_ports: dict[str, list[Heard]] = {}
     for one in heard:
         of_ports.setdefault(one.port, []).append(one)

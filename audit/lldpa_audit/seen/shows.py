@@ -15,13 +15,14 @@ from .tlvs import IS_SETTING, settings_of_tlvs
 
 
 def read_shows(octets: bytes) -> Listing:
-    """The neighbors of each port. Raises ShowFault. A show has each port of its agent, or one."""
+    """Returns the neighbors of each port. Raises ShowFault. A show has each port of its agent, or
+    one."""
     need_few_lines(octets)
     return Listing(read_ports(octets.decode("latin-1")), False)
 
 
 def read_ports(text: str) -> Ports:
-    """The neighbors of each port of a show. Raises ShowFault, which names the line."""
+    """Returns the neighbors of each port of a show. Raises ShowFault, which names the line."""
     if not text.endswith("\n"):
         raise ShowFault("its last line has no end: it was cut short")
     try:
@@ -31,12 +32,14 @@ def read_ports(text: str) -> Ports:
 
 
 def slow_ports(text: str) -> Ports:
-    """The ports of a show, each line read by `read_show`, which counts them from the first."""
+    """Returns the ports of a show, each line read by `read_show`, which counts them from the
+    first."""
     return dict(seen_ports(read_show(text[:-1].split("\n"))))
 
 
 def quick_ports(text: str) -> Ports:
-    """The ports of a show, the usual ones taken whole. The lines of a fault are not the show's."""
+    """Returns the ports of a show, the usual ones taken whole. The lines of a fault are not the
+    show's."""
     pairs = list(port_by_port(text))
     ports = dict(pairs)
     if len(ports) < len(pairs):
@@ -45,7 +48,7 @@ def quick_ports(text: str) -> Ports:
 
 
 def port_by_port(text: str) -> Iterator[Tuple[str, Sequence[Seen]]]:
-    """The name of each port and its neighbors. Other shows may stand behind the last one."""
+    """Returns the name of each port and its neighbors. Other shows may follow the last one."""
     at = 0
     for found in USUAL_PORT.finditer(text):
         if found.start() > at:
@@ -59,7 +62,7 @@ def port_by_port(text: str) -> Iterator[Tuple[str, Sequence[Seen]]]:
 
 
 def only_ports(text: str) -> Show:
-    """A show of ports, behind which further ports stand, and so no other show."""
+    """Returns a show of ports, which further ports follow, and so no other show."""
     show = read_show(text[:-1].split("\n"))
     if show != Show(show.ports):
         raise ShowFault("another show stands between ports")
@@ -67,13 +70,14 @@ def only_ports(text: str) -> Show:
 
 
 def seen_ports(show: Show) -> Iterator[Tuple[str, Sequence[Seen]]]:
-    """The name of each port and its neighbors."""
+    """Returns the name of each port and its neighbors."""
     for port in show.ports:
         yield port.name, seen_at(port)
 
 
 def seen_at(port: Port) -> Sequence[Seen]:
-    """The neighbors of a port. All those for whom there was no room are one, without a name."""
+    """Returns the neighbors of a port. All those for which there was no room are one, without a
+    name."""
     seen = [seen_neighbor(one.chassis.text, one.port_id.kind, one.port_id.text, one.said)
             for one in port.neighbors]
     return (*seen, NAMELESS) if port.too_many else tuple(seen)

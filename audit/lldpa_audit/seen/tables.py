@@ -30,7 +30,7 @@ class Tables:
         self.times: list[float] = []  # of each source, in seconds since 1970
 
     def add_host(self, host: str) -> None:
-        """A host is audited, also where none of its ports is known. Raises ValueError if another
+        """Adds an audited host, even if none of its ports is known. Raises ValueError if another
         host has the same name by --short-names."""
         before = self.hosts.setdefault(self.names.host(host), host)
         if before != host and self.names.short_names:
@@ -40,11 +40,12 @@ class Tables:
                                  "--short-names")
 
     def add(self, host: str, port: str, neighbors: Sequence[Seen]) -> None:
-        """The neighbors of a port. Raises ValueError where they were told before."""
+        """Adds the neighbors of a port. Raises ValueError if they were added before."""
         self.add_ports(host, {port: neighbors})
 
     def add_ports(self, host: str, ports: Mapping[str, Sequence[Seen]]) -> None:
-        """The neighbors of each of a host's ports. Raises ValueError if they were told before."""
+        """Adds the neighbors of each of a host's ports. Raises ValueError if they were added
+        before."""
         self.add_host(host)
         for port, neighbors in ports.items():
             end = End(host, port)
@@ -54,14 +55,14 @@ class Tables:
             self.ends[key] = KnownPort(end, neighbors)
 
     def add_listed(self, host: str) -> None:
-        """Each port of a host that has a neighbor was told, or is told later."""
+        """Notes that each port of a host that has a neighbor was added, or will be."""
         self.add_host(host)
         self._listed.add(self.names.host(host))
 
     def add_unlisted(self, plan: Plan) -> None:
-        """The planned ports of such hosts that were not told: they have no neighbor.
+        """Adds the planned ports of such hosts that were not added: they have no neighbor.
 
-        Where something of a host, or of such a port, is damaged, its neighbors are not known.
+        If something of a host, or of such a port, is damaged, its neighbors are not known.
         """
         for key, wish in plan.ends.items():
             if key.host in self._listed and key not in self.ends and not self.reason(key):
@@ -72,10 +73,10 @@ class Tables:
         return sorted(filterfalse(plan.ends.__contains__, self.ends))
 
     def add_reason(self, host: str, port: str, reason: str) -> None:
-        """Why a port is not known, or further ports of a host where the port's name is empty."""
+        """Adds why a port is not known, or further ports of a host if the port's name is empty."""
         self.add_host(host)
         self._reasons.setdefault(self.names.end(End(host, port)), reason)
 
     def reason(self, key: End) -> str:
-        """Why nothing is known of an end; empty where nothing more was given."""
+        """Returns why nothing is known of an end, or an empty text if nothing more was given."""
         return self._reasons.get(key) or self._reasons.get(End(key.host, "")) or ""

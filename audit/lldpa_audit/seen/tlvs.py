@@ -1,4 +1,4 @@
-"""What a show tells of a neighbor's link, in organizationally specific TLVs."""
+"""What a show says of a neighbor's link, in organizationally specific TLVs."""
 from __future__ import annotations
 
 import re
@@ -17,7 +17,7 @@ MOST_KEPT = 4096
 
 @lru_cache(MOST_KEPT)  # a network has few settings, and many ports
 def settings_of_tlvs(tlvs: tuple[tuple[str, str], ...]) -> Optional[Settings]:
-    """The settings that TLVs tell, each with its key in a show and its hexadecimal."""
+    """Returns the settings that TLVs say, each with its key in a show and its hexadecimal."""
     said = said_by([(key[len("org."):], octets) for key, octets in tlvs])
     mac_phy, aggregation = said.one(MacPhy), said.one(LinkAggregation)
     mau = None if mac_phy is None else mac_phy.mau
@@ -28,5 +28,5 @@ def settings_of_tlvs(tlvs: tuple[tuple[str, str], ...]) -> Optional[Settings]:
 
 
 def number_of(aggregation: Optional[LinkAggregation]) -> Optional[int]:
-    """The number of the aggregate of which a port is a member."""
+    """Returns the number of the aggregate of which a port is a member."""
     return aggregation.port if aggregation is not None and aggregation.is_aggregated else None
