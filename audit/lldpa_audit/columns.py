@@ -134,7 +134,7 @@ class Columns:
 
     def texts(self, fields: Sequence[str]) -> Sequence[str]:
         """Returns the texts of the other columns of a row."""
-        return [fields[at].strip() for at in self._others]
+        return tuple([fields[at].strip() for at in self._others])
 
     def position(self, fields: Sequence[str]) -> str:
         """Returns the position of a front port at its rear port, 1 unless the file says it."""

@@ -151,11 +151,16 @@ class Judge:
         for host in self.hosts_of_aggregate(neighbor):
             others.update(self._with_another.get((host, wanted), ()),
                           self._with_another.get((host, wanted.host), ()))
-        for other in sorted(others - {end, wanted}, key=lambda other: self.plan.ends[other].place):
-            its_wish = self.plan.ends[other]
-            if self.has_alone(other, wanted) and not self.sees(other, its_wish.wanted):
-                return its_wish.end
-        return None
+        found = [other for other in others - {end, wanted} if self.has_alone(other, wanted)
+                 and not self.sees(other, self.plan.ends[other].wanted)]
+        if len(found) > 1:
+            found.sort(key=self._ranks.__getitem__)
+        return self.plan.ends[found[0]].end if found else None
+
+    @cached_property
+    def _ranks(self) -> Mapping[End, int]:
+        """The place of each end in the plan."""
+        return {end: rank for rank, end in enumerate(self.plan.ends)}
 
     def hosts_of_aggregate(self, neighbor: Seen) -> set[str]:
         """Returns the hosts of which a neighbor that names its aggregate may be each port."""

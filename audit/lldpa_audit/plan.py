@@ -9,8 +9,6 @@ from .names import End, Names, shown
 from .planfault import Faults
 
 
-MOST_ENDS = 2_400_000
-
 
 class Detail(NamedTuple):
     """What else a plan says of a cable: the texts of its other columns in their order, and the ends
@@ -38,7 +36,7 @@ class Link(NamedTuple):
 
 
 class Wish(NamedTuple):
-    """A planned end and the one that it wants, as the plan writes them, its place and its line.
+    """A planned end and the one that it wants, as the plan writes them, and its line.
 
     `wanted` is the one that it wants as it is compared.
     """
@@ -46,13 +44,13 @@ class Wish(NamedTuple):
     end: End
     wants: End
     wanted: End
-    place: int
     line: Optional[int] = None
     detail: Detail = NO_DETAIL
 
 
 class Plan:
-    """The planned ends in the order of the plan, by their names as they are compared.
+    """The planned ends in the order of the plan, by their names as they are compared. The two ends
+    of a link follow one another.
 
     No end is joined to two. Raises PlanFault. `columns` names the texts of each detail, `notes` has
     what of the file is left out, and `unknown` the ends whose cable continues at an unknown place.
@@ -68,9 +66,6 @@ class Plan:
         faults = faults or Faults(file)
         for link in links:
             self._add(link, names, faults)
-            if len(self.ends) > MOST_ENDS:
-                faults.add(link.line, f"it plans over {MOST_ENDS // 2} links")
-                break
         if not self.ends and not faults.count:
             faults.add(None, "it plans no link")
         self.hosts = {key.host: wish.end.host for key, wish in self.ends.items()}
@@ -95,9 +90,8 @@ class Plan:
         one_key, other_key = names.end(one), names.end(other)
         before, other_before = self.ends.get(one_key), self.ends.get(other_key)
         if before is None and other_before is None and one_key != other_key:
-            place = len(self.ends)
-            self.ends[one_key] = Wish(one, other, other_key, place, line, detail)
-            self.ends[other_key] = Wish(other, one, one_key, place + 1, other_line or line,
+            self.ends[one_key] = Wish(one, other, other_key, line, detail)
+            self.ends[other_key] = Wish(other, one, one_key, other_line or line,
                                         other_detail or detail)
         elif before is None or before.wanted != other_key:
             twice = one if before else other

@@ -2,6 +2,7 @@
 from __future__ import annotations
 
 from pathlib import Path
+from sys import getsizeof
 from typing import Iterable, Iterator, Mapping, Optional, Sequence
 
 from .columns import Columns
@@ -17,6 +18,11 @@ from .topology import NO_PORT, TopologyFault, read_topology
 
 MOST_NAMED = 3
 LONGEST_NAME = 255  # no neighbor says a longer one
+MOST_KEPT = 65536
+# the memory in octets that a plan may take, and if there are panels each of the two files; and
+# what a part of it takes
+MOST_OCTETS, MOST_WITH_PANELS = 450_000_000, 220_000_000
+OF_A_LINK, OF_A_CABLE, OF_A_PAIR, OF_A_DETAIL, OF_A_NAME = 415, 900, 1000, 150, 90
 
 
 class PlanFile:
@@ -26,7 +32,8 @@ class PlanFile:
     ports of panels by the file's own word, each with the end at the cable's other side.
     """
 
-    def __init__(self, file: str, columns: Optional[Mapping[str, str]] = None) -> None:
+    def __init__(self, file: str, columns: Optional[Mapping[str, str]] = None,
+                 has_panels: bool = True) -> None:
         self.text = text_of(file)
         self.faults = Faults(file)
         self.left_out = 0
@@ -34,8 +41,28 @@ class PlanFile:
         self.at_panels: dict[End, End] = {}
         self._given = columns
         self._names: dict[str, str] = {}
+        self._has_panels = has_panels
+        self._room = (MOST_WITH_PANELS if has_panels else MOST_OCTETS) - getsizeof(self.text)
 
     def links(self) -> Iterator[Link]:
+        """Yields the links, without panels only those that do not end at one, as long as there is
+        memory for them."""
+        for link in self._all_links():
+            if link.detail is not NO_DETAIL:
+                self._room -= OF_A_DETAIL + sum(map(getsizeof, link.detail.texts))
+            if not self._has_room(OF_A_CABLE if self._has_panels else OF_A_LINK, link.line):
+                return
+            if self._has_panels or not self.at_panels or not self.at_panels.keys() & link[:2]:
+                yield link
+
+    def _has_room(self, octets: int, line: Optional[int]) -> bool:
+        """Takes some of the memory that is left. It is a fault if that is too little."""
+        self._room -= octets
+        if self._room < 0:
+            self.faults.add(line, "it needs more memory than a plan may")
+        return self._room >= 0
+
+    def _all_links(self) -> Iterator[Link]:
         """Yields the links in the form that the content has."""
         if is_json(self.text):
             return self._links_of_netbox()
@@ -47,7 +74,10 @@ class PlanFile:
         if len(name) > LONGEST_NAME:
             self.faults.add(line, f"a name in it has {len(name)} characters, and "
                                   f"{LONGEST_NAME} are the most")
+        if len(self._names) >= MOST_KEPT:
+            self._names.clear()
         self._names[name] = name
+        self._room -= OF_A_NAME + getsizeof(name)
         return name
 
     def _end(self, names: Iterable[str], line: Optional[int]) -> End:
@@ -95,8 +125,9 @@ class PlanFile:
                                       f"{len(others)} terminations: which goes to which, it does "
                                       "not say")
             else:
+                are_at_panels = cable.is_at_panel(0), cable.is_at_panel(1)
                 for one, other in zip(ones, others):
-                    self._note_panels(one, other, (cable.is_at_panel(0), cable.is_at_panel(1)))
+                    self._note_panels(one, other, are_at_panels)
                     yield Link(one, other, None, None, Detail(cable.texts))
 
     def _note_panels(self, one: End, other: End, are_at_panels: tuple[bool, bool]) -> None:
@@ -118,6 +149,8 @@ class PlanFile:
         columns = Columns(header, line, self.faults)
         for line, fields in rows if columns.can_read else ():
             for panel, front, same, rear in columns.rows(line, fields):
+                if not self._has_room(OF_A_PAIR, line):
+                    return
                 yield Pair(End(panel, front), End(same, rear), columns.position(fields), line)
 
 
@@ -127,7 +160,7 @@ def read_plan(file: str, names: Names, columns: Optional[Mapping[str, str]] = No
 
     Raises PlanFault and OSError.
     """
-    read = PlanFile(file, columns)
+    read = PlanFile(file, columns, panels is not None)
     links: Iterable[Link] = read.links()
     if progress is not None:
         links = progress.over(links, read.text.count("\n"), "lines of the plan")
@@ -135,8 +168,6 @@ def read_plan(file: str, names: Names, columns: Optional[Mapping[str, str]] = No
     if panels is not None:
         followed = read_panels(panels, names, read.faults)
         links = followed.through(links)
-    else:
-        links = without_panels(links, read)
     plan = Plan(file, links, names, read.faults)
     if followed is None:
         ends = {*read.at_panels, *read.at_panels.values()}
@@ -152,13 +183,6 @@ def read_panels(file: str, names: Names, faults: Faults) -> Panels:
     panels = Panels(read.pairs(), names, faults, read.faults)
     read.faults.end()
     return panels
-
-
-def without_panels(links: Iterable[Link], read: PlanFile) -> Iterator[Link]:
-    """Yields the links that end at no panel, by the file's own word."""
-    for link in links:
-        if not read.at_panels or not {link.one, link.other} & read.at_panels.keys():
-            yield link
 
 
 def text_of(file: str) -> str:

@@ -5,12 +5,15 @@ import gzip
 import io
 import os
 import struct
+import subprocess
+import sys
 import unittest
 from typing import Callable, List
 
 import rack
-from auditing import InAFolder, run
+from auditing import AUDIT, InAFolder, run
 from lldpa.capture.packets import interfaces_of, packets_of
+from lldpa_audit.dot import edges_of
 from lldpa_audit.dot_tokens import DotFault
 from lldpa_audit.names import Names
 from lldpa_audit.planfault import PlanFault
@@ -81,22 +84,29 @@ class Plans(Hostile):
     def test_many_columns(self) -> None:
         self.assertIn("200 are the most", self.plan_fault("a," * 100_000 + "\n" + "1\n" * 1000))
 
+    def test_many_links(self) -> None:
+        plan = self.folder / "links"
+        with plan.open("w") as file:
+            file.write(HEADER)
+            file.writelines(f"{at:x},0,{at:x},1\n" for at in range(1_200_000))
+        said = self.folder / "said"
+        with said.open("w") as file:
+            child = subprocess.Popen([sys.executable, AUDIT, plan, self.folder], stderr=file)
+            _, status, usage = os.wait4(child.pid, 0)
+        child.returncode = os.waitstatus_to_exitcode(status)
+        self.assertRegex(said.read_text(), r"^[^\n]*: it needs more memory than a plan may\n$")
+        self.assertLess(usage.ru_maxrss, 500 << 10)
+
     def test_groups_of_dot(self) -> None:
         group = ",".join(f"a{at}:1" for at in range(2000))
         with self.assertRaisesRegex(DotFault, "more than 600000 edges"):
-            list(_ for _ in edges_of_text(f"graph {{ {group} -- {group} }}"))
+            list(edges_of(f"graph {{ {group} -- {group} }}"))
 
     def test_edges_whose_place_goes_back(self) -> None:
         text = "graph {" + "a:1 -- {\n\nb:1 -- c:1 }\n" * 100_000 + "}"
         lines: List[int] = []
         self.within(lambda: lines.extend(edge.line for edge in read_topology(text)))
         self.assertEqual(lines[:4] + lines[-2:], [3, 1, 6, 4, 299_999 + 1, 299_998])
-
-
-def edges_of_text(text: str) -> object:
-    """Returns the edges of a text, by the reader itself."""
-    from lldpa_audit.dot import edges_of
-    return edges_of(text)
 
 
 class Captures(Hostile):

@@ -19,7 +19,7 @@ import rack
 from auditing import AUDIT, InAFolder, run, without_ages
 from lldpa_audit.judging import audit
 from lldpa_audit.names import End, Names, Seen
-from lldpa_audit.plan import Link, Plan
+from lldpa_audit.plan import Detail, Link, Plan
 from lldpa_audit.progress import Progress
 from lldpa_audit.report.drawing import ENDS_OF_A_PICTURE
 from lldpa_audit.report.page import page_of
@@ -40,10 +40,11 @@ parent.document.documentElement.setAttribute('data-widths', JSON.stringify([
 
 def report_of(ends: int, hosts: int = 20) -> Report:
     """Returns a report of so many ends with faults of each kind, on so many hosts."""
-    links = [Link(End(f"leaf{at % hosts}", f"swp{at}"), End(f"{LONG}{at}", "eth0"), at + 2)
+    links = [Link(End(f"leaf{at % hosts}", f"swp{at}"), End(f"{LONG}{at}", "eth0"), at + 2, None,
+                  Detail((f"C{at:05}", "rack <7>"), [End("pp1", f"F{at}"), End("pp1", f"R{at}")]))
              for at in range(ends)]
     plan = Plan("plan.csv", links, Names())
-    plan.rows = [f"row {number} <of the plan>" for number in range(ends + 2)]
+    plan.columns = "label", "rack"
     tables = Tables(Names())
     for at, link in enumerate(links):
         wanted, other = Seen((link.other.host,), ("eth0",)), Seen((f"other{at}",), (f"p{at}",))

@@ -62,7 +62,6 @@ class Plans(unittest.TestCase):
         wishes = list(read_plan(self.path, self.names).ends.values())
         for one, other in zip(wishes[::2], wishes[1::2]):
             self.assertEqual((one.end, one.wants), (other.wants, other.end))
-        self.assertEqual([wish.place for wish in wishes], list(range(len(wishes))))
         return [(*wish.end, *wish.wants) for wish in wishes[::2]]
 
     def fault(self, text: str, encoding: str = "utf-8") -> str:

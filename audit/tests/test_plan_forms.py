@@ -1,6 +1,7 @@
 """Plans in the forms that are at hand: NetBox's exports, named columns, and through panels."""
 from __future__ import annotations
 
+import json
 import tempfile
 import unittest
 from pathlib import Path
@@ -77,6 +78,12 @@ class NetBox(Forms):
     def test_faults(self) -> None:
         with self.assertRaisesRegex(PlanFault, "line 2: its side_b_name is missing"):
             self.plan(NETBOX.replace("host01,dcim.interface,eth0", "host01,dcim.interface,"))
+
+    def test_many_terminations(self) -> None:
+        sides = [", ".join(json.dumps({"object_type": "dcim.interface", "object": {
+            "name": f"{at}", "device": {"name": host}}}) for at in range(60_000)) for host in "ab"]
+        cable = '{"results": [{"a_terminations": [%s], "b_terminations": [%s]}]}' % (*sides,)
+        self.assertEqual(len(self.plan(cable).ends), 120_000)  # a square takes an hour
 
 
 class NamedColumns(Forms):

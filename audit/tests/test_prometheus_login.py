@@ -2,6 +2,7 @@
 from __future__ import annotations
 
 import base64
+import socket
 import unittest
 
 from auditing import run
@@ -28,12 +29,15 @@ class Login(ApiCase):
             self.assertNotIn("Traceback", ran.stderr)
 
     def test_no_redirect_is_followed(self) -> None:
-        for status in (301, 302, 303, 307, 308):
-            self.status, self.location = status, "http://localhost:1/"
-            netrc = self.file("netrc", "machine 127.0.0.1 login me password s@y\n")
-            ran = run(self.plan, "--prometheus", self.url, "--netrc", netrc)
-            self.assertEqual(ran.returncode, 2)
-            self.assertIn("it leads to http://localhost:1/", ran.stderr)
+        netrc = self.file("netrc", "machine 127.0.0.1 login me password s@y\n")
+        with socket.create_server(("127.0.0.1", 0)) as other:
+            other.setblocking(False)
+            self.location = f"http://localhost:{other.getsockname()[1]}/"
+            for self.status in (301, 302, 303, 307, 308):
+                ran = run(self.plan, "--prometheus", self.url, "--netrc", netrc)
+                self.assertEqual(ran.returncode, 2)
+                self.assertIn(f"it leads to {self.location}", ran.stderr)
+            self.assertRaises(BlockingIOError, other.accept)  # nobody came
 
     def test_an_answer_without_end(self) -> None:
         self.said = b'{"data": ' + b" " * (65 << 20)

@@ -93,7 +93,7 @@ class FaultLines:
     def links_of(self, repair: Repair) -> int:
         """Returns how many planned links a repair mends."""
         wishes = [self.plan.ends.get(self.names.end(fault.end)) for fault in repair.mends]
-        return len({wish.place // 2 for wish in wishes if wish is not None})
+        return len({frozenset((wish.end, wish.wants)) for wish in wishes if wish is not None})
 
     def _repairs(self) -> Iterator[Repair]:
         """Yields the repairs: first those of many ends, last those of one link."""

@@ -3,6 +3,7 @@ from __future__ import annotations
 
 import html
 import subprocess
+from itertools import islice
 from typing import Optional, Sequence
 
 from lldpa.texts import printable
@@ -89,7 +90,7 @@ class Picture:
         self.names = report.names
         self.boxes: dict[str, Box] = {}
         self.edges: dict[tuple[str, str, str], None] = {}
-        self.left = {key for key, wish in report.plan.ends.items() if wish.place % 2 == 0}
+        self.left = set(islice(report.plan.ends, 0, None, 2))
         self.left_hosts = {key.host for key in self.left}
         self.caption = report.count.text
         findings = report.findings

@@ -25,6 +25,8 @@ code { font: 12px/1.4 ui-monospace, monospace; }
 details { margin: 16px 0 0; color: var(--dim); }
 .faults, .repairs { width: 100%; }
 .repairs { margin: 0 0 24px; }
+.repairs td:nth-child(2) { min-width: 9em; }
+.repairs td:nth-child(4), .repairs td:nth-child(5) { min-width: 15em; }
 .faults td:first-child { white-space: nowrap; }
 .faults td:last-child { min-width: 22em; }
 .pictures { display: grid; grid-template-columns: repeat(auto-fill, minmax(min(100%, 360px), 1fr));
