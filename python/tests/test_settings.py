@@ -50,7 +50,7 @@ class TestExplained(unittest.TestCase):
                  "unknown command: nothing follows (tx-interval or tx-hold or max-neighbors)"),
                 ("configure lldp tx-hold 4 5", "extra word", "extra word: 5 (nothing follows)"),
                 ("configure system description \t", "bad text", "bad text: nothing follows "
-                 "(up to 255 printable characters, in quotes where they have spaces)"),
+                 "(up to 255 printable characters, in quotes if it has spaces)"),
                 ('configure system hostname "a', "bad quote", "bad quote")):
             self.assertEqual(explained(line, text, PROGRAM), wanted)
         self.assertEqual(explained("configure lldp tx-hold x", "not a number", "/no/lldpa"),

@@ -21,15 +21,15 @@ pub const MORE: &str = "Lines of a trace:
   show chassis                             what the agent says about itself
   show configuration                       settings, and the status of each port
   configure system hostname TEXT           up to 255 printable characters, in
-                                           quotes where they have spaces
-  configure system description TEXT        likewise
+                                           quotes if it has spaces
+  configure system description TEXT        the same
   configure lldp tx-interval N             seconds between frames, 1 to 3600
                                            [default: 30]
   configure lldp tx-hold N                 intervals that peers keep a frame,
                                            1 to 100 [default: 4]
   configure lldp max-neighbors N           1 to the number of --max-neighbors
   configure ports PORT lldp status STATUS  rx-and-tx, rx-only, tx-only, disabled
-  update                                   sends each port's frame anew
+  update                                   sends each port's frame again
   # TEXT                                   a comment
 
 Examples:

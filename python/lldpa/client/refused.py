@@ -12,7 +12,7 @@ from ..agent.framing import words_of
 SECONDS = 5.0  # for `lldpa --help`
 COMMAND = re.compile(r"  (configure (?:[^ ]+ )*[^ ]+)  +(.*)")
 FURTHER = re.compile(r" {20,}(.*)")  # the rest of a command's description
-LIKEWISE = "likewise"
+THE_SAME = "the same"
 PORT, STATUS = "PORT", "STATUS"
 A_PORT = "a port of this agent"
 
@@ -33,7 +33,7 @@ def forms_of(program: str) -> Forms:
     for line in ran.stdout.decode("utf-8", "replace").partition("\nExamples")[0].split("\n"):
         command, further = COMMAND.fullmatch(line), FURTHER.fullmatch(line)
         if command:
-            said = forms[form] if command[2] == LIKEWISE else command[2]
+            said = forms[form] if command[2] == THE_SAME else command[2]
             form = tuple(command[1].split())
             forms[form] = said
         elif further and form:
