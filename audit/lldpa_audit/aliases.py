@@ -1,11 +1,9 @@
 """Further names of hosts and ports, from a file of rows `host,port,alias`."""
 from __future__ import annotations
 
-from pathlib import Path
-
 from .names import Aliases, End, Names
-from .planfault import Faults, PlanFault
-from .rows import rows_of
+from .planfault import Faults
+from .rows import table_of
 
 COLUMNS = ["host", "port", "alias"]
 
@@ -16,19 +14,8 @@ def read_aliases(file: str, names: Names) -> Aliases:
     A row without a port names a host, one without a host a port of any host. Several rows may give
     one further name to several ports of a host: a neighbor of that name answers to each.
     """
-    try:
-        text = Path(file).read_bytes().decode("utf-8-sig")
-    except UnicodeDecodeError as fault:
-        raise PlanFault([f"{file}: it is no text in UTF-8 (octet {fault.start})"]) from None
-    faults = Faults(file)
-    aliases = Aliases({}, {})
-    rows = rows_of(text, faults)
-    line, header = next(rows, (1, []))
-    if [name.strip().lower() for name in header] != COLUMNS:
-        faults.add(line, f"the first line is not {','.join(COLUMNS)}")
-        rows = iter(())
-    for line, row in rows:
-        fields = [field.strip() for field in row]
+    faults, aliases = Faults(file), Aliases({}, {})
+    for line, fields in table_of(faults, COLUMNS):
         if len(fields) != len(COLUMNS) or not fields[2] or not any(fields[:2]):
             faults.add(line, "it has no alias, or neither a host nor a port")
             continue
@@ -50,6 +37,5 @@ def added(aliases: Aliases, names: Names, host: str, port: str, alias: str) -> s
         is_new = aliases.hosts.setdefault(key, host) == host != key
         return "" if is_new else f"{alias} is an alias of two hosts, or of itself"
     end = End(host, names.plain_port(alias))
-    before = aliases.ports.get(end, ())
-    aliases.ports[end] = (*before, names.plain_port(port))
+    aliases.ports.setdefault(end, []).append(names.plain_port(port))
     return ""

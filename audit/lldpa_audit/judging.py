@@ -159,7 +159,7 @@ class Judge:
 
     @cached_property
     def _ranks(self) -> Mapping[End, int]:
-        """The place of each end in the plan."""
+        """Returns the place of each end in the plan."""
         return {end: rank for rank, end in enumerate(self.plan.ends)}
 
     def hosts_of_aggregate(self, neighbor: Seen) -> set[str]:

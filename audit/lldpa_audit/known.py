@@ -2,13 +2,12 @@
 from __future__ import annotations
 
 import datetime
-from pathlib import Path
 from typing import Iterable, Iterator, NamedTuple, Optional, Sequence
 
 from .judging import Finding, Verdict
 from .names import End, Names, shown
-from .planfault import Faults, PlanFault
-from .rows import rows_of
+from .planfault import Faults
+from .rows import table_of
 
 COLUMNS = ["host", "port", "reason", "until"]
 
@@ -45,18 +44,8 @@ def read_known(file: str, names: Names, today: datetime.date) -> Known:
 
     Raises PlanFault and OSError.
     """
-    try:
-        text = Path(file).read_bytes().decode("utf-8-sig")
-    except UnicodeDecodeError as fault:
-        raise PlanFault([f"{file}: it is no text in UTF-8 (octet {fault.start})"]) from None
     faults, known = Faults(file), Known({}, notes := [])
-    rows = rows_of(text, faults)
-    line, header = next(rows, (1, []))
-    if [name.strip().lower() for name in header] != COLUMNS:
-        faults.add(line, f"the first line is not {','.join(COLUMNS)}")
-        rows = iter(())
-    for line, row in rows:
-        fields = [field.strip() for field in row]
+    for line, fields in table_of(faults, COLUMNS):
         until = date_of(fields[3])
         if len(fields) != len(COLUMNS) or not fields[0] or not fields[2] or until is None:
             faults.add(line, "it has no host, no reason, or no date such as 2026-12-31")

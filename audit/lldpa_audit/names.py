@@ -61,7 +61,7 @@ class Aliases(NamedTuple):
     """
 
     hosts: dict[str, str]
-    ports: dict[End, tuple[str, ...]]
+    ports: dict[End, list[str]]
 
 
 NO_ALIASES = Aliases({}, {})

@@ -1,7 +1,6 @@
 """Reads plans: links in DOT, CSV or NetBox's JSON, through patch panels."""
 from __future__ import annotations
 
-from pathlib import Path
 from sys import getsizeof
 from typing import Iterable, Iterator, Mapping, Optional, Sequence
 
@@ -11,9 +10,9 @@ from .names import End, Names
 from .netbox import DETAILS, cables_of, is_json
 from .panels import Pair, Panels
 from .plan import NO_DETAIL, Detail, Link, Plan
-from .planfault import Faults, PlanFault
+from .planfault import Faults
 from .progress import Progress
-from .rows import rows_of
+from .rows import rows_of, text_of
 from .topology import NO_PORT, TopologyFault, read_topology
 
 MOST_NAMED = 3
@@ -183,16 +182,6 @@ def read_panels(file: str, names: Names, faults: Faults) -> Panels:
     panels = Panels(read.pairs(), names, faults, read.faults)
     read.faults.end()
     return panels
-
-
-def text_of(file: str) -> str:
-    """Returns the text of a file. Raises PlanFault and OSError."""
-    octets = Path(file).read_bytes()
-    try:
-        return octets.decode("utf-8-sig")
-    except UnicodeDecodeError as fault:
-        why = f"it is no text in UTF-8 (octet {fault.start})"
-    raise PlanFault([f"{file}: {why}"])
 
 
 def notes_of(file: str, read: PlanFile, followed: Optional[Panels]) -> list[str]:

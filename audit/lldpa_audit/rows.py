@@ -2,12 +2,35 @@
 from __future__ import annotations
 
 import csv
-from typing import Iterator
+from pathlib import Path
+from typing import Iterator, Sequence
 
-from .planfault import Faults
+from .planfault import Faults, PlanFault
 
 SEPARATORS = ",;\t"
 COMMENT = "#"
+
+
+def text_of(file: str) -> str:
+    """Returns the text of a file. Raises PlanFault and OSError."""
+    octets = Path(file).read_bytes()
+    try:
+        return octets.decode("utf-8-sig")
+    except UnicodeDecodeError as fault:
+        why = f"it is no text in UTF-8 (octet {fault.start})"
+    raise PlanFault([f"{file}: {why}"])
+
+
+def table_of(faults: Faults, columns: Sequence[str]) -> Iterator[tuple[int, list[str]]]:
+    """Yields the fields of each row of the faults' file, with its line. The header must have just
+    these columns. Raises PlanFault and OSError."""
+    rows = rows_of(text_of(faults.file), faults)
+    line, header = next(rows, (1, []))
+    if [name.strip().lower() for name in header] != columns:
+        faults.add(line, f"the first line is not {','.join(columns)}")
+        return
+    for line, row in rows:
+        yield line, [field.strip() for field in row]
 
 
 def rows_of(text: str, faults: Faults) -> Iterator[tuple[int, list[str]]]:

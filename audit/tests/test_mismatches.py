@@ -7,7 +7,7 @@ from typing import Dict, List, Sequence
 from auditing import InAFolder, run
 from lldpa_audit.judging import audit
 from lldpa_audit.mismatches import mismatches
-from lldpa_audit.names import End, Names, Seen
+from lldpa_audit.names import End, Names
 from lldpa_audit.plan import Link, Plan
 from lldpa_audit.seen.shows import read_ports
 from lldpa_audit.seen.tables import Tables

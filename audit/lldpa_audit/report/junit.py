@@ -1,6 +1,7 @@
 """An audit as a report of JUnit's form, which pipelines show: a test case for each planned end."""
 from __future__ import annotations
 
+from collections import Counter
 from typing import Iterator
 from xml.sax.saxutils import quoteattr
 
@@ -20,16 +21,15 @@ def junit_of(report: Report) -> bytes:
 
 def parts(report: Report) -> Iterator[str]:
     """Yields the report from its begin to its end."""
-    cases = report.in_order()
-    failed = sum(1 for one in cases if case_of(report, one)[0] == "failure")
-    skipped = sum(1 for one in cases if case_of(report, one)[0] == "skipped")
-    counts = f'tests="{len(cases)}" failures="{failed}" errors="0" skipped="{skipped}"'
+    cases = [(one.end, *case_of(report, one)) for one in report.in_order()]
+    counted = Counter(element for _, element, _ in cases)
+    counts = (f'tests="{len(cases)}" failures="{counted["failure"]}" errors="0" '
+              f'skipped="{counted["skipped"]}"')
     yield '<?xml version="1.0" encoding="UTF-8"?>\n'
     yield f'<testsuites name="{NAME}" {counts}>\n'
     yield f"<testsuite name={quoted(report.plan.file)} {counts}>\n"
-    for one in cases:
-        element, text = case_of(report, one)
-        head = f"<testcase classname={quoted(one.end.host)} name={quoted(one.end.port)}"
+    for end, element, text in cases:
+        head = f"<testcase classname={quoted(end.host)} name={quoted(end.port)}"
         yield f"{head}/>\n" if not element else (
             f"{head}><{element} message={quoted(text)}/></testcase>\n")
     yield "</testsuite>\n</testsuites>\n"

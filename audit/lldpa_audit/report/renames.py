@@ -54,9 +54,9 @@ def repair(faults: Faults, host: str, some: list[tuple[End, Seen]]) -> Repair:
     differs = faults.hints.differences.of_neighbor(neighbor, some[0][0])
     links = faults.plan.ends_of_hosts[host]
     known = [key for key in links if has_neighbors(faults, faults.plan.ends[key].wanted)]
-    count = f"all {len(some)}" if len(some) == len(known) else f"{len(some)} of {len(known)}"
-    others = f"{count} of its links" if len(some) == len(known) else f"{count} links of it"
-    text = f"answers as {shown(neighbor.hosts[0])} at {others}"
+    at = (f"all {len(some)} of its links" if len(some) == len(known)
+          else f"{len(some)} of {len(known)} links of it")
+    text = f"answers as {shown(neighbor.hosts[0])} at {at}"
     ends = faults.with_far([faults.plan.ends[end].wanted for end, _ in some], [Verdict.DISAGREES])
     return Repair("renamed", End(name, some[0][0].port), f"{text} ({differs})" if differs else text,
                   faults.take(ends), shown(name))

@@ -36,4 +36,4 @@ class Report:
 
     def as_json(self) -> Json:
         """Returns the repairs, and every finding."""
-        return Objects(self.fault_lines, self.count).of(in_order(self.findings))
+        return Objects(self.fault_lines, self.count).of(self.in_order())

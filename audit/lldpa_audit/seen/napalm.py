@@ -9,6 +9,7 @@ from __future__ import annotations
 from typing import Any, Sequence
 
 from ..names import Seen
+from .fields import text
 from .listing import Listing, Ports, SeenFault
 from .neighbor import neighbor
 
@@ -16,7 +17,6 @@ from .neighbor import neighbor
 GETTERS = ("lldp_neighbors_detail", "lldp_neighbors")
 WRAPPERS = (*[f"{front}{name}" for name in GETTERS for front in ("", "get_", "napalm_")], "out",
             "ansible_facts")
-ABSENT = ("", "N/A")
 
 
 def read_napalm(tree: Any) -> Listing:
@@ -54,16 +54,10 @@ def seen(node: Any, port: str) -> Seen:
     """Returns a neighbor."""
     if not isinstance(node, dict):
         raise SeenFault(f"{port!r} has something else in place of a neighbor")
-    name = field(node, "remote_system_name") or field(node, "hostname")
-    chassis = field(node, "remote_chassis_id")
-    port_id = field(node, "remote_port") or field(node, "port")
-    if not (name or chassis) or not (port_id or field(node, "remote_port_description")):
+    name = text(node, "remote_system_name") or text(node, "hostname")
+    chassis = text(node, "remote_chassis_id")
+    port_id = text(node, "remote_port") or text(node, "port")
+    if not (name or chassis) or not (port_id or text(node, "remote_port_description")):
         raise SeenFault(f"{port!r} has a neighbor without a name of its host or of its port")
     kind = "local" if port_id.isdecimal() else "ifname"
-    return neighbor(chassis, kind, port_id, name, field(node, "remote_port_description"))
-
-
-def field(node: dict[str, Any], name: str) -> str:
-    """Returns a field's text, empty if there is none."""
-    found = node.get(name)
-    return found if isinstance(found, str) and found not in ABSENT else ""
+    return neighbor(chassis, kind, port_id, name, text(node, "remote_port_description"))
