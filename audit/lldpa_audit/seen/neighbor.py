@@ -9,7 +9,7 @@ from ..names import Seen
 from ..link_settings import Settings
 
 LONGEST = 512
-MOST_KEPT = 16384
+MOST_KEPT = 32768
 # the kinds of a Port ID that is the name or the alias of an interface
 OF_INTERFACES = ("ifname", "ifalias")
 
