@@ -203,8 +203,8 @@ def is_address(name: str) -> bool:
 
 
 def shown(name: str) -> str:
-    """Returns a name as a line has it: with octets for what a terminal does not show, in quotes if
-    it has a blank, and cut if it is longer than any that a neighbor says."""
+    """Returns a name as a line shows it. What a terminal cannot show is escaped by its octets. A
+    name with a blank is in quotes. A name that is longer than a neighbor can send is cut."""
     text = printable(text_of(name if len(name) <= LONGEST else name[:LONGEST] + CUT))
     return text if text and " " not in text else f'"{text}"'
 

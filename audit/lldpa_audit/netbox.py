@@ -56,8 +56,8 @@ def cables_of(text: str, faults: Faults) -> Iterator[ApiCable]:
         for node in found:
             cable = cable_of(node)
             if cable is None:
-                faults.add(None, f"{name_of(node)} is no cable with terminations that have a "
-                                 "device and a name")
+                faults.add(None, f"{name_of(node)} is not a cable whose terminations have a device "
+                                 "and a name")
             else:
                 yield cable
 
@@ -97,7 +97,7 @@ def termination_of(node: Any) -> Termination:
 
 
 def text_of(value: Any) -> str:
-    """Returns a value of a cable as text; a choice has its own in `value`."""
+    """Returns a value of a cable as text. The text of a choice is its field `value`."""
     if isinstance(value, dict):
         value = value.get("value")
     return "" if value is None else str(value)

@@ -8,7 +8,7 @@ from .plan import Detail, Link
 from .planfault import Faults
 
 
-# through more panels than this no link goes: those of a ring have no end
+# the most panels that a link is followed through: in a ring of panels it would never end
 MOST_PANELS = 100
 
 

@@ -17,7 +17,7 @@ def text_of(file: str) -> str:
     try:
         return octets.decode("utf-8-sig")
     except UnicodeDecodeError as fault:
-        why = f"it is no text in UTF-8 (octet {fault.start})"
+        why = f"it is not text in UTF-8 (octet {fault.start})"
     raise PlanFault([f"{file}: {why}"])
 
 

@@ -120,7 +120,7 @@ class Csv(Plans):
     def test_no_plan(self) -> None:
         self.assertIn("line 1: the column host is missing", self.fault(""))
         self.assertEqual(self.fault("host,port,peer,peer_port\n"), "it plans no link")
-        self.assertEqual(self.fault("host,\xe4\n", "latin-1"), "it is no text in UTF-8 (octet 5)")
+        self.assertEqual(self.fault("host,\xe4\n", "latin-1"), "it is not text in UTF-8 (octet 5)")
 
     def test_line_feeds_in_quotes(self) -> None:
         text = ('host,port,note,peer,peer_port\na,1,"two\n# lines\n\n",b,2\n'

@@ -50,7 +50,7 @@ class Count(NamedTuple):
 
     @property
     def is_all_right(self) -> bool:
-        """Returns whether there is no fault in what was looked at."""
+        """Returns whether all that was looked at is right or known."""
         is_right = self.right + self.unseen + self.known == self.planned
         return is_right and not self.unplanned and not self.mismatches
 

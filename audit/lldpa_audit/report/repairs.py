@@ -28,7 +28,7 @@ TO_DO = {
     "disagrees": "look at the other end again",
     "no data": "give what is seen there",
     "unplanned": "take the cable out, or plan it",
-    "mismatch": "set both ends alike, or as the plan has it",
+    "mismatch": "give both ends the same setting, that of the plan if it has one",
 }
 
 

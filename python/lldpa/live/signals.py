@@ -29,9 +29,11 @@ class Signals:
         signal.pthread_sigmask(signal.SIG_SETMASK, mask)
 
     def add_handlers(self) -> None:
-        """Has the event loop call what each signal asks for. The loop reads signals from a pipe. A
-        flood fills it. Nothing is lost by that, and the interpreter must not report it: CPython takes
-        a lock for that in its signal handler, and may wait for itself for ever."""
+        """Has the event loop call what each signal asks for.
+
+        The loop reads signals from a pipe, and a flood of signals fills it. No signal is lost then.
+        But CPython reports the full pipe from its signal handler, under a lock, and may wait for
+        itself forever. So it is told not to report it."""
         loop = asyncio.get_running_loop()
         for one in self.taken:
             reloads = one == signal.SIGHUP and self.ground.given.stay
