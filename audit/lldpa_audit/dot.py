@@ -8,11 +8,11 @@ from __future__ import annotations
 
 from typing import Generator, Iterator, NamedTuple, Optional, Sequence
 
-from .dot_tokens import BAD, END, PLAIN, QUOTED, DotFault, Token, tokens
+from .dot_tokens import BAD, END, PLAIN, PLAIN_EDGE, QUOTED, DotFault, Token, tokens
 
 DEEPEST = 100
-# what takes some 20 seconds to read
-MOST_WORDS, MOST_EDGES, MOST_NODES = 6_000_000, 600_000, 10_000
+# what takes some 20 seconds to read; the words of plain edges are not counted
+MOST_WORDS, MOST_EDGES, MOST_NODES = 3_000_000, 600_000, 10_000
 COMPASS_POINTS = {"n", "ne", "e", "se", "s", "sw", "w", "nw", "c", "_"}
 
 
@@ -58,6 +58,7 @@ class Parser:
     """Reads a file from word to word; `next` is the word that was not taken yet."""
 
     def __init__(self, text: str) -> None:
+        self._text = text
         self._tokens = tokens(text)
         self._edge_mark = "--"
         self._filled: set[str] = set()
@@ -90,11 +91,29 @@ class Parser:
         self.expect("{")
         nodes: Side = ()
         while self.next.kind != "}":
+            if self.is_name() and (yield from self.plain_edges()):
+                nodes = OF_SUBGRAPH
+                continue
             nodes = (yield from self.statement(depth)) or nodes
             if self.next.kind == ";":
                 self.take()
         self.take()
         return nodes
+
+    def plain_edges(self) -> Generator[DotEdge, None, bool]:
+        """Takes the edges of two ports that come next, each at once, and returns whether there was
+        one."""
+        begin = at = self.next.place
+        while (found := PLAIN_EDGE.match(self._text, at)) and found[4] == self._edge_mark:
+            one, port, other, other_port = [word.strip('"') for word in found.group(2, 3, 5, 6)]
+            place = found.start(4)
+            self.count_edges(1, place)
+            yield DotEdge(Node(one, port), Node(other, other_port), place)
+            at = found.end()
+        if at != begin:
+            self._tokens = tokens(self._text, at)
+            self.next = next(self._tokens)
+        return at != begin
 
     def statement(self, depth: int) -> Edges:
         """Takes one statement, and returns the nodes in it as a side of an edge."""
@@ -113,15 +132,19 @@ class Parser:
         while self.next.kind == self._edge_mark:
             place = self.take().place
             other = yield from self.side(None, depth)
-            self._edges_left -= len(side) * len(other)
-            if self._edges_left < 0:
-                raise DotFault(f"it has more than {MOST_EDGES} edges", place)
+            self.count_edges(len(side) * len(other), place)
             for one in side:
                 for another in other:
                     yield DotEdge(one, another, place)
             side, has_nodes = other, has_nodes or bool(other)
         self.attributes()
         return OF_SUBGRAPH if has_nodes else ()
+
+    def count_edges(self, count: int, place: int) -> None:
+        """Counts edges, of which a file may have a limited number."""
+        self._edges_left -= count
+        if self._edges_left < 0:
+            raise DotFault(f"it has more than {MOST_EDGES} edges", place)
 
     def side(self, first: Optional[str], depth: int) -> Edges:
         """Takes a side of an edge: a subgraph, or nodes, of which the first name may already be

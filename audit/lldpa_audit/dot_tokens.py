@@ -21,6 +21,19 @@ TOKEN = re.compile(
     rf'(?=({SKIPPED}))\1(?:({NAME})|"({IN_QUOTES})"|({MARK})|(<)|(\Z))', re.S)
 OF_NAME, OF_QUOTES, OF_MARK, OF_ANGLE, OF_END = range(2, 7)
 
+# An edge between two ports, as most are. What follows it cannot continue it, and no name is cut
+# short. A blank can be matched in one place only, so that a text is refused in linear time.
+BLANKS = r"[ \t]*"
+ENDED = rf"(?![{LETTER}0-9])"
+NO_KEYWORD = rf"(?!(?i:{'|'.join(sorted(KEYWORDS))}){ENDED})"
+PLAIN_NAME = rf'(?:{NO_KEYWORD}[A-Za-z_][A-Za-z0-9_]*{ENDED}|"[^"\\]*")'
+PLAIN_END = rf"({PLAIN_NAME}):({PLAIN_NAME}){BLANKS}"
+ATTRIBUTE = rf"{PLAIN_NAME}{BLANKS}={BLANKS}{PLAIN_NAME}{BLANKS}(?:[,;]{BLANKS})?"
+ATTRIBUTES = rf"(?:\[{BLANKS}(?:{ATTRIBUTE}){{0,20}}\]{BLANKS})?"
+PLAIN_EDGE = re.compile(
+    rf"(?=({SKIPPED}))\1{PLAIN_END}(--|->){BLANKS}{PLAIN_END}{ATTRIBUTES}"
+    rf'(?:;|(?=({SKIPPED}))(?=\7["A-Za-z_}}]))', re.S)
+
 REST = re.compile(SKIPPED, re.S)
 ESCAPE = re.compile(r'\\(\\|"|\r?\n)')
 ESCAPES = {"\\": "\\\\", '"': '"'}
@@ -44,21 +57,22 @@ class Token(NamedTuple):
     place: int
 
 
-def tokens(text: str) -> Iterator[Token]:
-    """Returns the words of a text, and END behind them, or BAD behind the last that can be read."""
+def tokens(text: str, begin: int = 0) -> Iterator[Token]:
+    """Returns the words of a text from a place on, and END behind them, or BAD behind the last that
+    can be read."""
     try:
-        at = yield from words(text)
+        at = yield from words(text, begin)
         yield Token(END, "", at)
     except DotFault as fault:
         yield Token(BAD, str(fault), fault.place)
 
 
-def words(text: str) -> Generator[Token, None, int]:
-    """Returns the words of a text, and where it ends. Raises DotFault."""
-    at, begin_of_name = 0, None
+def words(text: str, at: int) -> Generator[Token, None, int]:
+    """Returns the words of a text from a place on, and where it ends. Raises DotFault."""
+    begin_of_name = None
     while found := TOKEN.match(text, at):
-        group, at = found.lastindex or 0, found.end()
-        word, place = found[group], found.start(group)
+        group, place, at = found.lastindex or 0, found.end(1), found.end()
+        word = found[group]
         if group == OF_NAME:
             if begin_of_name is not None and not found[1]:
                 raise in_two(text, begin_of_name)

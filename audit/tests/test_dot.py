@@ -3,13 +3,16 @@ from __future__ import annotations
 
 import os
 import random
+import re
 import shutil
 import subprocess
 import sys
 import time
 import unittest
 from typing import List, Optional, Tuple
+from unittest import mock
 
+from lldpa_audit import dot
 from lldpa_audit.dot import DEEPEST, edges_of, is_dot
 from lldpa_audit.dot_tokens import DotFault
 from lldpa_audit.topology import TopologyFault, read_topology
@@ -30,6 +33,14 @@ digraph "two" {
     {a b} -> c -> d:1:ne, f; subgraph x {y}
     "le" + "af5":"swp1" -> <spine<b>1</b>>:"swp5"; -.5 [x=y;z=w]
 }
+"""
+PLAIN_EDGES = """\
+graph {
+    a:p1 -- b:p2; "leaf 1":"swp1"--spine_1:swp3 [color=red, label="x" y=z];
+    c:p1--d:p2 # "e":"f"
+    "":"1" -- "g":h; /* i:p1 */ {j:p1 -- k:p2} l:p1 -- m:p2 [];
+    n:p1 -- o:p2 -- p:p3; q:p1 -- r:p2:ne
+    s:p1 -- t:p2 }
 """
 
 # Where our reader is stricter than graphviz, and says so.
@@ -86,6 +97,27 @@ class Edges(unittest.TestCase):
     def test_many_blanks_in_front_of_a_fault(self) -> None:
         with self.assertRaisesRegex(TopologyFault, "'@' means nothing here"):
             list(read_topology("graph {" + " // x\n" * 1000 + " " * 10_000 + "@}"))
+
+
+class Plain(unittest.TestCase):
+    """Edges that are read at once are the same as if they are read word by word."""
+
+    def test_damaged_files(self) -> None:
+        print(f"test_dot: seed {SEED}", flush=True)
+        dice = random.Random(SEED)
+        texts = [PLAIN_EDGES, *(damaged(PLAIN_EDGES, dice) for _ in range(20 * DAMAGED_FILES))]
+        at_once = [read(text) for text in texts]
+        self.assertEqual(len(at_once[0]), 10)
+        with mock.patch.object(dot, "PLAIN_EDGE", re.compile("(?!)")):
+            for number, text in enumerate(texts):
+                self.assertEqual(at_once[number], read(text), (SEED, number, text))
+
+    def test_they_take_no_words(self) -> None:
+        with mock.patch.object(dot, "MOST_WORDS", 12):
+            text = "a:b -- c:d [x=y]; // e\n" * 100
+            self.assertEqual(len(edges("graph {" + text + "{e:f -- g:h\n}}")), 101)
+            self.assertRaisesRegex(DotFault, "more than 12 words", edges,
+                                   "graph {" + "a:b -- /**/ c:d;" * 2 + "}")
 
 
 @unittest.skipUnless(shutil.which("dot"), "graphviz is not installed")
@@ -148,6 +180,17 @@ class Large(unittest.TestCase):
         count, kilobytes = map(int, ran.stdout.split())
         self.assertEqual(count, 100_000)
         self.assertLess(kilobytes, 400_000)
+
+
+def read(text: str) -> List[object]:
+    """Returns the edges of a text with their places, and why and where the rest is refused."""
+    found: List[object] = []
+    try:
+        for edge in edges_of(text):
+            found.append(edge)
+    except DotFault as fault:
+        found.append((str(fault), fault.place))
+    return found
 
 
 def taken(text: str) -> Tuple[bool, str]:

@@ -57,7 +57,7 @@ uint32_t lldpa_version(void);
 #define LLDPA_NULL 105         /* a pointer is NULL that must not be */
 
 /*
- * What a fault or a misuse is, in words, as "the first TLV is no Chassis ID".
+ * What a fault or a misuse is, in words, as "the first TLV is not a Chassis ID".
  *   fault   an answer other than 0: a number that stands in this header at a fault, or one of those above
  *   length  how many octets it has, at most LLDPA_FAULT_ROOM
  * Answers 0, LLDPA_OUT_OF_RANGE or LLDPA_NO_ROOM; only if it is 0 anything is written.
@@ -91,13 +91,13 @@ bool lldpa_frame_pdu(const uint8_t *frame, size_t length, lldpa_place *pdu);
 
 /* The faults of an LLDPDU, in the order in which they are looked for. */
 #define LLDPA_TRUNCATED 1      /* no complete TLV where a mandatory one belongs */
-#define LLDPA_NO_CHASSIS 2     /* the first TLV is no Chassis ID */
-#define LLDPA_CHASSIS_LENGTH 3 /* the Chassis ID has not 2 to 256 octets */
-#define LLDPA_NO_PORT_ID 4     /* the second TLV is no Port ID */
-#define LLDPA_PORT_LENGTH 5    /* the Port ID has not 2 to 256 octets */
-#define LLDPA_NO_TTL 6         /* the third TLV is no Time To Live */
+#define LLDPA_NO_CHASSIS 2     /* the first TLV is not a Chassis ID */
+#define LLDPA_CHASSIS_LENGTH 3 /* the Chassis ID does not have 2 to 256 octets */
+#define LLDPA_NO_PORT_ID 4     /* the second TLV is not a Port ID */
+#define LLDPA_PORT_LENGTH 5    /* the Port ID does not have 2 to 256 octets */
+#define LLDPA_NO_TTL 6         /* the third TLV is not a Time To Live */
 #define LLDPA_TTL_LENGTH 7     /* the Time To Live has fewer than 2 octets */
-#define LLDPA_REPEATED 8       /* a mandatory TLV stands again behind the third */
+#define LLDPA_REPEATED 8       /* a mandatory TLV is repeated after the third */
 
 /* What a sound LLDPDU says. */
 typedef struct lldpa_examined {
@@ -298,7 +298,7 @@ typedef struct lldpa_agent {
 #define LLDPA_MEMORY 21         /* there was no memory for it */
 #define LLDPA_NO_PORTS 22       /* no port was named */
 #define LLDPA_TOO_MANY_PORTS 23 /* more than 64 ports were named */
-#define LLDPA_PORT_NAME 24      /* the name of a port is none */
+#define LLDPA_PORT_NAME 24      /* the name of a port is not valid */
 #define LLDPA_SAME_PORT 25      /* two ports have the same name */
 #define LLDPA_TEXT 26           /* the hostname is over 255 octets, or has one that is not printable */
 

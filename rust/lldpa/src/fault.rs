@@ -52,20 +52,20 @@ faults! {
     PduFault {
         /// No complete TLV where a mandatory one belongs.
         Truncated = 1, "no complete TLV where a mandatory one belongs";
-        /// The first TLV is no Chassis ID.
-        NoChassis = 2, "the first TLV is no Chassis ID";
-        /// The Chassis ID has not 2 to 256 octets.
-        ChassisLength = 3, "the Chassis ID has not 2 to 256 octets";
-        /// The second TLV is no Port ID.
-        NoPort = 4, "the second TLV is no Port ID";
-        /// The Port ID has not 2 to 256 octets.
-        PortLength = 5, "the Port ID has not 2 to 256 octets";
-        /// The third TLV is no Time To Live.
-        NoTtl = 6, "the third TLV is no Time To Live";
+        /// The first TLV is not a Chassis ID.
+        NoChassis = 2, "the first TLV is not a Chassis ID";
+        /// The Chassis ID does not have 2 to 256 octets.
+        ChassisLength = 3, "the Chassis ID does not have 2 to 256 octets";
+        /// The second TLV is not a Port ID.
+        NoPort = 4, "the second TLV is not a Port ID";
+        /// The Port ID does not have 2 to 256 octets.
+        PortLength = 5, "the Port ID does not have 2 to 256 octets";
+        /// The third TLV is not a Time To Live.
+        NoTtl = 6, "the third TLV is not a Time To Live";
         /// The Time To Live has fewer than 2 octets.
         TtlLength = 7, "the Time To Live has fewer than 2 octets";
-        /// A mandatory TLV stands again behind the third.
-        Repeated = 8, "a mandatory TLV stands again behind the third";
+        /// A mandatory TLV is repeated after the third.
+        Repeated = 8, "a mandatory TLV is repeated after the third";
     }
 }
 
@@ -75,7 +75,7 @@ faults! {
         /// It and the End Of LLDPDU do not fit in 1500 octets.
         Full = 11, "it does not fit in 1500 octets";
         /// Its type is not 4 to 127, or one of 4 to 7 that was put before, or the TTL is 0.
-        Kind = 12, "no TLV of its type may be put";
+        Kind = 12, "a TLV of its type may not be put";
         /// Its body is over 511 octets, or not well formed for its type.
         Body = 13, "its body is not well formed for its type";
     }
@@ -90,8 +90,8 @@ faults! {
         NoPorts = 22, "no port was named";
         /// More than 64 ports were named.
         TooManyPorts = 23, "more than 64 ports were named";
-        /// The name of a port is none.
-        PortName = 24, "the name of a port is none";
+        /// The name of a port is not valid.
+        PortName = 24, "the name of a port is not valid";
         /// Two ports have the same name.
         SamePort = 25, "two ports have the same name";
         /// The hostname is over 255 octets, or has one that is not printable ASCII.

@@ -505,8 +505,8 @@ static void run_words(void)
     }
     holds(count == 31 && longest == LLDPA_FAULT_ROOM, "how many faults there are, and the longest words");
     holds(lldpa_fault_text(256 + LLDPA_MEMORY, room, sizeof room, &length) == LLDPA_OUT_OF_RANGE, "a fault over 255");
-    holds(lldpa_fault_text(LLDPA_NO_CHASSIS, room, sizeof room, &length) == LLDPA_OK && length == 30 &&
-              memcmp(room, "the first TLV is no Chassis ID", 30) == 0, "the words of a fault");
+    holds(lldpa_fault_text(LLDPA_NO_CHASSIS, room, sizeof room, &length) == LLDPA_OK && length == 33 &&
+              memcmp(room, "the first TLV is not a Chassis ID", 33) == 0, "the words of a fault");
 }
 
 /* The texts of the refusals of commands have at most 22 octets. */
