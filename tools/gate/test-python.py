@@ -1,7 +1,6 @@
 #!/usr/bin/env python3
 """Runs the tests of python/tests, as `python3 -m unittest discover python/tests` does, and those of
-audit/tests, and counts them. Modules run beside one another, since most of their time is waiting,
-but never more than there are processors.
+audit/tests, and counts them. Two modules run for each processor, since most of their time is waiting.
 
     python3 tools/gate/test-python.py [PROGRAM]
 
@@ -20,8 +19,9 @@ from typing import NamedTuple
 TOP = pathlib.Path(__file__).resolve().parents[2]
 TESTS = [TOP / "python" / "tests", TOP / "audit" / "tests"]
 # these take longest; one of them that began last would hold up the gate
-LONGEST = ("test_agents", "test_audit_given", "test_service", "test_relay", "test_audit_command", "test_live_ends",
-           "test_log_files", "test_trace", "test_lldpctl", "test_settings", "test_packaging", "test_hostile")
+LONGEST = ("test_addresses", "test_log_files", "test_relay", "test_service", "test_places", "test_bad_files",
+           "test_live_log", "test_agents", "test_live_ends", "test_packaging", "test_audit_given", "test_settings",
+           "test_ctl_live", "test_audit_command", "test_identity", "test_state")
 # a test that wants an answer within a tenth of a second has the processors for itself
 ALONE = ("test_live_flood",)
 
@@ -57,7 +57,8 @@ def run_module(name):
 def run_all(names):
     """Runs the modules, in a process each, and reports each when it has ended."""
     beside = [name for name in names if name not in ALONE]
-    for workers, some in ((os.cpu_count(), beside), (1, [name for name in names if name in ALONE])):
+    workers = 2 * len(os.sched_getaffinity(0))
+    for workers, some in ((workers, beside), (1, [name for name in names if name in ALONE])):
         with concurrent.futures.ProcessPoolExecutor(workers, initializer=prepare) as pool:
             yield from pool.map(run_module, some)
 
