@@ -36,7 +36,8 @@ Row = Sequence[str]
 
 
 class Columns:
-    """Reads rows by the header of their file. Raises nothing: what is wrong is a fault.
+    """Reads rows by the header of their file. What is wrong is a fault. Raises PlanFault if the
+    header has very many columns.
 
     `others` names the columns that are read for details, and `has_types` says whether there are
     types of ports. `left_out` counts the rows that join no ports of networks.
@@ -46,7 +47,7 @@ class Columns:
                  given: Optional[Mapping[str, str]] = None) -> None:
         if len(header) > MOST_COLUMNS:
             faults.add(line, f"it names {len(header)} columns, and {MOST_COLUMNS} are the most")
-            header = header[:MOST_COLUMNS]
+            faults.end()
         self._names = [key_of(name) for name in header]
         self._faults = faults
         self._columns, self._is_of_netbox = self._found(given)

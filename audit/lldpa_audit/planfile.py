@@ -102,8 +102,9 @@ class PlanFile:
         self.others = columns.others
         has_details, has_types, names = bool(self.others), columns.has_types, self._names
         for line, fields in rows if columns.can_read else ():
-            detail = Detail(columns.texts(fields)) if has_details else NO_DETAIL
-            for row in columns.rows(line, fields):
+            ends = columns.rows(line, fields)
+            detail = Detail(columns.texts(fields)) if has_details and ends else NO_DETAIL
+            for row in ends:
                 host, port, peer, peer_port = [names.get(name) or self._kept(name, line)
                                                for name in row]
                 one, other = End(host, port), End(peer, peer_port)

@@ -9,6 +9,13 @@ from .planfault import Faults, PlanFault
 
 SEPARATORS = ",;\t"
 COMMENT = "#"
+# a row of so many characters may be half as many fields, of which each takes memory; a line takes
+# time, whatever it has
+LONGEST_ROW, MOST_LINES = 1_000_000, 2_000_000
+
+
+class TooLarge(Exception):
+    """Why the rest of a file is not read."""
 
 
 def text_of(file: str) -> str:
@@ -48,6 +55,9 @@ def rows_of(text: str, faults: Faults) -> Iterator[tuple[int, list[str]]]:
         lines.is_inside = False
         try:
             row = next(reader, None)
+        except TooLarge as fault:
+            faults.add(lines.begin if lines.is_inside else lines.number, str(fault))
+            return
         except csv.Error as fault:
             is_endless = "end of data" in str(fault) or "field larger" in str(fault)
             faults.add(lines.begin, "a field in quotes has no end" if is_endless else str(fault))
@@ -78,16 +88,21 @@ class Lines:
 
     def __init__(self, text: str) -> None:
         self._text = text
-        self.begin = self.number = 0
+        self.begin = self.number = self._length = 0
         self.is_inside = False
         self.is_behind_header = False
 
     def __iter__(self) -> Iterator[str]:
         for self.number, line in enumerate(lines_of(self._text), 1):
+            if self.number > MOST_LINES:
+                raise TooLarge(f"it has more than {MOST_LINES} lines")
             if not self.is_inside:
                 if not (has_fields(line) if self.is_behind_header else begins_header(line)):
                     continue
-                self.begin, self.is_inside = self.number, True
+                self.begin, self.is_inside, self._length = self.number, True, 0
+            self._length += len(line)
+            if self._length > LONGEST_ROW:
+                raise TooLarge(f"it has a row of more than {LONGEST_ROW} characters")
             yield line + "\n"
 
 

@@ -3,10 +3,12 @@ from __future__ import annotations
 
 import gzip
 import io
+import json
 import os
 import struct
 import subprocess
 import sys
+import tracemalloc
 import unittest
 from typing import Callable, List
 
@@ -83,6 +85,17 @@ class Plans(Hostile):
 
     def test_many_columns(self) -> None:
         self.assertIn("200 are the most", self.plan_fault("a," * 100_000 + "\n" + "1\n" * 1000))
+
+    def test_a_row_of_very_many_fields(self) -> None:
+        for row in ("a,1,b,2" + ",p2" * 400_000, 'a,1,"b\n"' + ',2,"\n"' * 300_000):
+            self.assertIn("line 2: it has a row of more than 1000000 characters",
+                          self.plan_fault(f"{HEADER}{row}\n"))
+
+    def test_rows_that_are_left_out(self) -> None:
+        header = "side_a_device,side_a_name,side_b_device,side_b_name"
+        for row in ("a,b\n", "\n"):
+            self.within(lambda: self.assertIn("it has more than 2000000 lines", self.plan_fault(
+                f"{header}{',c' * 196}\n" + row * 2_100_000)))
 
     def test_many_links(self) -> None:
         plan = self.folder / "links"
@@ -179,15 +192,29 @@ class Lists(Hostile):
 
     def test_blanks_of_plain(self) -> None:
         head = "-" * 79 + "\n"
-        text = f"{head}LLDP neighbors:\n{head}Interface:{' ' * 200_000}\n{head}"
-        self.assertIn("where an interface was expected", self.fault_of(text.encode()))
+        for blanks, why in ((60_000, "where an interface was expected"),
+                            (200_000, "over 65536 octets")):
+            text = f"{head}LLDP neighbors:\n{head}Interface:{' ' * blanks}\n{head}"
+            self.assertIn(why, self.fault_of(text.encode()))
 
     def test_what_it_makes(self) -> None:
         for octets, why in ((b"[" + b"[]," * 1_000_000 + b"[]]", "over 1500000 values"),
                             (b"lldp.a.neighbors=0\n" + b"x\n" * 1_600_000, "over 1500000 lines"),
-                            (b"lldp.a.via=LLDP\n" + b"x\n" * 1_600_000, "over 1500000 lines")):
+                            (b"lldp.a.via=LLDP\n" + b"x\n" * 1_600_000, "over 1500000 lines"),
+                            (b"lldp.a.via=LLDP\nlldp.a.chassis.mac=" + b"0d:" * 30_000 + b"\n",
+                             "a line of over 65536 octets")):
             self.assertIn(why, self.fault_of(octets))
             self.assertIn(why, self.fault_of(gzip.compress(octets)))
+
+    def test_an_address_of_many_parts(self) -> None:
+        tree = {"eth0": [{"remote_chassis_id": "0d:" * 1_000_000, "remote_port": "1"}]}
+        text = json.dumps(tree)
+        tracemalloc.start()
+        self.addCleanup(tracemalloc.stop)
+        read = reader_of(text.encode())
+        assert read is not None
+        self.assertEqual(list(read(text.encode()).ports), ["eth0"])
+        self.assertLess(tracemalloc.get_traced_memory()[1], 50_000_000)
 
     def test_many_unplanned_hosts(self) -> None:
         rows = "".join(f"sw{at},1,sw{at},2\n" for at in range(3000))

@@ -7,6 +7,7 @@ from lldpa.faults import LldpaFault
 from ..names import Seen
 
 MOST_LINES = 1_500_000
+LONGEST_LINE = 65536
 
 Ports = dict[str, Sequence[Seen]]
 
@@ -15,10 +16,17 @@ class SeenFault(LldpaFault, ValueError):
     """What is wrong with octets of a form."""
 
 
-def need_few_lines(octets: bytes) -> None:
-    """Raises SeenFault if there are more lines than any list has: each takes memory."""
+def need_lines(octets: bytes) -> None:
+    """Raises SeenFault if there are more lines, or longer ones, than any list has: each takes
+    memory, and so does each part of a line."""
     if octets.count(b"\n") > MOST_LINES:
         raise SeenFault(f"it has over {MOST_LINES} lines, and no list has so many")
+    begin = 0
+    while len(octets) - begin > LONGEST_LINE:
+        end = octets.rfind(b"\n", begin, begin + LONGEST_LINE + 1)
+        if end < 0:
+            raise SeenFault(f"it has a line of over {LONGEST_LINE} octets, and no list has one")
+        begin = end + 1
 
 
 class Listing(NamedTuple):

@@ -13,6 +13,9 @@ MOST_KEPT = 32768
 # the kinds of a Port ID that is the name or the alias of an interface
 OF_INTERFACES = ("ifname", "ifalias")
 
+# an IPv6 address in full, with an IPv4 address at its end and a zone
+LONGEST_ADDRESS = 64
+
 # what stands for a host or a port whose neighbor has no readable name at all
 UNNAMED = ("",)
 
@@ -65,7 +68,8 @@ def clean(text: str) -> str:
 
 def names_of_address(address: str) -> Sequence[str]:
     """Returns an address unchanged, and one of IPv6 in full and as people shorten it."""
-    if ":" not in address or address.count(":") == 5 and len(address) == 17:  # a MAC address
+    is_mac = address.count(":") == 5 and len(address) == 17
+    if ":" not in address or is_mac or len(address) > LONGEST_ADDRESS:
         return (address,)
     try:
         found = ipaddress.IPv6Address(address)
