@@ -199,8 +199,8 @@ class Lists(Hostile):
 
     def test_what_it_makes(self) -> None:
         for octets, why in ((b"[" + b"[]," * 1_000_000 + b"[]]", "over 1500000 values"),
-                            (b"lldp.a.neighbors=0\n" + b"x\n" * 1_600_000, "over 1500000 lines"),
-                            (b"lldp.a.via=LLDP\n" + b"x\n" * 1_600_000, "over 1500000 lines"),
+                            (b"lldp.a.neighbors=0\n" + b"x\n" * 1_100_000, "over 1000000 lines"),
+                            (b"lldp.a.via=LLDP\n" + b"x\n" * 1_100_000, "over 1000000 lines"),
                             (b"lldp.a.via=LLDP\nlldp.a.chassis.mac=" + b"0d:" * 30_000 + b"\n",
                              "a line of over 65536 octets")):
             self.assertIn(why, self.fault_of(octets))

@@ -114,7 +114,7 @@ class Comparison:
         if escaped_alike(theirs) == escaped_alike(ours) and ("neighbors", "a text") in self.rows:
             return "a text"
         if [SIGN.sub("", str(value)) for value in theirs] == [SIGN.sub("", str(value)) for value in ours]:
-            return "a sign" if ("neighbors", "a sign") in self.rows else None
+            return "coordinates" if ("neighbors", "coordinates") in self.rows else None
         return next((row for show, row in self.rows if f": show {show}" in where
                      and (key == row or key.startswith(row + "."))), None)
 

@@ -6,7 +6,7 @@ from typing import Mapping, NamedTuple, Sequence
 from lldpa.faults import LldpaFault
 from ..names import Seen
 
-MOST_LINES = 1_500_000
+MOST_LINES = 1_000_000
 LONGEST_LINE = 65536
 
 Ports = dict[str, Sequence[Seen]]

@@ -13,6 +13,8 @@ from .tlvs import SETTING
 
 NUMBER = "(?:0|[1-9][0-9]{0,18})"
 TEXT = "[ -~]*"
+# more than a frame has TLVs: each takes memory until the port is read
+MOST_LINES = 1000
 
 # Its groups: what each line begins with, the port's name, the neighbor's chassis ID, the kind of
 # its port ID, that ID, what it says first in the usual order, and the further lines without the
@@ -32,7 +34,7 @@ USUAL_PORT = re.compile(
     rf"(?:\n(?P=port)1\.chassis\.descr={TEXT})?"
     rf"(?:\n(?P=port)1\.chassis\.caps={TEXT})?"
     rf"(?:\n(?P=port)1\.chassis\.mgmt=({TEXT}))?"
-    rf"((?:\n(?P=port)1\.{SAID_KEY}={TEXT})*)\n", re.MULTILINE)
+    rf"((?:\n(?P=port)1\.{SAID_KEY}={TEXT}){{0,{MOST_LINES}}})\n", re.MULTILINE)
 
 # the lines among the further ones that name the neighbor, or tell of its link: key and value
 NAMES = re.compile(
