@@ -167,7 +167,7 @@ class Damaged(unittest.TestCase):
         self.assertEqual(fault_of(b""), "it is empty")
         self.assertIn("not a capture: octet 0 begins with 23 21 2f 62", fault_of(b"#!/bin/sh"))
         self.assertIn("compressed by xz: unpack it", fault_of(bytes.fromhex("fd377a585a00")))
-        self.assertEqual(fault_of(b"\n\r"), "it ends at octet 2, inside the record of octet 0")
+        self.assertEqual(fault_of(b"\n\r"), "it ends at octet 2, inside the record at octet 0")
 
     def test_a_capture_that_is_cut_anywhere(self) -> None:
         for name, form in FORMS.items():
@@ -176,7 +176,7 @@ class Damaged(unittest.TestCase):
             for end in range(1, len(file)):
                 fault = fault_of(file[:end])
                 if fault:
-                    self.assertIn(f"it ends at octet {end}, inside the record of octet ", fault)
+                    self.assertIn(f"it ends at octet {end}, inside the record at octet ", fault)
                 else:
                     ends.add(end)
             records = 5 if "pcap," in name or "pcap of" in name else 7

@@ -140,7 +140,7 @@ class Traces(FilesCase):
         self.assertEqual(self.notes, [])
         size = len(pcap([whole(LLDP)] * 3))
         self.assertEqual(sorted(self.faults), sorted([
-            f"{cut}: it ends at octet {size - 2}, inside the record of octet "
+            f"{cut}: it ends at octet {size - 2}, inside the record at octet "
             f"{size - 16 - len(LLDP)}", "/no/such: No such file or directory"]))
 
 

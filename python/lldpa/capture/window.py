@@ -44,7 +44,7 @@ class Window:
             self.octets += more
         if 0 < len(self.octets) < count:
             end = self.begin + len(self.octets)
-            raise BadCapture(f"it ends at octet {end}, inside the record of octet {self.begin}")
+            raise BadCapture(f"it ends at octet {end}, inside the record at octet {self.begin}")
         return len(self.octets) >= count
 
     def damage(self, at: int, why: str) -> BadCapture:
