@@ -129,8 +129,7 @@ def main():
         pathlib.Path(room, "plan").write_text(fabric_plans.csv_plan(list(fabric.links())[:300]))
         while time.monotonic() < end:
             kind, octets = dice.choice(some)
-            is_large = passed % 10 == 0
-            octets = enlarged(octets, dice) if is_large else damaged(octets, dice)
+            octets = (enlarged if dice.random() < 0.3 else damaged)(octets, dice)
             path = os.path.join(room, "file")
             pathlib.Path(path).write_bytes(octets)
             faults, used, megabytes = tried(kind, path)
