@@ -26,7 +26,11 @@ def read_aliases(file: str, names: Names) -> Aliases:
         if host in aliases.hosts:
             faults.add(None, f"{host} has the alias {alias}, and is an alias itself")
     faults.end()
-    return aliases
+    ports: dict[End, list[str]] = {}
+    for end, names_of_port in aliases.ports.items():
+        host = aliases.hosts.get(end.host, end.host)
+        ports.setdefault(End(host, end.port), []).extend(names_of_port)
+    return Aliases(aliases.hosts, ports)
 
 
 def added(aliases: Aliases, names: Names, host: str, port: str, alias: str) -> str:

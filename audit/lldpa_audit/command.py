@@ -19,6 +19,7 @@ from .judging import audit
 from .known import NOTHING_KNOWN, Known, read_known
 from .mismatches import mismatches
 from .names import NO_ALIASES, Names
+from .plan import Wish
 from .planfault import PlanFault
 from .planfile import read_plan
 from .progress import Progress
@@ -66,9 +67,12 @@ class Audit:
         findings = list(known.applied(audit(plan, tables, given.planned_only), names))
         differing = mismatches(findings, tables, plan) if given.settings else {}
         report = Report(plan, tables, findings, differing)
+        unseen = [wish for key, wish in plan.ends.items() if key.host not in tables.hosts
+                  and not known.reason(names, wish.end) and not known.reason(names, wish.wants)
+                  ] if given.all else []
         self.print(report)
-        self.write(report)
-        is_right = report.count.is_all_right and not (given.all and report.count.unseen)
+        self.write(report, unseen)
+        is_right = report.count.is_all_right and not unseen
         return 0 if is_right and not is_damaged else 1
 
     def known(self, names: Names) -> Known:
@@ -91,12 +95,12 @@ class Audit:
         else:
             print("\n".join(report.lines(self.given.by)))
 
-    def write(self, report: Report) -> None:
+    def write(self, report: Report, unseen: Sequence[Wish]) -> None:
         """Writes a page, a picture and what pipelines read, if they are asked for."""
         if self.given.html:
             write(self.given.html, page_of(report))
         if self.given.junit:
-            write(self.given.junit, junit_of(report))
+            write(self.given.junit, junit_of(report, unseen))
         if self.given.metrics:
             write(self.given.metrics, metrics_of(report))
         if self.given.svg:

@@ -12,6 +12,9 @@ from .seen.tables import Tables
 
 Value = Union[bool, int, str]
 
+COLUMNS = {"mtu", "speed", "pvid"}
+MISMATCH = "mismatch: "
+
 
 class Mismatch(NamedTuple):
     """In what the ends of a link differ: in words, and by how much, seen from one of them.
@@ -33,18 +36,27 @@ def mismatches(findings: Iterable[Finding], tables: Tables, plan: Optional[Plan]
     or pvid, what each end says is compared with them as well.
     """
     right = {tables.names.end(one.end): one for one in findings if one.verdict is Verdict.RIGHT}
+    wanted = expected(plan) if plan is not None else {}
     found: dict[End, Mismatch] = {}
     for finding in right.values():
         other = right.get(tables.names.end(finding.wants)) if finding.wants else None
         if finding.wants is None or finding.wants in found:
             continue
         said = other.has[0].settings if other is not None else None
-        one = mismatch(finding.end, finding.wants, said, finding.has[0].settings)
-        wanted = expected(plan, tables.names.end(finding.end)) if plan is not None else NO_SETTINGS
-        one = one or unlike_plan(finding.end, finding.wants, said, finding.has[0].settings, wanted)
+        its = finding.has[0].settings
+        one = together(mismatch(finding.end, finding.wants, said, its),
+                       unlike_plan(finding.end, finding.wants, said, its,
+                                   wanted.get(tables.names.end(finding.end), NO_SETTINGS)))
         if one is not None:
             found[finding.end] = one
     return found
+
+
+def together(one: Optional[Mismatch], other: Optional[Mismatch]) -> Optional[Mismatch]:
+    """Returns both mismatches of a link as one, or the one that it has."""
+    if one is None or other is None:
+        return one or other
+    return Mismatch(f"{one.text}; {other.text.removeprefix(MISMATCH)}", one.ends)
 
 
 def mismatch(end: End, other: End, said: Optional[Settings], its: Optional[Settings]
@@ -54,7 +66,7 @@ def mismatch(end: End, other: End, said: Optional[Settings], its: Optional[Setti
     if not pairs:
         return None
     ones, others, more, less = (" and ".join(words) for words in zip(*pairs))
-    return Mismatch(f"mismatch: {end} says {ones}, {other} says {others}", (end, other), more, less)
+    return Mismatch(f"{MISMATCH}{end} says {ones}, {other} says {others}", (end, other), more, less)
 
 
 def differing(one: Settings, other: Settings) -> Iterator[tuple[str, str, str, str]]:
@@ -74,12 +86,26 @@ def differing(one: Settings, other: Settings) -> Iterator[tuple[str, str, str, s
                        f"{name} {texts[1]}, not {worded(value)}{unit}")
 
 
-def expected(plan: Plan, key: End) -> Settings:
-    """Returns what the plan's columns say of a link: mtu, speed in Mb/s, pvid."""
-    texts: Mapping[str, str] = {key_of(name): text for name, text in plan.details(key)}
+def expected(plan: Plan) -> Mapping[End, Settings]:
+    """Returns what the plan's columns mtu, speed (in Mb/s) and pvid say of each link. Raises
+    ValueError if one of them is not a number."""
+    if COLUMNS.isdisjoint(map(key_of, plan.columns)):
+        return {}
+    return {key: planned(plan, key) for key in plan.ends}
+
+
+def planned(plan: Plan, key: End) -> Settings:
+    """Returns what the plan's columns say of a link. Raises ValueError."""
+    texts = {key_of(name): text for name, text in plan.details(key)}
     speed = texts.get("speed", "")
-    return Settings(number(texts.get("mtu", "")), number(texts.get("pvid", "")),
-                    int(speed) if speed.isdecimal() and len(speed) < 10 else None)
+    wanted = Settings(number(texts.get("mtu", "")), number(texts.get("pvid", "")),
+                      int(speed) if speed.isdecimal() and len(speed) < 10 else None)
+    values = {"mtu": wanted.max_frame_size, "pvid": wanted.pvid, "speed": wanted.speed}
+    for name, value in values.items():
+        if texts.get(name) and value is None:
+            raise ValueError(f"{plan.file}: {plan.ends[key].end}: {name} {texts[name]!r} is not a "
+                             "number to compare with")
+    return wanted
 
 
 def unlike_plan(end: End, other: End, said: Optional[Settings], its: Optional[Settings],
@@ -89,7 +115,7 @@ def unlike_plan(end: End, other: End, said: Optional[Settings], its: Optional[Se
     for place, one in ((end, said), (other, its)):
         pairs = list(differing(one, wanted)) if one is not None else []
         texts += [f"{place} says {text}, the plan has {plan}" for text, plan, _, _ in pairs]
-    return Mismatch(f"mismatch: {'; '.join(texts)}", (end, other)) if texts else None
+    return Mismatch(f"{MISMATCH}{'; '.join(texts)}", (end, other)) if texts else None
 
 
 def worded(value: Value) -> str:

@@ -107,8 +107,8 @@ class Names:
         """Returns a port's name as it is compared, except for its aliases."""
         key = self._ports.get(name)
         if key is None:
-            key = plain_port(name) if self.vendor_names else name
-            key = self._ports[name] = key.casefold() if self.ignore_case else key
+            key = name.casefold() if self.ignore_case else name
+            key = self._ports[name] = plain_port(key) if self.vendor_names else key
         return key
 
     def ports(self, host: str, name: str) -> Sequence[str]:

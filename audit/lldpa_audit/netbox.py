@@ -92,7 +92,7 @@ def termination_of(node: Any) -> Termination:
     kind = str(node["object_type"]).partition(".")[2]
     place = node["object"]
     device = place.get("device") or place.get("circuit") or place.get("power_panel")
-    names = str(device["name"] if "name" in device else device["display"]), place.get("name")
+    names = str(device.get("name") or device["display"]), place.get("name")
     return Termination(End(names[0], str(names[1] or place["display"])), kind)
 
 

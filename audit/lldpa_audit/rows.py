@@ -49,7 +49,8 @@ def rows_of(text: str, faults: Faults) -> Iterator[tuple[int, list[str]]]:
     feeds, and lines in it that look like comments. Nothing follows a field that never ends.
     """
     lines = Lines(text)
-    reader = csv.reader(lines, delimiter=separator_of(text), strict=True)
+    reader = csv.reader(lines, delimiter=separator_of(text), strict=True,
+                        skipinitialspace=True)
     width = 0
     while True:
         lines.is_inside = False

@@ -94,6 +94,10 @@ def gathered(given: argparse.Namespace, whats: Sequence[What], files: Iterator[S
     stale_after: Optional[float] = given.stale_after
     gathering = Gathering(tables, given.program, say, inf if stale_after is None else stale_after)
     gathering.add_files(whats, files)
+    for what in whats:
+        key = names.host(what.host)
+        if what.host != given.host and key in plan.hosts and key not in tables.hosts:
+            tables.add_reason(what.host, "", f"{what.file}: it is of other hosts")
     if given.live:
         try:
             gathering.add_live(given.host, given.control, plan, given.wait)

@@ -12,7 +12,7 @@ IP_ADDRESS = re.compile(r"[0-9]+(?:[.][0-9]+){3}|[0-9a-f:]*:[0-9a-f:.]*", re.I)
 # a port: letters, which Huawei begins with the speed, and a number of one or more parts, of which
 # IOS-XR names some
 PORT = re.compile(r"((?:25|40|50|100|200|400)?[A-Za-z-]*[A-Za-z]) ?"
-                  r"([0-9]+(?:[/:.](?:RP|RSP|CPU)?[0-9]+)*)")
+                  r"([0-9]+(?:[/:.](?:RP|RSP|CPU)?[0-9]+)*)", re.I)
 
 # a port of SR Linux, in short
 SR_LINUX = re.compile(r"e([0-9]+)-([0-9]+)(?:-([0-9]+))?")

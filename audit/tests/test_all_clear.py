@@ -223,5 +223,75 @@ class NetBox(Audited):
             "give --panels with NetBox's export of front ports"])
 
 
+class Sources(Audited):
+    """A source that cannot be used, or is another host's, does not hide a host."""
+
+    def setUp(self) -> None:
+        super().setUp()
+        self.two = self.plan_of(HEADER, "leaf1,swp1,leaf2,swp1", "h1,e0,h2,e0")
+        self.h1 = f"h1:{self.file('h1.json', of_napalm('e0', 'h2', 'e0'))}"
+
+    def lines_and_status(self, *words: str) -> List[str]:
+        """Returns what an audit prints, and its exit status at the end."""
+        ran = run(*words)
+        self.assertNotIn("Traceback", ran.stderr)
+        return [*(ran.stderr + ran.stdout).splitlines(), str(ran.returncode)]
+
+    def test_old_json_of_many_hosts(self) -> None:
+        hosts = {"leaf1": {"swp1": [{"hostname": "x", "port": "y"}]}, "leaf2": {"swp1": []}}
+        path = self.file("all.json", json.dumps(hosts))
+        self.assertEqual(self.lines_and_status(self.two, self.h1, path)[-1], "1")
+        os.utime(path, (1, 1))
+        lines = self.lines_and_status("--stale-after", "1d", self.two, self.h1, path)
+        self.assertRegex(lines[0], r"leaf1 swp1  no data: wants leaf2 swp1 \(.*all\.json.*\)")
+        self.assertEqual(lines[-1], "1")
+
+    def test_a_capture_without_ports(self) -> None:
+        path = self.folder / "leaf1.pcapng"
+        path.write_bytes(bytes.fromhex("0a0d0d0a1c0000004d3c2b1a01000000ffffffffffffffff1c000000"))
+        lines = self.lines_and_status(self.two, self.h1, f"leaf1:{path}")
+        self.assertEqual(lines[0], f"leaf1 swp1  no data: wants leaf2 swp1 ({path}: it names no "
+                                   "Ethernet interface)")
+        self.assertEqual(lines[-1], "1")
+
+    def test_a_list_of_other_hosts(self) -> None:
+        for text in ('{"leafX": {"swp1": []}}', '{"swp1": {}, "swp2": {}}'):
+            path = self.file("x.json", text)
+            lines = self.lines_and_status(self.two, self.h1, f"leaf1:{path}")
+            self.assertIn(f"leaf1 swp1  no data: wants leaf2 swp1 ({path}: it is of other hosts)",
+                          lines)
+            self.assertEqual(lines[-1], "1")
+
+    def test_two_lists_of_a_host(self) -> None:
+        plan = self.plan_of(HEADER, "leaf1,swp1,h1,e0", "leaf1,swp2,h2,e0")
+        words = [f"leaf1:{self.file(f'{host}.list', of_napalm(port, host, 'e0'))}"
+                 for port, host in (("swp1", "h1"), ("swp2", "h2"))]
+        self.assertEqual(self.lines_and_status(plan, *words), [
+            "lldpa-audit: leaf1 has two lists, and each has all that it hears", "2"])
+
+    def test_a_link_to_a_folder(self) -> None:
+        (self.folder / "old").mkdir()
+        (self.folder / "seen" / "leaf1").mkdir(parents=True)
+        link = self.folder / "seen" / "leaf1" / "latest"
+        link.symlink_to(self.folder / "old")
+        lines = self.lines_and_status(self.two, self.h1, str(self.folder / "seen"))
+        self.assertEqual(lines[0], f"lldpa-audit: {link}: it is a link to a folder, and is passed "
+                                   "over")
+
+    def test_settings_that_are_no_numbers(self) -> None:
+        for name, text in (("speed", "25G"), ("mtu", "9k"), ("pvid", "70000")):
+            plan = self.plan_of(f"{HEADER},{name}", f"leaf1,swp1,h1,e0,{text}")
+            seen = self.show("leaf1", neighbor("swp1", "h1", "e0"))
+            self.assertEqual(self.lines_and_status(plan, seen)[-1], "0")
+            self.assertEqual(self.lines_and_status("--settings", plan, seen), [
+                f"lldpa-audit: {plan}: leaf1 swp1: {name} '{text}' is not a number to compare with",
+                "2"])
+
+
+def of_napalm(port: str, host: str, port_id: str) -> str:
+    """Returns NAPALM's list of one neighbor."""
+    return json.dumps({port: [{"hostname": host, "port": port_id}]})
+
+
 if __name__ == "__main__":
     unittest.main()

@@ -5,6 +5,7 @@ import gzip
 import io
 import json
 import os
+import shutil
 import struct
 import subprocess
 import sys
@@ -24,6 +25,7 @@ from lldpa_audit.seen.files import SeenFile, read_file
 from lldpa_audit.seen.forms import reader_of
 from lldpa_audit.topology import read_topology
 from support import run_capture
+from test_all_clear import Audited, neighbor
 
 HEADER = "host,port,peer,peer_port\n"
 # far more than what is read in linear time takes on a slow machine, far less than a square
@@ -275,6 +277,48 @@ class Words(Hostile):
         ran = run_capture(["--ports", path])
         self.assertEqual((ran.returncode, ran.stdout), (2, ""))
         self.assertIn("a port is named '--listen'", ran.stderr)
+
+
+class Reported(Audited):
+    """Findings whose report once ended with a traceback."""
+
+    def test_a_full_table_that_is_empty(self) -> None:
+        plan = self.plan_of("host,port,peer,peer_port", "leaf1,swp1,h1,e0")
+        self.assertEqual(self.lines(plan, self.show("leaf1", full("swp1")))[0],
+                         "swp1  wrong: wants h1 e0, has somebody for whom the table had no room")
+
+    def test_a_picture_of_such_a_table(self) -> None:
+        plan = self.plan_of("host,port,peer,peer_port", "h2,a,h1,e0")
+        known = self.file("known", "host,port,reason,until\nleaf1,,x,\n")
+        picture = self.folder / "picture.svg"
+        self.lines("--svg", str(picture), "--known", known, plan,
+                   self.show("leaf1", full("swp9")), self.show("h2", neighbor("a", "h1", "e0")))
+        if shutil.which("dot"):
+            self.assertIn("leaf1", picture.read_text())
+
+    def test_neither_side_is_broken_out(self) -> None:
+        lanes = [f"leaf1,swp1s{at},leaf2,swp1s{at}" for at in range(4)]
+        plan = self.plan_of("host,port,peer,peer_port", *lanes)
+        seen = [self.show(host, neighbor("swp1", other, "swp1"))
+                for host, other in (("leaf1", "leaf2"), ("leaf2", "leaf1"))]
+        lines = self.lines(plan, *seen)
+        self.assertEqual([line for line in lines if "not broken out" in line], [
+            f"{host} swp1  not broken out: swp1s0 to swp1s3 are planned"
+            for host in ("leaf1", "leaf2")])
+
+    def test_two_runs_that_meet(self) -> None:
+        plan = self.plan_of("host,port,peer,peer_port", *(f"s,p{at},x{at},e0" for at in range(6)))
+        seen = self.show("s", *(neighbor(f"p{at}", f"x{has}", "e0")
+                                for at, has in enumerate([1, 2, 3, 2, 3, 4])))
+        self.assertEqual(self.lines(plan, seen)[:3], [
+            "p0 to p2  shifted by one: each has what the next wants",
+            "p4        wrong: wants x4 e0 (seen at p5), has x3 e0 (planned at p3)",
+            "p5        wrong: wants x5 e0, has x4 e0 (planned at p4)"])
+
+
+def full(port: str) -> List[str]:
+    """Returns the lines of a port that has no neighbor, and no room for one."""
+    return [f"lldp.{port}.neighbors=0", f"lldp.{port}.octets=0", f"lldp.{port}.too-many=yes"]
 
 
 if __name__ == "__main__":

@@ -151,6 +151,18 @@ class Command(InAFolder):
         self.assertIn("mismatch: leaf1 swp1 says MTU 9216, host01 eth0 says 1500", ran.stdout)
         self.assertNotIn("PVID", ran.stdout)
 
+    def test_the_other_end_and_the_plan(self) -> None:
+        plan = self.file("plan.csv", "host,port,peer,peer_port,mtu,pvid\n"
+                                     "leaf1,swp1,host01,eth0,9216,10\n")
+        lines = [shown("swp1", End("host01", "eth0"), tlvs("05dc", "0014")),
+                 shown("eth0", End("leaf1", "swp1"), tlvs("2400", "0014"))]
+        words = [f"{host}:{self.file(host, ''.join(line + chr(10) for line in some))}"
+                 for host, some in zip(("leaf1", "host01"), lines)]
+        self.assertEqual(run("--settings", plan, *words).stdout.splitlines()[0].partition(" [")[0],
+                         "leaf1 swp1  mismatch: leaf1 swp1 says MTU 9216, host01 eth0 says 1500; "
+                         "leaf1 swp1 says PVID 20, the plan has 10; host01 eth0 says MTU 1500, "
+                         "the plan has 9216; host01 eth0 says PVID 20, the plan has 10")
+
 
 if __name__ == "__main__":
     unittest.main()

@@ -185,6 +185,27 @@ class FurtherNames(InAFolder):
         self.assertEqual((bad.returncode, bad.stdout), (2, ""))
 
 
+class Rules(InAFolder):
+    """Several rules together."""
+
+    def told(self, port_id: str, *words: str, host: str = "host01") -> str:
+        """Returns the first line of an audit of one link, whose neighbor has this port ID."""
+        (self.folder / "a").write_bytes(rack.pcap([rack.lldp_frame("leaf1", port_id)]))
+        return run(self.plan, "--host", host, f"p1={self.folder}/a", *words).stdout.splitlines()[0]
+
+    def test_case_and_spelling(self) -> None:
+        self.plan = self.file("p", "host,port,peer,peer_port\nhost01,p1,leaf1,ETH0\n")
+        for words in (["--ignore-case"], ["--ignore-case", "--vendor-names"]):
+            self.assertIn("2 planned: 1 right, 0 not", self.told("eth0", *words), words)
+            self.assertIn("wrong", self.told("Ethernet0", *words), words)
+
+    def test_a_port_of_an_alias_of_a_host(self) -> None:
+        self.plan = self.file("p", "host,port,peer,peer_port\nhost01,p1,leaf1,swp1\n")
+        aliases = self.file("aliases", "host,port,alias\nleaf1,,leaf1-mgmt\n"
+                                       "leaf1-mgmt,swp1,Ethernet0\n")
+        self.assertIn("1 right, 0 not", self.told("Ethernet0", "--aliases", aliases))
+
+
 class Aggregates(InAFolder):
     """A capture of two members of a bond, whose frames name the bond."""
 

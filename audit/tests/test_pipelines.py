@@ -119,6 +119,23 @@ class Outputs(InAFolder):
             self.assertEqual(run(*self.words, "--known", self.file("bad", bad)).returncode, 2)
 
 
+class All(Outputs):
+    """What is not looked at counts with --all, unless it is known."""
+
+    def test_each_end_has_a_test_case(self) -> None:
+        junit = str(self.folder / "junit.xml")
+        show = self.file("one", "".join(f"{line}\n" for line in neighbor("swp1", "host01", "eth0")))
+        plan = self.file("one.csv", "host,port,peer,peer_port\nleaf1,swp1,host01,eth0\n")
+        known = self.file("known.csv", "host,port,reason,until\nhost01,,sends no LLDP,\n")
+        for words, status, counts in (([], 0, ("1", "0")), (["--all"], 1, ("2", "1")),
+                                      (["--all", "--known", known], 0, ("1", "0"))):
+            ran = run(plan, f"leaf1:{show}", "--junit", junit, *words)
+            self.assertEqual(ran.returncode, status, words)
+            root = ElementTree.parse(junit).getroot()
+            suite = root if root.tag == "testsuite" else root[0]
+            self.assertEqual((suite.get("tests"), suite.get("failures")), counts, words)
+
+
 class Settings(InAFolder):
     """Servers that differ from their switch."""
 

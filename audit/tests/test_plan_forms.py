@@ -195,6 +195,23 @@ class Program(InAFolder):
         self.assertEqual(lines[0], f"lldpa-audit: {plan}: line 2: its peer is missing")
         self.assertEqual(lines[20], f"lldpa-audit: {plan}: 5 more faults")
 
+    def test_blanks_before_quotes(self) -> None:
+        plan = self.file("blanks.csv",
+                         'host, port, peer, peer_port\nleaf1, "swp1", "host01", "eth0"')
+        show = self.file("show", "".join(line + "\n" for line in rack.show(["swp1"])))
+        ran = run(plan, "--host", "leaf1", show)
+        self.assertEqual(ran.stdout, "2 planned: 1 right, 0 not, 1 not looked at (host01)\n")
+
+    def test_devices_without_a_name(self) -> None:
+        def side(name: Optional[str], display: str, port: str) -> List[object]:
+            return [{"object_type": "dcim.interface", "object": {
+                "name": port, "device": {"name": name, "display": display}}}]
+        cable = {"id": 1, "a_terminations": side("leaf1", "leaf1", "swp1"),
+                 "b_terminations": side(None, "EX4300 (7)", "ge-0/0/1")}
+        answer = self.file("api.json", json.dumps({"results": [cable], "next": None}))
+        plan = read_plan(answer, Names())
+        self.assertEqual([str(end) for end in plan.ends], ["leaf1 swp1", '"EX4300 (7)" ge-0/0/1'])
+
 
 if __name__ == "__main__":
     unittest.main()

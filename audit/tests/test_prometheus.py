@@ -59,8 +59,17 @@ class Fake:
         """Returns the result of a query of the API."""
         samples = {"up": self.up, "lldpa_too_many": self.too_many, "vector(time())": [({}, NOW)],
                    "lldpa_neighbor_info": [(one, 1) for one in self.neighbors]}
-        found: Any = samples.get(query, self.ages)
+        found: Any = samples.get(query)
+        if found is None:
+            found = [(labels, age) for labels, age in self.ages if is_asked(labels, query)]
         return [{"metric": labels, "value": [NOW, str(value)]} for labels, value in found]
+
+
+def is_asked(labels: Dict[str, str], query: str) -> bool:
+    """Returns whether a query selects the file of these labels."""
+    file = labels.get("file", "lldpa.prom")
+    return all((re.fullmatch(pattern, file) is not None) == (mark == "=")
+               for mark, pattern in re.findall('file([=!])~"([^"]*)"', query))
 
 
 class ApiCase(InAFolder):
@@ -122,6 +131,13 @@ class Api(ApiCase):
         self.assertEqual({path for path, _, _ in self.asked}, {"/api/v1/query"})
         self.assertEqual([words.get("time") for _, words, _ in self.asked],
                          [None, *[str(NOW)] * 4])
+
+    def test_own_metrics_are_not_those_of_the_agent(self) -> None:
+        for file, age in (("/var/lib/n/lldpa.prom", 20), ("/var/lib/n/lldpa_audit.prom", 40_000)):
+            self.fake.ages.append((told("leaf1:9100", file=file), age))
+        self.assertEqual(self.audit()[0], 0)
+        self.fake.ages[0] = (self.fake.ages[0][0], 40_000)
+        self.assertIn("its metrics are 11 hours old", self.audit()[1])
 
     def test_host_that_is_down(self) -> None:
         self.fake.host("spine1:9100", up=0)

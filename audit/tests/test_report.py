@@ -207,6 +207,17 @@ class OneLineARepair(Reports):
             "a 1  silent: wants b 1 (which is silent, too)", "2 planned: 0 right, 2 not"])
 
 
+class Stacks(Reports):
+    """Ports of a stack of switches are not lanes of one port."""
+
+    def test_three_cables_in_a_circle(self) -> None:
+        for form, said in (("Gi1/0/{}", "wrong"), ("Ethernet1/1/{}", "turned")):
+            ports = [form.format(at) for at in (1, 2, 3)]
+            links = [link(f"sw {port}", f"{host} 1") for port, host in zip(ports, "abc")]
+            known = {f"sw {port}": [seen(f"{host} 1")] for port, host in zip(ports, "bca")}
+            self.assertIn(said, self.lines(links, known)[0])
+
+
 class NotLookedAt(Reports):
     """The count says what is planned if nothing is given."""
 

@@ -1,6 +1,7 @@
 """lldpa-audit of files in each form, and of folders of them."""
 from __future__ import annotations
 
+import gzip
 import json
 import unittest
 from typing import Any, Tuple
@@ -108,6 +109,16 @@ class Folders(InAFolder):
             What("b", "", f"{self.seen}/b", True), What("c", "", "d")])
         for name, host in (("a.json", "a"), ("a.b", "a.b"), ("a.PCAP", "a"), (".json", ".json")):
             self.assertEqual(without_ending(name), host)
+
+    def test_a_compressed_capture_in_a_folder_of_a_host(self) -> None:
+        (self.folder / "seen" / "leaf1").mkdir()
+        octets = gzip.compress(rack.pcap([rack.lldp_frame("host01", "eth0")]))
+        (self.folder / "seen" / "leaf1" / "swp1.pcap.gz").write_bytes(octets)
+        for word in (self.seen, f"leaf1:{self.seen}/leaf1"):
+            status, out, err = self.audit(word)
+            self.assertEqual((status, err), (1, ""))
+            self.assertTrue(out.startswith("swp2  no data: wants host02 eth0\n"), out)
+            self.assertIn("8 planned: 1 right, 1 not, 6 not looked at", out)
 
 
 if __name__ == "__main__":

@@ -110,6 +110,30 @@ class Samples(unittest.TestCase):
 class Files(InAFolder):
     """The forms as the program takes them."""
 
+    def test_no_neighbors_of_ios(self) -> None:
+        for text in ("\nTotal entries displayed: 0\n", "Total entries displayed: 0\r\n\r\n"):
+            self.assertEqual(read(text), Listing({}, True))
+
+    def test_a_service_instance_of_ios(self) -> None:
+        text = vendors.ios(PORTS)
+        instance = "Local Intf service instance: -\nChassis id:"
+        self.assertEqual(read(text.replace("Chassis id:", instance)), read(text))
+
+    def test_a_number_as_local_port_of_junos(self) -> None:
+        entry = {name: [{"data": text}] for name, text in (
+            ("lldp-local-interface", "xe-0/0/1"), ("lldp-local-port-id", "510"),
+            ("lldp-remote-chassis-id-subtype", "Mac address"),
+            ("lldp-remote-chassis-id", "02:00:00:00:00:01"),
+            ("lldp-remote-port-id-subtype", "Interface name"), ("lldp-remote-port-id", "eth0"),
+            ("lldp-remote-system-name", "host01"))}
+        tree = {"lldp-neighbors-information": [{"lldp-neighbor-information": [entry]}]}
+        self.assertEqual(list(read(json.dumps(tree)).ports), ["xe-0/0/1"])
+
+    def test_xml_of_no_list(self) -> None:
+        for text in ("<rpc-reply><rpc-error><error-message>timeout</error-message></rpc-error>"
+                     "</rpc-reply>", "<?xml version='1.0'?><a/>"):
+            self.assertRaisesRegex(SeenFault, "it is XML, but of no list that is known", read, text)
+
     def test_many_hosts_in_one_file(self) -> None:
         plan = self.file("p", "host,port,peer,peer_port\nleaf1,swp1,leaf2,swp1\n"
                               "leaf1,swp2,leaf3,swp1\n")

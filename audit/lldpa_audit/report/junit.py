@@ -2,26 +2,28 @@
 from __future__ import annotations
 
 from collections import Counter
-from typing import Iterator
+from typing import Iterator, Sequence
 from xml.sax.saxutils import quoteattr
 
 from lldpa.texts import printable
 
 from ..judging import Finding, Verdict
 from ..names import text_of
+from ..plan import Wish
 from .report import Report
 
 NAME = "lldpa-audit"
 
 
-def junit_of(report: Report) -> bytes:
+def junit_of(report: Report, unseen: Sequence[Wish] = ()) -> bytes:
     """Returns the report in XML."""
-    return "".join(parts(report)).encode()
+    return "".join(parts(report, unseen)).encode()
 
 
-def parts(report: Report) -> Iterator[str]:
+def parts(report: Report, unseen: Sequence[Wish]) -> Iterator[str]:
     """Yields the report from its begin to its end."""
     cases = [(one.end, *case_of(report, one)) for one in report.in_order()]
+    cases += [(wish.end, "failure", "not looked at: no source covers its host") for wish in unseen]
     counted = Counter(element for _, element, _ in cases)
     counts = (f'tests="{len(cases)}" failures="{counted["failure"]}" errors="0" '
               f'skipped="{counted["skipped"]}"')

@@ -55,7 +55,7 @@ class Box:
         """Returns the host as a node: a table with a row for each port."""
         ports = sorted(self.ports, key=lambda port: by_port(End(self.name, port)))
         name = f'<B>{text(self.name)}</B></TD>'
-        if self.is_left or self.faults:
+        if self.is_left or self.faults or not ports:
             head = ['<TD BORDER="0"></TD>', f'<TD BORDER="0">{name}']
             rows = ["".join(head if self.is_left else head[::-1]), *map(self.cells, ports)]
         else:

@@ -29,7 +29,7 @@ def has_port(faults: Faults, neighbor: Seen, wanted: End) -> bool:
     host."""
     names = faults.names
     hosts = [*map(names.host, neighbor.hosts)]
-    return wanted.host not in hosts and (
+    return bool(hosts) and wanted.host not in hosts and (
         names.is_any_member(neighbor, hosts[0])
         or any(wanted.port in names.ports(hosts[0], port) for port in names.heeded(neighbor)))
 

@@ -66,6 +66,11 @@ class Faults:
         """Takes those of the faults at these ends that are left."""
         return [self.left.pop(key) for key in keys if key in self.left]
 
+    def written(self, key: End) -> End:
+        """Returns an end as the plan writes it, or as it is seen if it is not planned."""
+        wish = self.plan.ends.get(key)
+        return wish.end if wish else self.left[key].end
+
     def far(self, key: End) -> Optional[End]:
         """Returns the other end of the planned link of an end."""
         wish = self.plan.ends.get(key)

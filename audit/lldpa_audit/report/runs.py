@@ -13,7 +13,7 @@ from .repairs import HAVE_ANOTHER, HAVE_NOBODY, Faults, Repair
 SHORTEST = 3
 FAR = (*HAVE_ANOTHER, *HAVE_NOBODY, Verdict.DISAGREES)
 # a lane of a port that is broken out: swp1s0 of swp1, et-0/0/0:0 of et-0/0/0, Et1/1/1 of Et1/1
-LANE = re.compile(r"(.*[0-9])[s:][0-9]|([A-Za-z]+[0-9]+/[0-9]+)/[0-9]")
+LANE = re.compile(r"(.*[0-9])[s:][0-9]|((?:Et|Eth|Ethernet)[0-9]+/[0-9]+)/[0-9]")
 
 
 def shifted(faults: Faults) -> Iterator[Repair]:
@@ -28,7 +28,8 @@ def shifted(faults: Faults) -> Iterator[Repair]:
         for end in range(1, len(ports) + 1):
             if end < len(ports) and steps[end] == steps[begin]:
                 continue
-            if abs(steps[begin]) == 1 and end - begin >= SHORTEST:
+            if (abs(steps[begin]) == 1 and end - begin >= SHORTEST
+                    and all(key in faults.left for key in ports[begin:end])):
                 yield repair_of_run(faults, ports, begin, end, steps[begin])
             begin = end
 
@@ -115,7 +116,7 @@ def repair(faults: Faults, kind: str, keys: Sequence[End], text: str, places: Se
 
 def of_ports(faults: Faults, keys: Sequence[End]) -> str:
     """Returns the first and the last of some ports."""
-    names = [shown(faults.left[key].end.port) for key in (keys[0], keys[-1])]
+    names = [shown(faults.written(key).port) for key in (keys[0], keys[-1])]
     return names[0] if len(keys) == 1 else f"{names[0]} to {names[1]}"
 
 

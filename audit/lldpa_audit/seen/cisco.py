@@ -19,7 +19,8 @@ LINE = re.compile(r" *(Local Intf|Local Port id|Chassis id|Port id|Port Descript
                   r"Vlan ID|Max Frame Size|IP|Management Address(?: IPV6)?): *(.*?) *")
 TOTAL = re.compile(r"Total entries displayed: ([0-9]{1,9})")
 # IOS names the local port first, and NX-OS behind the chassis and the port
-IS_CISCO = re.compile(rb"(?:[^\n]*\n){0,12}?(?:Local Intf: [^\n]*\r?\nChassis id: |"
+IS_CISCO = re.compile(rb"\s*Total entries displayed: 0\s*\Z|(?:[^\n]*\n){0,12}?(?:"
+                      rb"Local Intf: [^\n]*\n(?:Local Intf [^\n]*\n)?Chassis id: |"
                       rb"Chassis id: [^\n]*\r?\nPort id: [^\n]*\r?\nLocal Port id: )")
 Values = dict[str, str]
 

@@ -6,6 +6,8 @@ from typing import Callable, Iterator, Sequence
 
 from lldpa.capture.pcap import form_of
 from lldpa.capture.source import opened
+from lldpa.capture.unzip import MAGIC, Unzipped
+from lldpa.capture.window import BadCapture
 
 from ..what import What, read_what
 
@@ -52,6 +54,8 @@ def of_host(host: str, folder: str, say: Say) -> Iterator[What]:
         elif entry.is_file():
             port = without_ending(entry.name) if is_of_one_port(entry.path) else ""
             yield What(host, port, entry.path, True)
+        else:
+            say(f"{entry.path}: it is a link to a folder, and is passed over")
 
 
 def entries(folder: str, say: Say) -> Sequence["os.DirEntry[str]"]:
@@ -90,6 +94,8 @@ def is_of_one_port(path: str) -> bool:
     try:
         with opened(path) as file:
             magic = file.read(4)
-    except OSError:
+            if magic.startswith(MAGIC):
+                magic = Unzipped(file, magic).read(4)
+    except (OSError, BadCapture):
         return False  # which is reported when it is read
     return len(magic) == 4 and form_of(magic) is not None

@@ -59,8 +59,10 @@ class Gathering:
         elif file.listing is None:
             recorded = read_interfaces(what.file, self.program)
             self.add_recorded(what.host, "", what.file, recorded)
-        elif not self.is_stale(what.host, "", what.file, file.time):
+        else:
             for host, listing in (file.listing.hosts or {what.host: file.listing}).items():
+                if self.is_stale(host, "", what.file, file.time):
+                    continue
                 self.tables.add_ports(host, listing.ports)
                 if listing.has_all_heard:
                     self.tables.add_listed(host)
@@ -82,6 +84,8 @@ class Gathering:
             self.damaged(host, port, fault)
         if recorded.faults:
             return
+        if not recorded.ports:
+            self.tables.add_reason(host, port, f"{file}: it names no Ethernet interface")
         at = max(recorded.times, default=0.0) or modified(file)
         if not self.is_stale(host, port, file, at):
             for name, neighbors in recorded.ports.items():

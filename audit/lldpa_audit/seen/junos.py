@@ -12,7 +12,7 @@ from .listing import Listing, SeenFault
 from .neighbor import neighbor
 
 LIST, ENTRY = "lldp-neighbors-information", "lldp-neighbor-information"
-PORTS = ("lldp-local-port-id", "lldp-local-interface")
+PORTS = ("lldp-local-interface", "lldp-local-port-id")
 
 
 def is_junos(tree: Any) -> bool:

@@ -20,7 +20,11 @@ Node = dict[str, Any]
 def read_xml(octets: bytes) -> Listing:
     """Returns the neighbors of each port, of lldpcli's XML or Junos'. Raises SeenFault."""
     root = Tree(octets).root
-    return read_junos(root) if is_junos(root) else read_tree(root)
+    if is_junos(root):
+        return read_junos(root)
+    if "lldp" not in root:
+        raise SeenFault("it is XML, but of no list that is known: see lldpa-audit(1)")
+    return read_tree(root)
 
 
 class Tree:

@@ -31,7 +31,7 @@ MOST_OCTETS = 64 * 1024 * 1024
 MOST_VALUES = 2_500_000
 
 # how old the files are that node_exporter takes the metrics of lldpa from
-AGES = 'time() - node_textfile_mtime_seconds{file=~".*lldpa.*"}'
+AGES = 'time() - node_textfile_mtime_seconds{file=~".*lldpa.*",file!~".*lldpa.audit.*"}'
 
 Labels = Mapping[str, str]
 

@@ -57,7 +57,10 @@ class Tables:
     def add_listed(self, host: str) -> None:
         """Notes that each port of a host that has a neighbor was added, or will be."""
         self.add_host(host)
-        self._listed.add(self.names.host(host))
+        key = self.names.host(host)
+        if key in self._listed:
+            raise ValueError(f"{shown(host)} has two lists, and each has all that it hears")
+        self._listed.add(key)
 
     def add_unlisted(self, plan: Plan) -> None:
         """Adds the planned ports of such hosts that were not added: they have no neighbor.
