@@ -75,6 +75,7 @@ class Served:
         self.asked: list[bytes] = []
         self.hidden: set[bytes] = set()  # questions that are answered with nothing
         self.live_lines = LIVE_LINES
+        self.hangs = False  # whether the agent is silent, which its first question shows
         self.agent = await AsyncAgent.start(["eth0", "eth1"], PROGRAM, receive_only=True, **options)
         self.server = Server(self.path, self.ask, group)
         await self.server.start()
@@ -84,6 +85,9 @@ class Served:
         self.asked.append(line)
         if line in self.hidden:
             return []
+        if self.hangs and line.startswith(b"show"):
+            self.live_lines = [*LIVE_LINES, b"live.agent=silent"]
+            return [b"error: the agent does not answer"]
         if line == b"live":
             return self.live_lines
         return [answer.encode() for answer in await self.agent.ask(line)]

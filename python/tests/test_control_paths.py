@@ -17,6 +17,7 @@ from lldpa.client.connection import Client, Gone
 from lldpa.live.server.listening import InUse, Listening
 from lldpa.live.server.server import Server
 from patience import eventually
+from running_live import OnLinks, on_links
 from served import REPOSITORY, Served
 
 ASKER = """
@@ -149,6 +150,21 @@ class Removed(unittest.TestCase):
                     self.assertTrue(client.ask("show chassis"))
             with self.assertRaises(InUse):
                 Listening(served.path)
+
+
+@on_links
+class RemovedOnALink(OnLinks):
+    """A control socket for a group, which nobody cannot hand over again."""
+
+    def test_root_may_ask_at_the_next_one(self) -> None:
+        shutil.chown(self.wires.folder, "nobody")
+        live = self.live("--control-group", grp.getgrgid(1).gr_name, "eth0")
+        self.assertEqual(os.stat(live.control).st_mode & 0o777, 0o660)
+        for removed in ([live.control], [live.control, live.control + ".lock"]):
+            for path in removed:
+                os.unlink(path)
+            self.assertTrue(eventually(live.ask_quietly), removed)
+            self.assertEqual(os.stat(live.control).st_mode & 0o777, 0o600)
 
 
 @unittest.skipUnless(os.geteuid() == 0, "only root can ask as another user")

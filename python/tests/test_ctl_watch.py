@@ -11,7 +11,7 @@ import time
 from typing import Sequence
 
 from asked import HOSTILE, Program
-from patience import SECONDS, by_the_clock, mostly
+from patience import SECONDS, by_the_clock, eventually, mostly
 from served import CTL, numbered, tlv
 
 TIME = r"[0-9]{4}-[0-9]{2}-[0-9]{2}T[0-9]{2}:[0-9]{2}:[0-9]{2}[+-][0-9]{4}"
@@ -77,6 +77,15 @@ class Watching(Program):
         self.assertRegex(told["time"], f"^{TIME}$")
         self.assertEqual((told["what"], told["changes"]), ("came", []))
         self.assertEqual(told["neighbor"]["id"], "mac=02:00:00:00:00:02 ifname=p2")
+
+    def test_it_goes_on_after_a_silence(self) -> None:
+        child = self.watch()
+        self.served.hangs = True
+        self.served.asked.clear()
+        self.assertTrue(eventually(lambda: self.served.asked.count(b"show neighbors") > 1))
+        self.served.hangs = False
+        self.served.frame("eth0", numbered(2))
+        self.assertRegex(self.line(child), r" eth0 came: [ -~]* p2\n$")
 
     def test_its_end(self) -> None:
         child = self.watch()

@@ -41,6 +41,7 @@ class TestWords(unittest.TestCase):
                 (["--connect", "65536", "eth0"], "not a number from 1 to 65535"),
                 (["--nonsense", "eth0"], "--nonsense"),
                 (["--con", "4711", "eth0"], "--con"),
+                (["--control-group", "lldpa-none", "eth0"], "there is no group lldpa-none"),
                 (["eth0", "--", "eth1"], "only options of lldpa may follow --"),
                 (["eth0", "--", "--mac", "a", "b"], "only options of lldpa may follow --"),
                 (["eth0", "--", "--mac", "a", "--mac=b"], "--mac is given twice"),
@@ -102,10 +103,10 @@ class TestStart(OnLinks):
         self.assertEqual(live.errors(), f"lldpa-live: {program}: Permission denied\n")
 
     def test_user_and_group_that_are_not_there(self) -> None:
-        for words in (["--user", "no-such-one"], ["--control-group", "no-such-one"]):
-            live = self.live(*words, "eth0")
-            self.assertEqual(live.ends(), 1)
-            self.assertIn("no-such-one", live.errors())
+        for kind, option in (("user", "--user"), ("group", "--control-group")):
+            live = self.live(option, "no-such-one", "eth0")
+            self.assertEqual(live.ends(), 2)  # so that systemd does not start it again
+            self.assertIn(f"error: there is no {kind} no-such-one\n", live.errors())
 
     def test_address_and_name_are_those_of_the_host(self) -> None:
         live = self.live("eth0")

@@ -4,17 +4,21 @@ from __future__ import annotations
 
 import os
 import re
+import shutil
 import signal
 import subprocess
 import time
 from datetime import datetime, timezone
 from pathlib import Path
 
-from running_live import Live, OnLinks, on_links
+from running_live import PYTHON, Live, OnLinks, on_links
 from patience import by_the_clock, eventually
 from served import PROGRAM, numbered
 from wires import Peer, inside
 
+CODECS = "import encodings; print(*encodings.__path__)"
+# in a mount namespace of its own, one folder stands for another while a program runs
+MOUNTED = ["unshare", "--mount", "sh", "-c", 'mount --bind "$1" "$2" && shift 2 && exec "$@"', "sh"]
 CLOCK = re.compile(r"# \d{4}-\d\d-\d\dT\d\d:\d\d:\d\dZ")
 
 
@@ -199,6 +203,22 @@ class TestConnect(OnLinks):
         second = self.live("--connect", "4711", "eth0")
         second.ask("configure ports eth0 lldp status rx-and-tx")
         self.assertIsNotNone(peer.hears())
+
+    @by_the_clock
+    def test_its_program_is_not_needed(self) -> None:
+        self.listener(1)
+        live = self.live("--connect", "4711", "eth0", program="lldpa", env={"PATH": "/none"})
+        self.assertEqual(live.neighbors(), 0)
+
+    @by_the_clock
+    def test_codecs_that_root_alone_can_read_are_not_needed(self) -> None:
+        theirs = subprocess.check_output([PYTHON, "-c", CODECS], text=True).strip()
+        ours = Path(self.wires.folder, "codecs")
+        shutil.copytree(theirs, ours)
+        ours.chmod(0o700)
+        self.listener(1)
+        live = self.live("--connect", "4711", "eth0", before=[*MOUNTED, str(ours), theirs])
+        self.assertEqual(live.neighbors(), 0)
 
     @by_the_clock
     def test_second_client_says_why_it_does_not_come_in(self) -> None:

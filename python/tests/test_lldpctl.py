@@ -8,7 +8,7 @@ import pty
 import subprocess
 import unittest
 
-from patience import eventually
+from patience import SECONDS, eventually
 from served import LIVE_LINES, REPOSITORY, Served, numbered, tlv
 
 LLDPCTL, LLDPCLI = str(REPOSITORY / "bin" / "lldpctl"), str(REPOSITORY / "bin" / "lldpcli")
@@ -30,7 +30,7 @@ class Program(unittest.TestCase):
     def run_it(self, program: str, *words: str, status: int = 0, said: str = "") -> str:
         """Returns what it prints; checks its status and its message."""
         told = subprocess.run([program, "-u", self.served.path, *words], check=False,
-                              capture_output=True, text=True)
+                              capture_output=True, text=True, timeout=SECONDS)
         name = program.rpartition("/")[2]
         self.assertEqual((told.stderr, told.returncode), (said and f"{name}: {said}\n", status))
         return told.stdout
@@ -123,6 +123,27 @@ class Handed(Program):
                     pass
             self.assertEqual(watch.wait(), 0)
 
+    def test_watch_goes_on_after_a_silence(self) -> None:
+        words = [LLDPCTL, "-u", self.served.path, "-f", "keyvalue", "watch", "limit", "1"]
+        with subprocess.Popen(words, stdout=subprocess.PIPE, text=True) as watch:
+            self.assertTrue(eventually(lambda: b"live" in self.served.asked))
+            self.served.hangs = True
+            self.served.asked.clear()
+            self.assertTrue(eventually(lambda: self.served.asked.count(b"show neighbors") > 1))
+            self.served.hangs = False
+            self.served.frame("eth1", numbered(8, 120, tlv(5, b"new")))
+            self.assertIn(".chassis.name=new\n", watch.communicate(timeout=SECONDS)[0])
+            self.assertEqual(watch.returncode, 0)
+
+    def test_output_of_the_console_that_fails(self) -> None:
+        with open("/dev/full", "w", encoding="ascii") as full:
+            told = subprocess.run([LLDPCLI, "-u", self.served.path], stdout=full, check=False,
+                                  stderr=subprocess.PIPE, text=True, timeout=SECONDS,
+                                  input="show neighbors\nconfigure lldp tx-hold 3\n")
+        self.assertEqual((told.stderr, told.returncode),
+                         ("lldpcli: standard output: No space left on device\n", 1))
+        self.assertIn(b"configure lldp tx-hold 3", self.served.asked)
+
     def test_console(self) -> None:
         told = subprocess.run(
             [LLDPCLI, "-u", self.served.path, "-f", "keyvalue"], capture_output=True, text=True,
@@ -179,6 +200,8 @@ class Refusals(Program):
         told = self.run_it(LLDPCTL, "eth1", "eth9", "-f", "keyvalue", status=1,
                            said="no such port: eth9")
         self.assertIn("lldp.eth1.chassis.name=there\n", told)
+        self.run_it(LLDPCLI, "watch", "ports", "eth1,eth8,eth9", status=1,
+                    said="no such port: eth8, eth9")
 
     def test_nobody_answers(self) -> None:
         self.served.path += ".none"

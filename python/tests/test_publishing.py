@@ -77,6 +77,13 @@ class Publishing(unittest.TestCase):
             self.assertIn('\nlldpa_link_up{port="eth0"} 1\n', printed)
             self.assertNotIn("lldpa_neighbors", printed)
 
+    def test_an_agent_that_becomes_silent_is_told_with_the_rest(self) -> None:
+        self.served.hangs = True
+        printed = self.ctl(said="the agent is silent", status=1)
+        self.assertIn("\nlldpa_up 0\n", printed)
+        self.assertIn('\nlldpa_agent_state{state="silent"} 1\n', printed)
+        self.assertIn('\nlldpa_link_up{port="eth0"} 1\n', printed)
+
     def test_lldpa_live_that_ends_or_answers_nonsense_is_down(self) -> None:
         answers = {b"": "lldpa-live has ended the connection",
                    b"=1\n": "lldpa-live has ended the connection",

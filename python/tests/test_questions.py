@@ -12,7 +12,7 @@ from lldpa.live.server.answering import HELP, answered
 from lldpa.agent.framing import Refused
 from lldpa.client.questions import COMMANDS, explanation, listed, question
 from lldpa.agent.shown import Counters
-from patience import eventually
+from patience import SECONDS, eventually
 from served import CTL, Served, numbered, tlv
 
 LIVE = [b"live.began=2026-11-23T19:40:00Z", b"live.eth0.interface=present",
@@ -199,6 +199,16 @@ class WhatIsKnown(unittest.TestCase):
 @on_links
 class Console(OnLinks):
     """lldpa-live's standard input."""
+
+    def test_a_question_at_the_start_waits_for_the_agent(self) -> None:
+        live = self.live("eth0", "--", "--receive-only", awaits=False)
+        live.say("show neighbors")
+        self.assertEqual(live.lines.get(timeout=SECONDS), "lldp.eth0.neighbors=0")
+
+    def test_a_question_is_refused_while_an_interface_is_awaited(self) -> None:
+        live = self.live("eth7", awaits=False)
+        live.say("show neighbors")
+        self.assertEqual(live.lines.get(timeout=SECONDS), "error: waiting for an interface")
 
     def test_it_takes_the_words(self) -> None:
         live = self.live("eth0", "--", "--receive-only")

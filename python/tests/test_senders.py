@@ -143,6 +143,9 @@ class Noting(unittest.TestCase):
         self.assertEqual(numbers(), {two: 2})
         self.senders.hear("eth1", numbered(1))  # and comes again
         self.assertEqual(numbers(), {two: 2, one: 3})
+        self.senders.hear("eth0", numbered(1))
+        self.senders.obey(b"configure ports eth0 lldp status disabled")
+        self.assertEqual(numbers(), {one: 3})
 
     def test_the_numbers_of_a_flood_are_forgotten(self) -> None:
         for number in range(2000):
@@ -187,3 +190,4 @@ class OnARealLink(OnLinks):
         self.assertEqual(told()[id_of(1)], came[id_of(1)])
         live.ask("configure ports eth0 lldp status disabled")
         self.assertEqual(told(), {})
+        self.assertEqual(LiveLines(live.ask("live")).numbers, {})

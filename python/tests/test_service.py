@@ -44,11 +44,19 @@ class Systemd(Service):
         self.assertEqual(self.heard.next(), ["STATUS=waiting for an interface: eth1"])
         self.assertIn("live.agent=waiting", live.ask("live"))
         self.assertIn("\nlldpa_agent_state{state=\"waiting\"} 1\n", self.metrics(live))
-        self.assertEqual(self.heard.next(1.5), [])
+        self.assertEqual(self.heard.next(), ["WATCHDOG=1"])
         self.wires.add_link(1)
         self.assertTrue(self.heard.hears("READY=1"))
         self.assertIn("live.agent=running", live.ask("live"))
         self.assertTrue(self.heard.hears("STATUS=no neighbors on 1 port"))
+
+    def test_signs_of_life_come_while_it_waits(self) -> None:
+        for port in ("eth7", "nosuch*"):
+            live = self.service(port, awaits=False)
+            self.assertTrue(self.heard.hears(f"STATUS=waiting for an interface: {port}"))
+            for _ in range(2):
+                self.assertEqual(self.heard.next(), ["WATCHDOG=1"])
+            live.close()
 
     def test_its_status_has_ports_and_neighbors(self) -> None:
         self.service("eth0", "eth1", "--", "--receive-only")

@@ -29,6 +29,16 @@ async def flood():
 
 asyncio.run(flood())
 """
+# an agent that is not given its first setting before there is a file `go`
+HELD_UP = """#!/bin/sh
+while IFS= read -r line; do
+    case $line in "configure lldp"*)
+        : > FOLDER/held
+        until [ -e FOLDER/go ]; do sleep 0.05; done
+    esac
+    printf '%s\n' "$line"
+done | exec PROGRAM "$@"
+"""
 
 
 class TestExplained(unittest.TestCase):
@@ -192,6 +202,21 @@ class TestSettings(OnLinks):
         run = subprocess.run([PYTHON, "-c", FLOOD], capture_output=True, text=True, check=False,
                              timeout=SECONDS, cwd=REPOSITORY / "python")
         self.assertEqual((run.returncode, run.stderr), (0, ""))
+
+    def test_a_reload_while_the_agent_is_opened_is_not_lost(self) -> None:
+        folder = Path(self.wires.folder)
+        folder.chmod(0o777)
+        program = folder / "program"
+        program.write_text(HELD_UP.replace("FOLDER", str(folder)).replace("PROGRAM", PROGRAM))
+        program.chmod(0o755)
+        self.file.write_text("configure lldp tx-interval 7\n")
+        live = self.live(*self.words(), "eth0", program=str(program), awaits=False)
+        self.assertTrue(eventually((folder / "held").exists))
+        self.file.write_text("configure lldp tx-interval 8\n")
+        live.signal(signal.SIGHUP)
+        (folder / "go").touch()
+        self.assertTrue(live.says("were read again"))
+        self.assertIn("configuration.tx-interval=8", live.ask("show configuration"))
 
     def test_a_reload_that_meets_the_end_of_an_agent_is_answered(self) -> None:
         heard = Heard(self.wires.folder)

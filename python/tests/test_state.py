@@ -53,6 +53,12 @@ class Restarts(Replaced):
         live = self.live("--state", str(self.state), "eth0")
         self.assertEqual(live.neighbors(), 2)
 
+    def test_a_port_whose_link_is_down_can_forget(self) -> None:
+        self.ended()
+        self.wires.set_link("peer0", "down")
+        live = self.live("--state", str(self.state), "--forget-on-down", "eth0", "eth1")
+        self.assertEqual([live.neighbors(port) for port in ("eth0", "eth1")], [0, 1])
+
     def test_a_state_that_cannot_be_used_is_told(self) -> None:
         self.ended()
         whole = self.state.read_bytes()

@@ -157,6 +157,15 @@ class Program(FilesCase):
         self.assertEqual(self.ran("--port", "ge-0/0/1", "a"), (named, "", 0))
         self.assertEqual(self.ran("ge-0/0/1=a"), (named, "", 0))
         self.assertEqual(self.ran("--ports", "x=a", "a"), ("x\neth0\n", "", 0))
+        self.assertEqual(self.ran("--ports", "-", octets=b""), ("eth0\n", "", 0))
+
+    def test_ports_of_captures_that_cannot_be_read(self) -> None:
+        self.file(pcapng([whole(LLDP)], name="swp1"), "a")
+        self.file(b"", "empty")
+        self.assertEqual(self.ran("--ports", "a", "empty", "p=none", "q=."), (
+            "swp1\neth0\np\nq\n", "lldpa-capture: empty: it is empty\n"
+            "lldpa-capture: none: No such file or directory\n"
+            "lldpa-capture: .: Is a directory\n", 1))
 
     def test_standard_input(self) -> None:
         file = pcapng([whole(LLDP)], name="swp1")

@@ -53,11 +53,15 @@ def asked(path: str, is_printed: bool) -> tuple[LiveLines, list[str]]:
             load()
             give_up_root()
         live = client.ask("live")
-        told = LiveLines(live)
-        if not told.is_up:
-            return told, metrics(Show(), live)
-        shown = read_show(client.ask("show neighbors") + client.ask("show statistics"))
-        return told, metrics(shown, live)
+        shown = Show()
+        if LiveLines(live).is_up:
+            try:
+                shown = read_show(client.ask("show neighbors") + client.ask("show statistics"))
+            except Refused:
+                live = client.ask("live")
+                if LiveLines(live).is_up:  # it was not refused for the silence of the agent
+                    raise
+        return LiveLines(live), metrics(shown, live)
 
 
 def write(lines: Sequence[str], file: Optional[str]) -> None:

@@ -5,7 +5,7 @@ from __future__ import annotations
 import json
 import time
 from dataclasses import dataclass
-from typing import Dict, Iterable, Iterator, Sequence, Tuple
+from typing import Dict, Iterable, Iterator, List, Sequence, Tuple
 
 from ..organizational import rows_of, said_by
 from .as_json import neighbor_object
@@ -13,6 +13,7 @@ from .connection import Client
 from .live_lines import Since, since_of
 from .people import summary
 from .questions import only
+from ..agent.framing import Refused
 from ..agent.show import Identifier, Neighbor, Port, read_show
 from ..texts import printable, readable
 
@@ -87,15 +88,25 @@ def words_of(neighbor: Neighbor) -> Dict[str, str]:
     return words
 
 
+def looks(client: Client) -> Iterator[List[str]]:
+    """Asks for the neighbors again and again, and returns the lines of each answer. There is none
+    while the agent is silent, until it answers again or another one replaces it."""
+    while True:
+        time.sleep(SECONDS_BETWEEN_LOOKS)
+        try:
+            lines = client.ask("show neighbors")
+        except Refused:
+            continue
+        yield lines
+
+
 def watch(client: Client, some: Sequence[str], as_json: bool) -> None:
     """Prints a line for each neighbor of some ports, or of all, that comes, changes or leaves,
     without end. Raises Refused for a port that does not exist."""
     neighbors = Watch(only(read_show(client.ask("show neighbors")), some).ports)
-    while True:
-        time.sleep(SECONDS_BETWEEN_LOOKS)
-        ports = only(read_show(client.ask("show neighbors")), some).ports
+    for lines in looks(client):
         now = time.strftime("%Y-%m-%dT%H:%M:%S%z")
-        for news in neighbors.news(ports):
+        for news in neighbors.news(only(read_show(lines), some).ports):
             since = since_of(client.ask("live")) if as_json else {}
             line = news_object(news, now, since) if as_json else f"{now} {news_line(news)}"
             print(line, flush=True)

@@ -8,7 +8,8 @@ from typing import Dict, List, Mapping, Optional, Sequence, Tuple
 
 from .. import output
 from ..output import complain
-from ..capture.source import PORT_NAME_RULE, STANDARD_INPUT, Source, is_port_name
+from ..capture.packets import BadCapture, reader_of
+from ..capture.source import PORT_NAME_RULE, STANDARD_INPUT, Source, is_port_name, is_stream, opened
 from ..capture.trace import Told, TooManyPorts, ports_of, trace_of
 from ..version import add_version
 
@@ -93,8 +94,30 @@ def run(given: argparse.Namespace) -> int:
         raise ValueError("standard input can be read only once")
     if given.ports:
         print("\n".join(ports_for_words(sources)), flush=True)
-        return 0
+        return report_unread(sources)
     return write_trace(sources, not given.no_seconds, given.show)
+
+
+def report_unread(sources: Sequence[Source]) -> int:
+    """Reports the captures that cannot be read. Returns 1 if there are any, else 0."""
+    faults = [f"{source.file}: {why}" for source in sources if (why := fault_of(source.file))]
+    for fault in faults:
+        note(fault)
+    return 1 if faults else 0
+
+
+def fault_of(file: str) -> str:
+    """Returns why a capture cannot be read, or nothing. What can be read only once is not read."""
+    try:
+        if file == STANDARD_INPUT or is_stream(os.stat(file).st_mode):
+            return ""
+        with opened(file) as octets:
+            reader_of(octets)
+    except BadCapture as why:
+        return str(why)
+    except OSError as error:
+        return error.strerror or str(error)
+    return ""
 
 
 def ports_for_words(sources: Sequence[Source]) -> List[str]:

@@ -12,8 +12,10 @@ from ..agent.child import Option
 from ..client.connection import DEFAULT_PATH
 from ..live.given import Given
 from ..live.patterns import is_able, is_pattern, parts_of
+from ..live.privileges import entry_of
 from ..live.reporting import report_all, report_fault
 from ..live.running import live
+from ..live.server.server import number_of_group
 from ..output import INPUT, missing_streams, plain_help
 from ..version import add_version
 from ..limits import MOST_PORTS
@@ -68,9 +70,21 @@ def words_given(words: Sequence[str]) -> Given:
     cut = words.index("--") if "--" in words else len(words)
     given = parser.parse_args(words[:cut])
     check_ports(parts_of(given.ports), parser)
+    check_users(given, parser)
+    return Given(**vars(given), options=options_of(words[cut + 1:], parser))
+
+
+def check_users(given: argparse.Namespace, parser: argparse.ArgumentParser) -> None:
+    """Ends the program if it cannot become the user, or there is no such user or group."""
     if given.user is not None and os.geteuid() != 0:
         parser.error("--user: only root can become another user")
-    return Given(**vars(given), options=options_of(words[cut + 1:], parser))
+    try:
+        if given.user is not None:
+            entry_of(given.user)
+        if given.control_group is not None:
+            number_of_group(given.control_group)
+    except LookupError as fault:
+        parser.error(str(fault))
 
 
 def check_ports(parts: Sequence[str], parser: argparse.ArgumentParser) -> None:

@@ -9,7 +9,7 @@ from typing import Callable, List, NamedTuple, Optional, Sequence
 
 from .. import __version__, output
 from ..client.connection import DEFAULT_PATH, Client, Gone, give_up_root
-from ..client.watching import SECONDS_BETWEEN_LOOKS, Watch
+from ..client.watching import Watch, looks
 from ..agent.framing import Refused
 from ..lldpcli_forms.shows import LINES, neighbor_node, told_by
 from ..lldpcli_forms.words import (Command, Lines, Question, Watching, of_lldpcli,
@@ -91,12 +91,15 @@ def show(client: Client, given: Given, question: Question) -> None:
 
 
 def watch(client: Client, given: Given, watching: Watching) -> None:
-    """Prints each neighbor that comes, changes or leaves, up to the limit if there is one."""
+    """Prints each neighbor that comes, changes or leaves, up to the limit if there is one. Raises
+    Refused for a port that does not exist."""
     told = told_by([client.ask("show neighbors")], [], time.time())
+    known = [port.name for port in told.show.ports]
+    if missing := [port for port in watching.ports or () if port not in known]:
+        raise Refused(f"no such port: {', '.join(missing)}")
     neighbors, left = Watch(told.show.ports), watching.limit
-    while True:
-        time.sleep(SECONDS_BETWEEN_LOOKS)
-        told = told_by([client.ask("show neighbors")], client.ask("live"), time.time())
+    for lines in looks(client):
+        told = told_by([lines], client.ask("live"), time.time())
         for news in neighbors.news(told.show.ports):
             if watching.ports is not None and news.neighbor.port not in watching.ports:
                 continue
@@ -128,35 +131,42 @@ def obey(given: Given, command: Command) -> int:
 
 
 def console(given: Given) -> int:
-    """Obeys the commands of standard input, up to its end or `exit`."""
+    """Obeys the commands of standard input, up to its end or `exit`. Returns 1 if the output of
+    one of them failed, else 0; as in lldpcli, it does not count that one is refused."""
     import shlex
+    status = 0
     prompt = f"[{LLDPCLI}] $ " if os.isatty(output.INPUT) else ""
     while True:
         try:
             words = shlex.split(input(prompt))
         except EOFError:
-            return 0
+            return status
         except ValueError as fault:
             output.complain(LLDPCLI, str(fault))
             continue
         if words[:1] == ["exit"]:
-            return 0
+            return status
         if words[:1] == ["help"]:
             print(HELP.replace("NAME", LLDPCLI), end="", flush=True)
         elif words:
-            in_child(lambda: told_status(LLDPCLI, lambda: obey(given, of_lldpcli(words))))
+            status = max(status, obey_in_child(given, words))
 
 
-def in_child(body: Callable[[], int]) -> None:
-    """Runs a body in a process of its own, which may give up root."""
+def obey_in_child(given: Given, words: Sequence[str]) -> int:
+    """Obeys a command in a process of its own, which may give up root. Returns 1 if its output
+    failed, which is reported, else 0."""
     child = os.fork()
     if child == 0:
         status = 1
         try:
-            status = body()
+            told_status(LLDPCLI, lambda: obey(given, of_lldpcli(words)))
+            status = 0
+        except output.OutputFault as why:
+            if str(why):
+                output.complain(LLDPCLI, f"standard output: {why}")
         finally:
             os._exit(status)
-    os.waitpid(child, 0)
+    return 1 if os.waitpid(child, 0)[1] else 0
 
 
 def answer(name: str, words: Sequence[str]) -> int:

@@ -50,8 +50,8 @@ class Agents:
         self.is_over = False  # whether one that ends is not replaced
 
     def words(self) -> List[str]:
-        """Returns the words of the agent, for the log."""
-        return words_of(self.names, self.given.program, self.options)[1:]
+        """Returns the words of the agent, for the log. Its program need not be on this host."""
+        return words_of(self.names, "", self.options)[1:]
 
     async def begin(self) -> None:
         """Opens the first agent, and the log with it."""

@@ -9,8 +9,8 @@ from typing import Iterator
 from ..agent.child import Ended
 
 TABLE = "/proc/net/tcp"
-LISTENS = "0A"
-ANYWHERE, HERE = "00000000", "0100007F"
+LISTENS = b"0A"
+ANYWHERE, HERE = b"00000000", b"0100007F"
 
 
 def check_listener(port: int) -> None:
@@ -22,8 +22,8 @@ def check_listener(port: int) -> None:
 
 def users_at(port: int) -> Iterator[int]:
     """Returns the users of the sockets that listen there, as the kernel lists them."""
-    with open(TABLE, encoding="ascii") as table:
-        for words in map(str.split, table):
-            address, _, number = words[1].partition(":")
+    with open(TABLE, "rb") as table:  # for text this user may not be able to load the codec
+        for words in map(bytes.split, table):
+            address, _, number = words[1].partition(b":")
             if words[3] == LISTENS and address in (ANYWHERE, HERE) and int(number, 16) == port:
                 yield int(words[7])

@@ -5,7 +5,7 @@ from __future__ import annotations
 import asyncio
 import os
 import time
-from typing import List, Optional, Sequence
+from typing import Callable, List, Optional, Sequence
 
 from ..agent.synchronous import AsyncAgent
 from ..agent.framing import command
@@ -32,6 +32,7 @@ from .settings import Settled, tell_settings
 from .state import state_at
 from .watched import Watched
 
+SECONDS_BETWEEN_SIGNS = 1.0
 
 
 class Ground:
@@ -54,8 +55,10 @@ class Ground:
         self.watched = Watched(Manager(os.environ), self.senders, inform if given.events else None)
         self.state = state_at(given.state, user_of(given.user), warn)
         self.is_awaiting = False  # whether it was reported what is awaited
+        self.begun = asyncio.Event()  # set once there is an agent, or an interface is awaited
         self.not_taken = 0  # settings, lines and whole files
         self.relay: Optional[Relay] = None  # once the agent is open
+        self.when_open: Callable[[], None] = lambda: None
 
     async def open(self) -> Relay:
         """Opens the agent, once there is an interface that names this host."""
@@ -71,14 +74,23 @@ class Ground:
                           self.more if self.ports.spares else None, self.given.forget_on_down)
             await self.settle(relay)
             await agents.note_settings()
-            if self.state is not None and self.state.restore(self.senders, self.names):
+            if self.state is not None and self.state.restore(self.senders, self.remembering()):
                 await agents.restore()
             relay.begin(list(self.links.known.values()))
         except BaseException:
             await agents.patient.close(0)
             raise
         self.relay = relay
+        self.when_open()
         return relay
+
+    def remembering(self) -> List[str]:
+        """Returns the ports that get their neighbors back: with --forget-on-down those that have a
+        link."""
+        if not self.given.forget_on_down:
+            return self.names
+        running = {one.name for one in self.links.known.values() if one.is_running}
+        return [name for name in self.names if name in running]
 
     def more(self) -> List[str]:
         """Returns the ports that patterns give by now, as many as there is room for."""
@@ -94,8 +106,18 @@ class Ground:
                     self.ports.add(name)
                 return
             self.report_awaited()
-            await ready(self.links.socket.fileno(), is_output=False)
-            self.links.read()
+            await self.await_news()
+
+    async def await_news(self) -> None:
+        """Waits until something happens to an interface, and gives signs of life until then."""
+        news = asyncio.ensure_future(ready(self.links.socket.fileno(), is_output=False))
+        try:
+            while not news.done():
+                self.watched.manager.turned()
+                await asyncio.wait({news}, timeout=SECONDS_BETWEEN_SIGNS)
+        finally:
+            news.cancel()
+        self.links.read()
 
     def about(self) -> List[str]:
         """Returns what lldpa-live says of itself, without asking the agent."""
@@ -137,8 +159,7 @@ class Ground:
             if not self.ports.awaited:
                 self.report_awaited()
                 await self.try_settings(options)
-            await ready(self.links.socket.fileno(), is_output=False)
-            self.links.read()
+            await self.await_news()
 
     async def try_settings(self, options: Options) -> None:
         """Tries the settings on an agent that sends nothing. Raises SettingsRefused if some are
@@ -158,6 +179,7 @@ class Ground:
         if self.is_awaiting:
             return
         self.is_awaiting = True
+        self.begun.set()
         self.ports.awaited.update(self.names)
         awaited = " ".join(self.names or self.parts)
         report(f"{awaited}: no such interface yet; waiting for it, and until then there is no "
@@ -198,6 +220,7 @@ async def work(ground: Ground, desk: Desk, stopping: asyncio.Event) -> None:
     """Opens the agent, and works until the end."""
     relay = await ground.open()
     desk.ask_agent, desk.silence = relay.ask, relay.agents.patient.silence
+    ground.begun.set()
     ground.watched.manager.ready()
     stop = asyncio.ensure_future(stopping.wait())
     stop.add_done_callback(lambda _: relay.stop())

@@ -27,7 +27,7 @@ async def live(given: Given) -> int:
     asyncio.get_running_loop().set_exception_handler(report_of_loop)
     name_process("lldpa-live")
     ground = Ground(given)
-    desk = Desk(ground.names, ground.about)
+    desk = Desk(ground.names, ground.about, ground.begun)
     server = None if given.once else Server(given.control, desk.ask, given.control_group)
     if server is not None:
         server.bind()

@@ -113,7 +113,9 @@ class Senders:
         if len(words) != 6 or [*words[:2], *words[3:5]] != STATUS:
             return
         if words[5] in DEAF:
-            self.by_port.pop(words[2], None)
+            gone = self.by_port.pop(words[2], {})
+            for chassis in {id.partition(" ")[0] for id in gone}:
+                self.renumber(chassis)
             self.too_many_until.pop(words[2], None)
             self.deaf.add(words[2])
         else:

@@ -23,6 +23,7 @@ class Signals:
         self.ground = ground
         self.wants_reload = False
         self.reloading: Optional[asyncio.Future[None]] = None
+        ground.when_open = self.resume
         self.taken = [one for one in SIGNALS if signal.getsignal(one) != signal.SIG_IGN]
         mask = signal.pthread_sigmask(signal.SIG_BLOCK, SIGNALS)
         self.add_handlers()
@@ -53,9 +54,15 @@ class Signals:
         if self.reloading is None or self.reloading.done():
             self.reloading = asyncio.ensure_future(self.settle())
 
+    def resume(self) -> None:
+        """Sends the settings again if a signal came before the agent was open, which may have got
+        those from before the signal."""
+        if self.wants_reload:
+            self.reload()
+
     async def settle(self) -> None:
         """Sends the settings again as often as it is wanted, and reports what was not accepted. If
-        there is no agent yet, it gets them when it is opened."""
+        there is no agent yet, `resume` does it later."""
         while self.wants_reload and self.ground.relay is not None:
             self.wants_reload = False
             manager, given = self.ground.watched.manager, self.ground.given

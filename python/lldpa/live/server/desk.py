@@ -15,11 +15,14 @@ Ask = Callable[[bytes], Awaitable[List[bytes]]]
 
 class Desk:
     """Answers for lldpa-live. `about` returns what it says of itself; once there is an agent,
-    `ask_agent` passes a line on, unless there is `silence`."""
+    `ask_agent` passes a line on, unless there is `silence`. `begun` is set once there is an agent,
+    or an interface is awaited."""
 
-    def __init__(self, names: Sequence[str], about: Callable[[], List[str]]) -> None:
+    def __init__(self, names: Sequence[str], about: Callable[[], List[str]],
+                 begun: asyncio.Event) -> None:
         self.names = names
         self.about = about
+        self.begun = begun
         self.ask_agent: Optional[Ask] = None
         self.silence: Optional[asyncio.Event] = None  # of the agent
 
@@ -33,6 +36,7 @@ class Desk:
             return refused
         if first_word(line) == OF_ITSELF:
             return [text.encode() for text in self.about()]
+        await self.begun.wait()
         if self.ask_agent is None or self.silence is None:
             return [WAITING]
         if self.silence.is_set():

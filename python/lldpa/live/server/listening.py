@@ -45,16 +45,21 @@ class Listening:
             raise
 
     def renewed(self) -> Listening:
-        """Returns one with a new socket at the path, whose socket was removed. Raises OSError if
-        there can be none."""
+        """Returns one with a new socket at the path, whose socket was removed. The group gets it if
+        this user may still hand it over. Raises OSError if there can be none."""
         if os.path.lexists(self.path + ".lock"):
-            self.socket, before = listener_at(self.path, self.group), self.socket
+            before, self.socket = self.socket, listener_at(self.path, None)
             before.close()
-            return self
-        new = Listening(self.path, self.group)
-        self.socket.close()
-        if self.lock is not None:
-            os.close(self.lock)
+            new = self
+        else:
+            new = Listening(self.path)
+            self.socket.close()
+            if self.lock is not None:
+                os.close(self.lock)
+        new.group = self.group
+        if self.group is not None:
+            with contextlib.suppress(OSError):
+                hand_over(self.path, self.group)
         return new
 
     def close(self) -> None:
