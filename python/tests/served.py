@@ -68,6 +68,7 @@ class Served:
         self.loop = asyncio.new_event_loop()
         self.thread = threading.Thread(target=self.loop.run_forever, daemon=True)
         self.thread.start()
+        self.hangs = False  # whether the agent is silent, which its first question shows
         self.call(self.open(group, options))
 
     async def open(self, group: Optional[str], options: Any) -> None:
@@ -75,7 +76,6 @@ class Served:
         self.asked: list[bytes] = []
         self.hidden: set[bytes] = set()  # questions that are answered with nothing
         self.live_lines = LIVE_LINES
-        self.hangs = False  # whether the agent is silent, which its first question shows
         self.agent = await AsyncAgent.start(["eth0", "eth1"], PROGRAM, receive_only=True, **options)
         self.server = Server(self.path, self.ask, group)
         await self.server.start()
