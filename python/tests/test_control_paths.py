@@ -127,7 +127,7 @@ class Paths(unittest.TestCase):
             Server(os.path.join(self.folder.name, "a", "b", "control"), self.nothing).bind()
 
     def test_a_group_that_is_not_there_is_told(self) -> None:
-        with self.assertRaisesRegex(LookupError, "no group lldpa-none"):
+        with self.assertRaisesRegex(LookupError, "^group lldpa-none does not exist$"):
             Server(self.path, self.nothing, "lldpa-none")
 
     def test_a_path_that_was_bound_is_let_go_of(self) -> None:

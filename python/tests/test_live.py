@@ -41,7 +41,7 @@ class TestWords(unittest.TestCase):
                 (["--connect", "65536", "eth0"], "not a number from 1 to 65535"),
                 (["--nonsense", "eth0"], "--nonsense"),
                 (["--con", "4711", "eth0"], "--con"),
-                (["--control-group", "lldpa-none", "eth0"], "there is no group lldpa-none"),
+                (["--control-group", "lldpa-none", "eth0"], "group lldpa-none does not exist"),
                 (["eth0", "--", "eth1"], "only options of lldpa may follow --"),
                 (["eth0", "--", "--mac", "a", "b"], "only options of lldpa may follow --"),
                 (["eth0", "--", "--mac", "a", "--mac=b"], "--mac is given twice"),
@@ -106,7 +106,7 @@ class TestStart(OnLinks):
         for kind, option in (("user", "--user"), ("group", "--control-group")):
             live = self.live(option, "no-such-one", "eth0")
             self.assertEqual(live.ends(), 2)  # so that systemd does not start it again
-            self.assertIn(f"error: there is no {kind} no-such-one\n", live.errors())
+            self.assertIn(f"error: {kind} no-such-one does not exist\n", live.errors())
 
     def test_address_and_name_are_those_of_the_host(self) -> None:
         live = self.live("eth0")

@@ -11,7 +11,7 @@ from typing import Iterator
 from ..link_settings import settings_of
 from ..names import Seen
 from .fields import ABSENT
-from .listing import Listing, SeenFault, need_lines
+from .listing import Listing, SeenFault, check_lines
 from .neighbor import neighbor
 from .ports import port_kind
 
@@ -27,7 +27,7 @@ Values = dict[str, str]
 
 def read_cisco(octets: bytes) -> Listing:
     """Returns the neighbors of each port. Raises SeenFault."""
-    need_lines(octets)
+    check_lines(octets)
     text = octets.decode(errors="surrogateescape").replace("\r\n", "\n")
     ports: dict[str, list[Seen]] = {}
     count = 0

@@ -7,7 +7,7 @@ from typing import Iterator, Sequence
 from lldpa.agent.show import CHASSIS_KINDS, PORT_KINDS
 
 from ..link_settings import settings_of
-from .listing import Listing, SeenFault, need_lines
+from .listing import Listing, SeenFault, check_lines
 from .neighbor import neighbor
 from .protocols import Heard, by_ports
 
@@ -22,7 +22,7 @@ Values = dict[str, list[str]]
 
 def read_keyvalue(octets: bytes) -> Listing:
     """Returns the neighbors of each port. Raises SeenFault, which names the line."""
-    need_lines(octets)
+    check_lines(octets)
     text = octets.decode(errors="surrogateescape").replace("\r\n", "\n")
     if not text.endswith("\n"):
         raise SeenFault(CUT_SHORT)

@@ -16,7 +16,7 @@ class SeenFault(LldpaFault, ValueError):
     """What is wrong with octets of a form."""
 
 
-def need_lines(octets: bytes) -> None:
+def check_lines(octets: bytes) -> None:
     """Raises SeenFault if there are more lines, or longer ones, than any list has: each takes
     memory, and so does each part of a line."""
     if octets.count(b"\n") > MOST_LINES:

@@ -9,7 +9,7 @@ import re
 from typing import Iterator
 
 from ..link_settings import settings_of
-from .listing import Listing, SeenFault, need_lines
+from .listing import Listing, SeenFault, check_lines
 from .neighbor import neighbor
 from .protocols import Heard, by_ports
 
@@ -26,7 +26,7 @@ Values = dict[str, list[str]]
 
 def read_plain(octets: bytes) -> Listing:
     """Returns the neighbors of each port. Raises SeenFault."""
-    need_lines(octets)
+    check_lines(octets)
     text = octets.decode(errors="surrogateescape").replace("\r\n", "\n")
     if not text.endswith(HEAD.decode()):
         raise SeenFault("it has no line of - at its end: it was cut short")

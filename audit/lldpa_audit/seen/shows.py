@@ -8,7 +8,7 @@ from typing import Iterable, Iterator, Sequence, Tuple
 from lldpa.agent.show import Port, Show, ShowFault, read_show, unescaped
 
 from ..names import NAMELESS, Seen
-from .listing import Listing, Ports, need_lines
+from .listing import Listing, Ports, check_lines
 from .neighbor import MOST_KEPT, neighbor
 from .quickshow import NAMES, USUAL_PORT
 from .tlvs import IS_SETTING, settings_of_tlvs
@@ -17,7 +17,7 @@ from .tlvs import IS_SETTING, settings_of_tlvs
 def read_shows(octets: bytes) -> Listing:
     """Returns the neighbors of each port. Raises ShowFault. A show has each port of its agent, or
     one."""
-    need_lines(octets)
+    check_lines(octets)
     return Listing(read_ports(octets.decode("latin-1")), False)
 
 

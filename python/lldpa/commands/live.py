@@ -75,7 +75,7 @@ def words_given(words: Sequence[str]) -> Given:
 
 
 def check_users(given: argparse.Namespace, parser: argparse.ArgumentParser) -> None:
-    """Ends the program if it cannot become the user, or there is no such user or group."""
+    """Ends the program if it cannot become the user, or if the user or the group does not exist."""
     if given.user is not None and os.geteuid() != 0:
         parser.error("--user: only root can become another user")
     try:

@@ -74,7 +74,7 @@ def entry_of(user: str) -> pwd.struct_passwd:
     try:
         return pwd.getpwnam(user)
     except KeyError:
-        raise LookupError(f"there is no user {user}") from None
+        raise LookupError(f"user {user} does not exist") from None
 
 
 def succeeded(result: int) -> None:

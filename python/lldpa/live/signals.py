@@ -61,8 +61,8 @@ class Signals:
             self.reload()
 
     async def settle(self) -> None:
-        """Sends the settings again as often as it is wanted, and reports what was not accepted. If
-        there is no agent yet, `resume` does it later."""
+        """Sends the settings again as often as it is wanted, and reports what was not accepted.
+        Before the agent is open it does nothing: `resume` sends them then."""
         while self.wants_reload and self.ground.relay is not None:
             self.wants_reload = False
             manager, given = self.ground.watched.manager, self.ground.given

@@ -197,4 +197,4 @@ def number_of_group(name: str) -> int:
     try:
         return grp.getgrnam(name).gr_gid
     except KeyError:
-        raise LookupError(f"there is no group {name}") from None
+        raise LookupError(f"group {name} does not exist") from None
