@@ -6,6 +6,7 @@ from .planfault import Faults
 from .rows import table_of
 
 COLUMNS = ["host", "port", "alias"]
+MOST_PORTS = 64  # no aggregate has so many members
 
 
 def read_aliases(file: str, names: Names) -> Aliases:
@@ -40,6 +41,6 @@ def added(aliases: Aliases, names: Names, host: str, port: str, alias: str) -> s
         key = names.plain_host(alias)
         is_new = aliases.hosts.setdefault(key, host) == host != key
         return "" if is_new else f"{alias} is an alias of two hosts, or of itself"
-    end = End(host, names.plain_port(alias))
-    aliases.ports.setdefault(end, []).append(names.plain_port(port))
-    return ""
+    ports = aliases.ports.setdefault(End(host, names.plain_port(alias)), [])
+    ports.append(names.plain_port(port))
+    return "" if len(ports) <= MOST_PORTS else f"{alias} is an alias of over {MOST_PORTS} ports"

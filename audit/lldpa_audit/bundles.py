@@ -66,6 +66,6 @@ class Bundles:
         if told is None or len(told.neighbors) != 1:
             return None
         neighbor, names = told.neighbors[0], self._tables.names
-        if neighbor.settings is None or host not in map(names.host, neighbor.hosts):
+        if neighbor.settings is None or host not in names.hosts_of(neighbor):
             return None
         return neighbor.settings.aggregation

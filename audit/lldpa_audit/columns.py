@@ -2,7 +2,8 @@
 from __future__ import annotations
 
 import re
-from typing import Mapping, Optional, Sequence
+from collections import Counter
+from typing import Mapping, Optional, Sequence, Union
 
 from .planfault import Faults
 
@@ -23,31 +24,34 @@ SIDES_B = ("side_b_type", "termination_b_type")
 PANELS = (("panel", "front", "panel", "rear"), ("device", "name", "device", "rear_port"))
 POSITIONS = ("rear_port_position", "position")
 
-# the ends of cables, as NetBox calls them, at which nobody speaks LLDP
-NO_PORTS = ("powerport", "poweroutlet", "powerfeed", "consoleport", "consoleserverport",
-            "circuittermination")
-POWER = "power"
-MOST_COLUMNS = 200
+# the ends of cables, as NetBox calls them, that are ports of a network or of a panel
 OF_PANELS = ("frontport", "rearport")
+PORTS = ("interface", *OF_PANELS)
+# the names of power and console ports: exports with the headings of tables have no types
+OTHER_PORT = re.compile(r"(?:(?:rj45|(?:mini-?)?usb)[ _-]?)?"
+                        r"(?:psu?|pem|pwr|power|outlet|inlet|con|console|serial|tty[a-z]?|aux)"
+                        r"(?:[ _-]?(?:supply|feed|port))?[ _:/.-]?[a-z]?[0-9]{0,3}", re.I)
+NOT_THERE = ("planned", "decommissioning")
 
+# why a cable of NetBox is left out
+POWER, ABSENT, FREE, UNPAIRED = ("of power or consoles", "planned or decommissioning",
+                                 "without a port of a device at both ends",
+                                 "with ends that cannot be paired")
 
-# the host and the port of each of the two ends that a row joins
+# the host and the port of each of the two ends that a row joins, and of one of them
 Row = Sequence[str]
+Pair = tuple[str, str]
 
 
 class Columns:
-    """Reads rows by the header of their file. What is wrong is a fault. Raises PlanFault if the
-    header has very many columns.
+    """Reads rows by the header of their file. What is wrong is a fault.
 
     `others` names the columns that are read for details, and `has_types` says whether there are
-    types of ports. `left_out` counts the rows that join no ports of networks.
+    types of ports. `left_out` counts the cables of NetBox that are left out, by the reason.
     """
 
     def __init__(self, header: Sequence[str], line: int, faults: Faults,
                  given: Optional[Mapping[str, str]] = None) -> None:
-        if len(header) > MOST_COLUMNS:
-            faults.add(line, f"it names {len(header)} columns, and {MOST_COLUMNS} are the most")
-            faults.end()
         self._names = [key_of(name) for name in header]
         self._faults = faults
         self._columns, self._is_of_netbox = self._found(given)
@@ -56,10 +60,10 @@ class Columns:
             self._places = [self._names.index(name) for name in self._columns]
         self._sides = [self._place_of(side) for side in (SIDES_A, SIDES_B)]
         self.has_types = any(place is not None for place in self._sides)
-        self._type = self._place_of(("type",)) if self._is_of_netbox else None
+        self._type, self._status = self._place_of(("type",)), self._place_of(("status",))
         self._others = [at for at, name in enumerate(header) if at not in self._places and name]
         self.others = [header[at].strip() for at in self._others]
-        self.left_out = 0
+        self.left_out: Counter[str] = Counter()
 
     def _found(self, given: Optional[Mapping[str, str]]) -> tuple[Sequence[str], bool]:
         """Returns the names of the four columns, and whether they are NetBox's."""
@@ -77,7 +81,7 @@ class Columns:
         for name in self._columns:
             times = self._names.count(name)
             if times != 1:
-                found = "stands twice" if times else "is missing"
+                found = "occurs twice" if times else "is missing"
                 self._faults.add(line, f"the column {name} {found}: the first line names the "
                                        f"columns {','.join(self._columns)}")
         return self._faults.count == count
@@ -87,51 +91,48 @@ class Columns:
         return next((self._names.index(name) for name in names if name in self._names), None)
 
     def rows(self, line: int, fields: Sequence[str]) -> Sequence[Row]:
-        """Returns the ends that a row joins, or none if it has a fault, or joins no ports of
-        networks."""
+        """Returns the ends that a row joins, or none if it has a fault or is left out. Several
+        rows that begin or end at one port are those of a breakout cable."""
         if len(fields) > len(self._names) and any(fields[len(self._names):]):
             self._faults.add(line, f"it has {len(fields)} fields under {len(self._names)} columns")
             return ()
         texts = [fields[at].strip() for at in self._places]
         if self._is_of_netbox:
-            if self._joins_no_ports(fields, texts):
-                self.left_out += 1
+            found = self._cables(fields, texts)
+            if isinstance(found, str):
+                self.left_out[found] += 1
                 return ()
-            if all(texts):
-                return self._terminations(line, texts)
+            return found
         if "" in texts:
             self._faults.add(line, f"its {self._columns[texts.index('')]} is missing")
             return ()
         return (texts,)
 
-    def _joins_no_ports(self, fields: Sequence[str], texts: Sequence[str]) -> bool:
-        """Returns whether a cable of NetBox carries no network, or has nothing at one of its
-        sides."""
-        kinds = [self._kind(fields, at) for at in self._sides]
-        return (not any(texts[:2]) or not any(texts[2:])
-                or any(kind.endswith(NO_PORTS) for kind in kinds)
-                or self._kind(fields, self._type) == POWER)
+    def _cables(self, fields: Sequence[str], texts: Sequence[str]) -> Union[Sequence[Row], str]:
+        """Returns the ends that a cable of NetBox joins, or why it is left out."""
+        if self._text(fields, self._status) in NOT_THERE:
+            return ABSENT
+        kinds = [self._text(fields, at) for at in self._sides]
+        if self._text(fields, self._type) == "power" or any(
+                kind and not kind.endswith((*PORTS, "circuittermination")) for kind in kinds):
+            return POWER
+        if "" in texts or any(kind.endswith("circuittermination") for kind in kinds):
+            return FREE
+        hosts, ports, peers, peer_ports = [re.split(r"\s*,\s*", text) for text in texts]
+        if not self.has_types and any(map(OTHER_PORT.fullmatch, (*ports, *peer_ports))):
+            return POWER
+        ones, others = ends_of(hosts, ports), ends_of(peers, peer_ports)
+        return UNPAIRED if not ones or not others else [
+            (*one, *other) for one, other in paired(ones, others)] or UNPAIRED
 
-    def _kind(self, fields: Sequence[str], at: Optional[int]) -> str:
-        """Returns a type as NetBox's exports have it: `dcim.frontport` or `front port`."""
+    def _text(self, fields: Sequence[str], at: Optional[int]) -> str:
+        """Returns a field as it is compared: NetBox has `dcim.frontport` and `Front Port`."""
         return "" if at is None else fields[at].strip().lower().replace(" ", "")
 
     def are_at_panels(self, fields: Sequence[str]) -> tuple[bool, bool]:
         """Returns whether each side of a cable of NetBox is a port of a panel."""
-        one, other = [self._kind(fields, at).endswith(OF_PANELS) for at in self._sides]
+        one, other = [self._text(fields, at).endswith(OF_PANELS) for at in self._sides]
         return one, other
-
-    def _terminations(self, line: int, texts: Sequence[str]) -> Sequence[Row]:
-        """Returns the pairs of a cable with several ends at each side: the first two, the second
-        two .."""
-        host, ports, peer, peer_ports = [re.split(r",\s+", text) for text in texts]
-        count = len(ports)
-        if len(peer_ports) != count or {len(host), len(peer)} - {1, count}:
-            self._faults.add(line, f"its sides have {count} and {len(peer_ports)} terminations: "
-                                   "which goes to which, it does not say")
-            return ()
-        hosts, peers = [some * (count // len(some)) for some in (host, peer)]
-        return list(zip(hosts, ports, peers, peer_ports))
 
     def texts(self, fields: Sequence[str]) -> Sequence[str]:
         """Returns the texts of the other columns of a row."""
@@ -148,6 +149,21 @@ class Columns:
         return bool(self._places)
 
 
+def ends_of(hosts: Sequence[str], ports: Sequence[str]) -> Sequence[Pair]:
+    """Returns the ports of a side, each with its host, or none if these do not pair."""
+    if len(hosts) not in (1, len(ports)):
+        return ()
+    return [(hosts[at if len(hosts) > 1 else 0], port) for at, port in enumerate(ports)]
+
+
+def paired(ones: Sequence[Pair], others: Sequence[Pair]) -> Sequence[tuple[Pair, Pair]]:
+    """Returns the pairs that a cable joins: the first two ends, the second two .., or each with
+    the only one of the other side. None if the sides have, for example, two and three ends."""
+    if len(ones) == 1 or len(others) == 1:
+        return [(one, other) for one in ones for other in others]
+    return list(zip(ones, others)) if len(ones) == len(others) else ()
+
+
 def key_of(name: str) -> str:
     """Returns a column's name as it is compared: `Side A` is `side_a`."""
     return "_".join(name.lower().split())
@@ -160,4 +176,3 @@ def given_columns(text: str) -> Mapping[str, str]:
     if len(columns) < len(pairs) or not set(columns) <= set(COLUMNS) or not all(columns.values()):
         raise ValueError(text)
     return columns
-

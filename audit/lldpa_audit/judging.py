@@ -29,6 +29,7 @@ class Verdict(Enum):
     DISAGREES = "disagrees"
     UNPLANNED = "unplanned"
     NO_DATA = "no data"
+    NOT_LOOKED_AT = "not looked at"
     KNOWN = "known"
 
 
@@ -48,13 +49,15 @@ class Finding(NamedTuple):
 
 
 def audit(plan: Plan, tables: Tables, planned_only: bool = False) -> list[Finding]:
-    """Returns a finding for each planned end of the audited hosts, and for each other port with a
-    neighbor.
+    """Returns a finding for each planned end of the audited hosts, for each end of a link that was
+    looked at from neither end, and for each other port with a neighbor.
 
     They are in the order of the plan; the unplanned ones follow.
     """
     judge = Judge(plan, tables)
     findings = list(judge.planned())
+    if judge.names.short_names:
+        findings = list(judge.of_several_domains(findings))
     return findings if planned_only else [*findings, *judge.unplanned()]
 
 
@@ -68,16 +71,36 @@ class Judge:
         self._bundles = Bundles(plan, tables) if self.names.vendor_names else None
 
     def planned(self) -> Iterator[Finding]:
-        """Yields the findings on the planned ends of the audited hosts."""
+        """Yields the findings on the planned ends of the audited hosts, and on both ends of links
+        of which nothing is known."""
         hosts, ends, items = self.tables.hosts, self.tables.ends, iter(self.plan.ends.items())
         for (one, wish), (other, other_wish) in zip(items, items):  # the two ends of a link
             told, other_told = ends.get(one), ends.get(other)
-            is_right = ((told is None or self.has_only(told, other))
-                        and (other_told is None or self.has_only(other_told, one)))
+            is_right = ((told is None or self.has_only(told, wish.wanted))
+                        and (other_told is None or self.has_only(other_told, other_wish.wanted)))
             if one.host in hosts:
                 yield self.finding(one, wish, told, is_right)
+            elif other_told is None:
+                yield Finding(wish.end, Verdict.NOT_LOOKED_AT, wish.wants)
             if other.host in hosts:
                 yield self.finding(other, other_wish, other_told, is_right)
+            elif told is None:
+                yield Finding(other_wish.end, Verdict.NOT_LOOKED_AT, other_wish.wants)
+
+    def of_several_domains(self, findings: Sequence[Finding]) -> Iterator[Finding]:
+        """Yields the findings: right ends of a planned host without a domain are doubled if hosts
+        of several domains answer by its name."""
+        heard: dict[str, set[str]] = defaultdict(set)
+        names, right = self.names, Verdict.RIGHT
+        for one in findings:
+            if one.wants is not None and one.verdict is right:
+                heard[names.host(one.wants.host)].update(names.domain(name)
+                                                         for name in one.has[0].hosts)
+        apart = {host for host, domains in heard.items() if len(domains - {""}) > 1}
+        for one in findings:
+            is_apart = one.wants is not None and names.host(one.wants.host) in apart
+            is_apart = is_apart and one.verdict is right
+            yield one._replace(verdict=Verdict.DOUBLED) if is_apart else one
 
     def unplanned(self) -> Iterator[Finding]:
         """Returns the findings on ports that are not in the plan."""
@@ -164,7 +187,7 @@ class Judge:
 
     def hosts_of_aggregate(self, neighbor: Seen) -> set[str]:
         """Returns the hosts of which a neighbor that names its aggregate may be each port."""
-        return {host for host in map(self.names.host, neighbor.hosts)
+        return {host for host in self.names.hosts_of(neighbor)
                 if self.names.is_any_member(neighbor, host)}
 
     @cached_property

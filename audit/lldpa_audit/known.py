@@ -1,62 +1,103 @@
-"""Faults that are known: ends and hosts that are not judged, each with a reason and a last day."""
+"""Faults that are known: ends and hosts whose silence is excused, each with a reason and a day."""
 from __future__ import annotations
 
 import datetime
-from typing import Iterable, Iterator, NamedTuple, Optional, Sequence
+from typing import NamedTuple, Optional, Sequence
 
 from .judging import Finding, Verdict
 from .names import End, Names, shown
+from .plan import Plan
 from .planfault import Faults
 from .rows import table_of
 
-COLUMNS = ["host", "port", "reason", "until"]
+COLUMNS, FURTHER = ["host", "port", "reason", "until"], ["verdict"]
+SILENCE = (Verdict.SILENT, Verdict.ONE_SIDED, Verdict.NO_DATA, Verdict.NOT_LOOKED_AT)
+NOT_EXCUSED = (Verdict.RIGHT, Verdict.KNOWN, Verdict.NOT_LOOKED_AT)
+VERDICTS = {one.value: (one,) for one in Verdict if one not in NOT_EXCUSED}
+
+
+class Row(NamedTuple):
+    """The end that a row names, the verdicts that it excuses there, and why. The port of a whole
+    host is empty."""
+
+    end: End
+    verdicts: Sequence[Verdict]
+    reason: str
+    line: int
 
 
 class Known(NamedTuple):
-    """The reasons by end, all as they are compared; the port of a whole host is empty.
+    """The rows by end, as it is compared.
 
-    `notes` names those whose last day is over, which are judged.
+    `notes` names those whose last day is over, which excuse nothing.
     """
 
-    reasons: dict[End, str]
-    notes: Sequence[str]
+    file: str
+    rows: dict[End, list[Row]]
+    notes: list[str]
 
-    def reason(self, names: Names, end: Optional[End]) -> str:
-        """Returns why an end is not judged, or an empty text if it is."""
-        if end is None:
+    def reason(self, names: Names, end: Optional[End], verdict: Verdict) -> str:
+        """Returns why a verdict at an end is excused, or an empty text if it is not."""
+        if end is None or not self.rows:
             return ""
         key = names.end(end)
-        return self.reasons.get(key) or self.reasons.get(End(key.host, "")) or ""
+        rows = (*self.rows.get(key, ()), *self.rows.get(End(key.host, ""), ()))
+        return next((row.reason for row in rows if verdict in row.verdicts), "")
 
-    def applied(self, findings: Iterable[Finding], names: Names) -> Iterator[Finding]:
-        """Yields the findings: one that is not right is known if either end of its link is."""
-        for one in findings:
-            reason = "" if one.verdict is Verdict.RIGHT else (
-                self.reason(names, one.end) or self.reason(names, one.wants))
-            yield one._replace(verdict=Verdict.KNOWN, reason=reason) if reason else one
+    def applied(self, findings: Sequence[Finding], names: Names) -> Sequence[Finding]:
+        """Returns the findings. One that is excused at either end of its link is known; a link that
+        nobody looked at only if both ends are."""
+        return [self._applied(one, names) for one in findings] if self.rows else findings
+
+    def _applied(self, one: Finding, names: Names) -> Finding:
+        """Returns a finding, as known if it is excused."""
+        reason = "" if one.verdict is Verdict.RIGHT else self._reason_of(one, names)
+        return one._replace(verdict=Verdict.KNOWN, reason=reason) if reason else one
+
+    def _reason_of(self, one: Finding, names: Names) -> str:
+        """Returns why a finding is excused."""
+        ours, theirs = (self.reason(names, end, one.verdict) for end in (one.end, one.wants))
+        return ours and theirs if one.verdict is Verdict.NOT_LOOKED_AT else ours or theirs
+
+    def unplanned(self, plan: Plan) -> list[str]:
+        """Returns which rows name nothing that is planned, and so excuse nothing."""
+        return [f"{self.file}: line {row.line}: {place_of(row.end)} is not planned"
+                for key, rows in self.rows.items() for row in rows
+                if Verdict.UNPLANNED not in row.verdicts
+                and (key not in plan.ends if key.port else key.host not in plan.hosts)]
 
 
-NOTHING_KNOWN = Known({}, ())
+NOTHING_KNOWN = Known("", {}, [])
 
 
 def read_known(file: str, names: Names, today: datetime.date) -> Known:
-    """Reads the rows `host,port,reason,until`, the last a date such as 2026-12-31 or empty.
+    """Reads the rows `host,port,reason,until`, the third last a date such as 2026-12-31 or empty,
+    and a further column `verdict` that may be empty.
 
     Raises PlanFault and OSError.
     """
-    faults, known = Faults(file), Known({}, notes := [])
-    for line, fields in table_of(faults, COLUMNS):
-        until = date_of(fields[3])
-        if len(fields) != len(COLUMNS) or not fields[0] or not fields[2] or until is None:
+    faults, known = Faults(file), Known(file, {}, [])
+    for line, fields in table_of(faults, COLUMNS, FURTHER):
+        host, port, reason, last, verdict, *rest = [*fields, ""]
+        until, verdicts = date_of(last), VERDICTS.get(verdict) if verdict else SILENCE
+        if rest[1:] or not host or not reason or until is None:
             faults.add(line, "it has no host, no reason, or no date such as 2026-12-31")
+        elif verdicts is None:
+            faults.add(line, f"{verdict!r} is not a verdict: {', '.join(VERDICTS)}")
         elif until < today:
-            place = " ".join(shown(name) for name in fields[:2] if name)
-            notes.append(f"{file}: line {line}: {place} was known until {until}, and is judged")
+            known.notes.append(f"{file}: line {line}: {place_of(End(host, port))} was known until "
+                               f"{until}, and is judged")
         else:
-            key = names.end(End(fields[0], fields[1]))
-            known.reasons.setdefault(End(key.host, key.port if fields[1] else ""), fields[2])
+            key = names.end(End(host, port))
+            row = Row(End(host, port), verdicts, reason, line)
+            known.rows.setdefault(End(key.host, key.port if port else ""), []).append(row)
     faults.end()
     return known
+
+
+def place_of(end: End) -> str:
+    """Returns an end, or the host alone if there is no port."""
+    return " ".join(shown(name) for name in end if name)
 
 
 def date_of(text: str) -> Optional[datetime.date]:

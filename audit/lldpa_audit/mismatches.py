@@ -52,6 +52,27 @@ def mismatches(findings: Iterable[Finding], tables: Tables, plan: Optional[Plan]
     return found
 
 
+def compared(findings: Iterable[Finding], tables: Tables, plan: Plan) -> bool:
+    """Returns whether any right link has settings that can be compared: of both ends, or of one end
+    and the plan."""
+    wanted = expected(plan)
+    right = {tables.names.end(one.end): one for one in findings if one.verdict is Verdict.RIGHT}
+    for key, one in right.items():
+        far = right.get(tables.names.end(one.wants)) if one.wants else None
+        said = far.has[0].settings if far is not None and far.has else None
+        its = one.has[0].settings
+        if any(are_alike(*pair) for pair in ((said, its), (said, wanted.get(key)),
+                                             (its, wanted.get(key)))):
+            return True
+    return False
+
+
+def are_alike(one: Optional[Settings], other: Optional[Settings]) -> bool:
+    """Returns whether both have a value of some setting."""
+    return one is not None and other is not None and any(
+        value is not None and its is not None for value, its in zip(one[:5], other[:5]))
+
+
 def together(one: Optional[Mismatch], other: Optional[Mismatch]) -> Optional[Mismatch]:
     """Returns both mismatches of a link as one, or the one that it has."""
     if one is None or other is None:

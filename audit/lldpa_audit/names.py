@@ -2,7 +2,8 @@
 from __future__ import annotations
 
 import ipaddress
-from typing import Iterable, NamedTuple, Optional, Sequence, Set
+from contextlib import suppress
+from typing import Container, Iterable, NamedTuple, Optional, Sequence
 
 from lldpa.texts import CUT, printable
 
@@ -70,8 +71,8 @@ NO_ALIASES = Aliases({}, {})
 class Names:
     """Which names are the same: those that are equal, and what else the rules let pass.
 
-    `planned_ports` are the ports that the plan names, as they are compared: if a Port ID is one of
-    them, the Port Description does not count, which people write.
+    `planned` has the ends of the plan, and `planned_ports` their ports, as they are compared: they
+    say whether a Port Description counts, which people write.
     """
 
     def __init__(self, ignore_case: bool = False, short_names: bool = False,
@@ -80,7 +81,10 @@ class Names:
         self.short_names = short_names
         self.vendor_names = vendor_names
         self.aliases = aliases
-        self.planned_ports: Set[str] = set()
+        self.planned: Container[End] = ()
+        self.planned_ports: Container[str] = ()
+        self.domains: dict[str, set[str]] = {}
+        self._rules = self
         self._is_strict = not (ignore_case or short_names or vendor_names or any(aliases))
         self._hosts: dict[str, str] = {}
         self._ports: dict[str, str] = {}
@@ -95,13 +99,46 @@ class Names:
             key = self._hosts[name] = self.aliases.hosts.get(key, key)
         return key
 
+    def hosts_of(self, neighbor: Seen) -> Sequence[str]:
+        """Returns the hosts that a neighbor may be, as they are compared: by a name without its
+        domain, it may be each planned host of that name."""
+        if self._is_strict:
+            return neighbor.hosts
+        keys = [self.host(name) for name in neighbor.hosts]
+        if self.short_names:
+            keys += [f"{key}.{domain}" for key in keys
+                     for domain in self.domains.get(key, ()) if domain]
+        return keys
+
     def plain_host(self, name: str) -> str:
         """Returns a host's name as it is compared, except for its aliases."""
+        name = self.whole_host(name)
+        return self._with_planned_domain(name) if self.short_names else name
+
+    def whole_host(self, name: str) -> str:
+        """Returns a host's name as it is compared, with its domain."""
         if self.vendor_names:
             name = plain(name)
-        if self.short_names:
-            name = without_domain(name)
         return name.casefold() if self.ignore_case else name
+
+    def _with_planned_domain(self, name: str) -> str:
+        """Returns a name without its domain, unless the plan has such a host in another one."""
+        short = without_domain(name)
+        domains = self.domains.get(short, {""})
+        is_only = "" in domains or domains == {name[len(short) + 1:]}
+        return short if is_only else name
+
+    def learn_domains(self, hosts: Iterable[str]) -> None:
+        """Learns the domains of planned hosts, so that names with different ones differ."""
+        self._hosts.clear()
+        for host in set(hosts):
+            short = without_domain(self.whole_host(host))
+            self.domains.setdefault(short, set()).add(self.domain(host))
+
+    def domain(self, host: str) -> str:
+        """Returns the domain of a host's name, or an empty text if it has none."""
+        name = self.whole_host(host)
+        return name[len(without_domain(name)) + 1:]
 
     def plain_port(self, name: str) -> str:
         """Returns a port's name as it is compared, except for its aliases."""
@@ -129,28 +166,31 @@ class Names:
     def answers(self, neighbor: Seen, end: End) -> bool:
         """Returns whether a neighbor answers to an end, which is given as it is compared."""
         if self._is_strict:
-            ports = neighbor.ports
-            return (end.host in neighbor.hosts and end.port in ports
-                    and (end.port == ports[0] or end.port in self.heeded(neighbor)))
-        if end.host not in map(self.host, neighbor.hosts):
+            return end.host in neighbor.hosts and (end.port == neighbor.port_id
+                                                   or end.port in self.heeded(neighbor))
+        if end.host not in self.hosts_of(neighbor):
             return False
         return (self.is_any_member(neighbor, end.host)
                 or any(end.port in self.ports(end.host, port) for port in self.heeded(neighbor)))
 
     def heeded(self, neighbor: Seen) -> Sequence[str]:
-        """Returns the names of a neighbor's port that count: all, or the planned one of an
-        interface."""
+        """Returns the names of a neighbor's port that count: all, or only its Port ID if that is a
+        planned port of its host, or names an interface as the plan names one anywhere."""
         ports = neighbor.ports
-        if neighbor.is_named and len(ports) > 1 and self.is_planned(neighbor):
-            return ports[:1]
-        return ports
+        if len(ports) < 2:
+            return ports
+        port_id = ports[0] if neighbor.is_named else neighbor.port_id
+        return (port_id,) if self._rules.is_planned(neighbor, port_id) else ports
 
-    def is_planned(self, neighbor: Seen) -> bool:
-        """Returns whether a port with the name in a neighbor's Port ID is planned anywhere."""
+    def is_planned(self, neighbor: Seen, port_id: str) -> bool:
+        """Returns whether a neighbor's Port ID is a planned port of its host, or of any host if it
+        names an interface."""
         if self._is_strict:
-            return neighbor.ports[0] in self.planned_ports
-        return any(port in self.planned_ports for name in neighbor.hosts
-                   for port in self.ports(self.host(name), neighbor.ports[0]))
+            return (neighbor.is_named and port_id in self.planned_ports
+                    or any(End(host, port_id) in self.planned for host in neighbor.hosts))
+        return any(End(host, port) in self.planned
+                   or neighbor.is_named and port in self.planned_ports
+                   for host in self.hosts_of(neighbor) for port in self.ports(host, port_id))
 
     def is_any_member(self, neighbor: Seen, host: str) -> bool:
         """Returns whether a neighbor of a host, as it is compared, names an aggregate in place of
@@ -168,18 +208,22 @@ class Names:
     def ends(self, neighbor: Seen) -> Iterable[End]:
         """Returns each end that a neighbor answers to by the names of its port, as it is
         compared."""
-        for name in neighbor.hosts:
-            host = self.host(name)
-            for port in self.heeded(neighbor):
-                for key in (port,) if self._is_strict else self.ports(host, port):
-                    yield End(host, key)
+        ports = self.heeded(neighbor)
+        if self._is_strict:
+            yield from (End(host, port) for host in neighbor.hosts for port in ports)
+            return
+        for host in self.hosts_of(neighbor):
+            yield from (End(host, key) for port in ports for key in self.ports(host, port))
 
     def looser(self, *differences: str) -> Names:
         """Rules that let these differences pass, too: of case, domain and spelling."""
         looser = Names(self.ignore_case or "case" in differences,
                        self.short_names or "domain" in differences,
                        self.vendor_names or "spelling" in differences, self.aliases)
-        looser.planned_ports = {looser.plain_port(port) for port in self.planned_ports}
+        looser._rules = self
+        if "domain" not in differences:
+            looser.learn_domains(f"{short}.{domain}".rstrip(".") for short in self.domains
+                                 for domain in self.domains[short])
         return looser
 
     def with_domains(self) -> Names:
@@ -189,23 +233,16 @@ class Names:
 
 def without_domain(name: str) -> str:
     """Returns a host's name up to its first dot. An IPv4 address has dots and no domain."""
-    short = name.partition(".")[0]
-    return short if short and not is_address(name) else name
-
-
-def is_address(name: str) -> bool:
-    """Returns whether a name is an IP address."""
-    try:
+    with suppress(ValueError):
         ipaddress.ip_address(name)
-    except ValueError:
-        return False
-    return True
+        return name
+    return name.partition(".")[0] or name
 
 
 def shown(name: str) -> str:
     """Returns a name as a line shows it. What a terminal cannot show is escaped by its octets. A
     name with a blank is in quotes. A name that is longer than a neighbor can send is cut."""
-    text = printable(text_of(name if len(name) <= LONGEST else name[:LONGEST] + CUT))
+    text = printable(text_of(name[:LONGEST])) + (CUT if len(name) > LONGEST else "")
     return text if text and " " not in text else f'"{text}"'
 
 

@@ -2,15 +2,14 @@
 from __future__ import annotations
 
 import json
-from typing import Any, Iterator, NamedTuple, Optional, Sequence
+from typing import Any, Iterator, NamedTuple, Optional, Sequence, Union
 
-from .columns import NO_PORTS, OF_PANELS, POWER
+from .columns import ABSENT, FREE, NOT_THERE, OF_PANELS, PORTS, POWER
 from .names import End
 from .planfault import Faults
 
 # what else of a cable is reported with its faults
 DETAILS = ("id", "label", "type", "color", "length", "length_unit", "status", "description")
-MOST_VALUES = 3_000_000
 
 
 class Termination(NamedTuple):
@@ -26,12 +25,6 @@ class ApiCable(NamedTuple):
     sides: tuple[Sequence[Termination], Sequence[Termination]]
     texts: Sequence[str]
 
-    @property
-    def joins_no_ports(self) -> bool:
-        """Returns whether it carries no network, or has nothing at one of its sides."""
-        return (self.texts[DETAILS.index("type")] == POWER or not all(self.sides)
-                or any(one.kind in NO_PORTS for side in self.sides for one in side))
-
     def is_at_panel(self, side: int) -> bool:
         """Returns whether a side, 0 or 1, has ports of panels."""
         return any(one.kind in OF_PANELS for one in self.sides[side])
@@ -42,9 +35,15 @@ def is_json(text: str) -> bool:
     return text.lstrip()[:1] in ("{", "[")
 
 
-def cables_of(text: str, faults: Faults) -> Iterator[ApiCable]:
-    """Yields the cables of an answer, or of a list of answers. What is wrong is a fault."""
-    pages = pages_of(text, faults)
+def cables_of(text: str, faults: Faults) -> Iterator[Union[ApiCable, str]]:
+    """Yields each cable of an answer, or of a list of answers, or why it is left out. What else is
+    wrong is a fault."""
+    try:
+        tree = json.loads(text)
+    except (ValueError, RecursionError) as fault:
+        faults.add(None, f"it is not JSON: {fault}")
+        return
+    pages = tree if isinstance(tree, list) else [tree]
     for page in pages:
         found = page.get("results") if isinstance(page, dict) else None
         if not isinstance(found, list):
@@ -53,47 +52,38 @@ def cables_of(text: str, faults: Faults) -> Iterator[ApiCable]:
         if page.get("next") and page is pages[-1]:
             faults.add(None, "it is one page of several: ask with ?limit=0, or put the pages into "
                              "one list")
-        for node in found:
-            cable = cable_of(node)
-            if cable is None:
-                faults.add(None, f"{name_of(node)} is not a cable whose terminations have a device "
-                                 "and a name")
-            else:
-                yield cable
+        yield from map(cable_of, found)
 
 
-def pages_of(text: str, faults: Faults) -> Sequence[Any]:
-    """Returns the answers in a text, or none if it is not JSON."""
-    if sum(map(text.count, "{[,")) > MOST_VALUES:
-        faults.add(None, f"it has over {MOST_VALUES} values")
-        return ()
-    try:
-        tree = json.loads(text)
-    except (ValueError, RecursionError) as fault:
-        faults.add(None, f"it is no JSON: {fault}")
-        return ()
-    return tree if isinstance(tree, list) else [tree]
-
-
-def cable_of(node: Any) -> Optional[ApiCable]:
-    """Returns a cable, or None if it is not one."""
+def cable_of(node: Any) -> Union[ApiCable, str]:
+    """Returns a cable, or why it is left out."""
     if not isinstance(node, dict):
-        return None
-    try:
-        sides = tuple([termination_of(one) for one in node[f"{side}_terminations"]]
-                      for side in "ab")
-        return ApiCable((sides[0], sides[1]), [text_of(node.get(name)) for name in DETAILS])
-    except (KeyError, TypeError):
-        return None
+        return FREE
+    texts = [text_of(node.get(name)) for name in DETAILS]
+    some = [node.get(f"{side}_terminations") or () for side in "ab"]
+    if texts[DETAILS.index("status")] in NOT_THERE:
+        return ABSENT
+    if texts[DETAILS.index("type")] == "power":
+        return POWER
+    sides = [[termination_of(one) for one in side] for side in some]
+    if not all(sides) or not all(all(side) for side in sides):
+        return FREE
+    ones, others = [[one for one in side if one is not None] for side in sides]
+    if any(one.kind not in PORTS for one in (*ones, *others)):
+        return POWER
+    return ApiCable((ones, others), texts)
 
 
-def termination_of(node: Any) -> Termination:
-    """Returns a side of a cable. Raises KeyError and TypeError if it is not one."""
-    kind = str(node["object_type"]).partition(".")[2]
-    place = node["object"]
-    device = place.get("device") or place.get("circuit") or place.get("power_panel")
-    names = str(device.get("name") or device["display"]), place.get("name")
-    return Termination(End(names[0], str(names[1] or place["display"])), kind)
+def termination_of(node: Any) -> Optional[Termination]:
+    """Returns a side of a cable, or None if it is not a port of a device."""
+    place = node.get("object") if isinstance(node, dict) else None
+    device = place.get("device") or place.get("power_panel") if isinstance(place, dict) else None
+    if not isinstance(place, dict) or not isinstance(device, dict):
+        return None
+    host = device.get("name") or device.get("display")
+    port = place.get("name") or place.get("display")
+    kind = str(node.get("object_type")).partition(".")[2]
+    return Termination(End(str(host), str(port)), kind) if host and port else None
 
 
 def text_of(value: Any) -> str:
@@ -101,8 +91,3 @@ def text_of(value: Any) -> str:
     if isinstance(value, dict):
         value = value.get("value")
     return "" if value is None else str(value)
-
-
-def name_of(node: Any) -> str:
-    """Returns what a fault calls a cable."""
-    return f"the cable {node.get('id')}" if isinstance(node, dict) else "something"

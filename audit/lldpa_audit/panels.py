@@ -1,7 +1,8 @@
 """Patch panels: a cable that ends at a panel goes on at the panel's other side."""
 from __future__ import annotations
 
-from typing import Iterable, Iterator, NamedTuple, Optional
+from collections import Counter
+from typing import Iterable, Iterator, NamedTuple, Optional, Sequence, Union
 
 from .names import End, Names
 from .plan import Detail, Link
@@ -35,18 +36,19 @@ class Panels:
     """Follows cables through panels. Several front ports may share a rear port, as those of a
     cassette with a trunk do: behind the trunk a link goes on at the position at which it began.
 
-    `dead_ends` has the cables behind which nothing is planned: from where, and up to where.
+    `dead_ends` has the ends whose link cannot be followed, each with the reason.
     """
 
     def __init__(self, pairs: Iterable[Pair], names: Names, faults: Faults,
                  faults_of_pairs: Faults) -> None:
         self._names = names
         self._faults = faults
+        self._file = faults_of_pairs.file
         self._cables: dict[End, Cable] = {}
         self._pairs: dict[End, Pair] = {}
         self._fronts_of: dict[End, dict[str, End]] = {}
         self._hosts: set[str] = set()
-        self.dead_ends: list[tuple[End, End]] = []
+        self.dead_ends: list[tuple[End, str]] = []
         for pair in pairs:
             self._add_pair(pair, faults_of_pairs)
 
@@ -108,26 +110,42 @@ class Panels:
         positions: list[str] = []
         while self.has(cable.key):
             side = self._other_side(cable, positions)
-            further = self._cables.get(self._names.end(side)) if side else None
-            if side is None or further is None or len(path) > 2 * MOST_PANELS:
-                self.dead_ends.append((begin, side or cable.end))
+            further = None if isinstance(side, str) else self._cables.get(self._names.end(side))
+            if isinstance(side, str) or further is None or len(path) > 2 * MOST_PANELS:
+                self.dead_ends.append((begin, self._why(side, further)))
                 return
             path += [cable.end, side]
             cable = further
         yield Link(begin, cable.end, first.line, cable.line, Detail(first.detail.texts, path),
                    Detail(cable.detail.texts, path[::-1]))
 
-    def _other_side(self, cable: Cable, positions: list[str]) -> Optional[End]:
-        """Returns the other side of the panel at which a cable ends, or None if that is not known.
+    def _why(self, side: Union[End, str], further: Optional[Cable]) -> str:
+        """Returns why a link ends at a panel, by what is behind the panel's port."""
+        if isinstance(side, str):
+            return side
+        return (f"it goes through over {MOST_PANELS} panels" if further else
+                f"{self._faults.file} has no cable at {side}")
 
-        `positions` has those at which the link has entered trunks and not left them again.
+    def _other_side(self, cable: Cable, positions: list[str]) -> Union[End, str]:
+        """Returns the other side of the panel at which a cable ends, or why that is not known.
+
+        `positions` has those at which the link has entered rear ports and not left them again.
         """
         pair = self._pairs.get(cable.key)
         if pair is not None:
-            if len(self._fronts_of[self._names.end(pair.rear)]) > 1:
-                positions.append(pair.position)
+            positions.append(pair.position)
             return pair.rear
         fronts = self._fronts_of.get(cable.key, {})
-        if len(fronts) == 1:
-            return next(iter(fronts.values()))
-        return fronts.get(positions.pop()) if positions else None
+        if not fronts:
+            return f"{self._file} has no row for {cable.end}"
+        if not positions:
+            return next(iter(fronts.values())) if len(fronts) == 1 else (
+                f"{cable.end} has {len(fronts)} positions")
+        position = positions.pop()
+        return fronts.get(position) or f"{self._file} has no position {position} at {cable.end}"
+
+
+def fewest_links(begins: Sequence[End]) -> int:
+    """Returns how many links at least have these ends: a link joins two ends, and two hosts."""
+    of_hosts = Counter(end.host for end in begins)
+    return max((len(begins) + 1) // 2, *of_hosts.values()) if begins else 0

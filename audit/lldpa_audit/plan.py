@@ -52,27 +52,39 @@ class Plan:
     """The planned ends in the order of the plan, by their names as they are compared. The two ends
     of a link follow one another.
 
-    No end is joined to two. Raises PlanFault. `columns` names the texts of each detail, `notes` has
-    what of the file is left out, and `unknown` the ends whose cable continues at an unknown place.
+    No end is joined to two, except the ends in `whole`, at which the several links of a breakout
+    cable begin: `breakouts` has these. Raises PlanFault. `columns` names the texts of each detail,
+    `notes` has what of the file is left out, `not_judged` counts the links that go on at an unknown
+    place, and `unknown` has their ends.
     """
 
     def __init__(self, file: str, links: Iterable[Link], names: Names,
-                 faults: Optional[Faults] = None) -> None:
+                 faults: Optional[Faults] = None, whole: Optional[Set[End]] = None) -> None:
         self.file = file
         self.ends: dict[End, Wish] = {}
+        self.breakouts: dict[End, list[Link]] = {}
         self.columns: Sequence[str] = ()
         self.notes: Sequence[str] = ()
+        self.not_judged = 0
         self.unknown: Set[End] = set()
         faults = faults or Faults(file)
+        if names.short_names:
+            links = list(links)
+            names.learn_domains(end.host for link in links for end in link[:2])
         for link in links:
-            self._add(link, names, faults)
-        if not self.ends and not faults.count:
+            if whole and not whole.isdisjoint(link[:2]):
+                self._add_lane(link, whole, names, faults)
+            else:
+                self._add(link, names, faults)
+        if not self.ends and not self.breakouts and not faults.count:
             faults.add(None, "it plans no link")
         self.hosts = {key.host: wish.end.host for key, wish in self.ends.items()}
+        for key, some in self.breakouts.items():
+            self.hosts.update((names.host(end.host), end.host) for link in some for end in link[:2])
         if names.short_names:
             self._need_hosts_apart(names.with_domains(), faults)
         faults.end()
-        names.planned_ports = {key.port for key in self.ends}
+        names.planned, names.planned_ports = self.ends, {key.port for key in self.ends}
 
     def _need_hosts_apart(self, whole: Names, faults: Faults) -> None:
         """Refuses two hosts whose names differ only in their domains: they would be one, and one's
@@ -97,6 +109,23 @@ class Plan:
             twice = one if before else other
             faults.add(line, planned_twice(twice, before or other_before, line))
 
+    def _add_lane(self, link: Link, whole: Set[End], names: Names, faults: Faults) -> None:
+        """Plans a link of a breakout cable, of which the end that is in `whole` has several."""
+        if link.one not in whole:
+            link = Link(link.other, link.one, link.line, link.other_line, link.detail,
+                        link.other_detail)
+        some = self.breakouts.setdefault(names.end(link.one), [])
+        if some and (some[0].line, some[0].detail) != (link.line, link.detail):
+            faults.add(link.line, planned_twice(link.one, None, None))
+        some.append(link)
+
+    def add_lane(self, lane: End, link: Link, names: Names, wanted: Optional[End]) -> None:
+        """Plans a link of a breakout cable at one of its lanes, now that these are known. Its other
+        end wants that lane, unless another end is given."""
+        self._add(link._replace(one=lane), names, Faults(self.file))
+        other = names.end(link.other)
+        self.ends[other] = self.ends[other]._replace(wanted=wanted or names.end(lane))
+
     @cached_property
     def ends_of_hosts(self) -> Mapping[str, Sequence[End]]:
         """Returns the planned ends of each host, all as they are compared."""
@@ -114,8 +143,8 @@ class Plan:
 
 def planned_twice(end: End, before: Optional[Wish], line: Optional[int]) -> str:
     """Returns the fault of an end that is joined to two, or to itself."""
-    if before is None or before.line == line is not None:
+    if before is not None and before.line == line is not None:
         return f"{end} is planned twice in it"
-    if before.line is None:
+    if before is None or before.line is None:
         return f"{end} is planned twice"
     return f"{end} is planned already in line {before.line}"

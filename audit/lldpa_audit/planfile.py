@@ -1,65 +1,49 @@
 """Reads plans: links in DOT, CSV or NetBox's JSON, through patch panels."""
 from __future__ import annotations
 
-from sys import getsizeof
+from collections import Counter
 from typing import Iterable, Iterator, Mapping, Optional, Sequence
 
-from .columns import Columns
-from .dot import is_dot
+from .columns import UNPAIRED, Columns, paired
+from .dot import DotFault, edges_of, is_dot
 from .names import End, Names
 from .netbox import DETAILS, cables_of, is_json
-from .panels import Pair, Panels
+from .panels import Pair, Panels, fewest_links
 from .plan import NO_DETAIL, Detail, Link, Plan
 from .planfault import Faults
 from .progress import Progress
 from .rows import rows_of, text_of
-from .topology import NO_PORT, TopologyFault, read_topology
 
 MOST_NAMED = 3
 LONGEST_NAME = 255  # no neighbor says a longer one
 MOST_KEPT = 65536
-# the memory in octets that a plan may take, and if there are panels each of the two files; and
-# what a part of it takes
-MOST_OCTETS, MOST_WITH_PANELS = 450_000_000, 220_000_000
-OF_A_LINK, OF_A_CABLE, OF_A_PAIR, OF_A_DETAIL, OF_A_NAME = 415, 900, 1000, 150, 90
 
 
 class PlanFile:
     """Reads the links of a file.
 
-    `left_out` counts the cables that join no ports of networks, `at_panels` has the ends that are
-    ports of panels by the file's own word, each with the end at the cable's other side.
+    `left_out` counts the cables that are left out, by the reason. `at_panels` has the ends that
+    are ports of panels by the file's own word, each with the end at the cable's other side, and
+    `breakouts` those at which several links begin.
     """
 
     def __init__(self, file: str, columns: Optional[Mapping[str, str]] = None,
                  has_panels: bool = True) -> None:
         self.text = text_of(file)
         self.faults = Faults(file)
-        self.left_out = 0
+        self.left_out: Counter[str] = Counter()
         self.others: Sequence[str] = ()
         self.at_panels: dict[End, End] = {}
+        self.breakouts: set[End] = set()
         self._given = columns
         self._names: dict[str, str] = {}
         self._has_panels = has_panels
-        self._room = (MOST_WITH_PANELS if has_panels else MOST_OCTETS) - getsizeof(self.text)
 
     def links(self) -> Iterator[Link]:
-        """Yields the links, without panels only those that do not end at one, as long as there is
-        memory for them."""
+        """Yields the links, without panels only those that do not end at one."""
         for link in self._all_links():
-            if link.detail is not NO_DETAIL:
-                self._room -= OF_A_DETAIL + sum(map(getsizeof, link.detail.texts))
-            if not self._has_room(OF_A_CABLE if self._has_panels else OF_A_LINK, link.line):
-                return
             if self._has_panels or not self.at_panels or not self.at_panels.keys() & link[:2]:
                 yield link
-
-    def _has_room(self, octets: int, line: Optional[int]) -> bool:
-        """Takes some of the memory that is left. It is a fault if that is too little."""
-        self._room -= octets
-        if self._room < 0:
-            self.faults.add(line, "it needs more memory than a plan may")
-        return self._room >= 0
 
     def _all_links(self) -> Iterator[Link]:
         """Yields the links in the form that the content has."""
@@ -71,12 +55,11 @@ class PlanFile:
         """Returns a name, which is kept once if it is in many rows. A name longer than LLDP can say
         is a fault."""
         if len(name) > LONGEST_NAME:
-            self.faults.add(line, f"a name in it has {len(name)} characters, and "
-                                  f"{LONGEST_NAME} are the most")
+            self.faults.add(line, f"a name in it has {len(name)} characters; the longest name "
+                                  f"that LLDP can send has {LONGEST_NAME}")
         if len(self._names) >= MOST_KEPT:
             self._names.clear()
         self._names[name] = name
-        self._room -= OF_A_NAME + getsizeof(name)
         return name
 
     def _end(self, names: Iterable[str], line: Optional[int]) -> End:
@@ -85,13 +68,11 @@ class PlanFile:
 
     def _links_of_dot(self) -> Iterator[Link]:
         try:
-            for edge in read_topology(self.text):
-                if edge.one is None or edge.other is None:
-                    self.faults.add(edge.line, NO_PORT)
-                else:
-                    yield Link(self._end(edge.one, edge.line), self._end(edge.other, edge.line),
-                               edge.line)
-        except TopologyFault as fault:
+            for names, line in edges_of(self.text):
+                if not all(names):
+                    self.faults.add(line, "a name in it is empty")
+                yield Link(self._end(names[:2], line), self._end(names[2:], line), line)
+        except DotFault as fault:
             self.faults.add(fault.line, str(fault))
 
     def _links_of_csv(self) -> Iterator[Link]:
@@ -99,36 +80,49 @@ class PlanFile:
         rows = rows_of(self.text, self.faults)
         line, header = next(rows, (1, []))
         columns = Columns(header, line, self.faults, self._given)
-        self.others = columns.others
+        self.others, self.left_out = columns.others, columns.left_out
         has_details, has_types, names = bool(self.others), columns.has_types, self._names
         for line, fields in rows if columns.can_read else ():
             ends = columns.rows(line, fields)
             detail = Detail(columns.texts(fields)) if has_details and ends else NO_DETAIL
+            links = []
             for row in ends:
                 host, port, peer, peer_port = [names.get(name) or self._kept(name, line)
                                                for name in row]
                 one, other = End(host, port), End(peer, peer_port)
                 if has_types:
                     self._note_panels(one, other, columns.are_at_panels(fields))
-                yield Link(one, other, line, None, detail)
-        self.left_out = columns.left_out
+                links.append(Link(one, other, line, None, detail))
+            if len(links) > 1:
+                self._note_breakout(links)
+            yield from links
 
     def _links_of_netbox(self) -> Iterator[Link]:
-        """Yields the links of cables that have as many ends at one side as at the other."""
+        """Yields the links of the cables in an answer of NetBox's API."""
         self.others = DETAILS
         for cable in cables_of(self.text, self.faults):
+            if isinstance(cable, str):
+                self.left_out[cable] += 1
+                continue
             ones, others = ([self._end(one.end, None) for one in side] for side in cable.sides)
-            if cable.joins_no_ports:
-                self.left_out += 1
-            elif len(ones) != len(others):
-                self.faults.add(None, f"the cable {cable.texts[0]} has {len(ones)} and "
-                                      f"{len(others)} terminations: which goes to which, it does "
-                                      "not say")
-            else:
-                are_at_panels = cable.is_at_panel(0), cable.is_at_panel(1)
-                for one, other in zip(ones, others):
-                    self._note_panels(one, other, are_at_panels)
-                    yield Link(one, other, None, None, Detail(cable.texts))
+            are_at_panels = cable.is_at_panel(0), cable.is_at_panel(1)
+            detail = Detail(cable.texts)
+            links = [Link(End(*one), End(*other), None, None, detail)
+                     for one, other in paired(ones, others)]
+            if not links:
+                self.left_out[UNPAIRED] += 1
+            for link in links:
+                self._note_panels(link.one, link.other, are_at_panels)
+            if len(links) > 1:
+                self._note_breakout(links)
+            yield from links
+
+    def _note_breakout(self, links: Sequence[Link]) -> None:
+        """Remembers the one end of several links of a cable, if they have one in common."""
+        if links[0].one == links[1].one:
+            self.breakouts.add(links[0].one)
+        elif links[0].other == links[1].other:
+            self.breakouts.add(links[0].other)
 
     def _note_panels(self, one: End, other: End, are_at_panels: tuple[bool, bool]) -> None:
         """Remembers the ends that are ports of panels."""
@@ -149,8 +143,6 @@ class PlanFile:
         columns = Columns(header, line, self.faults)
         for line, fields in rows if columns.can_read else ():
             for panel, front, same, rear in columns.rows(line, fields):
-                if not self._has_room(OF_A_PAIR, line):
-                    return
                 yield Pair(End(panel, front), End(same, rear), columns.position(fields), line)
 
 
@@ -168,12 +160,13 @@ def read_plan(file: str, names: Names, columns: Optional[Mapping[str, str]] = No
     if panels is not None:
         followed = read_panels(panels, names, read.faults)
         links = followed.through(links)
-    plan = Plan(file, links, names, read.faults)
-    if followed is None:
-        ends = {*read.at_panels, *read.at_panels.values()}
-        plan.unknown = {names.end(end) for end in ends}
+    plan = Plan(file, links, names, read.faults, read.breakouts)
+    begins = ([begin for begin, _ in followed.dead_ends] if followed else
+              [end for end in read.at_panels.values() if end not in read.at_panels])
+    plan.not_judged = fewest_links([names.end(end) for end in begins])
+    plan.unknown = {names.end(end) for end in (*begins, *(() if followed else read.at_panels))}
     plan.columns = read.others
-    plan.notes = notes_of(file, read, followed)
+    plan.notes = [*notes_of(file, read), *notes_of_panels(file, read, followed)]
     return plan
 
 
@@ -185,20 +178,24 @@ def read_panels(file: str, names: Names, faults: Faults) -> Panels:
     return panels
 
 
-def notes_of(file: str, read: PlanFile, followed: Optional[Panels]) -> list[str]:
-    """Returns which parts of a plan are left out."""
-    notes = []
-    dead_ends = followed.dead_ends if followed else ()
-    if read.left_out:
-        rows = "cable is" if read.left_out == 1 else "cables are"
-        notes.append(f"{file}: {read.left_out} {rows} left out, of power, consoles or one end")
-    if read.at_panels and followed is None:
-        count = len({frozenset(pair) for pair in read.at_panels.items()})
+def notes_of(file: str, read: PlanFile) -> list[str]:
+    """Returns which cables of a plan are left out, and why."""
+    count = sum(read.left_out.values())
+    if not count:
+        return []
+    reasons = ", ".join(f"{times} {reason}" for reason, times in read.left_out.most_common())
+    return [f"{file}: {count} {'cable is' if count == 1 else 'cables are'} left out: {reasons}"]
+
+
+def notes_of_panels(file: str, read: PlanFile, followed: Optional[Panels]) -> list[str]:
+    """Returns which cables cannot be followed through panels, and why."""
+    if followed is None:
+        count = sum(end not in read.at_panels for end in read.at_panels.values())
         cables = "cable ends" if count == 1 else "cables end"
-        notes.append(f"{file}: {count} {cables} at ports of patch panels, and cannot be judged: "
-                     "give --panels with NetBox's export of front ports")
-    for begin, end in dead_ends[:MOST_NAMED]:
-        notes.append(f"{file}: nothing is planned for {begin} behind the panel's {end}")
+        return [f"{file}: {count} {cables} at patch panels and cannot be judged: give --panels "
+                "with NetBox's export of front ports"] if count else []
+    dead_ends = followed.dead_ends
+    notes = [f"{begin} cannot be judged: {why}" for begin, why in dead_ends[:MOST_NAMED]]
     if len(dead_ends) > MOST_NAMED:
-        notes.append(f"{file}: nor for {len(dead_ends) - MOST_NAMED} more ends behind panels")
+        notes.append(f"{len(dead_ends) - MOST_NAMED} more ends behind panels cannot be judged")
     return notes

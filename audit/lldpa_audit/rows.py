@@ -9,13 +9,6 @@ from .planfault import Faults, PlanFault
 
 SEPARATORS = ",;\t"
 COMMENT = "#"
-# a row of so many characters may be half as many fields, of which each takes memory; a line takes
-# time, whatever it has
-LONGEST_ROW, MOST_LINES = 1_000_000, 2_000_000
-
-
-class TooLarge(Exception):
-    """Why the rest of a file is not read."""
 
 
 def text_of(file: str) -> str:
@@ -28,12 +21,14 @@ def text_of(file: str) -> str:
     raise PlanFault([f"{file}: {why}"])
 
 
-def table_of(faults: Faults, columns: Sequence[str]) -> Iterator[tuple[int, list[str]]]:
+def table_of(faults: Faults, columns: Sequence[str], further: Sequence[str] = ()
+             ) -> Iterator[tuple[int, list[str]]]:
     """Yields the fields of each row of the faults' file, with its line. The header must have just
-    these columns. Raises PlanFault and OSError."""
+    these columns, and may have further ones behind them. Raises PlanFault and OSError."""
     rows = rows_of(text_of(faults.file), faults)
     line, header = next(rows, (1, []))
-    if [name.strip().lower() for name in header] != columns:
+    names = [name.strip().lower() for name in header]
+    if names not in (columns, [*columns, *further]):
         faults.add(line, f"the first line is not {','.join(columns)}")
         return
     for line, row in rows:
@@ -49,20 +44,15 @@ def rows_of(text: str, faults: Faults) -> Iterator[tuple[int, list[str]]]:
     feeds, and lines in it that look like comments. Nothing follows a field that never ends.
     """
     lines = Lines(text)
-    reader = csv.reader(lines, delimiter=separator_of(text), strict=True,
-                        skipinitialspace=True)
+    reader = csv.reader(lines, delimiter=separator_of(text), strict=True, skipinitialspace=True)
     width = 0
     while True:
         lines.is_inside = False
         try:
             row = next(reader, None)
-        except TooLarge as fault:
-            faults.add(lines.begin if lines.is_inside else lines.number, str(fault))
-            return
         except csv.Error as fault:
-            is_endless = "end of data" in str(fault) or "field larger" in str(fault)
-            faults.add(lines.begin, "a field in quotes has no end" if is_endless else str(fault))
-            if is_endless:
+            faults.add(lines.begin, worded(str(fault)))
+            if worded(str(fault)) != str(fault):
                 return
             continue
         if row is None:
@@ -73,6 +63,13 @@ def rows_of(text: str, faults: Faults) -> Iterator[tuple[int, list[str]]]:
             yield lines.begin, row if len(row) >= width else row + [""] * (width - len(row))
         elif lines.number > lines.begin:
             faults.add(lines.begin, "a comment with a quote in it that ends in a further line")
+
+
+def worded(fault: str) -> str:
+    """Returns what is wrong with a row by csv's words. If they change, no row can follow."""
+    if "field larger" in fault:
+        return f"a field of over {csv.field_size_limit()} characters"
+    return "a field in quotes has no end" if "end of data" in fault else fault
 
 
 def separator_of(text: str) -> str:
@@ -89,21 +86,16 @@ class Lines:
 
     def __init__(self, text: str) -> None:
         self._text = text
-        self.begin = self.number = self._length = 0
+        self.begin = self.number = 0
         self.is_inside = False
         self.is_behind_header = False
 
     def __iter__(self) -> Iterator[str]:
         for self.number, line in enumerate(lines_of(self._text), 1):
-            if self.number > MOST_LINES:
-                raise TooLarge(f"it has more than {MOST_LINES} lines")
             if not self.is_inside:
                 if not (has_fields(line) if self.is_behind_header else begins_header(line)):
                     continue
-                self.begin, self.is_inside, self._length = self.number, True, 0
-            self._length += len(line)
-            if self._length > LONGEST_ROW:
-                raise TooLarge(f"it has a row of more than {LONGEST_ROW} characters")
+                self.begin, self.is_inside = self.number, True
             yield line + "\n"
 
 

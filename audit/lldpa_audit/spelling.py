@@ -7,7 +7,8 @@ import unicodedata
 
 MAC = re.compile(r"[0-9a-f]{2}(?P<mark>[:-])(?:[0-9a-f]{2}(?P=mark)){4}[0-9a-f]{2}"
                  r"|[0-9a-f]{4}[.][0-9a-f]{4}[.][0-9a-f]{4}|[0-9a-f]{12}", re.I)
-IP_ADDRESS = re.compile(r"[0-9]+(?:[.][0-9]+){3}|[0-9a-f:]*:[0-9a-f:.]*", re.I)
+IP_ADDRESS = re.compile(r"[0-9a-f.:]+", re.I)
+LONGEST_ADDRESS = 45
 
 # a port: letters, which Huawei begins with the speed, and a number of one or more parts, of which
 # IOS-XR names some
@@ -59,7 +60,7 @@ def plain(name: str) -> str:
     if MAC.fullmatch(name):
         digits = re.sub("[:.-]", "", name).lower()
         return ":".join(digits[at:at + 2] for at in range(0, 12, 2))
-    if IP_ADDRESS.fullmatch(name):
+    if len(name) <= LONGEST_ADDRESS and IP_ADDRESS.fullmatch(name):
         try:
             return ipaddress.ip_address(name).compressed
         except ValueError:

@@ -7,9 +7,13 @@ from typing import Iterable, Iterator, NamedTuple
 from .names import End, Names
 from .plan import Plan
 
+# what ends the name of a file, and is not part of a host's name or a port's
+ENDINGS = (".gz", ".json", ".json0", ".xml", ".walk", ".txt", ".show", ".out", ".pcap", ".pcapng",
+           ".cap")
 
 class What(NamedTuple):
-    """A file of a host, and the port if it is a capture of one.
+    """A file of a host, and the port if it is a capture of one. Without a host the file's name may
+    be one.
 
     One that was found in a folder ends nothing but itself if it cannot be opened.
     """
@@ -22,20 +26,22 @@ class What(NamedTuple):
 
 def read_what(word: str, ours: str) -> What:
     """Reads a word as FILE, PORT=FILE or HOST:FILE: the first of these whose file exists."""
-    forms = [What(ours, "", word)]
+    forms = [What("", "", word)]
     forms += [What(ours, port, file) for port, file in splits_at(word, "=")]
     forms += [What(host, "", file) for host, file in splits_at(word, ":")]
     there = (form for form in forms if os.path.exists(form.file))
     return next(there, forms[min(1, len(forms) - 1)])
 
 
-def placed(what: What, plan: Plan, names: Names) -> What:
-    """Returns the same as the plan takes it: HOST:PORT=FILE looks like a port with a colon in its
-    name.
+def placed(what: What, plan: Plan, names: Names, ours: str) -> What:
+    """Returns the same as the plan takes it: a file without a host, and HOST:PORT=FILE, which looks
+    like a port with a colon in its name.
 
     It is such a port if the plan has it, or if a number follows the colon and the plan has no such
     host, as in `et-0/0/0:1`.
     """
+    if not what.host:
+        return what._replace(host=host_of_file(what.file, plan, names, ours))
     if ":" not in what.port or names.end(End(what.host, what.port)) in plan.ends:
         return what
     forms = [What(host, port, what.file) for host, port in splits_at(what.port, ":")]
@@ -44,6 +50,20 @@ def placed(what: What, plan: Plan, names: Names) -> What:
         return planned[0]
     is_port = not forms or what.port.rpartition(":")[2].isdecimal()
     return what if is_port else forms[0]
+
+
+def host_of_file(file: str, plan: Plan, names: Names, ours: str) -> str:
+    """Returns the host of a file without one: a planned one after which it is named, or this
+    host."""
+    named = without_ending(os.path.basename(file))
+    is_named = names.host(named) in plan.hosts
+    return named if is_named or names.host(ours) not in plan.hosts else ours
+
+
+def without_ending(name: str) -> str:
+    """Returns a file's name without the ending that gives its form."""
+    front, ending = os.path.splitext(name)
+    return without_ending(front) if front and ending.lower() in ENDINGS else name
 
 
 def of_hosts(whats: Iterable[What]) -> list[What]:

@@ -9,43 +9,46 @@ from lldpa.version import add_version
 from .columns import given_columns
 from .seen_words import add_reader_options, is_nothing_given
 
+USAGE = "lldpa-audit [OPTION ..] PLAN WHAT .."
 WORDS = """\
-WHAT is any number of:
-  PORT=FILE       a capture that was taken at a port of this host; several of one port are one
-  HOST:PORT=FILE  the same of another host
-  FILE            a pcapng capture that names its interfaces, or a list of neighbors, of this
-                  host: of `show neighbors` by lldpa or lldpcli (any form), or NAPALM's JSON
-  HOST:FILE       the same of another host
-  FOLDER          such files of many hosts, each named by its host: HOST.json, or files below HOST/
+PLAN is CSV, NetBox's export or API answer of cables, or a topology in DOT. Each WHAT is:
+  FOLDER          files of many hosts, each named after its host: leaf1.json, or files in leaf1/
+  HOST:FILE       a host's list of neighbors: the JSON of a switch (EOS, NX-OS, Junos, Cumulus),
+                  NAPALM, lldpcli, networkctl, OpenConfig, Prometheus or lldpa; rows of
+                  ntc-templates; the output of snmpwalk; or a capture that names its interfaces
+  HOST:FOLDER     several files of a host
+  FILE            the same of the host that the file is named after, or of this host
+  PORT=FILE       a capture taken at a port of this host; HOST:PORT=FILE at one of another host
 
-The status is 0 if all is right, 1 if something is not, 2 if an argument is wrong or a file cannot
-be read or written.
+The exit status is 0 if everything that was looked at is right, 1 for a fault, a damaged file or,
+with --all, a cable that nobody looked at, and 2 for a wrong argument or plan, or a file that cannot
+be read.
 
-example: lldpa-audit --live --wait 60 wiring.csv
-lldpa-audit(1) has the verdicts.
+examples:
+  lldpa-audit --all --vendor-names cables.csv lists/
+  lldpa-audit --live --wait 60 wiring.csv
+
+The manual page lldpa-audit(1) describes the verdicts.
 """
 
 
 def read_words(words: Optional[Sequence[str]]) -> argparse.Namespace:
     """Reads the words of the program. Ends it with status 2 if they are wrong."""
     parser = argparse.ArgumentParser(
-        prog="lldpa-audit", allow_abbrev=False, epilog=WORDS,
-        description="Compares a plan of the cabling with who is seen, and prints what is wrong.",
+        prog="lldpa-audit", allow_abbrev=False, epilog=WORDS, usage=USAGE,
+        description="Compares a plan of the cabling with the neighbors seen at each port, and "
+                    "prints one line for each repair.",
         formatter_class=argparse.RawDescriptionHelpFormatter)
-    parser.add_argument("plan", metavar="PLAN", help="CSV that names its columns, or DOT")
-    parser.add_argument("what", metavar="WHAT", nargs="*", help="what is seen, see below")
+    parser.add_argument("plan", metavar="PLAN", help="the planned cables, see below")
+    parser.add_argument("what", metavar="WHAT", nargs="*", help="what was seen, see below")
     add_words_of_plan(parser)
     add_reader_options(parser)
-    parser.add_argument("--program", metavar="FILE", default="lldpa",
-                        help="the agent that reads captures")
     add_words_of_names(parser)
     add_words_of_report(parser)
     add_version(parser)
     given = parser.parse_intermixed_args(words)
     if is_nothing_given(given):
-        parser.error("nothing to audit: give captures, lists of neighbors, --live or --prometheus")
-    if given.only_faults and not given.svg:
-        parser.error("--only-faults is for the picture of --svg")
+        parser.error("nothing to audit: give captures, lists of neighbors, or --live")
     return given
 
 
@@ -54,34 +57,35 @@ def add_words_of_plan(parser: argparse.ArgumentParser) -> None:
     add = parser.add_argument
     add("--columns", metavar="NAMES", type=columns,
         help="the plan's columns, such as host=device,port=interface,peer=to,peer_port=to_port")
-    add("--panels", metavar="FILE", help="the pairs of ports that patch panels join, as a plan")
+    add("--panels", metavar="FILE",
+        help="the ports that patch panels join, such as NetBox's export of front ports")
 
 
 def add_words_of_names(parser: argparse.ArgumentParser) -> None:
     """Adds the words for which names are the same."""
     add = parser.add_argument
-    add("--ignore-case", action="store_true", help="take names for the same that differ in case")
-    add("--short-names", action="store_true", help="take hosts' names up to the first dot")
+    add("--ignore-case", action="store_true", help="ignore case when comparing names")
+    add("--short-names", action="store_true",
+        help="compare hosts' domains only if both names have one")
     add("--vendor-names", action="store_true",
-        help="take names for the same that vendors spell differently (Gi1/0/1, addresses)")
-    add("--aliases", metavar="FILE", help="further names, in CSV with the columns host,port,alias")
+        help="treat vendors' spellings as equal, such as Gi1/0/1 and GigabitEthernet1/0/1")
+    add("--aliases", metavar="FILE", help="more names, in CSV with the columns host,port,alias")
 
 
 def add_words_of_report(parser: argparse.ArgumentParser) -> None:
     """Adds the words for what is reported, and how."""
     add = parser.add_argument
-    add("--all", action="store_true", help="take for a fault what is planned and not looked at")
-    add("--planned-only", action="store_true", help="say nothing of ports that are not planned")
-    add("--json", action="store_true", help="print every verdict as JSON")
-    add("--by", metavar="COLUMN", default="",
-        help="print the lines of each text of a column of the plan together, as of its rack")
+    add("--all", action="store_true",
+        help="count cables that were not looked at, or cannot be judged, as faults")
     add("--known", metavar="FILE",
-        help="ends and hosts that are not judged, in CSV with the columns host,port,reason,until")
-    add("--junit", metavar="FILE", help="write a report for pipelines, a test case an end")
-    add("--metrics", metavar="FILE", help="write metrics for node_exporter")
-    add("--html", metavar="FILE", help="write a page: counts, and each host with a fault")
-    add("--svg", metavar="FILE", help="draw hosts and links (wants graphviz)")
-    add("--only-faults", action="store_true", help="draw links with a fault alone")
+        help="faults to excuse, in CSV with the columns host,port,reason,until and verdict")
+    add("--planned-only", action="store_true", help="do not report ports that are not planned")
+    add("--by", metavar="COLUMN", default="",
+        help="group the lines by a column of the plan, such as rack")
+    add("--json", action="store_true", help="print repairs and verdicts as JSON")
+    add("--junit", metavar="FILE", help="write a JUnit report with a test case for each end")
+    add("--metrics", metavar="FILE", help="write metrics for node_exporter's textfile collector")
+    add("--html", metavar="FILE", help="write a page with the repairs and a picture of each host")
 
 
 def columns(text: str) -> "dict[str, str]":
@@ -91,4 +95,3 @@ def columns(text: str) -> "dict[str, str]":
     except ValueError:
         raise argparse.ArgumentTypeError(
             f"{text!r} is not like host=NAME,port=NAME,peer=NAME,peer_port=NAME") from None
-

@@ -1,20 +1,20 @@
-"""For tests of lldpa-audit: it is run in a folder, and the 48 ports of a rack are served."""
+"""For tests of lldpa-audit: it is run in a folder, and the six ports of a rack are served."""
 from __future__ import annotations
 
+import os
 import re
 import subprocess
 import sys
 import tempfile
 import unittest
 from pathlib import Path
-from typing import Any, Optional
 
 import rack
-from lldpa import AsyncAgent
-from lldpa.live.server.server import Server
-from served import LIVE_LINES, PROGRAM, REPOSITORY, Served
+from served import PROGRAM, REPOSITORY, Served
 
-AUDIT = str(REPOSITORY / "bin" / "lldpa-audit")
+AUDIT = os.environ.get("LLDPA_AUDIT") or str(REPOSITORY / "bin" / "lldpa-audit")
+# the agent that reads captures is found on the search path
+WITH_AGENT = {**os.environ, "PATH": f"{os.path.dirname(PROGRAM)}:{os.environ['PATH']}"}
 
 
 def run(*words: str) -> "subprocess.CompletedProcess[str]":
@@ -31,24 +31,30 @@ def without_ages(text: str) -> str:
 
 def run_whole(*words: str) -> "subprocess.CompletedProcess[str]":
     """Runs the program with these words."""
-    return subprocess.run([sys.executable, AUDIT, "--program", PROGRAM, *words],
+    return subprocess.run([sys.executable, AUDIT, *words], env=WITH_AGENT,
                           capture_output=True, text=True, timeout=600, check=False)
+
+
+def neighbor(port: str, host: str, port_id: str, descr: str = "", kind: str = "ifname",
+             aggregate: int = 0, size: int = 0) -> str:
+    """Returns the lines of a show on a port with one neighbor."""
+    lines = ["neighbors=1", "octets=99", "too-many=no", f"1.chassis.local={host}",
+             f"1.port.{kind}={port_id}", "1.ttl=120", "1.expires=99"]
+    lines += [f"1.port.descr={descr}"] if descr else []
+    lines += [f"1.org.00120f.3=03{aggregate:08x}"] if aggregate else []
+    lines += [f"1.org.00120f.4={size:04x}"] if size else []
+    return "".join(f"lldp.{port}.{line}\n" for line in lines)
 
 
 class LiveRack(Served):
     """A control socket with an agent of the rack's ports behind it."""
 
-    async def open(self, group: Optional[str], options: Any) -> None:
-        self.agent = await AsyncAgent.start(rack.whole_ports(), PROGRAM, receive_only=True)
-        self.asked = []
-        self.hidden = set()
-        self.live_lines = LIVE_LINES
-        self.server = Server(self.path, self.ask)
-        await self.server.start()
+    def __init__(self) -> None:
+        super().__init__(rack.PORTS)
 
 
 class InAFolder(unittest.TestCase):
-    """Each test has a folder of its own, with the plan of the 48 ports."""
+    """Each test has a folder of its own, with the plan of the six ports."""
 
     def setUp(self) -> None:
         holder = tempfile.TemporaryDirectory()

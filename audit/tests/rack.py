@@ -1,59 +1,26 @@
-"""For tests: a switch `leaf1` of 48 ports with known faults, as captures and as shows."""
+"""For tests: a switch `leaf1` of six ports with known faults, as captures and as a show."""
 from __future__ import annotations
 
 import struct
-from pathlib import Path
 from typing import Dict, List, Sequence
 
 from lldpa import Agent
 from served import PROGRAM, frame, tlv
 
-PORTS = [f"swp{number}" for number in range(1, 49)]
+PORTS = [f"swp{number}" for number in range(1, 7)]
 START = 1_700_000_000
-CUT_SHORT = "swp40"
-MISSING = "swp44"
-
-
-def wanted(port: str) -> List[str]:
-    """Returns what the plan joins to a port: host01 eth0, host01 eth1, host02 eth0 .."""
-    number = PORTS.index(port)
-    return [f"host{number // 2 + 1:02}", f"eth{number % 2}"]
+HEARD: Dict[str, List[Sequence[str]]] = {
+    "swp1": [("host01", "eth0")], "swp2": [("host02", "eth0")], "swp3": [("host01", "eth1")],
+    "swp4": [], "swp5": [("host99", "eth0")], "swp6": [("host03", "eth1"), ("rogue", "p1")]}
+LINES = ["swp2  swapped with swp3: wants host01 eth1, has host02 eth0",
+         "swp4  silent: wants host02 eth1", "swp5  wrong: wants host03 eth0, has host99 eth0",
+         "swp6  extra: rogue p1 besides host03 eth1", "6 cables: 1 right, 5 wrong"]
 
 
 def csv_plan() -> str:
-    """Returns the plan in CSV."""
-    lines = [",".join(["leaf1", port, *wanted(port)]) for port in PORTS]
-    return "host,port,peer,peer_port\n" + "".join(line + "\n" for line in lines)
-
-
-def dot_plan() -> str:
-    """Returns the plan in DOT."""
-    edges = [' "leaf1":"{}" -- "{}":"{}";\n'.format(port, *wanted(port)) for port in PORTS]
-    return "graph G {\n" + "".join(edges) + "}\n"
-
-
-def heard() -> Dict[str, List[Sequence[str]]]:
-    """Returns the neighbors of each port: the host and the port of each."""
-    neighbors: Dict[str, List[Sequence[str]]] = {port: [wanted(port)] for port in PORTS}
-    neighbors["swp5"], neighbors["swp6"] = neighbors["swp6"], neighbors["swp5"]
-    neighbors["swp11"] = []
-    neighbors["swp20"] = [("host99", "eth0")]
-    neighbors["swp30"].append(("rogue", "p1"))
-    return neighbors
-
-
-VERDICTS = {"swp5": "swapped", "swp6": "swapped", "swp11": "silent", "swp20": "wrong",
-            "swp30": "extra", CUT_SHORT: "no data", MISSING: "no data"}
-
-LINES = [
-    "swp5   swapped with swp6: wants host03 eth0, has host03 eth1",
-    "swp11  silent: wants host06 eth0",
-    "swp20  wrong: wants host10 eth1, has host99 eth0",
-    "swp30  extra: rogue p1 besides host15 eth1",
-    "swp40  no data: wants host20 eth1",
-    "swp44  no data: wants host22 eth1",
-    "96 planned: 41 right, 7 not, 48 not looked at",
-]
+    """Returns the plan in CSV: host01 eth0, host01 eth1, host02 eth0 .."""
+    return "host,port,peer,peer_port\n" + "".join(
+        f"leaf1,{port},host{at // 2 + 1:02},eth{at % 2}\n" for at, port in enumerate(PORTS))
 
 
 def lldp_frame(host: str, port: str) -> bytes:
@@ -66,8 +33,8 @@ def lldp_frame(host: str, port: str) -> bytes:
 def frames(port: str) -> List[bytes]:
     """Returns what is captured at a port: each neighbor twice, and a frame that is not an LLDP
     frame."""
-    other = bytes.fromhex("ffffffffffff001122334455 0800".replace(" ", "")) + bytes(46)
-    return [other, *[lldp_frame(*neighbor) for neighbor in heard()[port]] * 2, other]
+    other = bytes.fromhex("ffffffffffff0011223344550800") + bytes(46)
+    return [other, *[lldp_frame(*neighbor) for neighbor in HEARD[port]] * 2, other]
 
 
 def pcap(packets: Sequence[bytes], start: int = START) -> bytes:
@@ -102,33 +69,7 @@ def pcapng(packets_of: Dict[str, Sequence[bytes]]) -> bytes:
     return file
 
 
-def whole_ports() -> List[str]:
-    """Returns the ports of which all is known."""
-    return [port for port in PORTS if port not in (CUT_SHORT, MISSING)]
-
-
-def captures(folder: Path) -> List[str]:
-    """Writes a capture a port, one cut short and one missing. Gives the words for an audit."""
-    words = []
-    for port in PORTS:
-        octets = pcap(frames(port))
-        if port == CUT_SHORT:
-            octets = octets[:-7]
-        if port != MISSING:
-            (folder / f"{port}.pcap").write_bytes(octets)
-            words.append(f"{port}={folder}/{port}.pcap")
-    return words
-
-
-def one_pcapng(folder: Path) -> List[str]:
-    """Writes a capture of the interfaces but those two, and one that is cut short."""
-    whole = pcapng({port: frames(port) for port in whole_ports()})
-    (folder / "whole.pcapng").write_bytes(whole)
-    (folder / "cut.pcapng").write_bytes(pcapng({CUT_SHORT: frames(CUT_SHORT)})[:-7])
-    return [f"{folder}/whole.pcapng", f"{folder}/cut.pcapng"]
-
-
-def show(ports: Sequence[str]) -> List[str]:
+def show(ports: Sequence[str] = PORTS) -> List[str]:
     """Returns the `show neighbors` of a real agent that heard what was captured."""
     with Agent.start(ports, PROGRAM, receive_only=True) as agent:
         for port in ports:
@@ -137,9 +78,6 @@ def show(ports: Sequence[str]) -> List[str]:
         return agent.ask("show neighbors")
 
 
-def shows(folder: Path) -> List[str]:
-    """Writes a show of the ports but those two, and one that is cut short within a line."""
-    (folder / "whole.txt").write_text("".join(line + "\n" for line in show(whole_ports())))
-    cut = "".join(line + "\n" for line in show([CUT_SHORT]))
-    (folder / "cut.txt").write_text(cut[:-7])
-    return [f"leaf1:{folder}/whole.txt", f"leaf1:{folder}/cut.txt"]
+def text_of_show(ports: Sequence[str] = PORTS) -> str:
+    """Returns such a show as text."""
+    return "".join(line + "\n" for line in show(ports))

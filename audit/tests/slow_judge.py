@@ -10,9 +10,9 @@ from typing import Dict, List, Optional, Tuple
 
 End = Tuple[str, str]
 # host names and port names that a neighbor answers to, of which one without a name has none,
-# whether its link is one of an aggregate, and whether its Port ID, the first of its port names, is
-# the name or the alias of an interface
-Neighbor = Tuple[List[str], List[str], bool, bool]
+# whether its link is one of an aggregate, its Port ID, and whether that is the name or the alias of
+# an interface
+Neighbor = Tuple[List[str], List[str], bool, str, bool]
 # the known ports, each with its neighbors
 Known = Dict[End, List[Neighbor]]
 
@@ -33,8 +33,9 @@ class SlowJudge:
         return one.lower() == other.lower() if self.ignore_case else one == other
 
     def same_host(self, one: str, other: str) -> bool:
-        if self.short_names:
-            one, other = short(one), short(other)
+        if self.short_names and self.same_text(short(one), short(other)):
+            domains = one[len(short(one)):], other[len(short(other)):]
+            return "" in domains or self.same_text(*domains)
         return self.same_text(one, other)
 
     def same_port(self, one: str, other: str) -> bool:
@@ -46,12 +47,16 @@ class SlowJudge:
         return self.same_host(one[0], other[0]) and self.same_port(one[1], other[1])
 
     def answers(self, neighbor: Neighbor, end: End) -> bool:
-        hosts, ports, is_aggregated, is_named = neighbor
-        if is_named and any(self.same_port(ports[0], port) for _, port in self.planned_ends()):
-            ports = ports[:1]
+        hosts, ports, is_aggregated, port_id, is_named = neighbor
+        if any(self.same_port(port_id, port) and (is_named or self.is_one_of(hosts, host))
+               for host, port in self.planned_ends()):
+            ports = [port_id]
         is_any_member = self.vendor_names and is_aggregated and "bond0" in ports
         return (any(self.same_host(host, end[0]) for host in hosts)
                 and (is_any_member or any(self.same_port(port, end[1]) for port in ports)))
+
+    def is_one_of(self, names: List[str], host: str) -> bool:
+        return any(self.same_host(name, host) for name in names)
 
     def planned_ends(self) -> List[End]:
         return [end for pair in self.pairs for end in pair]
@@ -119,6 +124,18 @@ class SlowJudge:
         return (self.counts(end) == (1, 1)
                 and (self.neighbors(wanted) is None or self.sees(wanted, end)))
 
+    def is_of_several_domains(self, end: End) -> bool:
+        """Returns whether an end is right, and hosts of several domains answer at right ends by the
+        name of the host that it wants, which has no domain."""
+        host = self.wants(end)[0]
+        if not self.short_names or self.is_no_data(end) or not self.is_right(end):
+            return False
+        heard = [name for one in self.planned_ends() if self.neighbors(one) is not None
+                 and self.same_host(self.wants(one)[0], host) and self.is_right(one)
+                 for name in (self.neighbors(one) or [])[0][0]]
+        return len({name[len(short(name)):].lower() if self.ignore_case
+                    else name[len(short(name)):] for name in heard} - {""}) > 1
+
     def is_extra(self, end: End) -> bool:
         count, answering = self.counts(end)
         return count > 1 and answering == 1
@@ -133,10 +150,18 @@ class SlowJudge:
     def is_wrong(self, end: End) -> bool:
         return self.has_only_a_wrong_one(end) and self.partners(end) == []
 
+    def is_not_looked_at(self, end: End) -> bool:
+        return (not self.is_audited(end) and self.neighbors(end) is None
+                and self.neighbors(self.wants(end)) is None)
+
     def verdicts(self, end: End) -> List[str]:
         """Returns each verdict whose definition fits; audit/README.md promises one."""
+        if self.is_not_looked_at(end):
+            return ["not looked at"]
         if self.is_no_data(end):
             return ["no data"]
+        if self.is_of_several_domains(end):
+            return ["doubled"]
         definitions = {
             "right": self.is_right, "wrong": self.is_wrong, "swapped": self.is_swapped,
             "silent": self.is_silent, "extra": self.is_extra, "doubled": self.is_doubled,

@@ -63,11 +63,11 @@ class Case:
             return Seen((self.like(end.host, HOSTS),), (self.like(end.port, PORTS),))
         if self.rng.random() < 0.2:
             other = self.rng.choice(self.rng.choice(self.pairs))
-            return Seen((end.host, other.host), (end.port, other.port),
-                        is_named=self.rng.random() < 0.5)
+            return self.with_port_id(Seen((end.host, other.host), (end.port, other.port)))
         if self.rng.random() < 0.1:
-            return Seen((end.host,), ("bond0",), aggregated=self.rng.random() < 0.8)
-        return Seen((end.host,), (end.port,))
+            return Seen((end.host,), ("bond0",), port_id="bond0",
+                        aggregated=self.rng.random() < 0.8)
+        return Seen((end.host,), (end.port,), port_id=end.port)
 
     def like(self, name: str, names: Sequence[str]) -> str:
         """Returns a name that begins with the same letter."""
@@ -77,9 +77,15 @@ class Case:
     def random_neighbor(self) -> Seen:
         if self.rng.random() < 0.1:
             return NAMELESS
-        return Seen(tuple(self.rng.choices(HOSTS, k=self.rng.randint(1, 3))),
-                    tuple(self.rng.choices(PORTS, k=self.rng.randint(1, 2))),
-                    aggregated=self.rng.random() < 0.5, is_named=self.rng.random() < 0.5)
+        return self.with_port_id(Seen(tuple(self.rng.choices(HOSTS, k=self.rng.randint(1, 3))),
+                                      tuple(self.rng.choices(PORTS, k=self.rng.randint(1, 2))),
+                                      aggregated=self.rng.random() < 0.5))
+
+    def with_port_id(self, seen: Seen) -> Seen:
+        """Returns a neighbor whose Port ID is the first of its ports if it names an interface, and
+        otherwise the last."""
+        is_named = self.rng.random() < 0.5
+        return seen._replace(port_id=seen.ports[0 if is_named else -1], is_named=is_named)
 
     def swap_some(self) -> None:
         for _ in range(self.rng.randint(0, 3)):
@@ -98,7 +104,7 @@ class Case:
 
     def slow_judge(self) -> SlowJudge:
         known = {(end.host, end.port): [(list(one.hosts), list(one.ports), one.aggregated,
-                                         one.is_named) for one in neighbors]
+                                         one.port_id, one.is_named) for one in neighbors]
                  for end, neighbors in self.known.items()}
         pairs = [((one.host, one.port), (other.host, other.port)) for one, other in self.pairs]
         return SlowJudge(pairs, self.audited, known, self.names.ignore_case, self.names.short_names,
@@ -127,7 +133,8 @@ class RandomPlans(unittest.TestCase):
             self.assertGreater(times, RANDOM_PLANS // 100, verdict)
 
     def compare(self, judge: SlowJudge, findings: Sequence[Finding]) -> None:
-        planned = [end for end in judge.planned_ends() if judge.is_audited(end)]
+        planned = [end for end in judge.planned_ends()
+                   if judge.is_audited(end) or judge.is_not_looked_at(end)]
         found = [one for one in findings if one.verdict is not Verdict.UNPLANNED]
         self.assertEqual([tuple(one.end) for one in found], planned)
         for end, finding in zip(planned, found):

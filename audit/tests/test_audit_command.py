@@ -1,153 +1,284 @@
-"""lldpa-audit as people call it: statuses, options, and what it says."""
+"""lldpa-audit as people call it: words, statuses, captures, shows, pipes and a running agent."""
 from __future__ import annotations
 
+import gzip
+import json
+import os
+import subprocess
+import sys
+import threading
+import time
 import unittest
+from pathlib import Path
+from typing import List, Tuple
 
 import rack
-from auditing import InAFolder, run
+from auditing import (AUDIT, WITH_AGENT, InAFolder, LiveRack, neighbor, run, run_whole,
+                      without_ages)
+from lldpa_audit.names import End, Names
+from lldpa_audit.plan import Link, Plan
+from lldpa_audit.what import What, placed
+from served import REPOSITORY
+
+HEAD = "host,port,peer,peer_port\n"
+RIGHT = "1 cable: 1 right, 0 wrong\n"
+CTL = str(REPOSITORY / "bin" / "lldpa-ctl")
 
 
-RIGHT = "2 planned: 1 right, 0 not, 1 not looked at (host01)\n"
-
-
-class Words(InAFolder):
-    """Statuses, options and what is said on standard error."""
+class Audits(InAFolder):
+    """Audits of leaf1, whose swp1 is to have host01 eth0."""
 
     def setUp(self) -> None:
         super().setUp()
-        self.plan = self.file("plan", "host,port,peer,peer_port\nleaf1,swp1,host01,eth0\n")
+        self.plan = self.file("plan", f"{HEAD}leaf1,swp1,host01,eth0\n")
 
-    def audit(self, *words: str) -> "tuple[int, str, str]":
+    def audit(self, *words: str) -> Tuple[int, str, str]:
         """Returns the status of an audit of leaf1, its output, and what it said."""
         ran = run(self.plan, "--host", "leaf1", *words)
         return ran.returncode, ran.stdout, ran.stderr
 
+    def octets(self, name: str, octets: bytes) -> str:
+        """Writes a file and gives its name."""
+        (self.folder / name).write_bytes(octets)
+        return str(self.folder / name)
+
     def capture(self, name: str, *frames: bytes, start: int = rack.START) -> str:
         """Writes a capture and gives the word for it, as that of swp1."""
-        (self.folder / name).write_bytes(rack.pcap(frames, start))
-        return f"swp1={self.folder}/{name}"
+        frames = frames or (rack.lldp_frame("host01", "eth0"),)
+        return f"swp1={self.octets(name, rack.pcap(frames, start))}"
 
-    def test_all_right(self) -> None:
-        word = self.capture("a", rack.lldp_frame("host01", "eth0"))
-        self.assertEqual(self.audit(word), (0, RIGHT, ""))
-        show = self.file("show", "".join(line + "\n" for line in rack.show(["swp1"])))
-        for word in (show, f"leaf1:{show}"):
-            self.assertEqual(self.audit(word), (0, RIGHT, ""))
 
-    def test_bad_words_and_files(self) -> None:
+class Forms(Audits):
+    """Six ports, given in each form: the lines are those of the faults."""
+
+    def test_forms(self) -> None:
+        self.plan = self.file("rack.csv", rack.csv_plan())
+        show = self.file("show", rack.text_of_show())
+        captures = [f"{port}={self.octets(port, rack.pcap(rack.frames(port)))}"
+                    for port in rack.PORTS]
+        whole = self.octets("whole", rack.pcapng({port: rack.frames(port) for port in rack.PORTS}))
+        with LiveRack() as served:
+            for port in rack.PORTS:
+                for octets in rack.frames(port):
+                    served.frame(port, octets)
+            asked = [sys.executable, CTL, "--control", served.path, "--json"]
+            told = subprocess.run(asked, capture_output=True, text=True, check=True).stdout
+            ours = f"leaf1:{self.file('ours.json', told)}"
+            for words in (captures, [whole], [show], [f"leaf1:{show}"], [ours],
+                          ["--live", "--control", served.path]):
+                status, out, err = self.audit(*words)
+                self.assertEqual((status, out.splitlines(), err), (1, rack.LINES, ""))
+
+    def test_wait(self) -> None:
+        words = ["--live", "--planned-only", "--control"]
+        with LiveRack() as served:
+            begin = time.monotonic()
+            self.assertEqual(self.audit(*words, served.path, "--wait", "1")[1],
+                             "swp1  silent: wants host01 eth0\n1 cable: 0 right, 1 wrong\n")
+            self.assertGreater(time.monotonic() - begin, 1)
+            heard = threading.Timer(1, served.frame, ["swp1", rack.lldp_frame("host01", "eth0")])
+            heard.start()
+            self.assertEqual(self.audit(*words, served.path, "--wait", "50")[:2], (0, RIGHT))
+            heard.join()
+
+    def test_what_is_read_once(self) -> None:
+        octets, show = rack.pcap([rack.lldp_frame("host01", "eth0")]), rack.text_of_show(["swp1"])
+        for number, (text, front) in enumerate((
+                (octets, "swp1="), (show.encode(), ""), (show.encode(), "leaf1:"),
+                (rack.pcapng({"swp1": rack.frames("swp1")}), ""),
+                (gzip.compress(octets), "swp1="))):
+            fifo = str(self.folder / f"{number}")
+            os.mkfifo(fifo)
+            writer = threading.Thread(target=Path(fifo).write_bytes, args=[text])
+            writer.start()
+            self.assertEqual(self.audit(front + fifo), (0, RIGHT, ""))
+            writer.join()
+        self.file("show", show)
+        for words in ("<(cat show)", "<(gzip < show)"):
+            command = f'"$0" "$@" --host leaf1 <(cat plan) {words}'
+            ran = subprocess.run(["bash", "-c", command, sys.executable, AUDIT], cwd=self.folder,
+                                 env=WITH_AGENT, capture_output=True, text=True, check=False)
+            self.assertEqual((ran.returncode, without_ages(ran.stdout), ran.stderr), (0, RIGHT, ""))
+
+
+class Words(Audits):
+    """Statuses, options and what is said on standard error."""
+
+    def test_what_is_refused(self) -> None:
         none = f"{self.folder}/none"
+        bad = self.file("bad", f"{HEAD}a,1,b\n")
+        capture = self.capture("a")
         for words, said in (
-                ("", "nothing to audit: give captures, lists of neighbors, --live or --prometheus"),
+                ("", "nothing to audit: give captures, lists of neighbors, or --live"),
                 ("swp1=none", "none: No such file or directory"),
                 (f"swp1={self.folder}", "Is a directory"),
                 ("--wait x swp1=a", "invalid seconds value: 'x'"),
-                ("--prometheus localhost:9090", "invalid address value: 'localhost:9090'"),
-                ("--prometheus http:///x", "invalid address value: 'http:///x'"),
-                ("--instance-pattern ( swp1=a", "'(' is no pattern: missing )"),
+                ("--columns from swp1=a", "'from' is not like host=NAME,port=NAME"),
                 (f"--live --control {none}", "none: No such file or directory"),
-                ("--liv", "unrecognized arguments: --liv")):
+                ("--liv", "unrecognized arguments: --liv"),
+                (capture[5:], "it does not name the port of its frames: write PORT="),
+                (f"--by row {capture}", "has no column row"),
+                (f"--host LEAF1.lab {capture}",
+                 "has no cable of the host LEAF1.lab, but of leaf1: see --host")):
             status, out, err = self.audit(*words.split())
             self.assertEqual((status, out), (2, ""), words)
             self.assertIn(said, err)
-        ran = run(none, "swp1=x")
+        for plan, said in ((none, "/none: No such"), (bad, "line 2: its peer_port is missing")):
+            ran = run(plan, capture)
+            self.assertEqual((ran.returncode, ran.stdout), (2, ""))
+            self.assertIn(said, ran.stderr)
+        ran = subprocess.run([sys.executable, AUDIT, self.plan, capture], text=True, check=False,
+                             env={"PATH": "/none"}, capture_output=True)
         self.assertEqual((ran.returncode, ran.stdout), (2, ""))
-        self.assertIn("/none: No such file or directory", ran.stderr)
 
-    def test_plan_with_a_fault(self) -> None:
-        self.plan = self.file("bad", "host,port,peer,peer_port\na,1,b\n")
-        self.assertEqual(self.audit("swp1=x"), (
-            2, "", f"lldpa-audit: {self.plan}: line 2: its peer_port is missing\n"))
+    def test_hosts_of_words(self) -> None:
+        self.assertEqual(self.audit("--host", "LEAF1.lab", "--short-names", "--ignore-case",
+                                    self.capture("a")), (0, RIGHT, ""))
+        self.plan = self.file("two", f"{HEAD}leaf1,swp1,host01,eth0\nleaf2,swp1,host02,eth0\n")
+        other = self.capture("b", rack.lldp_frame("host02", "eth0"))
+        words = [self.capture("a"), f"leaf2:{other}"]
+        self.assertEqual(self.audit(*words), (0, "2 cables: 2 right, 0 wrong\n", ""))
+        self.assertIn("leaf1 swp1  wrong: wants host01 eth0, has host02 eth0",
+                      self.audit(other, words[1])[1])
 
-    def test_host_that_is_not_planned(self) -> None:
-        word = self.capture("a", rack.lldp_frame("host01", "eth0"))
-        ran = run(self.plan, "--host", "LEAF1.lab", word)
-        self.assertEqual((ran.returncode, ran.stdout), (2, ""))
-        self.assertIn("plans nothing of the host LEAF1.lab, but leaf1: see --host", ran.stderr)
-        ran = run(self.plan, "--host", "LEAF1.lab", "--short-names", "--ignore-case", word)
-        self.assertEqual((ran.returncode, ran.stderr), (0, ""))
+    def test_ports_with_a_colon(self) -> None:
+        names = Names()
+        plan = Plan("plan", [Link(End("leaf1", "swp1:0"), End("02:00:00:00:00:01", "p"), None)],
+                    names)
+        for port, host, its_port in (
+                ("swp1:0", "us", "swp1:0"), ("et-0/0/0:1", "us", "et-0/0/0:1"),
+                ("leaf1:swp1:0", "leaf1", "swp1:0"), ("leaf1:x", "leaf1", "x"),
+                ("02:00:00:00:00:01:p", "02:00:00:00:00:01", "p"), ("x:y", "x", "y"),
+                ("leaf1:3", "leaf1", "3"), ("swp1", "us", "swp1"), ("a:", "us", "a:")):
+            self.assertEqual(placed(What("us", port, "f"), plan, names, "us"),
+                             What(host, its_port, "f"), port)
+        self.assertEqual(placed(What("leaf1", "swp1:0", "f"), plan, names, "us").port, "swp1:0")
 
-    def test_capture_without_a_port(self) -> None:
-        word = self.capture("a", rack.lldp_frame("host01", "eth0")).partition("=")[2]
-        status, out, err = self.audit(word)
-        self.assertEqual((status, out), (2, ""))
-        self.assertIn(f"{word}: it does not name the port of its frames: write PORT={word}", err)
+    def test_planned_only(self) -> None:
+        show = self.file("show", rack.text_of_show(["swp1", "swp2"]))
+        self.assertEqual(self.audit(show)[:2], (
+            1, "swp2  unplanned: has host02 eth0\n1 cable: 1 right, 0 wrong; 1 unplanned\n"))
+        self.assertEqual(self.audit("--planned-only", show)[0], 0)
+
+
+class Captures(Audits):
+    """Captures of all kinds."""
 
     def test_damaged_files_are_no_empty_ports(self) -> None:
-        (self.folder / "empty").write_bytes(b"")
-        self.file("text", "no capture\n")
-        no_list = "it is text, but no list of neighbors that is known"
-        for port, file, why in (("swp1=", "empty", "it is empty"),
-                                ("", "empty", "it is empty"),
-                                ("swp1=", "text", "it is not a capture"),
-                                ("", "text", no_list)):
-            path = f"{self.folder}/{file}"
+        cut = gzip.compress(rack.pcap([rack.lldp_frame("host01", "eth0")]))[:-9]
+        for octets, port, why in (
+                (b"", "swp1=", "it is empty"), (b"", "", "it is empty"),
+                (b"no capture\n", "swp1=", "it is not a capture"),
+                (b"no list\n", "", "it looks like"),
+                (cut, "swp1=", "its gzip data is cut short"),
+                (rack.pcap(rack.frames("swp1"))[:-7], "swp1=", "it ends at octet "),
+                (rack.pcapng({"swp1": rack.frames("swp1")})[:-7], "", "it ends at octet ")):
+            path = self.octets("file", octets)
             status, out, err = self.audit(f"{port}{path}")
             self.assertEqual(status, 1)
             self.assertIn(f"swp1  no data: wants host01 eth0 ({path}: {why}", out)
             self.assertIn(f"lldpa-audit: {path}: {why}", err)
-
-    def test_damaged_file_of_an_unplanned_port(self) -> None:
-        (self.folder / "empty").write_bytes(b"")
-        word = self.capture("a", rack.lldp_frame("host01", "eth0"))
-        status, out, _ = self.audit(word, f"swp9={self.folder}/empty")
+        status, out, _ = self.audit(self.capture("a"), f"swp9={path}")
         self.assertEqual((status, out), (1, RIGHT))
 
-    def test_own_frames_are_no_neighbors(self) -> None:
+    def test_frames(self) -> None:
         own, peer = rack.lldp_frame("leaf1", "swp1"), rack.lldp_frame("host01", "eth0")
-        self.assertEqual(self.audit(self.capture("a", own, peer, own, peer))[0], 0)
-        self.assertIn("swp1  silent", self.audit(self.capture("a", own))[1])
+        tagged = peer[:12] + bytes.fromhex("81000005") + peer[12:]
+        first = self.capture("first", rack.lldp_frame("host99", "eth0"))
+        for words, status, said in (
+                ([self.capture("a", own, peer, own, peer)], 0, RIGHT),
+                ([self.capture("b", own)], 1, "swp1  silent"),
+                ([self.capture("c", tagged)], 1, "swp1  no data: wants host01 eth0 ("),
+                ([self.capture("d", tagged, peer)], 0, RIGHT),
+                ([self.capture("e", start=rack.START + 121), first], 0, RIGHT),
+                ([self.capture("f", start=rack.START + 119), first], 1, "swp1  extra: host99 eth0"),
+                ([self.capture("g", rack.lldp_frame("\x1b[2J", "eth0"))], 1,
+                 "swp1  wrong: wants host01 eth0, has \\x1b[2J eth0\n")):
+            found, out, _ = self.audit(*words)
+            self.assertEqual(found, status, said)
+            self.assertIn(said, out)
 
-    def test_frames_that_are_passed_over(self) -> None:
-        octets = rack.lldp_frame("host01", "eth0")
-        tagged = octets[:12] + bytes.fromhex("81000005") + octets[12:]
-        status, out, err = self.audit(self.capture("a", tagged))
-        self.assertEqual(status, 1)
-        self.assertIn("swp1  no data: wants host01 eth0 (", out)
-        self.assertIn("is passed over", err)
-        self.assertEqual(self.audit(self.capture("a", tagged, octets))[0], 0)
+    def test_many_interfaces(self) -> None:
+        for heard, ports in (({"swp1": "1", "swp64": "64", "swp200": "200"}, 200),
+                             ({f"swp{at}": f"{at}" for at in range(1, 151)}, 150)):
+            rows = [f"leaf1,{port},host{name},eth0\n" for port, name in heard.items()]
+            self.plan = self.file("wide", HEAD + "".join(rows))
+            path = self.octets("wide.pcapng", rack.pcapng({
+                f"swp{at}": [rack.lldp_frame(f"host{heard[f'swp{at}']}", "eth0")]
+                if f"swp{at}" in heard else [] for at in range(1, ports + 1)}))
+            count = len(heard)
+            self.assertEqual(self.audit(path), (0, f"{count} cables: {count} right, 0 wrong\n", ""))
 
-    def test_captures_of_different_days(self) -> None:
-        self.plan = self.file("two", "host,port,peer,peer_port\nleaf1,swp1,host01,eth0\n"
-                                     "leaf1,swp2,host02,eth0\n")
-        first = self.capture("a", rack.lldp_frame("host01", "eth0"))
-        later = self.capture("b", rack.lldp_frame("host02", "eth0"), start=rack.START + 10**6)
-        self.assertEqual(self.audit(first, later.replace("swp1", "swp2"))[0], 0)
-
-    def test_several_captures_of_a_port(self) -> None:
-        first = self.capture("a", rack.lldp_frame("host99", "eth0"))
-        later = self.capture("b", rack.lldp_frame("host01", "eth0"), start=rack.START + 121)
-        self.assertEqual(self.audit(later, first)[0], 0)
-        soon = self.capture("c", rack.lldp_frame("host01", "eth0"), start=rack.START + 119)
-        self.assertIn("swp1  extra: host99 eth0", self.audit(soon, first)[1])
-
-    def test_port_that_is_told_twice(self) -> None:
-        show = self.file("show", "".join(line + "\n" for line in rack.show(["swp1"])))
-        status, out, err = self.audit(show, f"leaf1:{show}")
-        self.assertEqual((status, out), (2, ""))
-        self.assertIn("the neighbors of leaf1 swp1 are told twice", err)
-
-    def test_long_names_of_ports(self) -> None:
+    def test_names(self) -> None:
         port = "TenGigabitEthernet1/0/1.100"
-        self.plan = self.file("long", f"host,port,peer,peer_port\nleaf1,{port},host01,eth0\n")
-        (self.folder / "c").write_bytes(rack.pcapng({port: [rack.lldp_frame("host01", "eth0")]}))
-        self.assertEqual(self.audit(f"{self.folder}/c"), (0, RIGHT, ""))
+        self.plan = self.file("long", f"{HEAD}leaf1,{port},host01,eth0\n")
+        path = self.octets("c", rack.pcapng({port: [rack.lldp_frame("host01", "eth0")]}))
+        self.assertEqual(self.audit(path), (0, RIGHT, ""))
+        frame = rack.lldp_frame("host", "eth0").replace(b"host", b"\xff\xfe\x80t")
+        path = self.octets("d", rack.pcapng({port: [frame]}))
+        status, out, _ = self.audit("--json", path)
+        self.assertEqual(status, 1)
+        json.dumps(json.loads(out), ensure_ascii=False).encode()
+        self.assertEqual(json.loads(out)["ends"][0]["has"][0]["host_names"][0], "\\xff\\xfe\\x80t")
 
-    def test_planned_only(self) -> None:
-        show = self.file("show", "".join(line + "\n" for line in rack.show(["swp1", "swp2"])))
-        self.assertEqual(self.audit(show)[:2], (
-            1, "swp2  unplanned: has host01 eth1\n"
-               "2 planned: 1 right, 0 not, 1 not looked at (host01); 1 unplanned\n"))
-        self.assertEqual(self.audit("--planned-only", show)[0], 0)
 
-    def test_no_agent(self) -> None:
-        ran = run(self.plan, "--host", "leaf1", "--program", "/none/lldpa", self.capture("a"))
-        self.assertEqual((ran.returncode, ran.stdout), (2, ""))
-        self.assertIn("/none/lldpa", ran.stderr)
+class Shows(Audits):
+    """One damaged show does not end the audit of all hosts."""
 
-    def test_escape_sequences_do_not_reach_the_terminal(self) -> None:
-        out = self.audit(self.capture("a", rack.lldp_frame("\x1b[2J", "eth0")))[1]
-        self.assertEqual(out.splitlines()[0],
-                         "swp1  wrong: wants host01 eth0, has \\x1b[2J eth0")
+    def test_numbers_of_many_digits(self) -> None:
+        text = rack.text_of_show(["swp1"])
+        self.plan = self.file("two", f"{HEAD}leaf1,swp1,host01,eth0\nleaf2,swp1,host01,eth1\n")
+        good, count = self.file("good", text), 0
+        for line in text.splitlines():
+            key, _, value = line.partition("=")
+            if value.isdecimal():
+                bad = self.file("bad", text.replace(line, f"{key}={'1' * 5000}"))
+                status, out, err = self.audit(good, f"leaf2:{bad}")
+                self.assertEqual((status, "Traceback" in err), (1, False), key)
+                self.assertIn("leaf2 swp1  no data: wants host01 eth1", out)
+                self.assertIn("2 cables: 1 right, 0 wrong, 1 not looked at (host01)", out)
+                count += 1
+        self.assertGreater(count, 2)
+
+
+
+class Sources(Audits):
+    """Old sources, and those that tell nothing of a host."""
+
+    def test_ages(self) -> None:
+        self.plan = self.file("two", f"{HEAD}leaf1,swp1,host01,eth0\nleaf2,swp1,host02,eth0\n")
+        many = self.file("many", json.dumps({"leaf2": {"swp1": [{"hostname": "host02",
+                                                                 "port": "eth0"}]}}))
+        show = self.file("leaf1", neighbor("swp1", "host01", "eth0"))
+        self.assertRegex(run_whole(self.plan, show, many).stdout, r"; sources \d+ seconds? old\n$")
+        for path, host in ((show, "leaf1"), (many, "leaf2")):
+            os.utime(path, (time.time() - 400.5 * 86400,) * 2)
+            self.assertRegex(run_whole(self.plan, show, many).stdout, r"400 days old\n$")
+            status, out, _ = self.audit(show, many, "--stale-after", "1d")
+            self.assertEqual(status, 1)
+            self.assertRegex(out, rf"{host} swp1  no data: wants .*{path}: it is 400 days old\)")
+        self.assertEqual(self.audit(show, many, "--stale-after", "401d")[0], 0)
+        for word in ("1w", "", "-1", "d"):
+            self.assertEqual(self.audit(show, f"--stale-after={word}")[0], 2, word)
+
+    def test_what_tells_nothing(self) -> None:
+        self.plan = self.file("two", f"{HEAD}leaf1,swp1,leaf2,swp1\nh1,e0,h2,e0\n")
+        other = f"h1:{self.file('h1', neighbor('e0', 'h2', 'e0'))}"
+        empty = bytes.fromhex("0a0d0d0a1c0000004d3c2b1a01000000ffffffffffffffff1c000000")
+        for octets, why in ((empty, "it names no Ethernet interface"),
+                            (b'{"leafX": {"swp1": []}}', "it is of other hosts"),
+                            (b'{"swp1": {}, "swp2": {}}', "it is of other hosts")):
+            path = self.octets("file", octets)
+            ran = run(self.plan, other, f"leaf1:{path}")
+            self.assertEqual(ran.returncode, 1)
+            self.assertIn(f"leaf1 swp1  no data: wants leaf2 swp1 ({path}: {why})", ran.stdout)
+
+    def test_a_link_to_a_folder(self) -> None:
+        (self.folder / "seen" / "leaf1").mkdir(parents=True)
+        link = self.folder / "seen" / "leaf1" / "latest"
+        link.symlink_to(self.folder)
+        self.assertIn(f"lldpa-audit: {link}: it is a link to a folder, and is passed over",
+                      self.audit(str(self.folder / "seen"))[2])
 
 
 if __name__ == "__main__":

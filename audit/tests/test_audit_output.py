@@ -1,11 +1,13 @@
 """Standard output of lldpa-audit that is closed, full or read no more: the status says so."""
 from __future__ import annotations
 
+import os
 import unittest
+from pathlib import Path
 
 import rack
 from auditing import AUDIT, InAFolder
-from served import PROGRAM
+from lldpa_audit.report.files import write
 from test_output import CLOSED, FULL, run_with, unread
 
 
@@ -14,16 +16,14 @@ class Output(InAFolder):
 
     def setUp(self) -> None:
         super().setUp()
-        words = rack.shows(self.folder)
-        self.audit = [AUDIT, "--program", PROGRAM, "--host", "leaf1", self.plan, *words]
+        self.audit = [AUDIT, "--host", "leaf1", self.plan, self.file("show", rack.text_of_show())]
 
     def test_audit(self) -> None:
         front = "lldpa-audit: "
         for words in (self.audit, [*self.audit, "--json"], [AUDIT, "--help"]):
             for output, told in ((">&-", CLOSED), (">/dev/full", FULL)):
                 status, said = run_with(output, words)
-                lines = [line for line in said.splitlines(keepends=True) if "cut.txt: " not in line]
-                self.assertEqual((status, lines), (2, [front + told]), (words, output))
+                self.assertEqual((status, said), (2, front + told), (words, output))
 
     def test_audit_whose_files_cannot_be_written(self) -> None:
         page = str(self.folder / "none" / "page.html")
@@ -33,6 +33,13 @@ class Output(InAFolder):
         status, said = run_with(">/dev/null", [*self.audit, "--html", "/dev/full"])
         self.assertEqual((status, said.splitlines()[-1]),
                          (2, "lldpa-audit: /dev/full: No space left on device"))
+
+    def test_a_link_that_another_user_left(self) -> None:
+        page, other = self.folder / "page.html", self.file("other", "theirs")
+        (self.folder / f".page.html.{os.getpid()}").symlink_to(other)
+        write(str(page), b"ours")
+        self.assertEqual((page.read_text(), Path(other).read_text()), ("ours", "theirs"))
+        self.assertEqual(page.stat().st_mode & 0o777, 0o644)
 
     def test_who_reads_it_has_gone(self) -> None:
         self.assertEqual(unread(self.audit)[0], 2)

@@ -2,7 +2,7 @@
 from __future__ import annotations
 
 import unittest
-from typing import Dict, List, Sequence
+from typing import List, Sequence
 
 from auditing import InAFolder, run
 from lldpa_audit.judging import audit
@@ -13,10 +13,6 @@ from lldpa_audit.seen.shows import read_ports
 from lldpa_audit.seen.tables import Tables
 from lldpa_audit.link_settings import Settings, settings_of, speed_and_duplex
 
-LINKS = 10_000
-PORTS = 100
-FRAME_SIZES = ("2400", "05dc", "")  # 9216, 1500, and not said
-VLANS = ("000a", "0014", "0000", "")
 # autonegotiation, what is advertised, and the type: 1000BASE-T full, 100BASE-TX full and half
 TYPES = ("038036001e", "0380360010", "038036000f", "")
 AGGREGATES = ("0300000007", "0100000000", "")
@@ -37,49 +33,17 @@ def tlvs(size: str = "", vlan: str = "", kind: str = "", aggregate: str = "") ->
     return [f"{key}={content}" for key, content in pairs if content]
 
 
-class Network:
-    """Links between hosts of 100 ports, and what each port says of its link."""
-
-    def __init__(self, links: int) -> None:
-        self.links = [Link(self.end(2 * at), self.end(2 * at + 1), at) for at in range(links)]
-        self.said: Dict[End, Sequence[str]] = {}
-        for at, link in enumerate(self.links):
-            said = tlvs(FRAME_SIZES[at % 3], VLANS[at % 4], TYPES[at % 4], AGGREGATES[at % 3])
-            self.said[link.one] = self.said[link.other] = said
-
-    def end(self, number: int) -> End:
-        """Returns an end: the ports of a link are those of two hosts."""
-        return End(f"host{number % 2 + number // 2 // PORTS * 2}", f"p{number // 2 % PORTS}")
-
-    def mismatches(self) -> Dict[End, str]:
-        """Returns those that an audit of the shows reports."""
-        shows: Dict[str, List[str]] = {}
-        for one, other, *_ in self.links:
-            shows.setdefault(one.host, []).extend(shown(one.port, other, self.said[other]))
-            shows.setdefault(other.host, []).extend(shown(other.port, one, self.said[one]))
-        names = Names()
-        plan, tables = Plan("plan", self.links, names), Tables(names)
-        for host, lines in shows.items():
-            tables.add_ports(host, read_ports("\n".join([*lines, ""])))
-        findings = audit(plan, tables)
-        assert {one.verdict.value for one in findings} == {"right"}
-        assert len(findings) == 2 * len(self.links)
-        return {end: one.text for end, one in mismatches(findings, tables).items()}
+def found(said: Sequence[str], its: Sequence[str]) -> List[str]:
+    """Returns the mismatches of an audit of a link whose ends sent these TLVs."""
+    one, other, names = End("host0", "p0"), End("host1", "p0"), Names()
+    plan, tables = Plan("plan", [Link(one, other, None)], names), Tables(names)
+    for end, peer, sent in ((one, other, its), (other, one, said)):
+        tables.add_ports(end.host, read_ports("\n".join([*shown(end.port, peer, sent), ""])))
+    return [one.text for one in mismatches(audit(plan, tables), tables).values()]
 
 
 class Mismatches(unittest.TestCase):
-    """Of many links."""
-
-    def test_none_of_many_right_links(self) -> None:
-        network = Network(LINKS)
-        self.assertEqual(network.mismatches(), {})
-        one, other, *_ = network.links[4321]
-        network.said[one], network.said[other] = tlvs("2400"), tlvs("05dc")
-        third, fourth, *_ = network.links[8765]
-        network.said[third], network.said[fourth] = tlvs(vlan="000a"), tlvs(vlan="0014")
-        self.assertEqual(network.mismatches(), {
-            one: f"mismatch: {one} says MTU 9216, {other} says 1500",
-            third: f"mismatch: {third} says PVID 10, {fourth} says 20"})
+    """Of one link."""
 
     def test_each_setting(self) -> None:
         for said, its, text in (
@@ -93,18 +57,14 @@ class Mismatches(unittest.TestCase):
                 (tlvs("2400", "000a"), tlvs("05dc", "0014"),
                  "MTU 9216 and PVID 10, host1 p0 says 1500 and 20"),
                 (tlvs("2400", "000a"), tlvs("05dc"), "MTU 9216, host1 p0 says 1500")):
-            network = Network(1)
-            network.said = dict(zip(network.links[0][:2], (said, its)))  # type: ignore[arg-type]
-            self.assertEqual(list(network.mismatches().values()),
-                             [f"mismatch: host0 p0 says {text}"])
+            self.assertEqual(found(said, its), [f"mismatch: host0 p0 says {text}"])
 
     def test_what_one_end_does_not_say(self) -> None:
-        for said, its in ((tlvs("2400"), tlvs(vlan="000a")), (tlvs(vlan="000a"), tlvs(vlan="0000")),
+        for said, its in ((tlvs("2400"), tlvs("2400")), (tlvs("2400"), tlvs(vlan="000a")),
+                          (tlvs(vlan="000a"), tlvs(vlan="0000")),
                           (tlvs("2400"), []), (tlvs(kind=TYPES[0]), tlvs(kind="0380360000")),
                           (tlvs("24"), tlvs("05dc")), (tlvs("240000"), tlvs("05dc"))):
-            network = Network(1)
-            network.said = dict(zip(network.links[0][:2], (said, its)))  # type: ignore[arg-type]
-            self.assertEqual(network.mismatches(), {})
+            self.assertEqual(found(said, its), [])
 
 
 class Texts(unittest.TestCase):
@@ -140,12 +100,11 @@ class Command(InAFolder):
         self.plan = self.file("plan.csv", "host,port,peer,peer_port\nleaf1,swp1,host01,eth0\n")
         show = shown("swp1", End("host01", "eth0"), tlvs("05dc", "000a"))
         ours = self.file("leaf1", "".join(line + "\n" for line in show))
-        theirs = self.file("host01", "".join(f"lldp.eth0.{line}\n" for line in (
-            "via=LLDP", "chassis.name=leaf1", "chassis.mac=02:00:00:00:00:02", "port.ifname=swp1",
-            "port.mfs=9216", "vlan.vlan-id=10", "vlan.pvid=yes")))
+        show = shown("eth0", End("leaf1", "swp1"), tlvs("2400", "000a"))
+        theirs = self.file("host01", "".join(line + "\n" for line in show))
         words = [self.plan, f"leaf1:{ours}", f"host01:{theirs}"]
         ran = run(*words)
-        self.assertEqual((ran.returncode, ran.stdout), (0, "2 planned: 2 right, 0 not\n"))
+        self.assertEqual((ran.returncode, ran.stdout), (0, "1 cable: 1 right, 0 wrong\n"))
         ran = run("--settings", *words)
         self.assertEqual(ran.returncode, 1)
         self.assertIn("mismatch: leaf1 swp1 says MTU 9216, host01 eth0 says 1500", ran.stdout)

@@ -1,20 +1,16 @@
-"""Names as vendors spell them, aliases, and members of aggregates."""
+"""Names as vendors spell them, aliases, members of aggregates, and how names are shown."""
 from __future__ import annotations
 
 import unittest
-from typing import List, Sequence
+from typing import Sequence
 
-import rack
-from auditing import InAFolder, run
+from auditing import InAFolder, neighbor, run
+from lldpa_audit import differs
 from lldpa_audit.aliases import read_aliases
-from lldpa_audit.judging import audit
-from lldpa_audit.names import Aliases, End, Names, Seen
-from lldpa_audit.plan import Link, Plan
+from lldpa_audit.names import Aliases, End, Names, Seen, shown, text_of, without_domain
 from lldpa_audit.planfault import PlanFault
-from lldpa_audit.report.report import Report
-from lldpa_audit.seen.tables import Tables
+from lldpa_audit.report.order import natural
 from lldpa_audit.spelling import is_aggregate, plain, plain_port
-from served import frame, tlv
 
 # ports of which each line is spelled in all ways that vendors have for it
 PORTS = [
@@ -76,59 +72,50 @@ class Spelling(unittest.TestCase):
             self.assertFalse(is_aggregate(name), name)
 
 
-class Lines(unittest.TestCase):
-    """What an audit says with --vendor-names and without."""
-
-    def lines(self, names: Names, wants: str, *has: Seen) -> List[str]:
-        """Returns the lines if a 1 wants an end, and has this neighbor, as one, or at two ports."""
-        links = [Link(End("a", str(number)), End(*wants.replace("N", str(number)).split(" ", 1)),
-                      None) for number in range(1, len(has) + 1)]
-        plan, tables = Plan("plan", links, names), Tables(names)
-        for number, neighbor in enumerate(has, 1):
-            tables.add("a", str(number), [neighbor])
-        return Report(plan, tables, audit(plan, tables)).lines()
+class Differences(unittest.TestCase):
+    """What alone keeps a neighbor from answering."""
 
     def test_ports_and_addresses(self) -> None:
-        for groups, front in ((PORTS, "b "), (ADDRESSES, "b "), (ADDRESSES, "")):
+        for groups, is_port in ((PORTS, True), (ADDRESSES, True), (ADDRESSES, False)):
             for group in groups:
                 for name in group[1:]:
-                    has = Seen(("b",), (name,)) if front else Seen((name,), ("1",))
-                    wants = f"{front}{group[0]}" if front else f"{group[0]} 1"
-                    told = self.lines(Names(vendor_names=True), wants, has)
-                    self.assertEqual(len(told), 1, told)
-                    told = self.lines(Names(), wants, has)
-                    words = "the case differs" if same(group[0], name) else "the spelling differs"
-                    self.assertRegex(told[0], rf"^1  wrong: wants .*, has .* \(only {words}\)$")
+                    has = Seen(("b",), (name,)) if is_port else Seen((name,), ("1",))
+                    end = End("b", group[0]) if is_port else End(group[0], "1")
+                    rules = Names(vendor_names=True)
+                    self.assertTrue(rules.answers(has, rules.end(end)), (name, end))
+                    is_case = group[0].casefold() == name.casefold()
+                    self.assertEqual(differs.Differences(Names()).of_neighbor(has, end),
+                                     f"only the {'case' if is_case else 'spelling'} differs")
 
-    def test_several_differences(self) -> None:
-        has = Seen(("B.x",), ("GigabitEthernet1/0/1",))
+    def test_several(self) -> None:
+        has, end = Seen(("B.x",), ("GigabitEthernet1/0/1",)), End("b", "Gi1/0/1")
         for names, words in ((Names(), "case, domain and spelling differ"),
                              (Names(True), "domain and spelling differ"),
                              (Names(False, True), "case and spelling differ"),
                              (Names(True, True), "the spelling differs"),
                              (Names(False, False, True), "case and domain differ")):
-            told = self.lines(names, "b Gi1/0/1", has)[0]
-            self.assertTrue(told.endswith(f"(only {words})"), told)
-
-    def test_port_of_ours_with_another_spelling(self) -> None:
-        links, names = [Link(End("a", "Gi1/0/1"), End("b", "1"), None)], Names()
-        plan, tables = Plan("plan", links, names), Tables(names)
-        tables.add("a", "GigabitEthernet1/0/1", [Seen(("b",), ("1",))])
-        lines = Report(plan, tables, audit(plan, tables)).lines()
-        self.assertEqual(lines[0], "Gi1/0/1               no data: wants b 1 (seen at "
-                         "GigabitEthernet1/0/1) (GigabitEthernet1/0/1 is known: only the spelling "
-                         "differs)")
+            self.assertEqual(differs.Differences(names).of_neighbor(has, end), f"only {words}")
+        for has in (Seen(("b",), ("Gi1/0/1",)), Seen(("b",), ("2",))):
+            self.assertIsNone(differs.Differences(Names()).of_neighbor(has, end))
 
     def test_members_of_an_aggregate(self) -> None:
-        bond = Seen(("b",), ("bond0",), aggregated=True)
+        bond, end = Seen(("b",), ("bond0",), aggregated=True), End("b", "eth1")
         names = Names(vendor_names=True)
-        self.assertEqual(self.lines(names, "b ethN", bond, bond),
-                         ["4 planned: 2 right, 0 not, 2 not looked at (b)"])
-        told = "1  wrong: wants b eth1, has b bond0 (it names its aggregate)"
-        self.assertEqual(self.lines(Names(), "b ethN", bond)[0], told)
-        for neighbor in (bond._replace(aggregated=False), bond._replace(ports=("eth9",))):
-            self.assertIn("1  wrong: ", self.lines(names, "b ethN", neighbor)[0])
-        self.assertIn("1  wrong: ", self.lines(names, "c ethN", bond)[0])
+        self.assertTrue(names.answers(bond, end) and names.answers(bond, End("b", "eth2")))
+        self.assertEqual(differs.Differences(Names()).of_neighbor(bond, end),
+                         "it names its aggregate")
+        for one in (bond._replace(aggregated=False), bond._replace(ports=("eth9",))):
+            self.assertFalse(names.answers(one, end))
+        self.assertFalse(names.answers(bond, End("c", "eth1")))
+
+    def test_domains(self) -> None:
+        names = Names(short_names=True)
+        names.learn_domains(["sw1.dc1", "sw1.dc2", "a.x", "b"])
+        for name, hosts in (("sw1.dc1", ["sw1.dc1"]), ("sw1.dc9", []), ("a", ["a.x"]),
+                            ("b.y", ["b"]), ("sw1", ["sw1.dc1", "sw1.dc2"]), ("a.y", []), ("a.x", ["a.x"])):
+            found = [host for host in ("sw1.dc1", "sw1.dc2", "a.x", "b")
+                     if names.answers(Seen((name,), ("1",)), names.end(End(host, "1")))]
+            self.assertEqual(found, hosts, name)
 
 
 class FurtherNames(InAFolder):
@@ -142,7 +129,7 @@ class FurtherNames(InAFolder):
         aliases = self.aliases("host,port,alias\n# ours\nhost01,,srv-17\nhost01,eth0,LOM1\n"
                                "host02,eth0,bond0\nhost02,eth1,bond0\n,uplink,49\n")
         names = Names(aliases=aliases)
-        for neighbor, end, answers in (
+        for one, end, answers in (
                 (Seen(("srv-17",), ("eth0",)), End("host01", "eth0"), True),
                 (Seen(("srv-17",), ("LOM1",)), End("host01", "eth0"), True),
                 (Seen(("host02",), ("LOM1",)), End("host02", "eth0"), False),
@@ -150,7 +137,7 @@ class FurtherNames(InAFolder):
                 (Seen(("host02",), ("bond0",)), End("host02", "eth1"), True),
                 (Seen(("host02",), ("bond0",)), End("host02", "eth2"), False),
                 (Seen(("any",), ("49",)), End("any", "uplink"), True)):
-            self.assertEqual(names.answers(neighbor, names.end(end)), answers, neighbor)
+            self.assertEqual(names.answers(one, names.end(end)), answers, one)
         self.assertEqual(names.end(End("srv-17", "LOM1")), End("host01", "eth0"))
         self.assertEqual(names.end(End("host02", "bond0")), End("host02", "bond0"))
         self.assertEqual(list(names.ends(Seen(("host02",), ("bond0",)))),
@@ -173,63 +160,41 @@ class FurtherNames(InAFolder):
                 self.aliases(text)
 
     def test_program(self) -> None:
-        plan = self.file("p", "host,port,peer,peer_port\nleaf1,swp1,host01,Gi0/1\n")
-        frame = rack.lldp_frame("srv-17", "GigabitEthernet0/1")
-        (self.folder / "a").write_bytes(rack.pcap([frame]))
-        aliases = self.file("aliases", "host,port,alias\nhost01,,srv-17\n")
-        words = [plan, "--host", "leaf1", f"swp1={self.folder}/a"]
-        self.assertEqual(run(*words, "--aliases", aliases, "--vendor-names").returncode, 0)
-        self.assertIn("(only the spelling differs)", run(*words, "--aliases", aliases).stdout)
-        self.assertNotIn("differs", run(*words, "--vendor-names").stdout)
-        bad = run(*words, "--aliases", plan)
-        self.assertEqual((bad.returncode, bad.stdout), (2, ""))
+        head = "host,port,peer,peer_port\n"
+        for port, port_id, aliases, words, said in (
+                ("Gi0/1", "GigabitEthernet0/1", "host01,,srv-17", "--vendor-names", "1 right"),
+                ("Gi0/1", "GigabitEthernet0/1", "host01,,srv-17", "", "only the spelling differs"),
+                ("ETH0", "eth0", "host01,,srv-17", "--ignore-case", "1 right"),
+                ("ETH0", "eth0", "host01,,srv-17", "--ignore-case --vendor-names", "1 right"),
+                ("ETH0", "Ethernet0", "host01,,srv-17", "--ignore-case --vendor-names", " wrong: "),
+                ("p1", "Ethernet0", "host01,,srv-17\nsrv-17,p1,Ethernet0", "", "1 right")):
+            plan = self.file("p", f"{head}leaf1,p,host01,{port}\n")
+            show = self.file("leaf1", neighbor("p", "srv-17", port_id))
+            file = self.file("aliases", f"host,port,alias\n{aliases}\n")
+            self.assertIn(said, run(plan, show, "--aliases", file, *words.split()).stdout)
 
 
-class Rules(InAFolder):
-    """Several rules together."""
+class Shown(unittest.TestCase):
+    """How names are shown and ordered."""
 
-    def told(self, port_id: str, *words: str, host: str = "host01") -> str:
-        """Returns the first line of an audit of one link, whose neighbor has this port ID."""
-        (self.folder / "a").write_bytes(rack.pcap([rack.lldp_frame("leaf1", port_id)]))
-        return run(self.plan, "--host", host, f"p1={self.folder}/a", *words).stdout.splitlines()[0]
+    def test_names(self) -> None:
+        for name, short in (("a.b.c", "a"), ("a", "a"), (".a", ".a"), ("10.0.0.1", "10.0.0.1"),
+                            ("fe80::1", "fe80::1"), ("10.0.0.1.x", "10")):
+            self.assertEqual(without_domain(name), short)
+        for name, text in (("a", "a"), ("a b", '"a b"'), ("", '""'), ("\x1b[2J", "\\x1b[2J"),
+                           ("caf\xe9", "caf\xe9"), ("\udcff", "\\xff"),
+                           ("\u202e", "\\xe2\\x80\\xae"), ("\ud800", "\\xed\\xa0\\x80")):
+            self.assertEqual(shown(name), text)
+        for name, text in (("caf\xe9", "caf\xe9"), ("a\udcff", "a\\xff"), ("\x1b", "\x1b"),
+                           ("\ud800x", "\\xed\\xa0\\x80x")):
+            self.assertEqual(text_of(name), text)
+            text_of(name).encode()
 
-    def test_case_and_spelling(self) -> None:
-        self.plan = self.file("p", "host,port,peer,peer_port\nhost01,p1,leaf1,ETH0\n")
-        for words in (["--ignore-case"], ["--ignore-case", "--vendor-names"]):
-            self.assertIn("2 planned: 1 right, 0 not", self.told("eth0", *words), words)
-            self.assertIn("wrong", self.told("Ethernet0", *words), words)
-
-    def test_a_port_of_an_alias_of_a_host(self) -> None:
-        self.plan = self.file("p", "host,port,peer,peer_port\nhost01,p1,leaf1,swp1\n")
-        aliases = self.file("aliases", "host,port,alias\nleaf1,,leaf1-mgmt\n"
-                                       "leaf1-mgmt,swp1,Ethernet0\n")
-        self.assertIn("1 right, 0 not", self.told("Ethernet0", "--aliases", aliases))
-
-
-class Aggregates(InAFolder):
-    """A capture of two members of a bond, whose frames name the bond."""
-
-    def test_members(self) -> None:
-        plan = self.file("p", "host,port,peer,peer_port\nleaf1,swp1,host01,eth0\n"
-                              "leaf1,swp2,host01,eth1\n")
-        words = [plan, "--host", "leaf1"]
-        for status, right in ((3, 2), (1, 0)):
-            link = tlv(127, bytes.fromhex("00120f03") + bytes([status]) + bytes.fromhex("00000007"))
-            octets = frame(b"\x04\x02st001", b"\x05bond0", 120, tlv(5, b"host01") + link)
-            for port in ("swp1", "swp2"):
-                (self.folder / port).write_bytes(rack.pcap([octets]))
-            captures = [f"{port}={self.folder}/{port}" for port in ("swp1", "swp2")]
-            told = run(*words, "--vendor-names", *captures).stdout.splitlines()[-1]
-            self.assertEqual(told, f"4 planned: {right} right, {2 - right} not, 2 not looked at "
-                                   "(host01)")
-            lines = run(*words, *captures).stdout.splitlines()
-            reason = " (it names its aggregate)" if right else ""
-            self.assertEqual(lines[0], f"swp1  wrong: wants host01 eth0, has host01 bond0{reason}")
-
-
-def same(one: str, other: str) -> bool:
-    """Returns whether two names differ in case alone."""
-    return one.casefold() == other.casefold()
+    def test_order_of_numbers_of_any_length(self) -> None:
+        names = ["swp2", "swp10", "swp9" + "0" * 5000, "swp1" + "0" * 5001, "swq"]
+        for order in (names, names[::-1]):
+            self.assertEqual(sorted(order, key=lambda name: natural(name, {})), names)
+        self.assertEqual(natural("007", {}), natural("7", {}))
 
 
 if __name__ == "__main__":

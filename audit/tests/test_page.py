@@ -16,15 +16,12 @@ from typing import Dict, List, Optional, Tuple
 from xml.etree import ElementTree
 
 import rack
-from auditing import AUDIT, InAFolder, run, without_ages
-from lldpa_audit.judging import audit
-from lldpa_audit.names import End, Names, Seen
-from lldpa_audit.plan import Detail, Link, Plan
+from auditing import AUDIT, InAFolder, run
 from lldpa_audit.progress import Progress
 from lldpa_audit.report.drawing import ENDS_OF_A_PICTURE
 from lldpa_audit.report.page import page_of
 from lldpa_audit.report.report import Report
-from lldpa_audit.seen.tables import Tables
+from test_report import report_of
 
 BROWSER = shutil.which("chromium") or shutil.which("chromium-browser")
 WIDTHS = (1280, 400)
@@ -38,21 +35,13 @@ parent.document.documentElement.setAttribute('data-widths', JSON.stringify([
 </script>"""
 
 
-def report_of(ends: int, hosts: int = 20) -> Report:
+def many_faults(ends: int, hosts: int = 20) -> Report:
     """Returns a report of so many ends with faults of each kind, on so many hosts."""
-    links = [Link(End(f"leaf{at % hosts}", f"swp{at}"), End(f"{LONG}{at}", "eth0"), at + 2, None,
-                  Detail((f"C{at:05}", "rack <7>"), [End("pp1", f"F{at}"), End("pp1", f"R{at}")]))
-             for at in range(ends)]
-    plan = Plan("plan.csv", links, Names())
-    plan.columns = "label", "rack"
-    tables = Tables(Names())
-    for at, link in enumerate(links):
-        wanted, other = Seen((link.other.host,), ("eth0",)), Seen((f"other{at}",), (f"p{at}",))
-        neighbors = [[], [other], [wanted, other], [other] * 5, [wanted, wanted], None][at % 6]
-        tables.add_host(link.one.host)
-        if neighbors is not None:
-            tables.add(*link.one, neighbors)
-    return Report(plan, tables, audit(plan, tables))
+    known = ["= ", "= other{0} p", "= {1}{0} eth0, other p", "= other{0} p, x 1, x 2, x 3, x 4",
+             "= {1}{0} eth0, {1}{0} eth0"]
+    return report_of("; ".join(f"leaf{at % hosts} swp{at} - {LONG}{at} eth0" for at in range(ends)),
+                     "; ".join(f"leaf{at % hosts} swp{at} {known[at % 6].format(at, LONG)}"
+                               for at in range(ends) if at % 6 < 5))
 
 
 TOP = os.path.dirname(os.path.dirname(AUDIT))
@@ -81,43 +70,31 @@ class Content(InAFolder):
     """What is on the page."""
 
     def test_rack(self) -> None:
-        page = self.folder / "page.html"
-        ran = run(self.plan, "--host", "leaf1", "--html", str(page), *rack.shows(self.folder))
+        page, show = self.folder / "page.html", self.file("show", rack.text_of_show())
+        more = self.file("more", self.folder.joinpath("plan.csv").read_text() + "leaf2,1,srv,1\n")
+        ran = run(more, "--host", "leaf1", "--html", str(page), show)
         self.assertEqual(ran.returncode, 1)
         elements = Elements(page.read_text())
         for line in rack.LINES[:4]:
             port, _, text = line.partition("  ")
-            self.assertIn(port.strip(), elements.texts)
-            self.assertIn(text.strip(), elements.texts)
-        self.assertIn("line 12", elements.texts)
-        self.assertIn("2 swapped, 2 no data, 1 silent, 1 wrong, 1 extra", elements.texts)
-        self.assertIn("24 hosts were not looked at", elements.texts)
+            self.assertIn(port, elements.texts)
+            self.assertIn(text, elements.texts)
+        for text in ("line 5", "2 swapped, 1 silent, 1 wrong, 1 extra",
+                     "2 hosts were not looked at"):
+            self.assertIn(text, elements.texts)
         self.assertEqual((elements.tags["svg"], elements.tags.get("script", 0)), (1, 0))
-        repairs = [f"#r{number}" for number in (1, 1, 2, 3, 4, 5, 6)]
+        repairs = [f"#r{number}" for number in (1, 1, 2, 3, 4)]
         self.assertEqual(elements.addresses, ["#h0", *repairs])
 
-    def test_right_network(self) -> None:
-        plan = self.file("p", "host,port,peer,peer_port\nleaf1,swp1,host01,eth0\n")
-        show = self.file("show", "".join(line + "\n" for line in rack.show(["swp1"])))
-        page = self.folder / "page.html"
-        self.assertEqual(run(plan, "--host", "leaf1", "--html", str(page), show).returncode, 0)
-        elements = Elements(page.read_text())
-        self.assertEqual(elements.tags.get("svg", 0), 0)
-        self.assertIn("2 planned: 1 right, 0 not, 1 not looked at (host01)",
-                      [without_ages(text) for text in elements.texts])
-
     def test_names_that_would_be_markup(self) -> None:
-        plan = Plan("<p>", [Link(End("<b>a", "1&"), End("\"'", "<"), 1)], Names())
-        tables = Tables(Names())
-        tables.add("<b>a", "1&", [Seen(("<i>\udcff\x1b",), ("</svg>",))])
-        page = page_of(Report(plan, tables, audit(plan, tables))).decode()
+        page = page_of(report_of("<b>a 1& - \"' <", "<b>a 1& = <i>\udcff\x1b </svg>")).decode()
         elements = Elements(page)
         self.assertFalse({"i", "script"} & set(elements.tags))
         self.assertIn("<i>\\xff\\x1b </svg>", elements.texts)
         self.assertNotIn("\x1b", page)
 
     def test_pictures_are_whole_and_narrow(self) -> None:
-        page = page_of(report_of(1000, 7)).decode()
+        page = page_of(many_faults(1000, 7)).decode()
         pictures = re.findall(r"<svg.*?</svg>", page)
         self.assertEqual(len(pictures), 7 * -(-1000 // 7 // ENDS_OF_A_PICTURE))
         for picture in pictures:
@@ -136,7 +113,7 @@ class InABrowser(InAFolder):
     """Nothing is wider than the page, on a wide screen and on a narrow one."""
 
     def test_thousand_faults(self) -> None:
-        page = page_of(report_of(1000)).decode().replace("</body>", f"{ASKED}</body>")
+        page = page_of(many_faults(1000)).decode().replace("</body>", f"{ASKED}</body>")
         for width in WIDTHS:  # in a frame, since a browser's window has a least width
             frame = f'<iframe width={width} height=900 srcdoc="{html.escape(page)}"></iframe>'
             file = self.file("page.html", f"<!DOCTYPE html><html><body>{frame}</body></html>")
@@ -177,8 +154,7 @@ class Terminal(InAFolder):
         self.assertTrue(text.endswith(b"\r\x1b[K"), text)
 
     def test_no_terminal(self) -> None:
-        self.assertFalse(run(self.plan, "--host", "leaf1", *rack.shows(self.folder)).stderr
-                         .count("\x1b"))
+        self.assertNotIn("\x1b", run(self.plan, "--host", "leaf1", "none").stderr)
         progress = Progress("x", is_on=False)
         self.assertEqual(list(progress.over("abc", 3, "letters")), ["a", "b", "c"])
 

@@ -6,7 +6,7 @@ import shutil
 import subprocess
 import unittest
 from pathlib import Path
-from typing import Any, List
+from typing import Any
 from xml.etree import ElementTree
 
 try:
@@ -14,8 +14,7 @@ try:
 except ImportError:  # Debian: python3-jsonschema
     jsonschema = None
 
-from auditing import InAFolder, run
-from test_all_clear import neighbor
+from auditing import InAFolder, neighbor, run
 
 SCHEMA = json.loads((Path(__file__).parents[1] / "lldpa-audit.schema.json").read_text())
 PLAN = """\
@@ -27,12 +26,6 @@ leaf1,swp4,host04,eth0,C4,r10,1500
 """
 
 
-def framed(lines: List[str], size: int) -> List[str]:
-    """Returns the lines of a port whose neighbor says a frame size."""
-    front = lines[0].partition(".neighbors")[0]
-    return [*lines, f"{front}.1.org.00120f.4={size:04x}"]
-
-
 class Outputs(InAFolder):
     """One audit of four ports: one right, one wrong, one silent, one with a mismatch."""
 
@@ -40,9 +33,9 @@ class Outputs(InAFolder):
         super().setUp()
         self.plan = self.file("plan.csv", PLAN)
         ports = [neighbor("swp1", "host01", "eth0"), neighbor("swp2", "x", "y"),
-                 ["lldp.swp3.neighbors=0", "lldp.swp3.octets=0", "lldp.swp3.too-many=no"],
-                 framed(neighbor("swp4", "host04", "eth0"), 9000)]
-        show = self.file("show", "".join(f"{line}\n" for port in ports for line in port))
+                 "lldp.swp3.neighbors=0\nlldp.swp3.octets=0\nlldp.swp3.too-many=no\n",
+                 neighbor("swp4", "host04", "eth0", size=9000)]
+        show = self.file("show", "".join(ports))
         self.words = [self.plan, f"leaf1:{show}", "--settings"]
 
     def test_lines_have_what_the_plan_says(self) -> None:
@@ -50,7 +43,7 @@ class Outputs(InAFolder):
             "swp2  wrong: wants host02 eth0, has x y [label C2, rack r1]",
             "swp3  silent: wants host03 eth0 [label C3, rack r1]",
             "swp4  mismatch: host04 eth0 says MTU 9000, the plan has 1500 [label C4, rack r10, mtu "
-            "1500]", "8 planned: 2 right, 2 not, 4 not looked at (host01, host02, host03, 1 more); "
+            "1500]", "4 cables: 2 right, 2 wrong; "
             "1 with a mismatch"])
 
     def test_by_a_column(self) -> None:
@@ -93,22 +86,23 @@ class Outputs(InAFolder):
         text = path.read_text()
         for line in ('lldpa_audit_ends{verdict="right"} 1',
                      'lldpa_audit_ends{verdict="mismatch"} 1',
-                     'lldpa_audit_ends{verdict="not looked at"} 4',
+                     'lldpa_audit_cables{state="right"} 2', 'lldpa_audit_cables{state="wrong"} 2',
                      'lldpa_audit_repairs{kind="silent"} 1', 'lldpa_audit_repairs{kind="loop"} 0'):
             self.assertIn(line + "\n", text)
         self.assertIn("lldpa_audit_run_timestamp_seconds ", text)
-        self.assertIn('lldpa_audit_source_age_seconds{source="oldest"} ', text)
+        self.assertRegex(text, r'lldpa_audit_source_timestamp_seconds{source="oldest"} 1[0-9]{9}')
         if shutil.which("promtool"):
             done = subprocess.run(["promtool", "check", "metrics"], input=text, text=True,
                                   capture_output=True, check=False)
             self.assertEqual((done.returncode, done.stdout + done.stderr), (0, ""))
 
     def test_known(self) -> None:
-        rows = "host,port,reason,until\nleaf1,swp2,new card,9999-12-31\nhost03,,sends no LLDP,\n"
+        rows = ("host,port,reason,until,verdict\nleaf1,swp2,new card,9999-12-31,wrong\n"
+                "host03,,sends no LLDP,\n")
         known = self.file("known.csv", rows + "leaf1,swp4,old,2020-01-01\n")
         ran = run(*self.words, "--known", known)
-        self.assertEqual(ran.stdout.splitlines()[-1], "8 planned: 2 right, 0 not, 2 known, 4 not "
-                         "looked at (host01, host02, host03, 1 more); 1 with a mismatch")
+        self.assertEqual(ran.stdout.splitlines()[-1],
+                         "4 cables: 2 right, 0 wrong, 2 known; 1 with a mismatch")
         self.assertIn("line 4: leaf1 swp4 was known until 2020-01-01, and is judged", ran.stderr)
         told: Any = json.loads(run(*self.words, "--known", known, "--json").stdout)
         self.assertEqual([(one["verdict"], one["text"]) for one in told["ends"]][1:3],
@@ -119,21 +113,25 @@ class Outputs(InAFolder):
             self.assertEqual(run(*self.words, "--known", self.file("bad", bad)).returncode, 2)
 
 
-class All(Outputs):
-    """What is not looked at counts with --all, unless it is known."""
+class NotLookedAt(InAFolder):
+    """What nobody looked at is skipped, or fails with --all; JSON and metrics count it."""
 
-    def test_each_end_has_a_test_case(self) -> None:
-        junit = str(self.folder / "junit.xml")
-        show = self.file("one", "".join(f"{line}\n" for line in neighbor("swp1", "host01", "eth0")))
-        plan = self.file("one.csv", "host,port,peer,peer_port\nleaf1,swp1,host01,eth0\n")
-        known = self.file("known.csv", "host,port,reason,until\nhost01,,sends no LLDP,\n")
-        for words, status, counts in (([], 0, ("1", "0")), (["--all"], 1, ("2", "1")),
-                                      (["--all", "--known", known], 0, ("1", "0"))):
-            ran = run(plan, f"leaf1:{show}", "--junit", junit, *words)
-            self.assertEqual(ran.returncode, status, words)
+    def test_each_form(self) -> None:
+        plan = self.file("plan", "host,port,peer,peer_port\na,1,b,1\nc,1,d,1\n")
+        junit, metrics = self.folder / "junit.xml", self.folder / "metrics"
+        words = [plan, self.file("a", neighbor("1", "b", "1")), "--junit", str(junit),
+                 "--metrics", str(metrics), "--json"]
+        for more, status, failures, skipped in (([], 0, "0", "2"), (["--all"], 1, "2", "0")):
+            ran = run(*words, *more)
             root = ElementTree.parse(junit).getroot()
-            suite = root if root.tag == "testsuite" else root[0]
-            self.assertEqual((suite.get("tests"), suite.get("failures")), counts, words)
+            self.assertEqual((ran.returncode, root.get("tests"), root.get("failures"),
+                              root.get("skipped")), (status, "3", failures, skipped))
+            told = json.loads(ran.stdout)
+            self.assertEqual(told["cables"], {"planned": 2, "right": 1, "wrong": 0, "known": 0,
+                                              "not_looked_at": 1, "not_judged": 0})
+            self.assertEqual([one["verdict"] for one in told["ends"]],
+                             ["right", "not looked at", "not looked at"])
+            self.assertIn('lldpa_audit_cables{state="not looked at"} 1\n', metrics.read_text())
 
 
 class Settings(InAFolder):
@@ -143,12 +141,10 @@ class Settings(InAFolder):
         plan = self.file("p", "host,port,peer,peer_port\n"
                          + "".join(f"leaf1,swp{at},srv{at},eth0\n" for at in range(1, 21)))
         (self.folder / "seen").mkdir()
-        ports = [framed(neighbor(f"swp{at}", f"srv{at}", "eth0"), 1500 if at == 7 else 9194)
-                 for at in range(1, 21)]
-        self.file("seen/leaf1", "".join(f"{line}\n" for port in ports for line in port))
+        self.file("seen/leaf1", "".join(neighbor(
+            f"swp{at}", f"srv{at}", "eth0", size=1500 if at == 7 else 9194) for at in range(1, 21)))
         for at in range(1, 21):
-            lines = framed(neighbor("eth0", "leaf1", f"swp{at}"), 9216)
-            self.file(f"seen/srv{at}", "".join(f"{line}\n" for line in lines))
+            self.file(f"seen/srv{at}", neighbor("eth0", "leaf1", f"swp{at}", size=9216))
         lines = run(plan, str(self.folder / "seen"), "--settings").stdout.splitlines()
         self.assertEqual(lines[:-1], [
             "leaf1       mismatch at 19 links: differs in MTU by +22, as leaf1 swp1 says MTU 9216, "

@@ -1,15 +1,19 @@
-"""Plans in CSV and in DOT: what is read of them, and what each fault says."""
+"""Plans in CSV, DOT and NetBox's forms: what is read of them, and what each fault says."""
 from __future__ import annotations
 
+import json
 import tempfile
 import unittest
 from pathlib import Path
-from typing import List, Tuple
+from typing import Any, List, Mapping, Optional, Sequence
 
+from lldpa_audit.columns import given_columns
 from lldpa_audit.names import Names
+from lldpa_audit.plan import Plan
 from lldpa_audit.planfault import PlanFault
 from lldpa_audit.planfile import read_plan
 
+HEAD = "host,port,peer,peer_port\n"
 # the forms that ptmd's documentation of topology files shows
 TOPOLOGY = """\
 // the fabric
@@ -18,6 +22,7 @@ graph G {
     node [shape=box];
     LLDP="match_hostname=fqdn"
     bfdtmpl1="upMinTx=150,requiredMinRx=250";
+    "leaf1" [function="leaf" config="a ] b"];
     "leaf1":"swp1" -- "spine1":"swp3" [BFD="upMinTx=300,requiredMinRx=100", label="a -- b"];
     "leaf1":"swp2" -- "spine2":"swp3"
     leaf2:swp1 -- spine1:swp4; leaf2:swp2 -- "spine2":"swp4" [LLDP="match_type=portdescr"];
@@ -26,188 +31,246 @@ graph G {
     # "leaf8":"swp1" -- "spine8":"swp1"
     "qct-ly2-04.domain.com":"swp20" -- "cumulus":"swp44" // -- at the end
     "00:02:00:00:00:09":"eth0" -- "leaf 3":"Gi1/0/1";
-    subgraph cluster_rack1 {
-        label="rack 1";
-        "leaf4":"swp1" -- "server\\"4\\"":"eth0";
-    }
+    "leaf4":"swp1" -- "server\\"4\\"":"eth0";
     "leaf5":"swp1" -- "spine1":"swp5";
 }
 """
-
-LINKS = [
-    ("leaf1", "swp1", "spine1", "swp3"),
-    ("leaf1", "swp2", "spine2", "swp3"),
-    ("leaf2", "swp1", "spine1", "swp4"),
-    ("leaf2", "swp2", "spine2", "swp4"),
-    ("qct-ly2-04.domain.com", "swp20", "cumulus", "swp44"),
-    ("00:02:00:00:00:09", "eth0", "leaf 3", "Gi1/0/1"),
-    ("leaf4", "swp1", 'server"4"', "eth0"),
-    ("leaf5", "swp1", "spine1", "swp5"),
-]
+LINKS_OF_TOPOLOGY = [
+    "leaf1 swp1 - spine1 swp3", "leaf1 swp2 - spine2 swp3", "leaf2 swp1 - spine1 swp4",
+    "leaf2 swp2 - spine2 swp4", "qct-ly2-04.domain.com swp20 - cumulus swp44",
+    '00:02:00:00:00:09 eth0 - "leaf 3" Gi1/0/1', 'leaf4 swp1 - server"4" eth0',
+    "leaf5 swp1 - spine1 swp5"]
+NETBOX = '''\
+side_a_device,side_a_type,side_a_name,side_b_device,side_b_type,side_b_name,type,status,label,color
+leaf1,dcim.interface,swp1,host01,dcim.interface,eth0,cat6,connected,"1001
+(moved)",
+leaf1,dcim.interface,swp2,pp1,dcim.frontport,F2,cat6,connected,1002,
+pdu1,dcim.poweroutlet,O1,leaf1,dcim.powerport,PSU1,power,connected,,
+leaf1,dcim.interface,swp9,,,,cat6,connected,,
+leaf1,dcim.interface,swp8,host01,dcim.interface,eth8,cat6,Planned,,
+leaf1,dcim.interface,swp7,CID 7,circuits.circuittermination,Z,cat6,connected,,
+cs1,dcim.consoleserverport,1,leaf1,dcim.consoleport,con,cat5,connected,,
+'''
+# plans, and the links of each
+READ = (
+    ("peer_port,Host,cable, port ,peer\neth0,leaf1,7,swp1,host01\n", ["leaf1 swp1 - host01 eth0"]),
+    ('# a plan\n\nhost,port,peer,peer_port\n  # more\na, 1 ,"b,c","2 ""x"""\n,,,\n"#d",1,e,2#3\n',
+     ['a 1 - b,c "2 "x""', "#d 1 - e 2#3"]),
+    ("host;port;peer;peer_port\r\na;1;b;2;;\r\n", ["a 1 - b 2"]),
+    ("host\tport\tpeer\tpeer_port\na\t1\tb\t2\n", ["a 1 - b 2"]),
+    ('host, port, peer, peer_port\nleaf1, "swp1", "host01", "eth0"', ["leaf1 swp1 - host01 eth0"]),
+    ('host,port,note,peer,peer_port\na,1,"two\n# lines\n\n",b,2\nc,3,"",d,4\n',
+     ["a 1 - b 2", "c 3 - d 4"]),
+    (HEAD + "a,1,b,2\nb,2,a,1\na,1,b,2\n", ["a 1 - b 2"]),
+    ("# graph G {\nhost,port,peer,peer_port\ngraph,1,b,{\n", ["graph 1 - b {"]),
+    (TOPOLOGY, LINKS_OF_TOPOLOGY),
+    ("digraph { a:1 -> b:2 }", ["a 1 - b 2"]),
+    (NETBOX, ["leaf1 swp1 - host01 eth0"]),
+    *[(f"{header},Label\nleaf1,swp1,host01,eth0,7\n", ["leaf1 swp1 - host01 eth0"]) for header in (
+        "termination_a_device,termination_a_name,termination_b_device,termination_b_name",
+        "Side A,Termination A,Side B,Termination B",
+        "Device A,Termination A,Device B,Termination B",
+        "termination_a_parent,termination_a,termination_b_parent,termination_b")],
+    ('Device A,Termination A,Device B,Termination B\nl,"s1,s2",h,"e1, e2"\nl,"s3, s4","h,i",e\n',
+     ["l s1 - h e1", "l s2 - h e2"]),
+)
+NO_EDGE = 'is not an edge such as "leaf1":"swp1" -- "spine1":"swp2"'
+NAMED = "the first line names the columns host,port,peer,peer_port"
+# plans that are refused, and why
+REFUSED = (
+    ("#\nhost,port,peer\na,1,b\n", f"line 2: the column peer_port is missing: {NAMED}"),
+    ("a,1,b,2\n", "line 1: the column host is missing"), ("", "line 1: the column host is missing"),
+    ("host,port,port,peer,peer_port\n", "line 1: the column port occurs twice"),
+    (HEAD + "a,1,b\n", "line 2: its peer_port is missing"),
+    (HEAD + "# x\na,1, ,2\n", "line 3: its peer is missing"),
+    (HEAD + "a,1,b,2,3\n", "line 2: it has 5 fields under 4 columns"),
+    (HEAD + "a,1,b,2\n\nc,3,a,1\n", "line 4: a 1 is planned already in line 2"),
+    (HEAD + "a,1,a,1\n", "line 2: a 1 is planned twice"),
+    (HEAD, "it plans no link"), ("strict graph {}\n", "it plans no link"),
+    (HEAD + 'a,1,b,"2\nc,3,d,4\n', "line 2: a field in quotes has no end"),
+    (HEAD + 'a,1,b,"2"3\nc,3,d,4\n', "line 2: ',' expected after '\"'"),
+    (HEAD + f"a,1,b,{'x' * 131_073}\n", "line 2: a field of over 131072 characters"),
+    (HEAD + f"a,1,b,{'x' * 256}\n", "line 2: a name in it has 256 characters; the longest name"),
+    ("graph G {\na:1 -- b:2\n/*\n--*/ c:3 -- a:1\n}\n", "line 4: a 1 is planned already in line 2"),
+    ('graph G {\na:1 -- b:2 -- c:3\n}\n', f"line 2: '-- c:3' {NO_EDGE}"),
+    ('graph {\n"x--y":1 -- z:1\n\n"leaf1" -- "s":"1"\n}', f"line 4: '\"leaf1\" -- \"s\":\"1\"' "),
+    ("graph {\nsubgraph x { a:1 -- b:2 }\n}", f"line 2: 'subgraph x {{ a:1 -- b:2 }}' {NO_EDGE}"),
+    ("graph {\na:1:ne -- b:2 }", f"line 2: 'a:1:ne -- b:2 }}' {NO_EDGE}"),
+    ("graph {\nleaf-1:3 -- c:4 }", "line 2: 'leaf-1:3 -- c:4 }'"),
+    ("graph {\n10.0.0.1:3 -- c:4 }", "line 2: '10.0.0.1:3 -- c:4 }'"),
+    ("graph {\na:1 -- b:2\n", f"line 3: its end {NO_EDGE}"),
+    ("graph {\na:1 -- b:2\n}}", f"line 3: '}}' {NO_EDGE}"), ("graph {\n/* }", "line 2: '/* }'"),
+    ('graph {\nlabel="\n\n}', "line 2: 'label=\"' is not"),
+    ("{", "it is not JSON"), ("[1]", "not of NetBox's"), ('{"results": [{"id": 7}]}', "no link"),
+    ('{"next": "x", "results": []}', "it is one page of several"),
+)
 
 
 class Plans(unittest.TestCase):
-    """Each test writes a plan and reads it."""
-
-    names = Names()
+    """Each test writes plans and reads them."""
 
     def setUp(self) -> None:
         holder = tempfile.TemporaryDirectory()
         self.addCleanup(holder.cleanup)
-        self.path = str(Path(holder.name, "plan"))
+        self.folder = Path(holder.name)
+        self.names = Names()
 
-    def links(self, text: str, encoding: str = "utf-8") -> List[Tuple[str, str, str, str]]:
-        """Returns the links of a plan, each once, as it writes them."""
-        Path(self.path).write_bytes(text.encode(encoding))
-        wishes = list(read_plan(self.path, self.names).ends.values())
-        for one, other in zip(wishes[::2], wishes[1::2]):
-            self.assertEqual((one.end, one.wants), (other.wants, other.end))
-        return [(*wish.end, *wish.wants) for wish in wishes[::2]]
+    def plan(self, text: str, columns: Optional[Mapping[str, str]] = None,
+             panels: Optional[str] = None, encoding: str = "utf-8") -> Plan:
+        """Returns the plan of a text, through the panels of another."""
+        (self.folder / "plan").write_text(text, encoding)
+        (self.folder / "panels").write_text(panels or "")
+        return read_plan(str(self.folder / "plan"), self.names, columns,
+                         None if panels is None else str(self.folder / "panels"))
 
-    def fault(self, text: str, encoding: str = "utf-8") -> str:
-        """Returns what is said of a plan, behind the name of its file."""
+    def links(self, plan: Plan) -> List[str]:
+        """Returns its links, each once, as `a 1 - b 2`."""
+        return [f"{wish.end} - {wish.wants}" for wish in list(plan.ends.values())[::2]]
+
+    def notes(self, plan: Plan) -> List[str]:
+        """Returns its notes, without the folder."""
+        return [note.replace(f"{self.folder}/", "") for note in plan.notes]
+
+    def fault(self, text: str, panels: Optional[str] = None, encoding: str = "utf-8") -> str:
+        """Returns what is said of a plan, without the names of files."""
         with self.assertRaises(PlanFault) as raised:
-            self.links(text, encoding)
-        said = str(raised.exception)
-        self.assertTrue(said.startswith(f"{self.path}: "), said)
-        return said[len(self.path) + 2:]
+            self.plan(text, None, panels, encoding)
+        return str(raised.exception).replace(f"{self.folder}/plan: ", "")
 
 
-class Csv(Plans):
-    """Plans in CSV."""
+class Texts(Plans):
+    """The tables above."""
 
-    def test_header_in_any_order(self) -> None:
-        text = "peer_port,Host,cable, port ,peer\neth0,leaf1,7,swp1,host01\n"
-        self.assertEqual(self.links(text), [("leaf1", "swp1", "host01", "eth0")])
+    def test_what_is_read(self) -> None:
+        for text, links in READ:
+            for encoding in ("utf-8", "utf-8-sig"):
+                self.assertEqual(self.links(self.plan(text, encoding=encoding)), links, text)
 
-    def test_comments_blank_lines_and_quotes(self) -> None:
-        text = ('# a plan\n\nhost,port,peer,peer_port\n  # more\na, 1 ,"b,c","2 ""x"""\n,,,\n'
-                '"#d",1,e,2#3\n')
-        self.assertEqual(self.links(text), [("a", "1", "b,c", '2 "x"'), ("#d", "1", "e", "2#3")])
-
-    def test_files_of_spreadsheets(self) -> None:
-        for separator in ";\t,":
-            text = "host,port,peer,peer_port\r\na,1,b,2,,\r\n".replace(",", separator)
-            self.assertEqual(self.links(text, "utf-8-sig"), [("a", "1", "b", "2")])
-
-    def test_missing_column(self) -> None:
-        self.assertEqual(self.fault("#\nhost,port,peer\na,1,b\n"),
-                         "line 2: the column peer_port is missing: the first line names the "
-                         "columns host,port,peer,peer_port")
-        self.assertIn("line 1: the column host is missing", self.fault("a,1,b,2\n"))
-        self.assertIn("line 1: the column port stands twice",
-                      self.fault("host,port,port,peer,peer_port\n"))
-
-    def test_missing_field(self) -> None:
-        head = "host,port,peer,peer_port\n"
-        self.assertEqual(self.fault(head + "a,1,b\n"), "line 2: its peer_port is missing")
-        self.assertEqual(self.fault(head + "# x\na,1, ,2\n"), "line 3: its peer is missing")
-        self.assertEqual(self.fault(head + "a,1,b,2,3\n"),
-                         "line 2: it has 5 fields under 4 columns")
-
-    def test_planned_twice(self) -> None:
-        head = "host,port,peer,peer_port\n"
-        self.assertEqual(self.fault(head + "a,1,b,2\n\nc,3,a,1\n"),
-                         "line 4: a 1 is planned already in line 2")
-        self.assertEqual(self.fault(head + "a,1,a,1\n"), "line 2: a 1 is planned twice in it")
-
-    def test_planned_twice_without_case_and_domain(self) -> None:
-        text = "host,port,peer,peer_port\na.x,p,b,1\nA.y,P,c,1\n"
-        self.assertEqual(len(self.links(text)), 2)
-        self.names = Names(True, True)
-        self.assertEqual(self.fault(text), "line 3: A.y P is planned already in line 2")
-
-    def test_no_plan(self) -> None:
-        self.assertIn("line 1: the column host is missing", self.fault(""))
-        self.assertEqual(self.fault("host,port,peer,peer_port\n"), "it plans no link")
-        self.assertEqual(self.fault("host,\xe4\n", "latin-1"), "it is not text in UTF-8 (octet 5)")
-
-    def test_line_feeds_in_quotes(self) -> None:
-        text = ('host,port,note,peer,peer_port\na,1,"two\n# lines\n\n",b,2\n'
-                'c,3,"",d,"4\n5"\n# "\ne,5,,f\n')
-        self.assertEqual(self.fault(text), "line 9: its peer_port is missing")
-        text = text.replace("e,5,,f", "e,5,,f,6")
-        self.assertEqual(self.links(text), [("a", "1", "b", "2"), ("c", "3", "d", "4\n5"),
-                                            ("e", "5", "f", "6")])
-        self.assertEqual(self.fault('host,port,peer,peer_port\na,1,b,"2\nc,3,d,4\n'),
-                         "line 2: a field in quotes has no end")
-        self.assertEqual(self.fault('host,port,peer,peer_port\na,1,b,"2"3\nc,3,d\n').split("\n"), [
-            "line 2: ',' expected after '\"'", f"{self.path}: line 3: its peer_port is missing"])
-
-    def test_repeats_that_agree_are_one(self) -> None:
-        head = "host,port,peer,peer_port\n"
-        self.assertEqual(self.links(head + "a,1,b,2\nb,2,a,1\na,1,b,2\n"), [("a", "1", "b", "2")])
-        self.assertEqual(self.fault(head + "a,1,b,2\nb,2,a,1\na,1,b,3\n"),
-                         "line 4: a 1 is planned already in line 2")
-        self.names = Names(True, True)
-        self.assertEqual(self.links(head + "a.x,p,b,1\nB,1,A,P\n"), [("a.x", "p", "b", "1")])
+    def test_what_is_refused(self) -> None:
+        for text, said in REFUSED:
+            self.assertIn(said, self.fault(text), text)
+        self.assertEqual(self.fault("host,\xe4\n", encoding="latin-1"),
+                         "it is not text in UTF-8 (octet 5)")
 
     def test_all_faults_are_told_at_once(self) -> None:
         rows = [f"a,{row},b,{row}" for row in range(30)]
-        text = "\n".join(["host,port,peer,peer_port", *rows, *["a,0,c,1", "a,1,b"] * 11, ""])
-        told = self.fault(text).split("\n")
+        told = self.fault("\n".join([HEAD[:-1], *rows, *["a,0,c,1", "a,1,b"] * 11, ""])).split("\n")
         self.assertEqual(len(told), 21)
         self.assertEqual(told[0], "line 32: a 0 is planned already in line 2")
-        self.assertEqual(told[19], f"{self.path}: line 51: its peer_port is missing")
-        self.assertEqual(told[20], f"{self.path}: 2 more faults")
-        self.assertEqual(self.fault("host,port\n").split("\n"), [
-            f"{front}line 1: the column {name} is missing: the first line names the columns "
-            "host,port,peer,peer_port"
-            for front, name in (("", "peer"), (f"{self.path}: ", "peer_port"))])
+        self.assertEqual(told[19:], ["line 51: its peer_port is missing", "2 more faults"])
+
+    def test_names_that_are_the_same(self) -> None:
+        text = HEAD + "a.x,p,b,1\nA.x,P,c,1\n"
+        self.assertEqual(len(self.links(self.plan(text))), 2)
+        self.names = Names(True, True)
+        self.assertEqual(self.fault(text), "line 3: A.x P is planned already in line 2")
+        self.names = Names(True, True)
+        self.assertEqual(self.fault(HEAD + "a.x,p,b,1\na,q,c,1\n"), "line 3: a and a.x are "
+                         "planned, and would be one host by --short-names")
+
+    def test_named_columns(self) -> None:
+        text = "From;Interface;To Device;To Interface;host\nleaf1;swp1;host01;eth0;x\n"
+        columns = given_columns("host=from,port=Interface,peer=to device,peer_port=To Interface")
+        self.assertEqual(self.links(self.plan(text, columns)), ["leaf1 swp1 - host01 eth0"])
+        with self.assertRaisesRegex(PlanFault, "line 1: the column none is missing"):
+            self.plan(text, given_columns("host=from,port=none"))
+        for bad in ("host", "host=", "hosts=a", "host=a,host=b", ""):
+            self.assertRaises(ValueError, given_columns, bad)
 
 
-class Dot(Plans):
-    """Plans in DOT."""
+class NetBox(Plans):
+    """NetBox's cables: what cannot be judged is left out, counted and told once."""
 
-    def test_topology_of_ptmd(self) -> None:
-        self.assertEqual(self.links(TOPOLOGY), LINKS)
+    def test_what_is_left_out(self) -> None:
+        plan = self.plan(NETBOX)
+        self.assertEqual(self.notes(plan), [
+            "plan: 5 cables are left out: 2 of power or consoles, 2 without a port of a device at "
+            "both ends, 1 planned or decommissioning",
+            "plan: 1 cable ends at patch panels and cannot be judged: give --panels with NetBox's "
+            "export of front ports"])
+        self.assertEqual(([wish.line for wish in plan.ends.values()], plan.not_judged), ([2, 2], 1))
 
-    def test_chain(self) -> None:
-        self.assertIn("line 2: b 2 is planned twice in it",
-                      self.fault('graph G {\na:1 -- b:2 -- c:3\n}\n'))
+    def test_names_where_there_are_no_types(self) -> None:
+        rows = "".join(f"{name},leaf1,pdu1,{other}\n" for name, other in (
+            ("PSU1", "Outlet 3"), ("Power Supply 2", "A2"), ("PEM 0", "x"), ("eth9", "con 0"),
+            ("x", "Console Port 1"), ("USB Console", "ttyS1")))
+        plan = self.plan("Termination A,Device A,Device B,Termination B\nswp1,leaf1,host01,eth0\n"
+                         f"{rows}pwr-sw1,a,b,contrail0\n")
+        self.assertEqual(self.links(plan), ["leaf1 swp1 - host01 eth0", "a pwr-sw1 - b contrail0"])
+        self.assertEqual(self.notes(plan), ["plan: 6 cables are left out: 6 of power or consoles"])
 
-    def test_edge_without_port(self) -> None:
-        for edge in ('"leaf1" -- "spine1":"swp1"', 'a:1 -- "b:2"', "a:1 -- {b c:2}", "a -- b"):
-            said = self.fault(f'// --\ngraph G {{\n "x--y":1 -- z:1\n\n {edge}\n}}\n')
-            self.assertEqual(said, 'line 5: an edge without a port; an end is "host":"port"')
-
-    def test_planned_twice(self) -> None:
-        self.assertEqual(self.fault("graph G {\na:1 -- b:2\n/*\n--*/ c:3 -- a:1\n}\n"),
-                         "line 4: a 1 is planned already in line 2")
-        self.assertEqual(self.fault("# --\ngraph G {\n# a:1 -- b:2\na:1 -- b:2;a:1 -- c:3\n}\n"),
-                         "line 4: a 1 is planned twice in it")
-
-    def test_all_faults_are_told_at_once(self) -> None:
-        text = "graph G {\na:1 -- b\na:1 -- b:2\na:1 -- c:3\n - \nd:4 -- e\n}"
-        self.assertEqual(self.fault(text).replace(f"{self.path}: ", "").split("\n"), [
-            'line 2: an edge without a port; an end is "host":"port"',
-            "line 4: a 1 is planned already in line 3",
-            "line 5: it is no DOT: '-' means nothing here"])
-
-    def test_what_graphviz_refuses(self) -> None:
-        one = 'graph G {\n "a":"1" -- "b":"2";\n'
-        for text, said in (
-                (one + "}}", "line 3: it is no DOT: '}' where a graph was expected"),
-                (one + '}\ngraph {\n"a":"1" -- }', "line 5: it is no DOT: '}' where a name was"),
-                (one, "line 3: it is no DOT: the end where a name was expected"),
-                (one + '"x" -- - y;\n}', "line 3: it is no DOT: '-' means nothing here"),
-                (one + 'a:1 -> b:2}', "line 3: it is no DOT: '->' where a name was expected"),
-                (one + 'label="\n\n}', "line 3: it is no DOT: a text in quotes has no end"),
-                (one + "label=<\n<>\n}", "line 3: it is no DOT: a text in < > has no end"),
-                (one + "/* }", "line 3: it is no DOT: a comment has no end"),
-                (one + "a:1:b -- c:2 }", "a name with a colon in it must stand in quotes"),
-                (one + "10.0.0.1:3 -- c:4 }", "line 3: it is no DOT: '10.0.0.1' must stand in"),
-                (one + "leaf-1:3 -- c:4 }", "line 3: it is no DOT: 'leaf-1' must stand in quotes")):
-            self.assertIn(said, self.fault(text))
-        self.assertEqual(self.fault("strict graph {}\n"), "it plans no link")
+    def test_the_answer_of_the_api(self) -> None:
+        def cable(number: int, one: Sequence[Any], other: Sequence[Any], **more: Any) -> Any:
+            sides = [[{"object_type": f"dcim.{more.get('kinds', 'interface')}", "object": {
+                "name": end[1], "device": {"name": end[0]} if end[0] else None}} for end in side]
+                for side in (one, other)]
+            return {"id": number, "type": more.get("type", "cat6"), "status": {
+                "value": more.get("status", "connected")}, "a_terminations": sides[0],
+                "b_terminations": sides[1]}
+        cables = [cable(1, [("a", "1")], [("b", "1")]),
+                  cable(2, [("a", "2"), ("a", "3")], [("b", "2"), ("b", "3")]),
+                  cable(3, [("pdu", "O1")], [("a", "PSU1")], kinds="powerport"),
+                  cable(4, [("a", "4")], []), cable(5, [("a", "5")], [("", "5")]),
+                  cable(6, [("a", "6")], [("b", "6")], status="planned"),
+                  cable(7, [("a", "7")] * 2, [("b", "7")] * 3), None]
+        pages = [{"next": "x", "results": cables[:2]}, {"next": None, "results": cables[2:]}]
+        for text in (json.dumps(pages), json.dumps({"results": cables})):
+            plan = self.plan(text)
+            self.assertEqual(self.links(plan), ["a 1 - b 1", "a 2 - b 2", "a 3 - b 3"])
+            self.assertEqual(self.notes(plan), [
+                "plan: 6 cables are left out: 3 without a port of a device at both ends, 1 of "
+                "power or consoles, 1 planned or decommissioning, 1 with ends that cannot be paired"])
+        nameless = cable(1, [("a", "1")], [("b", "1")])
+        nameless["b_terminations"][0]["object"]["device"] = {"name": None, "display": "EX (7)"}
+        self.assertEqual(self.links(self.plan(json.dumps({"results": [nameless]}))),
+                         ['a 1 - "EX (7)" 1'])
 
 
-class Recognition(Plans):
-    """What a file is, is seen in its content."""
+class Panels(Plans):
+    """--panels."""
 
-    def test_csv_that_speaks_of_graphs(self) -> None:
-        text = "# graph G {\nhost,port,peer,peer_port\ngraph,1,b,{\n"
-        self.assertEqual(self.links(text), [("graph", "1", "b", "{")])
+    PLAN = HEAD + ("leaf1,swp1,pp1,F1\npp1,R1,pp2,R1\n# two panels\npp2,F1,host01,eth0\n"
+                   "host02,eth0,pp1,F2\npp1,R2,leaf1,swp2\nleaf1,swp3,host03,eth0\n")
+    PAIRS = HEAD + "pp1,F1,pp1,R1\npp1,R2,pp1,F2\npp2,F1,pp2,R1\npp1,F9,pp1,R9\n"
+
+    def test_links_go_on(self) -> None:
+        plan = self.plan(self.PLAN, panels=self.PAIRS)
+        self.assertEqual(self.links(plan), ["leaf1 swp1 - host01 eth0", "host02 eth0 - leaf1 swp2",
+                                            "leaf1 swp3 - host03 eth0"])
+        self.assertEqual((self.notes(plan), plan.not_judged), ([], 0))
+        self.assertEqual([(wish.line, *map(str, wish.detail.path)) for wish in plan.ends.values()
+                          ][:2], [(2, "pp1 F1", "pp1 R1", "pp2 R1", "pp2 F1"),
+                                  (5, "pp2 F1", "pp2 R1", "pp1 R1", "pp1 F1")])
+        for pairs in ("panel,front,rear\npp1,F1,R1\npp1,F2,R2\npp2,F1,R1\n",
+                      "Device,Name,Rear Port\npp1,F1,R1\npp1,F2,R2\npp2,F1,R1\n",
+                      "graph { pp1:F1 -- pp1:R1; pp1:F2 -- pp1:R2; pp2:F1 -- pp2:R1 }"):
+            self.assertEqual(len(self.links(self.plan(self.PLAN, panels=pairs))), 3)
+
+    def test_faults(self) -> None:
+        ring = HEAD + "pp1,R1,pp2,R1\npp2,F1,pp1,F1\n"
+        for plan, panels, said in (
+                (self.PLAN + "leaf1,swp7,pp1,F1\n", self.PAIRS, "line 9: pp1 F1 is planned"),
+                (self.PLAN, self.PAIRS + "pp1,F1,pp1,R7\n", "line 6: pp1 F1 is planned already"),
+                (ring, self.PAIRS, "it plans no link"),
+                (ring + "leaf1,1,pp1,F1\na,1,b,1\n", self.PAIRS, "pp1 F1 is planned already")):
+            self.assertIn(said, self.fault(plan, panels))
+
+    def test_random_chains(self) -> None:
+        """Links that are cut into chains by panels are found again."""
+        for panels in range(6):
+            rows, pairs, wanted = [], [HEAD[:-1]], []
+            for link in range(20):
+                at = f"a,{link}"
+                for panel in range(panels):
+                    front = f"pp{panel},F{link}"
+                    rows.append(f"{at},{front}" if link % 2 else f"{front},{at}")
+                    pairs.append(f"pp{panel},R{link},pp{panel},F{link}")
+                    at = f"pp{panel},R{link}"
+                rows.append(f"{at},b,{link}")
+                wanted.append({f"a {link}", f"b {link}"})
+            plan = self.plan("\n".join([HEAD[:-1], *rows[::-1]]),
+                             panels="\n".join([*pairs, "x,1,x,2"]))
+            self.assertCountEqual([set(text.split(" - ")) for text in self.links(plan)], wanted)
 
 
 if __name__ == "__main__":

@@ -1,15 +1,13 @@
-"""The neighbors of a show: their names, and the quick way beside the one that knows every line."""
+"""The neighbors of a show: their names, and what is wrong with it."""
 from __future__ import annotations
 
 import random
 import unittest
-from dataclasses import fields
-from typing import Callable, Union
 
 import rack
-from lldpa_audit.seen.quickshow import USUAL_PORT
-from lldpa_audit.seen.shows import Ports, quick_ports, read_ports, slow_ports
-from lldpa.agent.show import Counters, ShowFault, read_show
+from lldpa.agent.show import Counters, Neighbor, ShowFault, read_show
+from lldpa_audit.names import NAMELESS, Seen
+from lldpa_audit.seen.shows import SAID, read_ports, seen_neighbor
 
 SHOW = """\
 lldp.ge-0/0/1.neighbors=2
@@ -44,7 +42,7 @@ lldp.c.1.expires=7
 lldp.c.1.port.descr=uplink = 7
 """
 
-COUNTERS = "".join(f"lldp.b.{counter.name.replace('_', '-')}=0\n" for counter in fields(Counters))
+COUNTERS = "".join(f"lldp.b.{name.replace('_', '-')}=0\n" for name in Counters._fields)
 
 # what damages a show: lines of other places, digits and marks that are gone or twice
 PIECES = ["=", ".", "\n", "1", "0", "lldp.", "b", "\\", "\x7f", "neighbors", "ttl", "lldp.c."]
@@ -67,65 +65,57 @@ class Neighbors(unittest.TestCase):
         self.assertEqual(list(ports["b"]), [])
         self.assertEqual(ports["c"][0].ports, ("eth1", "uplink = 7"))
 
-    def test_cut_short(self) -> None:
-        with self.assertRaisesRegex(ShowFault, "its last line has no end: it was cut short"):
-            read_ports(SHOW[:-1])
-        with self.assertRaisesRegex(ShowFault, "line 25: the end where"):
-            read_ports("".join(SHOW.splitlines(keepends=True)[:24]))
-        with self.assertRaisesRegex(ShowFault, "line 1: 'lldp' where"):
-            read_ports("lldp\n")
+    def test_faults(self) -> None:
+        """Checks what is said of each, and that the line is named."""
+        lines, usual = SHOW.splitlines(keepends=True), SHOW[SHOW.index("lldp.c."):]
+        for text, said in (
+                (SHOW[:-1], "its last line has no end: it was cut short"),
+                ("".join(lines[:24]), "line 23: 'lldp.c.neighbors=1' where a whole port or neighbor was expected"),
+                ("lldp\n", "line 1: 'lldp' where"), (usual + usual, "line 9: the port c is in it "
+                                                     "twice, first in line 1"),
+                (SHOW + usual, "line 31: the port c is in it twice, first in line 23"),
+                (SHOW.replace(".octets=200", ".octets=x"), "line 1: "),
+                (SHOW.replace("2.ttl=120", "2.ttl=x"), "line 14: "),
+                (SHOW.replace("1.unknown", "1.Unknown"), "line 13: 'lldp.ge-0/0/1.1.Unknown.9=00'"),
+                (SHOW.replace(usual, COUNTERS + usual), "line 23: 'lldp.b.sent=0' where")):
+            with self.assertRaises(ShowFault, msg=said) as raised:
+                read_ports(text)
+            self.assertIn(said, str(raised.exception))
 
     def test_other_shows_behind(self) -> None:
         self.assertEqual(read_ports(SHOW + COUNTERS), read_ports(SHOW))
 
 
-class QuickWay(unittest.TestCase):
-    """What the quick way takes, the other reads in the same way, and each fault names its line."""
-
-    def test_usual_ports_are_found(self) -> None:
-        text = "\n".join(rack.show(rack.PORTS)) + "\n"
-        usual = [found[2] for found in USUAL_PORT.finditer(text)]
-        shown = read_show(text[:-1].split("\n")).ports
-        self.assertEqual(usual, [port.name for port in shown
-                                 if len(port.neighbors) == 1 and not port.too_many])
-        self.assertGreater(len(usual), 40)
-
-    def test_whole_shows(self) -> None:
-        text = "\n".join(rack.show(rack.PORTS)) + "\n"
-        self.assertEqual(quick_ports(text), slow_ports(text))
-        self.assertEqual(list(quick_ports(text)), list(slow_ports(text)))
-
-    def test_ports_that_stand_twice(self) -> None:
-        usual = SHOW[SHOW.index("lldp.c."):]
-        for text in (usual + usual, SHOW + usual, usual + SHOW):
-            with self.assertRaisesRegex(ShowFault, "another port's name"):
-                read_ports(text)
-
-    def test_usual_port_behind_another_show(self) -> None:
-        usual = SHOW[SHOW.index("lldp.c."):]
-        whole = SHOW.replace(usual, COUNTERS + usual)
-        line = 1 + whole.splitlines().index("lldp.c.neighbors=1")
-        with self.assertRaisesRegex(ShowFault, f"line {line}: 'lldp.c.neighbors=1' where the end"):
-            read_ports(whole)
+    def test_the_show_of_an_agent(self) -> None:
+        lines = rack.show(rack.PORTS)
+        self.assertEqual(read_ports("\n".join([*lines, ""])),
+                         {port.name: tuple(neighbor(one) for one in port.neighbors)
+                          for port in read_show(lines).ports})
 
     def test_damaged_shows(self) -> None:
+        """Checks that a damaged show is refused, or has what the package's reader finds in it."""
         rng, right = random.Random(30), 0
         for number in range(DAMAGED_SHOWS):
             text = damaged(SHOW.replace("a.neighbors=1", "a"), rng)
             with self.subTest(number=number):
-                told = told_by(read_ports, text)
-                self.assertEqual(told, told_by(slow_ports, text))
-            right += isinstance(told, dict)
+                try:
+                    shown = read_show(text[:-1].split("\n"))
+                except ShowFault:
+                    self.assertRaises(ShowFault, read_ports, text)
+                    continue
+                self.assertEqual(read_ports(text), {port.name: (
+                    *map(neighbor, port.neighbors), *[NAMELESS] * port.too_many)
+                    for port in shown.ports})
+                right += 1
         self.assertGreater(right, DAMAGED_SHOWS // 20)
         self.assertLess(right, DAMAGED_SHOWS * 19 // 20)
 
 
-def told_by(read: Callable[[str], Ports], text: str) -> Union[Ports, str]:
-    """Returns the ports of a show, or what is wrong with it."""
-    try:
-        return read(text)
-    except ShowFault as fault:
-        return str(fault)
+def neighbor(one: Neighbor) -> Seen:
+    """Returns a neighbor that the package has read."""
+    return seen_neighbor(one.chassis.text, one.port_id.kind, one.port_id.text, "", "", "",
+                         SAID.findall("".join(f"\nlldp.{one.port}.1.{key}={value}"
+                                              for key, value in one.said)))
 
 
 def damaged(text: str, rng: random.Random) -> str:

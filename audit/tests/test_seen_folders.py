@@ -2,14 +2,14 @@
 from __future__ import annotations
 
 import gzip
-import json
 import unittest
-from typing import Any, Tuple
+from typing import Tuple
 
 import rack
 from auditing import InAFolder, run
-from lldpa_audit.seen.folders import read_whats, without_ending
-from lldpa_audit.seen.gather import What
+from shapes import napalm
+from lldpa_audit.seen.folders import read_whats
+from lldpa_audit.what import What, without_ending
 
 PLAN = """\
 host,port,peer,peer_port
@@ -18,20 +18,6 @@ leaf1,swp2,host02,eth0
 leaf2.lab,swp1,host03,eth0
 leaf2.lab,swp2,host04,eth0
 """
-
-
-def keyvalue(*neighbors: Tuple[str, str, str]) -> str:
-    """Returns what lldpcli writes of neighbors: the port, and the neighbor's two names."""
-    return "".join(
-        f"lldp.{port}.via=LLDP\nlldp.{port}.rid=1\nlldp.{port}.chassis.mac=02:00:00:00:00:01\n"
-        f"lldp.{port}.chassis.name={host}\nlldp.{port}.port.ifname={name}\n"
-        for port, host, name in neighbors)
-
-
-def napalm(*neighbors: Tuple[str, str, str]) -> str:
-    """Returns the same in NAPALM's short form."""
-    ports: Any = {port: [{"hostname": host, "port": name}] for port, host, name in neighbors}
-    return json.dumps(ports)
 
 
 class Folders(InAFolder):
@@ -50,12 +36,10 @@ class Folders(InAFolder):
 
     def test_files_named_by_host(self) -> None:
         self.file("seen/leaf1.json", napalm(("swp1", "host01", "eth0"), ("swp2", "host02", "eth0")))
-        self.file("seen/leaf2.lab.txt", keyvalue(("swp1", "host03", "eth0")))
+        self.file("seen/leaf2.lab.txt", napalm(("swp1", "host03", "eth0")))
         self.file("seen/.hidden", "x")
         self.assertEqual(self.audit(self.seen), (
-            1, "leaf2.lab swp2  silent: wants host04 eth0\n8 planned: 3 right, "
-               "1 not, 4 not looked at "
-                "(host01, host02, host03, 1 more)\n", ""))
+            1, "leaf2.lab swp2  silent: wants host04 eth0\n4 cables: 3 right, 1 wrong\n", ""))
 
     def test_folders_named_by_host(self) -> None:
         (self.folder / "seen" / "leaf1").mkdir()
@@ -65,24 +49,21 @@ class Folders(InAFolder):
             (self.folder / "seen" / "leaf1" / f"{port}.pcap").write_bytes(octets)
         self.file("seen/leaf2.lab/lldp/neighbors.json",
                   napalm(("swp1", "host03", "eth0"), ("swp2", "host04", "eth0")))
-        self.assertEqual(self.audit(self.seen), (0, "8 planned: 4 right, 0 not, 4 not looked at "
-                "(host01, host02, host03, 1 more)\n", ""))
+        self.assertEqual(self.audit(self.seen), (0, "4 cables: 4 right, 0 wrong\n", ""))
         self.assertEqual(self.audit(f"leaf1:{self.seen}/leaf1", f"leaf2.lab:{self.seen}/leaf2.lab"),
-                         (0, "8 planned: 4 right, 0 not, 4 not looked at "
-                "(host01, host02, host03, 1 more)\n", ""))
+                         (0, "4 cables: 4 right, 0 wrong\n", ""))
 
     def test_damaged_file(self) -> None:
         self.file("seen/leaf1.json", napalm(("swp1", "host01", "eth0"), ("swp2", "host02", "eth0")))
         bad = self.file("seen/leaf2.lab.json", "{Connection timed out")
         status, out, err = self.audit(self.seen)
         self.assertEqual(status, 1)
-        self.assertEqual(err, f"lldpa-audit: {bad}: it is no JSON: line 1: Expecting property name "
-                              "enclosed in double quotes\n")
-        self.assertIn("leaf2.lab swp1  no data: wants host03 eth0 (", out)
+        self.assertEqual(err, f"lldpa-audit: {bad}: it begins like JSON, and is none\n")
+        self.assertIn("leaf2.lab  no data at 2 of 2 ports (", out)
 
     def test_part_of_a_host_is_damaged(self) -> None:
-        self.file("seen/whole", keyvalue(("swp1", "host01", "eth0")))
-        self.file("seen/cut", keyvalue(("swp2", "host02", "eth0"))[:-3])
+        self.file("seen/whole", napalm(("swp1", "host01", "eth0")))
+        self.file("seen/cut", napalm(("swp2", "host02", "eth0"))[:-3])
         _, out, _ = self.audit(f"{self.seen}/whole", f"{self.seen}/cut")
         self.assertIn("swp2  no data: wants host02 eth0 (", out)
 
@@ -96,10 +77,10 @@ class Folders(InAFolder):
         """Checks that a list of one end has all neighbors that it hears, so the other end is not
         heard there."""
         self.plan = self.file("plan.csv", "host,port,peer,peer_port\na,1,b,1\na,2,b,2\n")
-        one = self.file("one", keyvalue(("1", "b", "1"), ("2", "b", "2")))
-        other = self.file("other", keyvalue(("1", "a", "1")))
+        one = self.file("one", napalm(("1", "b", "1"), ("2", "b", "2")))
+        other = self.file("other", napalm(("1", "a", "1")))
         self.assertEqual(self.audit(f"a:{one}", f"b:{other}"), (
-            1, "a 2  one-sided: hears b 2, is not heard there\n4 planned: 2 right, 2 not\n", ""))
+            1, "a 2  one-sided: hears b 2, is not heard there\n2 cables: 1 right, 1 wrong\n", ""))
 
     def test_words(self) -> None:
         self.file("seen/a.x.json.gz", "x")
@@ -118,7 +99,7 @@ class Folders(InAFolder):
             status, out, err = self.audit(word)
             self.assertEqual((status, err), (1, ""))
             self.assertTrue(out.startswith("swp2  no data: wants host02 eth0\n"), out)
-            self.assertIn("8 planned: 1 right, 1 not, 6 not looked at", out)
+            self.assertIn("4 cables: 1 right, 0 wrong, 3 not looked at", out)
 
 
 if __name__ == "__main__":

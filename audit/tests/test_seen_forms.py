@@ -2,6 +2,7 @@
 from __future__ import annotations
 
 import gzip
+import json
 import random
 import tempfile
 import unittest
@@ -11,13 +12,14 @@ import lldpd_heard
 from lldpa import Agent
 from lldpa_audit.names import Seen
 from lldpa_audit.seen.files import MOST_OCTETS, read_file
-from lldpa_audit.seen.forms import reader_of
+from lldpa_audit.seen.forms import read_list as read
 from lldpa_audit.seen.listing import Listing, SeenFault
 from lldpa_audit.seen.shows import read_ports
 from lldpa_audit.link_settings import Settings
 from lldpa.agent.show import ShowFault
 from served import PROGRAM
 
+FORMS = ("json", "json0")
 LONG = "9" * 5000
 DAMAGED = 2000
 NAMES_OF_IPV6 = ("::1", "0000:0000:0000:0000:0000:0000:0000:0001")
@@ -42,13 +44,6 @@ SETTINGS: Dict[int, Settings] = {2: Settings(9216, 10, 1000, "full", True, 7),
                                  11: Settings(None, None, 100, "full", None)}
 
 
-def read(octets: bytes) -> Listing:
-    """Returns what octets of a form say."""
-    reader = reader_of(octets)
-    assert reader is not None
-    return reader(octets)
-
-
 def names_of(neighbors: Sequence[Seen]) -> List[Tuple[Tuple[str, ...], Tuple[str, ...]]]:
     """Returns the names of neighbors."""
     return [(one.hosts, one.ports) for one in neighbors]
@@ -64,9 +59,8 @@ def of_our_agent(frames: Sequence[bytes]) -> Sequence[Seen]:
 
 def fault_of(octets: bytes) -> Optional[str]:
     """Returns what is wrong with octets; no other exception comes."""
-    reader = reader_of(octets)
     try:
-        return None if reader is None else str(reader(octets)) and None
+        return str(read(octets)) and None
     except (SeenFault, ShowFault) as fault:
         return str(fault)
 
@@ -75,7 +69,7 @@ class Lldpcli(unittest.TestCase):
     """What lldpcli writes of the same frames says the same in each form."""
 
     def test_each_form(self) -> None:
-        for form in lldpd_heard.FORMS:
+        for form in FORMS:
             with self.subTest(form=form):
                 listing = read(lldpd_heard.sample("clean", form))
                 self.assertTrue(listing.has_all_heard)
@@ -88,10 +82,6 @@ class Lldpcli(unittest.TestCase):
                 self.assertEqual([one.aggregated for one in listing.ports["swp1"]],
                                  [at == 2 for at in range(len(HEARD))])
 
-    def test_without_details(self) -> None:
-        listing = read(lldpd_heard.sample("clean-short", "keyvalue"))
-        self.assertEqual(names_of(listing.ports["swp1"]), HEARD)
-
     def test_our_show_says_the_same(self) -> None:
         ours = of_our_agent(lldpd_heard.CLEAN)
         self.assertEqual([(set(hosts), set(ports)) for hosts, ports in names_of(ours)],
@@ -102,32 +92,37 @@ class Lldpcli(unittest.TestCase):
         self.assertEqual([at for at, one in enumerate(ours) if one.aggregated], [2])
 
     def test_names_that_are_no_utf_8(self) -> None:
-        for form in ("keyvalue", "json", "plain"):
-            first, second = read(lldpd_heard.sample("odd", form)).ports["swp1"]
-            self.assertEqual((first.hosts[0], second.hosts[0]), ("caf\udce9", "a\x01b"), form)
+        first, second = read(lldpd_heard.sample("odd", "json")).ports["swp1"]
+        self.assertEqual((first.hosts[0], second.hosts[0]), ("caf\udce9", "a\x01b"))
         first, second = read(lldpd_heard.sample("odd", "json0")).ports["swp1"]
         self.assertEqual((first.hosts[0], second.hosts[0]), ("caf\ufffd", "a\x01b"))
-        self.assertEqual(lldpd_heard.sample("odd", "xml"), b"")
 
     def test_nobody_is_heard(self) -> None:
-        for form in ("json", "json0", "xml", "plain"):
+        for form in FORMS:
             self.assertEqual(read(lldpd_heard.sample("none", form)), Listing({}, True), form)
-        self.assertIsNone(reader_of(lldpd_heard.sample("none", "keyvalue")))
+
+    def test_the_other_forms_of_lldpcli(self) -> None:
+        for form in ("keyvalue", "xml", "plain"):
+            for name in ("clean", "none", "odd"):
+                octets = lldpd_heard.sample(name, form)
+                self.assertIn("use `lldpcli -f json" if octets else "it is empty",
+                              fault_of(octets) or "", (name, form))
 
     def test_other_line_ends_and_marks(self) -> None:
-        for form in lldpd_heard.FORMS:
+        for form in FORMS:
             octets = lldpd_heard.sample("clean", form)
-            mark = b"" if form in ("keyvalue", "plain") else b"\xef\xbb\xbf"
-            for other in (mark + octets, octets.replace(b"\n", b"\r\n")):
+            for other in (b"\xef\xbb\xbf" + octets, octets.replace(b"\n", b"\r\n")):
                 self.assertEqual(names_of(read(other).ports["swp2"]), HEARD[:1], form)
 
     def test_both_protocols_of_one_neighbor(self) -> None:
-        lines = lldpd_heard.sample("clean-short", "keyvalue").decode()
-        lldp = lines[lines.index("lldp.swp2.via"):]
-        cdp = lldp.replace("via=LLDP", "via=CDPv2").replace("chassis.mac=02", "chassis.local=03")
-        for text, count in ((lldp + cdp, 1), (cdp + lldp, 1), (cdp, 1), (lldp + lldp, 2),
-                            (lldp + cdp.replace("name=ho", "name=so"), 2)):
-            self.assertEqual(len(read(text.encode()).ports["swp2"]), count)
+        lldp = json.loads(lldpd_heard.sample("clean", "json0"))["lldp"][0]["interface"][-1]
+        text = json.dumps(lldp)
+        cdp = json.loads(text.replace('"LLDP"', '"CDPv2"').replace("02:00", "03:00"))
+        other = json.loads(json.dumps(cdp).replace('"ho', '"so'))
+        for heard, count in (([lldp, cdp], 1), ([cdp, lldp], 1), ([cdp], 1), ([lldp, lldp], 2),
+                             ([lldp, other], 2)):
+            octets = json.dumps({"lldp": [{"interface": heard}]}).encode()
+            self.assertEqual(len(read(octets).ports["swp2"]), count)
 
 
 class Faults(unittest.TestCase):
@@ -138,28 +133,21 @@ class Faults(unittest.TestCase):
         for octets, said in (
                 (b'{"lldp":{"interface":"x"}}', "something else in place of an interface"),
                 (interface.encode(), "a has no protocol: it is not of show neighbors"),
-                (b'{"lldp":[{"interface":[{"name":"a","via":"LLDP"}]}]}', "without chassis ID"),
-                (b"lldp.a.via=LLDP\nlldp.a.rid=1\n", "line 1: a neighbor without chassis ID"),
-                (b"lldp.a.via=LLDP\nlldp.b.rid=1\n", "line 2: 'lldp.b.rid=1' where a line of a"),
-                (b"lldp.a.via=LLDP\nlldp.a.rid", "it was cut short"),
-                (b"lldp.a.status=RX\n", "line 1: 'lldp.a.status=RX' where")):
+                (b'{"lldp":[{"interface":[{"name":"a","via":"LLDP"}]}]}', "without chassis id"),
+                (b"lldp.a.status=RX\n", "a show other than `show neighbors`")):
             self.assertIn(said, fault_of(octets) or "", octets)
 
     def test_cut_short(self) -> None:
-        for form in lldpd_heard.FORMS:
+        for form in FORMS:
             octets = lldpd_heard.sample("clean", form).rstrip()
             for at in range(1, len(octets), 7):
-                if reader_of(octets[:at]) is None:
-                    continue
-                if form in ("keyvalue", "plain") and octets[:at].endswith(b"\n"):
-                    continue  # behind a whole neighbor nothing tells that more are to come
                 self.assertIsNotNone(fault_of(octets[:at]), (form, at))
 
     def test_random_damage(self) -> None:
         rng, faults = random.Random(44), 0
-        for form in lldpd_heard.FORMS:
+        for form in FORMS:
             whole = lldpd_heard.sample("clean", form)
-            for _ in range(DAMAGED // len(lldpd_heard.FORMS)):
+            for _ in range(DAMAGED // len(FORMS)):
                 octets = bytearray(whole)
                 for _ in range(rng.choice([1, 1, 3, 40])):
                     at = rng.randrange(len(octets))
@@ -170,8 +158,7 @@ class Faults(unittest.TestCase):
         self.assertLess(faults, DAMAGED)
 
     def test_numbers_of_many_digits(self) -> None:
-        for form, old in (("keyvalue", "mfs=9216"), ("json", '"mfs": "9216"'), ("plain", "9216"),
-                          ("json0", '"value": "9216"'), ("xml", "9216"), ("json", '"120"')):
+        for form, old in (("json", '"mfs": "9216"'), ("json0", '"value": "9216"'), ("json", '"120"')):
             text = lldpd_heard.sample("clean", form).decode()
             self.assertIn(old, text)
             number = old.replace("9216", LONG).replace('"120"', LONG)
@@ -180,16 +167,15 @@ class Faults(unittest.TestCase):
         self.assertIsNotNone(fault_of(f'{{"lldp": {LONG}}}'.encode()))
 
     def test_parts_too_deep_in_one_another(self) -> None:
-        for octets in (b"[" * 200000, b'{"lldp":' * 200000, b"<lldp>" * 200000):
+        for octets in (b"[" * 200000, b'{"lldp":' * 200000, b"<rpc-reply>" * 200000):
             self.assertIsNotNone(fault_of(octets))
-        self.assertIn("more than 20 deep", fault_of(b"<lldp>" * 30) or "")
 
     def test_no_entity_expands(self) -> None:
         ten = "".join(f'<!ENTITY e{at + 1} "{f"&e{at};" * 10}">' for at in range(20))
         for inner in (ten, '<!ENTITY x SYSTEM "file:///etc/passwd">', ""):
-            text = f'<?xml version="1.0"?><!DOCTYPE lldp [<!ENTITY e0 "ten">{inner}]><lldp>&e20;'
-            self.assertIn("document type", fault_of(text.encode()) or "")
-        self.assertIn("undefined entity", fault_of(b"<lldp>&lol;</lldp>") or "")
+            text = f'<?xml version="1.0"?><!DOCTYPE rpc-reply [<!ENTITY e0 "ten">{inner}]><rpc-reply>&e20;'
+            self.assertIn("it is XML, but no list", fault_of(text.encode()) or "")
+        self.assertIn("undefined entity", fault_of(b"<rpc-reply>&lol;</rpc-reply>") or "")
 
     def test_compressed(self) -> None:
         whole = lldpd_heard.sample("clean", "json0")
@@ -204,12 +190,10 @@ class Faults(unittest.TestCase):
             self.assertEqual(found.listing, read(whole) if octets is packed else None)
 
     def test_too_much(self) -> None:
-        self.assertIn("more than 500000 elements",
-                      fault_of(b"<lldp>" + b"<vlan/>" * 500_001 + b"</lldp>") or "")
         with tempfile.NamedTemporaryFile() as file:
-            file.write(b"<lldp>" + b" " * (MOST_OCTETS + 1024))
+            file.write(b'{"lldp": {}}' + b" " * (MOST_OCTETS + 1024))
             file.flush()
-            self.assertIn("no list has so many", read_file(file.name).fault)
+            self.assertIn("no list has so much", read_file(file.name).fault)
 
     def test_surrogates_that_stand_for_no_octet(self) -> None:
         text = lldpd_heard.sample("clean", "json0").decode().replace('"d"', '"\\ud800d\\udcff"')

@@ -1,55 +1,51 @@
 #!/usr/bin/env python3
-"""Hands the audit damaged plans, lists, captures and answers, and pieces of them repeated up to 32 MB.
+"""Runs the audit on damaged plans, lists, captures and aliases, and on pieces of them repeated up to 32 MB; then on the
+shapes of audit/tests/shapes.py.
 
-    audit/tools/try-damage.py [--minutes 10] [--seed N] [--program FILE]
+    audit/tools/try-damage.py [--minutes 10] [--seed N]
 
-Each is read by a process of its own. It must end by itself, with what the program says of a bad file, within 30 seconds
-of the processor and 500 MB. Prints the seed first; the last line is `N passed, M failed`.
+Each run must end by itself within 30 seconds of the processor and 500 MB, and write nothing through a link that stands
+where its page is to be. LLDPA names the agent. Prints the seed first; the last line is `N passed, M failed`.
 """
 import argparse
 import gzip
 import os
 import pathlib
 import random
-import resource
 import sys
 import tempfile
 import time
-import traceback
 
 TOP = pathlib.Path(__file__).resolve().parents[2]
-sys.path[:0] = [str(TOP / folder) for folder in ("audit", "python", "audit/tests", "python/tests", "audit/tools")]
+sys.path[:0] = [str(TOP / folder) for folder in ("audit", "python", "audit/tests", "python/tests", "audit/tools", "tools/gate")]
 os.environ.setdefault("LLDPA", str(TOP / "crates" / "lldpa" / "out" / "lldpa"))
 import cabling  # noqa: E402
 import fabric  # noqa: E402
 import fabric_plans  # noqa: E402
 import rack  # noqa: E402
+import shapes  # noqa: E402
 import vendors  # noqa: E402
-from lldpa_audit.names import Names  # noqa: E402
-from lldpa_audit.planfault import PlanFault  # noqa: E402
-from lldpa_audit.planfile import read_plan  # noqa: E402
-from lldpa_audit.seen.captures import NoPortNamed, read_interfaces, read_port  # noqa: E402
-from lldpa_audit.seen.files import read_file  # noqa: E402
+from counts import Counts  # noqa: E402
 
-LARGE, SECONDS, KILOBYTES = 32 << 20, 30, 500 << 10
+LARGE = 32 << 20
 PORTS = {"swp1": [("host01", "eth0")], "swp2": [("host02", "eth0"), ("host03", "eth0")]}
 
 
 def samples():
-    """Yields what is damaged, and its kind."""
+    """Yields what is damaged, and its place among the words of an audit."""
     links = list(fabric.links())[:300]
-    for form in (fabric_plans.csv_plan, fabric_plans.dot_plan, fabric_plans.netbox_plan):
-        yield "plan", form(links).encode()
-    yield "plan", b'{"results": [{"id": 1, "a_terminations": [], "b_terminations": []}], "next": null}'
+    yield "plan", fabric_plans.csv_plan(links).encode()
+    yield "plan", (b"side_a_device,side_a_type,side_a_name,side_b_device,side_b_type,side_b_name,type,label\n"
+                   b"leaf01,dcim.interface,swp1,host01,dcim.interface,eth0,cat6,C1\n" * 2)
+    yield "plan", b'graph {\n"leaf01":"swp1" -- "host01":"eth0" [label="C1"]\n}\n'
+    yield "plan", f'{{"next": null, "results": [{shapes.cable(1)}, {shapes.cable(2)}]}}'.encode()
     yield "panels", fabric_plans.panels().encode()
+    yield "aliases", b"host,port,alias\nhost01,eth0,bond0\nhost01,eth1,bond0\nhost02,,web-00\n"
     for write in (*vendors.FORMS.values(), *cabling.FORMS.values()):
-        yield "list", write(PORTS).encode()
-    for path in sorted((TOP / "python" / "tests" / "lldpd").iterdir()):
-        yield "list", path.read_bytes()
-    frames = {port: rack.frames(port) for port in rack.PORTS[:5]}
-    yield "capture", rack.pcapng(frames)
-    yield "port", rack.pcap(rack.frames("swp1"))
-    yield "capture", gzip.compress(rack.pcapng(frames))
+        yield "leaf01", write(PORTS).encode()
+    yield "leaf01", (TOP / "audit" / "tests" / "samples" / "lldpd.walk").read_bytes()
+    frames = rack.pcapng({port: rack.frames(port) for port in rack.PORTS[:5]})
+    yield from (("leaf01", frames), ("swp1", rack.pcap(rack.frames("swp1"))), ("leaf01", gzip.compress(frames)))
 
 
 def damaged(octets, dice):
@@ -57,20 +53,16 @@ def damaged(octets, dice):
     for _ in range(dice.choice([1, 1, 2, 4])):
         at = dice.randrange(len(octets) + 1)
         end = min(len(octets), at + dice.choice([0, 1, 2, 4, 16, 64, 256]))
-        piece = octets[at:end]
-        times = dice.choice([0, 0, 1, 2, 1000])
-        piece = dice.choice([piece * times, dice.randbytes(dice.choice([1, 4])),
+        piece = dice.choice([octets[at:end] * dice.choice([0, 0, 1, 2, 1000]), dice.randbytes(dice.choice([1, 4])),
                              dice.choice([b"\0", b'"', b"[", b"{", b"<", b"\n", b" ", b",", b":", b"\xff", b"\x1f\x8b"])])
         octets = octets[:at] + piece + octets[end:]
     return octets
 
 
 def enlarged(octets, dice):
-    """Returns a file in which a piece is repeated until it has 32 MB; some of them are
-    compressed."""
-    at = dice.randrange(len(octets))
+    """Returns a file in which a piece is repeated until it has 32 MB; some of them are compressed."""
     octets = gzip.decompress(octets) if octets.startswith(b"\x1f\x8b") and dice.random() < 0.5 else octets
-    at = min(at, len(octets) - 1)
+    at = dice.randrange(len(octets))
     end = min(len(octets), at + dice.choice([1, 2, 3, 5, 8, 20, 60, 200, 1000]))
     if dice.random() < 0.5:  # whole lines
         at, end = octets.rfind(b"\n", 0, at) + 1, octets.find(b"\n", end) + 1 or len(octets)
@@ -79,42 +71,38 @@ def enlarged(octets, dice):
     return gzip.compress(large, 1) if dice.random() < 0.2 else large
 
 
-def read(kind, path):
-    """Reads a file as the program does."""
-    try:
-        if kind == "plan":
-            read_plan(path, Names())
-        elif kind == "panels":
-            read_plan(str(pathlib.Path(path).with_name("plan")), Names(), None, path)
-        elif kind == "list":
-            str(read_file(path))[:100]
-        elif kind == "port":
-            read_port([path], "swp1", os.environ["LLDPA"])
-        else:
-            read_interfaces(path, os.environ["LLDPA"])
-    except (PlanFault, NoPortNamed, OSError):
-        pass
+def words_of(room, place, dice):
+    """Returns the words of an audit in which a file has a place."""
+    names = {"plan": room / "plan", "leaf01": room / "list", "panels": room / "panels", "aliases": room / "aliases"}
+    names[place] = room / "file"
+    words = ["--host", "leaf01", str(names["plan"]), f"swp1={names['swp1']}" if place == "swp1" else str(names["leaf01"])]
+    for option in ("panels", "aliases"):
+        words += [f"--{option}", str(names[option])] if place == option or dice.random() < 0.5 else []
+    return [*words, *dice.choice([[], ["--json"], ["--settings"]]), *dice.choice([[], ["--vendor-names"]]),
+            "--html", str(room / "page"), "--junit", str(room / "junit")]
 
 
-def tried(kind, path):
-    """Returns what is wrong with how a process of its own reads a file, and what it took."""
-    child = os.fork()
-    if child == 0:
-        resource.setrlimit(resource.RLIMIT_CPU, (3 * SECONDS, 3 * SECONDS))
-        resource.setrlimit(resource.RLIMIT_AS, (4 << 30, 4 << 30))
-        status = 1
-        try:
-            read(kind, path)
-            status = 0
-        except BaseException:
-            traceback.print_exc()
-        os._exit(status)
-    _, status, usage = os.wait4(child, 0)
-    used = usage.ru_utime + usage.ru_stime
-    faults = [f"status {status}"] if status else []
-    faults += [f"{used:.0f} s"] if used > SECONDS else []
-    faults += [f"{usage.ru_maxrss >> 10} MB"] if usage.ru_maxrss > KILOBYTES else []
-    return faults, used, usage.ru_maxrss >> 10
+class Trial:
+    """What was tried in a folder, and what it took at most."""
+
+    def __init__(self, room):
+        self.room, self.counts, self.most = pathlib.Path(room), Counts(), [0.0, 0]
+        for name, octets in (("plan", fabric_plans.csv_plan(list(fabric.links())[:300])), ("victim", "victim"),
+                             ("list", vendors.FORMS["napalm"](PORTS)), ("panels", fabric_plans.panels()),
+                             ("aliases", "host,port,alias\nhost01,eth0,bond0\n")):
+            (self.room / name).write_text(octets)
+
+    def run(self, name, words):
+        """Runs the audit once, with links where it writes, and checks it."""
+        for output in ("page", "junit"):
+            (self.room / output).unlink(missing_ok=True)
+            (self.room / output).symlink_to(self.room / "victim")
+        ran = shapes.measured(words)
+        is_whole = (self.room / "victim").read_text() == "victim"
+        self.most = [max(self.most[0], ran.seconds), max(self.most[1], ran.megabytes)]
+        faults = [*ran.faults, *([] if is_whole else ["it wrote through a link"])]
+        self.counts.that(f"{name}: {', '.join(faults)}: {' '.join(words)}", not faults)
+        return not faults
 
 
 def main():
@@ -123,25 +111,19 @@ def main():
     parser.add_argument("--seed", type=int, default=random.SystemRandom().randrange(10**6))
     given = parser.parse_args()
     print(f"seed {given.seed}", flush=True)
-    dice, some = random.Random(given.seed), [one for one in samples() if one[1]]
-    end, passed, failed, most = time.monotonic() + 60 * given.minutes, 0, 0, [0.0, 0]
+    dice, some, end = random.Random(given.seed), list(samples()), time.monotonic() + 60 * given.minutes
     with tempfile.TemporaryDirectory() as room:
-        pathlib.Path(room, "plan").write_text(fabric_plans.csv_plan(list(fabric.links())[:300]))
+        trial = Trial(room)
         while time.monotonic() < end:
-            kind, octets = dice.choice(some)
+            place, octets = dice.choice(some)
             octets = (enlarged if dice.random() < 0.3 else damaged)(octets, dice)
-            path = os.path.join(room, "file")
-            pathlib.Path(path).write_bytes(octets)
-            faults, used, megabytes = tried(kind, path)
-            most = [max(most[0], used), max(most[1], megabytes)]
-            if faults:
-                kept = pathlib.Path(tempfile.gettempdir(), f"damaged-{given.seed}-{passed + failed}")
-                kept.write_bytes(octets[:1 << 20])
-                print(f"FAILED: {kind} {kept}: {', '.join(faults)}", flush=True)
-            passed, failed = passed + (not faults), failed + bool(faults)
-    print(f"at most {most[0]:.1f} s and {most[1]} MB")
-    print(f"{passed} passed, {failed} failed")
-    return bool(failed)
+            (trial.room / "file").write_bytes(octets)
+            if not trial.run(place, words_of(trial.room, place, dice)):
+                pathlib.Path(tempfile.gettempdir(), f"damaged-{given.seed}-{place}").write_bytes(octets[:1 << 20])
+        for name, write in {**shapes.SMALL, **shapes.LARGE}.items():
+            trial.run(name, write(trial.room))
+        print(f"at most {trial.most[0]:.1f} s and {trial.most[1]} MB")
+        return trial.counts.end()
 
 
 if __name__ == "__main__":

@@ -47,29 +47,31 @@ static long seconds(void)
     return now.tv_sec;
 }
 
-/* Prints what happened to a neighbor, by the bodies of its identifiers. */
+/* Prints what happened to a neighbor, as "new chassis.mac=00:11:22:33:44:55 port.ifname=eth0". */
 static void print_neighbor(const char *what, const uint8_t *octets, lldpa_place chassis, lldpa_place port)
 {
-    printf("%s", what);
-    for (size_t at = 0; at < chassis.length; at++) {
-        printf("%c%02x", at == 0 ? ' ' : ':', octets[chassis.start + at]);
-    }
-    for (size_t at = 0; at < port.length; at++) {
-        printf("%c%02x", at == 0 ? ' ' : ':', octets[port.start + at]);
-    }
-    putchar('\n');
+    static uint8_t first[LLDPA_VALUE_ROOM], second[LLDPA_VALUE_ROOM];
+    size_t used = 0, more = 0;
+    lldpa_tlv_text(1, octets + chassis.start, chassis.length, first, sizeof first, &used);
+    lldpa_tlv_text(2, octets + port.start, port.length, second, sizeof second, &more);
+    printf("%s %.*s %.*s\n", what, (int)used, (const char *)first, (int)more, (const char *)second);
     fflush(stdout);
 }
 
-/* Prints the neighbors that the next second ends. */
-static void print_ended(lldpa_agent *agent)
+/* Gives the agent the seconds that passed, and prints the neighbors that age out. */
+static void pass(lldpa_agent *agent, uint32_t passed)
 {
     static uint8_t room[LLDPA_NEIGHBOR_ROOM];
+    lldpa_marks marks; /* a port that only receives sends nothing */
+    lldpa_ticks_taken done;
     lldpa_held held;
     for (uint32_t at = 0; lldpa_neighbor(agent, 0, at, room, sizeof room, &held) == LLDPA_OK; at++) {
-        if (held.left == 1) {
+        if (held.left <= passed) {
             print_neighbor("aged out", room, held.pdu.chassis, held.pdu.port);
         }
+    }
+    for (; passed > 0; passed -= done.taken) {
+        lldpa_ticks(agent, passed, &marks, &done);
     }
 }
 
@@ -100,7 +102,6 @@ int main(int count, char **words)
     lldpa_text port = {(const uint8_t *)name, strlen(name)};
     lldpa_options options = LLDPA_OPTIONS_INIT;
     lldpa_agent agent = {0};
-    lldpa_marks marks;
     options.ports = &port;
     options.port_count = 1;
     options.receive_only = true;
@@ -115,12 +116,12 @@ int main(int count, char **words)
     sigaction(SIGTERM, &(struct sigaction){.sa_handler = end}, NULL);
     for (long now = seconds(); !is_over;) {
         struct pollfd waited = {heard, POLLIN, 0};
-        if (poll(&waited, 1, wait_of(&agent)) > 0) {
+        int came = poll(&waited, 1, wait_of(&agent));
+        long before = now; /* first the seconds that passed, and then the frame */
+        now = seconds();
+        pass(&agent, (uint32_t)(now - before));
+        if (came > 0) {
             hear(&agent, heard);
-        }
-        for (; seconds() > now; now++) {
-            print_ended(&agent);
-            lldpa_tick(&agent, &marks, NULL);
         }
     }
     close(heard);

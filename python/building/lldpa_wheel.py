@@ -19,8 +19,8 @@ PYTHON = ">=3.9"
 # each package, and the folder that has it in the repository; in an archive all are beside this file
 PACKAGES = {"lldpa": "python", "lldpa_audit": "audit"}
 # lldpctl is not among them: it would hide lldpd's program of that name
-PROGRAMS = {"lldpa-live": "lldpa.commands.live", "lldpa-ctl": "lldpa.commands.ctl",
-            "lldpa-capture": "lldpa.commands.capture", "lldpa-audit": "lldpa_audit.command"}
+PROGRAMS = {"lldpa-ctl": "lldpa.commands.ctl", "lldpa-capture": "lldpa.commands.capture",
+            "lldpa-audit": "lldpa_audit.command"}
 # the platform of a program by the machine that its head (ELF) names
 PLATFORMS = {62: "linux_x86_64", 183: "linux_aarch64"}
 MOMENT = (2026, 1, 1, 0, 0, 0)  # of each file in the wheel: the same sources give the same wheel

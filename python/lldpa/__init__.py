@@ -18,18 +18,18 @@ from .faults import LldpaFault
 __version__ = "1.0.0"
 
 if TYPE_CHECKING:
-    from .agent.synchronous import Agent, AsyncAgent, Closed, Ended, Refused
+    from .agent.synchronous import Agent, Closed, Ended, Refused
     from .capture.packets import BadCapture, Packet, packets_of
     from .capture.trace import Source, Told, ports_of, trace_of
 
-__all__ = ["Agent", "AsyncAgent", "BadCapture", "Closed", "Counters", "Ended", "LldpaFault",
-           "Neighbor", "Packet", "Port", "Refused", "Show", "ShowFault", "Source", "Told",
+__all__ = ["Agent", "BadCapture", "Closed", "Counters", "Ended", "LldpaFault", "Neighbor",
+           "Packet", "Port", "Refused", "Show", "ShowFault", "Source", "Told",
            "__version__", "lines_of", "packets_of", "ports_of", "read_show", "trace_of",
            "unescaped"]
 
 
-# what is loaded when it is first used: asyncio takes 8 MB, and lldpa-live reads no captures
-LATER = {".agent.synchronous": ("Agent", "AsyncAgent", "Closed", "Ended", "Refused"),
+# what is loaded when it is first used
+LATER = {".agent.synchronous": ("Agent", "Closed", "Ended", "Refused"),
          ".capture.packets": ("BadCapture", "Packet", "packets_of"),
          ".capture.trace": ("Source", "Told", "ports_of", "trace_of")}
 

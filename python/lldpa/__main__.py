@@ -6,7 +6,6 @@ from . import __version__
 TEXT = f"""\
 lldpa {__version__}, the Python package of an agent for LLDP
 
-  python3 -m lldpa.commands.live     lldpa-live, runs lldpa on network interfaces
   python3 -m lldpa.commands.ctl      lldpa-ctl, asks a running lldpa-live
   python3 -m lldpa.commands.capture  lldpa-capture, makes a trace of captures
   python3 -m lldpa_audit             lldpa-audit, compares a plan of the cabling

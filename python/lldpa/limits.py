@@ -11,4 +11,4 @@ MOST_TICKS = 65535  # of one line
 SHORTEST_FRAME, LONGEST_FRAME = 14, 1514
 NEAREST_BRIDGE = bytes.fromhex("0180c200000e")
 
-REFUSAL = "error: "  # an answer that begins so is a refused line
+REFUSAL = "error: "  # the beginning of the answer to a refused line

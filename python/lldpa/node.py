@@ -3,7 +3,7 @@ from __future__ import annotations
 
 from typing import Iterable, List, Optional, Tuple
 
-# a key, its label for people (empty if the value says enough), and the value
+# a key, its label for people (empty if none is needed), and the value
 Attribute = Tuple[str, str, str]
 
 
@@ -32,14 +32,14 @@ def yes(is_so: bool) -> str:
     return "yes" if is_so else "no"
 
 
-def text_of(octets: bytes) -> str:
+def lldpcli_text(octets: bytes) -> str:
     """Returns a text of a neighbor, cut at the first NUL as lldpd does."""
     return octets.partition(b"\0")[0].decode("utf-8", "surrogateescape")
 
 
 def said_text(octets: Optional[bytes]) -> Optional[str]:
     """Returns a text, None if no octet was sent."""
-    return text_of(octets) if octets else None
+    return lldpcli_text(octets) if octets else None
 
 
 def capital(name: str) -> str:

@@ -1,9 +1,7 @@
-"""Standard streams of a program that reports failures of its output: closed, full, or not read."""
+"""Standard streams, and reports of output that fails: it is closed, full, or not read."""
 from __future__ import annotations
 
-import argparse
 import io
-import locale
 import os
 import select
 import sys
@@ -16,11 +14,11 @@ INPUT, OUTPUT, ERRORS = 0, 1, 2
 
 
 class OutputFault(LldpaFault):
-    """Why standard output takes no more; empty if its reader has gone."""
+    """Says why standard output failed; empty if its reader has gone."""
 
 
 class StandardOutput(io.FileIO):
-    """Standard output, whose faults cannot be taken for those of other files."""
+    """Standard output. Its faults differ from those of other files."""
 
     def __init__(self, fault: str) -> None:
         super().__init__(OUTPUT, "w", closefd=False)
@@ -28,7 +26,7 @@ class StandardOutput(io.FileIO):
         self._is_over = False
 
     def write(self, octets: Any) -> int:
-        """Writes octets. Raises OutputFault once; what comes after that is lost."""
+        """Writes octets. Raises OutputFault once; later octets are lost."""
         if self._is_over:
             return len(octets)
         try:
@@ -43,7 +41,7 @@ class StandardOutput(io.FileIO):
 
 
 class StandardErrors(io.FileIO):
-    """Standard error. What it does not take is lost, also if argparse writes it."""
+    """Standard error. What it cannot write is lost, also what argparse writes."""
 
     def __init__(self) -> None:
         super().__init__(ERRORS, "w", closefd=False)
@@ -62,7 +60,7 @@ def run(name: str, body: Callable[[], int], failed: int, errors: str = "strict")
     `errors` says how characters are written that the terminal does not have.
     """
     fault = "it is closed" if OUTPUT in missing_streams() else ""
-    encoding = getattr(sys.stdout, "encoding", None) or locale.getpreferredencoding(False)
+    encoding = getattr(sys.stdout, "encoding", None) or "utf-8"
     sys.stdout = io.TextIOWrapper(io.BufferedWriter(StandardOutput(fault)), encoding, errors,
                                   line_buffering=os.isatty(OUTPUT))
     sys.stderr = io.TextIOWrapper(io.BufferedWriter(StandardErrors()), encoding,
@@ -86,7 +84,7 @@ def status_of(body: Callable[[], int]) -> int:
 
 
 def missing_streams() -> set[int]:
-    """Returns which standard streams are closed. Opens them, so that no file takes their place."""
+    """Returns which standard streams are closed. Opens them, so that no file gets their numbers."""
     missing = set()
     for number in (INPUT, OUTPUT, ERRORS):
         try:
@@ -98,17 +96,11 @@ def missing_streams() -> set[int]:
 
 
 def complain(name: str, text: str) -> None:
-    """Writes a line on standard error, without what could act on a terminal, and cut to what can be
-    written at once. It is lost if nobody reads it."""
+    """Writes a line on standard error, without control characters, and cut to what can be written
+    at once. It is lost if nobody reads it."""
     printable = "".join(letter if letter.isprintable() else "?" for letter in text)
     line = f"{name}: {printable}" if name else printable
     octets = line.encode(errors="backslashreplace")[:select.PIPE_BUF - 1]
     with suppress(OSError):
         if select.select([], [ERRORS], [], 0)[1]:
             os.write(ERRORS, octets + b"\n")
-
-
-def plain_help(prog: str) -> argparse.HelpFormatter:
-    """Returns the writer of a program's help, in 80 columns. (To know the terminal's, argparse
-    loads 1 MB at each start.)"""
-    return argparse.RawDescriptionHelpFormatter(prog, width=78)

@@ -2,18 +2,19 @@
 
 A neighbor's text is octets, mostly UTF-8. Shows have them escaped; `shown_octets` returns them.
 """
-from __future__ import annotations
-
+# no `annotations` of __future__: see agent/shown.py
 import unicodedata
+from functools import lru_cache
 from typing import Any, Dict, NamedTuple, Optional
 
 from .agent.escapes import shown_text
 from .agent.show import unescaped
 
 CUT = "…"
-MOST_MARKS = 2  # that stand above or below one letter
-# what a terminal shows as nothing although it is printable: fillers, joiners, variation selectors,
-# and the empty pattern of Braille
+MOST_MARKS = 2  # above or below one letter
+MOST_LETTERS = 4096  # that are looked up once
+# invisible on a terminal, although printable: fillers, joiners, variation selectors, and the empty
+# pattern of Braille
 HIDDEN = ((0x034F, 0x034F), (0x115F, 0x1160), (0x17B4, 0x17B5), (0x180B, 0x180F), (0x2800, 0x2800),
           (0x3164, 0x3164), (0xFE00, 0xFE0F), (0xFFA0, 0xFFA0), (0xE0100, 0xE01EF))
 
@@ -48,8 +49,7 @@ def shown_octets(shown: str) -> bytes:
 
 
 def readable(shown: str) -> str:
-    """Returns a text of a show for people: what it was before it was escaped, as far as a terminal
-    may show it."""
+    """Returns a text of a show for people: not escaped, except for what a terminal may not show."""
     return printable(shown_octets(shown).decode("utf-8", "surrogateescape"))
 
 
@@ -59,23 +59,25 @@ def readable_octets(octets: bytes) -> str:
 
 
 def printable(text: str) -> str:
-    """Returns the text with all escaped that controls a terminal, hides or turns the direction of
-    writing: what is left is letters, signs and the space."""
+    """Returns the text with everything escaped that controls a terminal, is invisible or changes
+    the direction of writing. What is left is letters, signs and the space."""
     if text.isascii() and text.isprintable():
         return text
     parts = []
-    marks = MOST_MARKS  # none is allowed at the beginning
+    marks = MOST_MARKS  # the text may not begin with one
     for letter in text:
         marks = marks + 1 if is_mark(letter) else 0
         parts.append(letter if is_shown(letter) and marks <= MOST_MARKS else escaped(letter))
     return "".join(parts)
 
 
+@lru_cache(MOST_LETTERS)
 def is_mark(letter: str) -> bool:
     """Returns whether it is written above, below or around the letter before it."""
     return unicodedata.category(letter) in ("Mn", "Me")
 
 
+@lru_cache(MOST_LETTERS)
 def is_shown(letter: str) -> bool:
     """Returns whether a terminal shows something for it, and does nothing else."""
     number = ord(letter)
@@ -88,7 +90,7 @@ def escaped(letter: str) -> str:
 
 
 def width_of(text: str) -> int:
-    """Returns the columns that a printable text takes on a terminal."""
+    """Returns how many columns a printable text has on a terminal."""
     if text.isascii():
         return len(text)
     return sum(columns_of(letter) for letter in text)
@@ -102,7 +104,7 @@ def columns_of(letter: str) -> int:
 
 
 def cut(text: str, width: int) -> str:
-    """Returns the text, or what fits of it into so many columns with a mark at its end."""
+    """Returns the text. If it is wider than this, it is cut and ends with a mark."""
     if width_of(text) <= width:
         return text
     room = max(width - 1, 0)
@@ -113,12 +115,12 @@ def cut(text: str, width: int) -> str:
 
 
 def padded(text: str, width: int) -> str:
-    """Returns the text with spaces behind it, up to so many columns."""
+    """Returns the text, padded with spaces to this width."""
     return text + " " * (width - width_of(text))
 
 
 def wrapped(text: str, width: int) -> list[str]:
-    """Returns the text in lines of at most so many columns, broken between words if possible."""
+    """Returns the text in lines of at most this width, broken between words if possible."""
     lines = [""]
     for word in text.split(" "):
         joined = f"{lines[-1]} {word}" if lines[-1] else word
@@ -131,7 +133,7 @@ def wrapped(text: str, width: int) -> list[str]:
 
 
 def pieces(word: str, width: int) -> list[str]:
-    """Returns a word in pieces of at most so many columns, or of one letter."""
+    """Returns a word in pieces of at most this width, or of one letter."""
     found = [""]
     for letter in word:
         if found[-1] and width_of(found[-1]) + columns_of(letter) > width:

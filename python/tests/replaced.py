@@ -1,4 +1,4 @@
-"""For tests: an lldpa-live with neighbors whose table must stay while its agent is replaced."""
+"""For tests: an lldpa-live with neighbors, whose table must stay while another agent follows."""
 
 from __future__ import annotations
 
@@ -9,10 +9,10 @@ from pathlib import Path
 from typing import Optional
 
 from lldpa import Neighbor, read_show
-from lldpa.live.senders import tlvs_of
 from patience import eventually
 from running_live import Live, OnLinks
 from served import numbered, tlv
+from wires import tlvs_of
 
 LONG = 600  # seconds that frames of these tests last
 
@@ -42,6 +42,9 @@ class Replaced(OnLinks):
         for number in (3, 1, 2):
             self.peers[0].send(numbered(number, LONG + number, tlv(5, b"sw%d" % number)))
             self.assertTrue(eventually(lambda: f"came: sw{number}" in live.errors()))
+            told = live.seconds_told()
+            # pylint: disable-next=cell-var-from-loop
+            self.assertTrue(eventually(lambda: live.seconds_told() > told))
         self.peers[1].send(numbered(9, LONG))
         self.assertTrue(eventually(lambda: live.neighbors("eth1") == 1))
         return live

@@ -53,16 +53,17 @@ def replayed(log: Path, line: str) -> Optional[list[str]]:
     return [one for one in answers(log, before) if one.startswith("lldp.")]
 
 
-def sent(folder: Path, port: str) -> list[bytes]:
+def sent(folder: Path, port: str, source: bytes) -> list[bytes]:
     """Returns the frames that a port sends in a replay of each file of a folder, in their order,
-    without those that it sends during the head of a file."""
+    without those that it sends during the head of a file, from the address of its interface."""
     frames: list[str] = []
     for log in sorted(folder.iterdir(), key=lambda path: path.stat().st_mtime_ns):
         text = log.read_text()
         clock = CLOCK.search(text)
         in_head = len(answers(log, text[:clock.start()])) if clock else 0
         frames += answers(log, text)[in_head:]
-    return [bytes.fromhex(line.split()[2]) for line in frames if line.startswith(f"tx {port} ")]
+    octets = [bytes.fromhex(line.split()[2]) for line in frames if line.startswith(f"tx {port} ")]
+    return [one[:6] + source + one[12:] for one in octets]
 
 
 def differing(folder: Path, moments: Moments) -> list[str]:

@@ -5,16 +5,12 @@ from __future__ import annotations
 import array
 import contextlib
 import fcntl
-import itertools
 import os
-import queue
 import shutil
 import signal
 import socket
 import subprocess
-import sys
 import termios
-import threading
 import time
 import unittest
 from pathlib import Path
@@ -24,14 +20,18 @@ from lldpa import Refused
 from lldpa.client import Client
 
 from patience import SECONDS, eventually
-from served import PROGRAM, REPOSITORY
+from served import REPOSITORY
 from wires import Peer, Wires, inside
 
 Stream = Union[IO[bytes], socket.socket]
-PYTHON = "/usr/bin/python3" if os.access("/usr/bin/python3", os.X_OK) else sys.executable
-LIVE = [PYTHON, str(REPOSITORY / "bin" / "lldpa-live")]
-on_links = unittest.skipUnless(os.geteuid() == 0 and shutil.which("ip"),
-                               "links want root and ip, to make network namespaces")
+LIVE = os.environ.get("LLDPA_LIVE") or str(REPOSITORY / "rust" / "live" / "out" / "lldpa-live")
+is_built = unittest.skipUnless(os.access(LIVE, os.X_OK),
+                               "there is no lldpa-live: tools/release/live.sh builds it")
+on_links = unittest.skipUnless(
+    os.geteuid() == 0 and shutil.which("ip") and os.access(LIVE, os.X_OK),
+    "links want root, ip, and lldpa-live, which tools/release/live.sh builds")
+
+NO_ADDRESS = "there is no IPv4 address to announce\n"
 
 # what runs in the background of a shell, or by nohup, ignores these, and so would lldpa-live
 signal.signal(signal.SIGINT, signal.default_int_handler)
@@ -55,27 +55,17 @@ def is_full(stream: Stream) -> bool:
 class Live:
     """A running lldpa-live."""
 
-    def __init__(self, wires: Wires, *words: str, side: str = "here", program: str = PROGRAM,
-                 before: Sequence[str] = (), reads_output: bool = True, awaits: bool = True,
-                 **options: Any) -> None:
+    def __init__(self, wires: Wires, *words: str, side: str = "here", before: Sequence[str] = (),
+                 awaits: bool = True, **options: Any) -> None:
         self.control = os.path.join(wires.folder, f"control-{side}-{time.monotonic_ns()}")
         self.errors_path = Path(self.control + ".errors")
-        self.lines: queue.Queue[str] = queue.Queue()
         own = [] if "--control" in words else ["--control", self.control]
         with inside(getattr(wires, side)), self.errors_path.open("wb") as errors:
-            streams = {"stdin": subprocess.PIPE, "stdout": subprocess.PIPE, "stderr": errors}
-            self.process = subprocess.Popen(
-                [*before, *LIVE, "--program", program, *own, *words], **{**streams, **options})
-        if reads_output and self.process.stdout is not None:
-            threading.Thread(target=self.read_output, daemon=True).start()
+            streams = {"stdin": subprocess.DEVNULL, "stdout": subprocess.PIPE, "stderr": errors}
+            self.process = subprocess.Popen([*before, LIVE, *own, *words],
+                                            **{**streams, **options})
         if awaits and not eventually(self.answers):
             raise AssertionError(f"no lldpa-live: {self.errors()}")
-
-    def read_output(self) -> None:
-        """Keeps the lines of standard output."""
-        assert self.process.stdout is not None
-        for line in self.process.stdout:
-            self.lines.put(line.decode().rstrip("\n"))
 
     def answers(self) -> bool:
         """Returns whether its agent runs, or it has ended."""
@@ -100,43 +90,43 @@ class Live:
             return refused.text
         return ""
 
-    def say(self, line: str) -> None:
-        """Writes a line to its standard input."""
-        assert self.process.stdin is not None
-        self.process.stdin.write(line.encode() + b"\n")
-        self.process.stdin.flush()
-
-    def told(self, line: str) -> list[str]:
-        """Returns what it answers on standard output."""
-        self.say(line)
-        self.say("no such command")
-        lines = iter(lambda: self.lines.get(timeout=SECONDS), None)
-        return list(itertools.takewhile(lambda one: "unknown command: no (" not in one, lines))
+    def told(self, what: str, key: str) -> str:
+        """Returns the value that it gives a key in its answer."""
+        return dict(line.split("=", 1) for line in self.ask(what))[key]
 
     def neighbors(self, port: str = "eth0") -> int:
         """Returns how many neighbors a port has."""
-        shown = dict(line.split("=", 1) for line in self.ask("show neighbors"))
-        return int(shown[f"lldp.{port}.neighbors"])
+        return int(self.told("show neighbors", f"lldp.{port}.neighbors"))
 
-    def errors(self) -> str:
-        """Returns what it has said on standard error."""
-        return self.errors_path.read_text()
+    def number(self, key: str) -> int:
+        """Returns a number that it gives of itself."""
+        return int(self.told("live", f"live.{key}"))
 
     def seconds_told(self) -> int:
         """Returns how many seconds its agent was given."""
-        return int(dict(line.split("=", 1) for line in self.ask("live"))["live.seconds"])
+        return self.number("seconds")
 
-    def says(self, text: str) -> bool:
+    def errors(self) -> str:
+        """Returns what it has said on standard error, but that this host has no address."""
+        return "".join(line for line in self.said().splitlines(True) if NO_ADDRESS not in line)
+
+    def said(self) -> str:
+        """Returns all that it has said on standard error."""
+        return self.errors_path.read_text()
+
+    def says(self, text: str, seconds: float = SECONDS) -> bool:
         """Returns whether it comes to say that on standard error."""
-        return bool(eventually(lambda: text in self.errors()))
+        return bool(eventually(lambda: text in self.errors(), seconds))
 
-    def agent(self) -> int:
-        """Returns the process of its agent."""
-        pid = self.process.pid
-        children = Path(f"/proc/{pid}/task/{pid}/children").read_text().split()
-        own = Path(f"/proc/{pid}/cmdline").read_bytes()
-        return next(int(child) for child in children
-                    if Path(f"/proc/{child}/cmdline").read_bytes() != own)
+    def resident(self, kind: str = "VmRSS") -> int:
+        """Returns its resident set, or with VmHWM the greatest it had, in KiB."""
+        status = Path(f"/proc/{self.process.pid}/status").read_text()
+        return int(status.split(f"{kind}:")[1].split()[0])
+
+    def ended(self, number: int = signal.SIGTERM) -> Optional[int]:
+        """Ends it by a signal, and returns its status."""
+        self.signal(number)
+        return self.ends()
 
     def signal(self, number: int) -> None:
         """Sends it a signal."""
@@ -151,18 +141,12 @@ class Live:
     def close(self) -> None:
         """Ends it, whatever state it is in."""
         if self.process.poll() is None:
-            with contextlib.suppress(OSError, StopIteration):
-                os.kill(self.agent(), signal.SIGCONT)
             self.signal(signal.SIGCONT)
-            self.signal(signal.SIGTERM)
-            if self.ends() is None:
-                self.process.kill()
-                self.process.wait()
-        for stream in (self.process.stdin, self.process.stdout):
-            if stream is not None:
-                with contextlib.suppress(OSError):
-                    stream.close()
-        if "Traceback" in self.errors():
+            if self.ended() is None:
+                self.ended(signal.SIGKILL)
+        if self.process.stdout is not None:
+            self.process.stdout.close()
+        if "panicked" in self.errors():
             raise AssertionError(self.errors())
 
 

@@ -1,18 +1,18 @@
-"""For tests: a control socket with a real agent behind it, served in a thread of its own."""
+"""For tests: a control socket with a real agent behind it, as lldpa-live has one."""
 
 from __future__ import annotations
 
-import asyncio
 import os
 import shutil
+import socket
 import tempfile
 import threading
+from contextlib import suppress
 from pathlib import Path
-from typing import Any, Coroutine, Optional
+from typing import Any, Sequence
 
-from lldpa import AsyncAgent
+from lldpa import Agent, Refused
 from lldpa.client import Client
-from lldpa.live.server.server import Server
 
 REPOSITORY = Path(__file__).resolve().parents[2]
 PROGRAM = os.environ.get("LLDPA") or str(REPOSITORY / "crates" / "lldpa" / "out" / "lldpa")
@@ -24,18 +24,22 @@ LIVE_LINES = b"""\
 live.began=2026-11-25T09:30:00Z
 live.agent=running
 live.seconds=77
+live.settings-refused=2
+live.ports-refused=1
 live.log=on
 live.log-lines-lost=5
 live.eth0.interface=present
 live.eth0.link=up
 live.eth0.kernel-drops=7
 live.eth0.limit-drops=6
+live.eth0.other-frames=8
 live.eth0.unsent=4
 live.eth0.left-out=3
 live.eth1.interface=awaited
 live.eth1.link=down
 live.eth1.kernel-drops=0
 live.eth1.limit-drops=0
+live.eth1.other-frames=0
 live.eth1.unsent=0
 live.eth1.left-out=0
 """.splitlines()
@@ -59,58 +63,94 @@ def numbered(number: int, ttl: int = 120, *further: bytes) -> bytes:
 
 
 class Served:
-    """A server at `path`, with a real agent of the ports eth0 and eth1 behind it."""
+    """A control socket at `path`, with a real agent behind it."""
 
-    def __init__(self, group: Optional[str] = None, **options: Any) -> None:
+    def __init__(self, ports: Sequence[str] = ("eth0", "eth1"), **options: Any) -> None:
         self.folder = tempfile.mkdtemp()
         os.chmod(self.folder, 0o755)
         self.path = os.path.join(self.folder, "control")
-        self.loop = asyncio.new_event_loop()
-        self.thread = threading.Thread(target=self.loop.run_forever, daemon=True)
-        self.thread.start()
-        self.hangs = False  # whether the agent is silent, which its first question shows
-        self.call(self.open(group, options))
-
-    async def open(self, group: Optional[str], options: Any) -> None:
-        """Starts agent and server."""
+        self.waits = False  # whether the agent waits for an interface from its first question on
         self.asked: list[bytes] = []
         self.hidden: set[bytes] = set()  # questions that are answered with nothing
         self.live_lines = LIVE_LINES
-        self.agent = await AsyncAgent.start(["eth0", "eth1"], PROGRAM, receive_only=True, **options)
-        self.server = Server(self.path, self.ask, group)
-        await self.server.start()
+        self.agent = Agent.start(ports, PROGRAM, receive_only=True, **options)
+        self.asking = threading.Lock()
+        self.start()
 
-    async def ask(self, line: bytes) -> list[bytes]:
+    def start(self) -> None:
+        """Begins to serve."""
+        self.listener = socket.socket(socket.AF_UNIX)
+        self.listener.bind(self.path)
+        self.listener.listen(100)
+        self.clients: list[socket.socket] = []
+        threading.Thread(target=self.accept, args=[self.listener], daemon=True).start()
+
+    def accept(self, listener: socket.socket) -> None:
+        """Serves each client that comes."""
+        with suppress(OSError):
+            while True:
+                client, _ = listener.accept()
+                self.clients.append(client)
+                threading.Thread(target=self.serve, args=[client], daemon=True).start()
+
+    def serve(self, client: socket.socket) -> None:
+        """Answers what a client asks."""
+        with suppress(OSError), client, client.makefile("rb") as lines:
+            for line in lines:
+                answer = self.answer(line.rstrip(b"\n"))
+                client.sendall(b"".join(one + b"\n" for one in [b"=%d" % len(answer), *answer]))
+
+    def answer(self, line: bytes) -> list[bytes]:
         """Does what an lldpa-live does with a question."""
         self.asked.append(line)
         if line in self.hidden:
             return []
-        if self.hangs and line.startswith(b"show"):
-            self.live_lines = [*LIVE_LINES, b"live.agent=silent"]
-            return [b"error: the agent does not answer"]
+        if line.split(b" ")[0] in (b"tick", b"rx", b"up", b"down"):
+            return [b"error: for lldpa-live alone"]
+        if self.waits and line.startswith(b"show"):
+            self.live_lines = [*LIVE_LINES, b"live.agent=waiting"]
+            return [b"error: waiting for an interface: eth0"]
         if line == b"live":
             return self.live_lines
-        return [answer.encode() for answer in await self.agent.ask(line)]
+        try:
+            return [text.encode() for text in self.ask(line)]
+        except Refused as refused:
+            return [b"error: " + refused.text.encode()]
 
-    def call(self, coroutine: Coroutine[Any, Any, Any]) -> Any:
-        """Runs a coroutine in the loop of the server."""
-        return asyncio.run_coroutine_threadsafe(coroutine, self.loop).result(30)
+    def ask(self, line: bytes) -> list[str]:
+        """Asks the agent itself."""
+        with self.asking:
+            return self.agent.ask(line)
 
     def frame(self, port: str, octets: bytes) -> None:
         """Gives the agent a frame."""
-        self.call(self.agent.frame(port, octets))
+        with self.asking:
+            self.agent.frame(port, octets)
+
+    def tick(self, seconds: int) -> None:
+        """Lets so many seconds pass."""
+        with self.asking:
+            self.agent.tick(seconds)
 
     def client(self) -> Client:
         """Opens a new conversation."""
         return Client(self.path)
 
+    def stop(self) -> None:
+        """Ends every conversation, and answers nobody any more."""
+        with suppress(OSError):
+            self.listener.shutdown(socket.SHUT_RDWR)
+        self.listener.close()
+        os.unlink(self.path)
+        for client in self.clients:
+            with suppress(OSError):
+                client.shutdown(socket.SHUT_RDWR)
+
     def close(self) -> None:
-        """Ends server, agent and loop."""
-        self.call(self.server.close())
-        self.call(self.agent.close())
-        self.loop.call_soon_threadsafe(self.loop.stop)
-        self.thread.join()
-        self.loop.close()
+        """Ends all."""
+        if os.path.exists(self.path):
+            self.stop()
+        self.agent.close()
         shutil.rmtree(self.folder)
 
     def __enter__(self) -> Served:

@@ -15,7 +15,7 @@ from patience import by_the_clock, eventually
 from real_lldpd import Lldpd, beside_lldpd
 from replaced import Replaced, address_in
 from replays import Moments, differing, sent
-from running_live import on_links
+from running_live import NO_ADDRESS, on_links
 from wires import Peer, inside, ip
 
 SECONDS_TO_PEERS = 8.0
@@ -86,7 +86,7 @@ class AtPeers(Replaced):
         self.assertTrue(eventually(lambda: "lldp-deleted.peer1" in self.watched.read_text()))
         self.assertEqual(differing(self.log, moments), [])
         for port, peer in zip(("eth0", "eth1"), self.peers):
-            self.assertEqual(frames_of(peer), sent(self.log, port))
+            self.assertEqual(frames_of(peer), sent(self.log, port, self.wires.address(port)))
 
     @by_the_clock
     def test_an_address_of_a_port_is_at_the_peers(self) -> None:
@@ -128,6 +128,11 @@ class Addresses(Replaced):
         """Gives this host an address, or removes it."""
         ip("-n", self.wires.here, "address", word, f"{address}/24", "dev", interface)
 
+    def can_make(self, name: str, *words: str) -> bool:
+        """Makes an interface, and returns whether this kernel has its kind."""
+        command = ["ip", "-n", self.wires.here, "link", "add", "name", name, *words]
+        return subprocess.run(command, check=False, capture_output=True).returncode == 0
+
     def test_an_address_that_comes_changes_and_goes_is_at_the_peer(self) -> None:
         live = self.begun()
         self.assertIsNone(address_in(self.peers[0].hears() or b""))
@@ -160,28 +165,51 @@ class Addresses(Replaced):
         ip("-n", here, "link", "add", "br0", "type", "bridge")
         ip("-n", here, "link", "set", "br0", "up")
         ip("-n", here, "link", "set", "eth0", "master", "br0")
+        self.add("192.0.2.8", "lo")
         self.begun()
+        self.assertTrue(self.hears_address("192.0.2.8"))
         self.add("192.0.2.9", "br0")
         self.assertTrue(self.hears_address("192.0.2.9"))
         ip("-n", here, "link", "set", "eth0", "nomaster")
+        self.assertTrue(self.hears_address("192.0.2.8"))
+
+    def test_any_other_address_of_this_host_is_announced_in_a_fixed_order(self) -> None:
+        live, here = self.begun(), self.wires.here
+        made = [name for name, words in (
+            ("bridge0", ["type", "bridge"]), ("vlan5", ["link", "eth1", "type", "vlan", "id", "5"]),
+            ("mac0", ["link", "eth1", "type", "macvlan"]))
+            if self.can_make(name, *words)]
+        others = [*reversed(made), "lo"]  # each has a lower number than those before it
+        for place, name in enumerate(others, 1):
+            ip("-n", here, "link", "set", name, "up")
+            self.add(f"192.0.2.{place}", name)
+            self.assertTrue(self.hears_address(f"192.0.2.{place}"), name)
+        self.add("198.51.100.1", "eth1")
+        self.assertTrue(self.hears_address("198.51.100.1"))
+        self.add("198.51.100.1", "eth1", "del")
+        self.assertTrue(self.hears_address(f"192.0.2.{len(others)}"))
+        for place, name in enumerate(others, 1):
+            self.add(f"192.0.2.{place}", name, "del")
         self.assertTrue(self.hears_address(None))
+        self.assertTrue(eventually(lambda: live.said().count(NO_ADDRESS) == 2))
 
     def test_an_address_that_goes_again_within_two_seconds_changes_nothing(self) -> None:
         live = self.begun()
-        agent = live.agent()
         self.add("192.0.2.7")
         self.add("192.0.2.7", word="del")
         told = live.seconds_told()
         self.assertTrue(eventually(lambda: live.seconds_told() >= told + 4))
-        self.assertEqual(live.agent(), agent)
+        self.assertNotIn("the management address is", live.errors())
+        self.assertEqual(len(list(self.log.iterdir())), 1)  # another agent begins another file
 
     def test_an_address_that_was_given_or_refused_is_not_followed(self) -> None:
         for words in (["--no-management", "eth0"], ["eth0", "--", "--management", "192.0.2.1"]):
             live = self.live(*words)
-            agent = live.agent()
+            before = live.ask("show chassis")
             self.add("192.0.2.7")
             told = live.seconds_told()
             self.assertTrue(eventually(lambda: live.seconds_told() >= told + 4))
-            self.assertEqual(live.agent(), agent)
+            self.assertEqual(live.ask("show chassis"), before)
+            self.assertEqual(live.errors(), "")
             live.close()
             self.add("192.0.2.7", word="del")

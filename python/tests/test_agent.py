@@ -9,7 +9,6 @@ import subprocess
 import tempfile
 import tracemalloc
 import unittest
-from dataclasses import fields
 from pathlib import Path
 from typing import List, Optional, Tuple
 from unittest import mock
@@ -69,7 +68,7 @@ class Asked(unittest.TestCase):
             self.assertEqual(agent.ask("# nothing"), [])
             self.assertEqual(agent.ask(""), [])
             self.assertEqual(len(agent.ask("show neighbors")), 6)
-            self.assertEqual(len(agent.ask("show statistics")), 2 * len(fields(Counters)))
+            self.assertEqual(len(agent.ask("show statistics")), 2 * len(Counters._fields))
 
     def test_a_refused_line_is_told_with_its_text(self) -> None:
         with started() as agent:

@@ -165,7 +165,7 @@ class Damaged(unittest.TestCase):
 
     def test_no_captures(self) -> None:
         self.assertEqual(fault_of(b""), "it is empty")
-        self.assertIn("not a capture: octet 0 begins with 23 21 2f 62", fault_of(b"#!/bin/sh"))
+        self.assertIn("not a capture: it begins with 23 21 2f 62", fault_of(b"#!/bin/sh"))
         self.assertIn("compressed by xz: unpack it", fault_of(bytes.fromhex("fd377a585a00")))
         self.assertEqual(fault_of(b"\n\r"), "it ends at octet 2, inside the record at octet 0")
 

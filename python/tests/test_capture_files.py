@@ -58,8 +58,8 @@ class Files(FilesCase):
         self.assertEqual((out, status), (f"tick\n{RX}", 0))
         lines = said.splitlines()
         self.assertEqual(len(lines), 5 + 3 + 1)
-        self.assertEqual(lines[4], "lldpa-capture: a: frame 5 is passed over: it is tagged")
-        self.assertEqual(lines[5], "lldpa-capture: a: frame 20001 is passed over: it is truncated "
+        self.assertEqual(lines[4], "lldpa-capture: a: frame 5 is skipped: it is tagged")
+        self.assertEqual(lines[5], "lldpa-capture: a: frame 20001 is skipped: it is truncated "
                                    "to 30 of 99 octets")
         self.assertEqual(lines[8], "lldpa-capture: a: 19995 more such notes")
 
@@ -78,8 +78,9 @@ class Clocks(FilesCase):
         self.assertLess(time.monotonic() - begin, 5)
         self.assertEqual(done.stdout.splitlines()[:5],
                          [RX.strip(), "tick 65535", RX.strip(), "tick 2", RX.strip()])
-        self.assertEqual(done.stderr, "lldpa-capture: a: no packet came for 1699999995 s (was the "
-                                      "clock set?): 65535 are counted, and no neighbor is left\n")
+        self.assertEqual(done.stderr, "lldpa-capture: a: no packet for 1699999995 s (was the clock "
+                                      "set?): only 65535 are counted, after which no neighbor is "
+                                      "left\n")
         self.assertIn("lldp.eth0.ageouts=1\n", shown)
 
     def test_time_in_which_nothing_happens(self) -> None:

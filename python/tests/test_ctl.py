@@ -19,6 +19,7 @@ from typing import Sequence
 from asked import HOSTILE, Program
 from lldpa.client import Client
 from lldpa.organizational import organizational_object, said_by
+from lldpa.vlan import port_vlan_of
 from served import LIVE_LINES, CTL, REPOSITORY, frame, numbered, tlv
 
 
@@ -37,7 +38,7 @@ class Answers(Program):
         self.served.frame("eth0", numbered(1))
         for words in (["show", "neighbors"], ["show", "statistics"], ["show", "chassis"],
                       ["show", "configuration"], ["show neighbors"]):
-            answer = self.served.call(self.served.agent.ask(" ".join(words)))
+            answer = self.served.ask(" ".join(words).encode())
             self.assertEqual(self.run_ctl(*words).splitlines(), answer)
         lines = [one.decode() for one in LIVE_LINES]
         self.assertEqual(self.run_ctl("live").splitlines(), lines)
@@ -52,9 +53,15 @@ class Answers(Program):
         *table, modules = told.splitlines()
         self.assertIn("120", table[1])
         self.assertEqual({*modules.split()} & {
-            "asyncio", "calendar", "datetime", "ipaddress", "json", "subprocess", "tempfile",
-            "textwrap", "lldpa.client.details", "lldpa.client.metrics", "lldpa.organizational.med"},
-            set())
+            "argparse", "ast", "asyncio", "calendar", "dataclasses", "datetime", "dis", "inspect",
+            "ipaddress", "json", "locale", "subprocess", "tempfile", "textwrap",
+            "lldpa.client.details", "lldpa.client.metrics", "lldpa.organizational"}, set())
+
+    def test_the_vlan_of_the_table_is_the_one_of_the_details(self) -> None:
+        for tlvs in ([], ["0078"], ["0000"], ["0ffe"], ["0fff"], ["0078", "0078"], ["0078", "0079"],
+                     ["0078", "007800"], ["0078", "zz"], ["00"]):
+            org = [("0080c2.1", digits) for digits in tlvs]
+            self.assertEqual(port_vlan_of(org), said_by(org).pvid, tlvs)
 
     def test_a_port_alone(self) -> None:
         self.served.frame("eth1", numbered(1))
@@ -169,7 +176,7 @@ class Faults(Program):
         with socket.socket(socket.AF_UNIX, socket.SOCK_STREAM) as silent:
             silent.bind(path)
             silent.listen()
-            with Client(path, seconds=0.2) as client, self.assertRaises(socket.timeout):
+            with Client(path, seconds=0.2) as client, self.assertRaises(TimeoutError):
                 client.ask("show chassis")
 
     def test_a_client_for_whom_there_is_no_room_waits_for_it(self) -> None:
@@ -178,7 +185,7 @@ class Faults(Program):
             full.bind(path)
             full.listen(0)
             stack.enter_context(Client(path))
-            with self.assertRaises(socket.timeout):
+            with self.assertRaises(TimeoutError):
                 Client(path, seconds=0.2)
             accepting = threading.Timer(0.2, lambda: stack.enter_context(full.accept()[0]))
             accepting.start()

@@ -2,7 +2,6 @@
 
 from __future__ import annotations
 
-import os
 import queue
 import re
 import shutil
@@ -25,7 +24,7 @@ class OnARealLink(OnLinks):
 
     def start_live(self, *words: str) -> Live:
         """Starts an lldpa-live on both links."""
-        return self.live("--stay", *words, "eth0", "eth1", "--", "--hostname", "lab-1")
+        return self.live(*words, "eth0", "eth1", "--", "--hostname", "lab-1")
 
     def ctl(self, live: Live, *words: str) -> str:
         """Returns what lldpa-ctl prints."""
@@ -120,17 +119,6 @@ class OnARealLink(OnLinks):
         self.wires.remove_link("peer0")
         self.assertTrue(says("1 neighbor on 2 ports.", "eth0: no such interface",
                              "eth1 has no link"))
-
-    @by_the_clock
-    def test_a_silent_agent_is_not_waited_for(self) -> None:
-        live = self.start_live()
-        os.kill(live.agent(), signal.SIGSTOP)
-        began = time.monotonic()
-        told = subprocess.run([CTL, "--control", live.control], check=False, capture_output=True,
-                              text=True)
-        self.assertEqual((told.returncode, told.stdout, told.stderr),
-                         (1, "", "lldpa-ctl: the agent does not answer\n"))
-        self.assertLess(time.monotonic() - began, 10)
 
     def test_what_is_configured_goes_out(self) -> None:
         peer = self.peer("peer0")

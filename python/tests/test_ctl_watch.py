@@ -55,11 +55,11 @@ class Watching(Program):
                          r"chassis\.name: sw[ -~]* -> b; port\.descr: nothing -> up\n$")
         self.served.frame("eth1", numbered(1, 0))
         self.assertRegex(self.line(child), rf"^{TIME} eth1 gone: 02:00:00:00:00:01 p1\n$")
-        self.served.call(self.served.agent.tick(30))
+        self.served.tick(30)
         self.served.frame("eth0", numbered(2, 90, tlv(5, b"b"), tlv(4, b"up")))
         assert child.stdout is not None
         self.assertFalse(select.select([child.stdout], [], [], 1.2)[0], "nothing was new")
-        self.served.call(self.served.agent.tick(90))
+        self.served.tick(90)
         self.assertRegex(self.line(child), rf"^{TIME} eth0 gone: b p2\n$")
         self.assertLess(mostly(self.times), 1)
 
@@ -80,10 +80,10 @@ class Watching(Program):
 
     def test_it_goes_on_after_a_silence(self) -> None:
         child = self.watch()
-        self.served.hangs = True
+        self.served.waits = True
         self.served.asked.clear()
         self.assertTrue(eventually(lambda: self.served.asked.count(b"show neighbors") > 1))
-        self.served.hangs = False
+        self.served.waits = False
         self.served.frame("eth0", numbered(2))
         self.assertRegex(self.line(child), r" eth0 came: [ -~]* p2\n$")
 
@@ -93,8 +93,8 @@ class Watching(Program):
         self.assertEqual((child.communicate(), child.returncode), (("", ""), 130))
         self.served.asked.clear()
         child = self.watch()
-        self.served.call(self.served.server.close())
+        self.served.stop()
         said = child.communicate(timeout=SECONDS)
         self.assertEqual((said, child.returncode),
                          (("", "lldpa-ctl: lldpa-live has ended the connection\n"), 1))
-        self.served.call(self.served.server.start())
+        self.served.start()

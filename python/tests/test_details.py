@@ -4,7 +4,6 @@ from __future__ import annotations
 
 import json
 import unittest
-from dataclasses import replace
 
 from lldpa import Neighbor, Port
 from lldpa.client.as_json import neighbor_object
@@ -57,7 +56,7 @@ class ForPeople(unittest.TestCase):
                          "98 s of 120 s left$")
 
     def setUp(self) -> None:
-        self.told = neighbor_object(replace(SWITCH, said=EACH), SINCE)
+        self.told = neighbor_object(SWITCH._replace(said=EACH), SINCE)
 
     def test_it_is_plain_and_whole(self) -> None:
         self.assertEqual(json.loads(json.dumps(self.told)), self.told)
@@ -68,7 +67,7 @@ class ForPeople(unittest.TestCase):
                          [{"kind": key[4:], "octets": octets} for key, octets in EACH])
 
     def test_nothing_is_said(self) -> None:
-        told = neighbor_object(replace(SWITCH, said=()))
+        told = neighbor_object(SWITCH._replace(said=()))
         self.assertEqual({key: told[key] for key in [*told][[*told].index("vlan"):]}, {
             "vlan": {"pvid": None, "names": [], "protocol_vlans": [], "protocols": [],
                      "usage_digest": None, "management": None},
@@ -116,7 +115,7 @@ class ForPeople(unittest.TestCase):
                  "protocol": 3260}]})
 
     def test_med(self) -> None:
-        med = neighbor_object(replace(SWITCH, said=ORG))["med"]
+        med = neighbor_object(SWITCH._replace(said=ORG))["med"]
         self.assertEqual(med["capabilities"], ["capabilities", "policy", "location", "MDI/PSE",
                                                "MDI/PD", "inventory"])
         self.assertEqual(med["class"], 3)
@@ -136,7 +135,7 @@ class ForPeople(unittest.TestCase):
         self.assertEqual(med["inventory"], dict.fromkeys(kinds, "rev B"))
 
     def test_texts(self) -> None:
-        one = replace(SWITCH, chassis=Identifier("local", "\\xff"), said=(
+        one = SWITCH._replace(chassis=Identifier("local", "\\xff"), said=(
             ("chassis.name", "caf\\xc3\\xa9 \\\\"), ("chassis.descr", "caf\\xe9"),
             ("org.0080c2.3", "007801e9"), ("org.0012bb.5", "e9"), ("org.00005e.1", "e9"),
             ("org.0012bb.3", "0206 02e941 0601e9".replace(" ", ""))))

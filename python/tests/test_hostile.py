@@ -10,11 +10,9 @@ import time
 import unittest
 from contextlib import suppress
 from pathlib import Path
-from unittest import mock
 
-from lldpa.client import connection
 from lldpa.client.connection import Client, Gone
-from patience import by_the_clock, eventually
+from patience import SECONDS, by_the_clock, eventually
 from served import CTL, REPOSITORY
 from support import FilesCase
 
@@ -57,25 +55,43 @@ class Hostile(FilesCase):
                              "\\xe2\\x80\\xae\n")
 
     @by_the_clock
-    def test_an_octet_a_second_does_not_hold_it(self) -> None:
-        path = self.answers(b"=1\n", *[b"a"] * 600, pause=0.1)
-        with Client(path, seconds=1) as client, self.assertRaises(socket.timeout):
-            client.ask("update")
-        path = self.answers(b"=9\n", *[b"a\n"] * 9, pause=0.25)
-        with Client(path, seconds=2) as client:
+    def test_one_deadline_holds_for_the_whole_answer(self) -> None:
+        for octets in ([b"=1\n", *[b"a"] * 600], [b"=99999999999\n", *[b"a\n"] * 600]):
+            with Client(self.answers(*octets, pause=0.1), seconds=1) as client:
+                begin = time.monotonic()
+                with self.assertRaisesRegex(TimeoutError, "^no complete answer within 1 seconds$"):
+                    client.ask("update")
+                self.assertLess(time.monotonic() - begin, 2)
+        with Client(self.answers(b"=9\n", *[b"a\n"] * 9, pause=0.1), seconds=SECONDS) as client:
             self.assertEqual(client.ask("update"), ["a"] * 9)
 
+    @by_the_clock
+    def test_metrics_are_written_although_an_answer_drips(self) -> None:
+        path = self.answers(b"=99999999999\n", *[b"live.seconds=1\n"] * 600, pause=0.1)
+        ran = subprocess.run([CTL, "--control", path, "metrics"], capture_output=True, text=True,
+                             check=False)
+        self.assertEqual((ran.stderr, ran.returncode), (
+            f"lldpa-ctl: {path}: no complete answer within 10 seconds\n", 1))
+        self.assertEqual(ran.stdout.splitlines()[-1], "lldpa_up 0")
+
     def test_neither_a_line_nor_an_answer_is_without_end(self) -> None:
-        self.assertEqual(connection.MOST_OCTETS, 128 * 2**20)
-        patch = mock.patch.object(connection, "MOST_OCTETS", 1_000_000)
-        self.addCleanup(patch.stop)
-        patch.start()
         for octets, text in ((b"=1\n" + b"a" * 70_000, "a line of more than 64 kB"),
-                             (b"=99999999\n" + b"\n" * 70_000, "more than 128 MB"),
                              (b"=" + b"9" * 5000 + b"\n", "not an answer of lldpa-live")):
             with Client(self.answers(octets, pause=30)) as client:
                 with self.assertRaisesRegex(Gone, text):
                     client.ask("update")
+
+    def test_an_answer_of_60_megabytes_is_refused(self) -> None:
+        said = b"".join(b"lldp.eth0.1.org.00120f.%d=00\n" % number for number in range(100))
+        many = [b"=99999999999\n", b"lldp.eth0.neighbors=1\n", *[said] * (60 * 2**20 // len(said))]
+        for words in ([CTL, "--control"], [LLDPCTL, "-u"]):
+            began = os.times().children_user
+            ran = subprocess.run([*words, self.answers(b"".join(many))], capture_output=True,
+                                 text=True, check=False)
+            self.assertEqual((ran.stdout, ran.returncode), ("", 1))
+            self.assertEqual(ran.stderr.partition(": ")[2],
+                             "lldpa-live answers with more than 25 MB\n")
+            self.assertLess(os.times().children_user - began, 10)
 
     @unittest.skipUnless(os.geteuid() == 0, "only root can give up root")
     def test_root_is_given_up_before_anything_is_read(self) -> None:

@@ -3,42 +3,28 @@
 from __future__ import annotations
 
 import os
-import socket
+import shutil
 import stat
 import subprocess
 import sys
 import unittest
+from pathlib import Path
+from unittest import mock
 
-from lldpa.live.log.files import open_folder
-from lldpa.live.server.listening import hand_over
-
-from served import REPOSITORY
+from running_live import LIVE, OnLinks, on_links
+from patience import eventually
+from served import REPOSITORY, numbered
 from support import FilesCase
 
-# gives up all rights, and prints the capabilities that it has in a user namespace of its own
+# makes a user namespace as nobody without any capability, and prints those that it has there
 NAMESPACE = """
-import ctypes
-from lldpa.live.privileges import give_up
-give_up(None)
-CLONE_NEWUSER = 0x10000000
-if ctypes.CDLL(None).unshare(CLONE_NEWUSER):
+import ctypes, os
+libc = ctypes.CDLL(None)
+libc.prctl(38, 1, 0, 0, 0)
+os.setgroups([]), os.setresgid(65534, 65534, 65534), os.setresuid(65534, 65534, 65534)
+if libc.unshare(0x10000000):
     raise SystemExit(77)
 print(next(line for line in open("/proc/self/status") if line.startswith("CapEff")).split()[1])
-"""
-
-KEYS = """
-import ctypes, os, sys
-from lldpa.live.privileges import SYS_KEYCTL, give_up
-libc = ctypes.CDLL(None, use_errno=True)
-keyctl = SYS_KEYCTL[os.uname().machine]
-def finds():
-    return libc.syscall(keyctl, 10, -3, b"user", b"lldpa-test", 0)
-libc.syscall(keyctl, 1, None)
-if libc.syscall(keyctl - 2, b"user", b"lldpa-test", b"secret", 6, -3) < 0:
-    sys.exit(77)
-assert finds() > 0
-give_up(None)
-sys.exit(0 if finds() < 0 and ctypes.get_errno() == 126 else 1)
 """
 
 
@@ -50,70 +36,74 @@ class OthersFolders(FilesCase):
         mark = self.folder / "mark"
         for name in ("argparse", "getopt", "json", "sitecustomize", "socket"):
             (self.folder / f"{name}.py").write_text(f"open({str(mark)!r}, 'w')\n")
-        for program in (REPOSITORY / "bin").iterdir():
+        for program in {*(REPOSITORY / "bin").iterdir()} - {REPOSITORY / "bin" / "lldpa-live"}:
             subprocess.run([str(program), "--help"], cwd=self.folder, check=True,
                            env={**os.environ, "PYTHONPATH": str(self.folder)}, capture_output=True)
             self.assertFalse(mark.exists(), program)
 
-    @unittest.skipIf(os.geteuid(), "it wants root")
+
+@on_links
+class OfRoot(OnLinks):
+    """Rights of root are not redirected, and nothing of it is kept."""
+
+    def setUp(self) -> None:
+        super().setUp()
+        self.folder = Path(self.wires.folder)
+        self.folder.chmod(0o755)
+
     def test_a_link_to_a_folder_is_followed_in_a_folder_of_the_own_user_alone(self) -> None:
         target, theirs = self.folder / "target", self.folder / "theirs"
         for folder in (target, theirs):
             folder.mkdir()
         for link in (self.folder / "log", theirs / "log"):
             link.symlink_to(target)
-        os.close(open_folder(str(self.folder / "log"), None))
         for change in (lambda: os.chown(theirs, 12345, -1), lambda: theirs.chmod(0o777)):
             os.chown(theirs, 0, -1)
             change()
-            with self.assertRaises(OSError):
-                open_folder(str(theirs / "log"), 12345)
+            live = self.live("--log", str(theirs / "log"), "eth0")
+            self.assertEqual(live.ends(), 1)
             self.assertEqual(target.stat().st_uid, 0)
+        self.live("--log", str(self.folder / "log"), "eth0")
+        self.assertEqual(target.stat().st_uid, 65534)
+        self.assertTrue(eventually(lambda: list(target.iterdir())))
 
-    def test_a_group_is_handed_a_socket_and_nothing_else(self) -> None:
-        path, target = str(self.folder / "control"), self.folder / "target"
-        target.write_text("")
-        target.chmod(0o600)
-        os.symlink(target, path)
-        with self.assertRaises(OSError):
-            hand_over(path, os.getegid())
-        with self.assertRaises(OSError):
-            hand_over(str(target), os.getegid())
-        self.assertEqual(stat.S_IMODE(target.stat().st_mode), 0o600)
-        os.unlink(path)
-        with socket.socket(socket.AF_UNIX) as one, socket.socket(socket.AF_UNIX) as other:
-            other.bind(path + "2")
-            os.chmod(path + "2", 0o600)
-            os.symlink(path + "2", path)
-            with self.assertRaises(OSError):
-                hand_over(path, os.getegid())
-            os.unlink(path)
-            one.bind(path)
-            hand_over(path, os.getegid())
-        self.assertEqual(stat.S_IMODE(os.stat(path).st_mode), 0o660)
-        self.assertEqual(stat.S_IMODE(os.stat(path + "2").st_mode), 0o600)
+    def test_no_link_in_the_place_of_the_socket_is_followed(self) -> None:
+        target = self.folder / "target"
+        for name in ("control", "control.lock"):
+            target.write_text("")
+            target.chmod(0o600)
+            folder = self.folder / name
+            folder.mkdir()
+            (folder / name).symlink_to(target)
+            live = self.live("--control", str(folder / "control"), "--control-group", "daemon",
+                             "eth0")
+            self.assertEqual(live.ends(), 1)
+            self.assertEqual((stat.S_IMODE(target.stat().st_mode), target.stat().st_gid),
+                             (0o600, 0))
 
-
-class Namespaces(unittest.TestCase):
-    """What no unit forbids to an lldpa-live that is started by hand."""
-
-    @unittest.skipIf(os.geteuid(), "it wants root")
     def test_a_user_namespace_has_all_capabilities_again(self) -> None:
         ran = subprocess.run([sys.executable, "-c", NAMESPACE], check=False, text=True,
-                             stdout=subprocess.PIPE,
-                             env={**os.environ, "PYTHONPATH": str(REPOSITORY / "python")})
+                             stdout=subprocess.PIPE)
         if ran.returncode == 77:
             self.skipTest("the kernel lets nobody make a user namespace here")
         self.assertNotEqual(int(ran.stdout, 16), 0)
 
-
-class Keys(unittest.TestCase):
-    """Keys of those who start lldpa-live stay behind."""
-
-    @unittest.skipIf(os.geteuid(), "it wants root")
+    @unittest.skipUnless(shutil.which("strace"), "it needs strace")
     def test_the_session_keyring_is_a_new_one(self) -> None:
-        ran = subprocess.run([sys.executable, "-c", KEYS], check=False,
-                             env={**os.environ, "PYTHONPATH": str(REPOSITORY / "python")})
-        if ran.returncode == 77:
-            self.skipTest("the kernel lets nobody add a key here")
-        self.assertEqual(ran.returncode, 0)
+        calls = self.folder / "calls"
+        self.live("eth0", before=["strace", "-D", "-f", "-o", str(calls), "-e", "keyctl"])
+        self.assertRegex(calls.read_text(), r"keyctl\(KEYCTL_JOIN_SESSION_KEYRING, NULL\) = \d")
+
+    def test_it_runs_in_an_empty_root(self) -> None:
+        if b"/ld-linux" in Path(LIVE).read_bytes():
+            self.skipTest("this lldpa-live is linked to the C library of the system")
+        root = self.folder / "root"
+        root.mkdir()
+        shutil.copy(LIVE, root)
+        with mock.patch("running_live.LIVE", "/lldpa-live"):
+            live = self.live("--control", "/run/control", "eth0", before=["chroot", str(root)],
+                             awaits=False)
+        live.control = str(root / "run" / "control")
+        self.assertTrue(eventually(live.ask_quietly), live.errors())
+        self.peer().send(numbered(1))
+        self.assertTrue(eventually(live.neighbors))

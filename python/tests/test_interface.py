@@ -1,152 +1,106 @@
-"""An interface's packet socket: what it takes, when, and what it counts."""
+"""Which frames of an interface reach the agent, and which are counted."""
 
 from __future__ import annotations
 
-import asyncio
-import select
-import time
-from types import SimpleNamespace
+import signal
 
-from lldpa.live.interface import Frame, Interface
-from lldpa.live.links import Links
-from lldpa.live.ports import Ports
-from lldpa.live.relay import Relay
-from lldpa.live.seconds import LEAST_CHANGE, Seconds
-from lldpa.limits import LONGEST_FRAME
-
-from running_live import OnLinks, on_links
-from patience import SECONDS, eventually
+from running_live import Live, OnLinks, on_links
+from patience import eventually
 from served import numbered
-from wires import inside, ip
+from wires import ip
+
+LONGEST_FRAME = 1514
+OTHERS = "it hears LLDP frames that are tagged, to another address or longer than 1,514 octets"
 
 
 @on_links
-class TestInterface(OnLinks):
-    """A socket at one end, a sender at the other."""
+class TestFrames(OnLinks):
+    """A sender at the other end of a link."""
 
     def setUp(self) -> None:
         super().setUp()
-        with inside(self.wires.here):
-            self.interface = Interface("eth0")
-            self.addCleanup(self.interface.close)
-            self.number = self.number_of("eth0")
+        for end in ("eth0", "peer0"):
+            self.wires.set_link(end, "mtu", "9000")
         self.sender = self.peer()
+        self.port = self.live("eth0", "--", "--receive-only")
 
-    def number_of(self, name: str) -> int:
-        """Returns the number of an interface of this side."""
-        with inside(self.wires.here):
-            links = Links()
-            found = {news.name: news.number for news in links.first()}
-            links.close()
-        return found[name]
-
-    def takes(self, octets: bytes, seconds: float = SECONDS) -> bool:
-        """Returns whether a frame from the other end is received in time; it must then be whole."""
+    def takes(self, number: int, octets: bytes) -> bool:
+        """Returns whether a frame of that neighbor is received: a further one is, in any case."""
         self.sender.send(octets)
-        taken = [frame.octets for frame in eventually(lambda: self.interface.read(10), seconds)]
-        self.assertIn(taken, ([], [octets]))
-        return bool(taken)
+        self.sender.send(numbered(99))
+        name = f"ifname=p{number}"
+        self.assertTrue(eventually(lambda: "ifname=p99" in " ".join(self.port.ask("live"))))
+        is_there = any(line.endswith(name) for line in self.port.ask("live"))
+        for gone in (99, number):
+            self.sender.send(numbered(gone, 0))
+        self.assertTrue(eventually(lambda: self.port.neighbors() == 0))
+        return is_there
 
-    def refuses(self, octets: bytes) -> bool:
-        """Returns whether a frame from the other end is not received, although it would be there by
-        now."""
-        return not self.takes(octets, 0.05)
-
-    def test_what_is_taken(self) -> None:
-        self.interface.take(self.number)
+    def test_what_is_taken_and_what_is_counted(self) -> None:
         frame = numbered(1)
-        self.assertTrue(self.takes(frame))
-        self.assertTrue(self.takes(frame.ljust(LONGEST_FRAME, b"\0")))
-        self.assertTrue(self.refuses(frame[:12] + bytes.fromhex("81000005") + frame[12:]), "a tag")
-        self.assertTrue(self.refuses(frame[:12] + bytes.fromhex("88a80005") + frame[12:]), "a tag")
-        self.assertTrue(self.refuses(bytes.fromhex("0180c2000003") + frame[6:]), "another group")
-        self.assertTrue(self.refuses(frame[:12] + b"\x08\x00" + frame[14:]), "no LLDP")
-        self.wires.set_link("peer0", "mtu", "9000")
-        self.wires.set_link("eth0", "mtu", "9000")
-        self.assertTrue(self.refuses(frame.ljust(LONGEST_FRAME + 1, b"\0")), "too long")
-        self.assertTrue(self.takes(frame))
+        self.assertTrue(self.takes(1, frame))
+        self.assertTrue(self.takes(1, frame.ljust(LONGEST_FRAME, b"\0")))
+        self.assertEqual(self.port.number("eth0.other-frames"), 0)
+        others = (frame[:12] + bytes.fromhex("81000005") + frame[12:],
+                  frame[:12] + bytes.fromhex("88a80005") + frame[12:],
+                  bytes.fromhex("0180c2000003") + frame[6:],
+                  bytes.fromhex("0180c2000000") + frame[6:],
+                  frame.ljust(LONGEST_FRAME + 1, b"\0"), frame.ljust(9000, b"\0"))
+        for count, other in enumerate(others, 1):
+            self.assertFalse(self.takes(1, other), other[:20])
+            self.assertTrue(eventually(lambda: self.port.number("eth0.other-frames") == count),
+                            other[:20])
+        for other in (frame[:12] + b"\x08\x00" + frame[14:], b"\xff" * 6 + frame[6:],
+                      bytes.fromhex("0180c2000001") + frame[6:]):
+            self.assertFalse(self.takes(1, other), other[:20])
+        self.assertEqual(self.port.number("eth0.other-frames"), len(others))
+        self.assertEqual(self.port.errors().count(f"eth0: {OTHERS}"), 1)
+        received = 2 * 4 + 3 * (len(others) + 3)  # with those that `takes` sends
+        self.assertIn(f"lldp.eth0.received={received}", self.port.ask("show statistics"))
 
     def test_what_this_host_sends_is_not_taken(self) -> None:
-        self.interface.take(self.number)
-        self.interface.send(numbered(1))
+        self.port.ask("configure ports eth0 lldp status rx-and-tx")
         self.peer("eth0").send(numbered(2))
         self.assertIsNotNone(self.sender.hears())
         self.assertIsNotNone(self.sender.hears())
-        self.assertEqual(self.interface.read(10), [])
-
-    def test_frames_have_the_time_of_their_coming(self) -> None:
-        self.interface.take(self.number)
-        before = time.time()
-        self.sender.send(numbered(1))
-        self.assertTrue(select.select([self.interface.socket], [], [], SECONDS)[0])
-        after = time.time()
-        time.sleep(0.3)
-        stamp = self.interface.read(1)[0].stamp
-        self.assertTrue(before - 0.05 <= stamp <= after + 0.05, (before, stamp, after))
-
-    def test_so_many_at_most_are_read(self) -> None:
-        self.interface.take(self.number)
-        another = self.peer("eth0")
-        for number in range(5):
-            self.sender.send(numbered(number))
-        self.assertTrue(all(another.hears() for _ in range(5)))  # the same frames, later than it
-        self.assertEqual([len(self.interface.read(3)), self.interface.has_more], [3, True])
-        self.assertEqual([len(self.interface.read(3)), self.interface.has_more], [2, False])
-
-    def test_nothing_is_taken_before_and_behind(self) -> None:
-        self.assertTrue(self.refuses(numbered(1)))
-        self.assertRaises(OSError, self.interface.send, numbered(1))
-        self.interface.take(self.number)
-        self.assertTrue(self.takes(numbered(2)))
-        self.interface.release()
-        self.assertTrue(self.refuses(numbered(3)))
-        self.assertRaises(OSError, self.interface.send, numbered(1))
-
-    def test_interface_that_came_back_is_taken(self) -> None:
-        self.interface.take(self.number)
-        self.wires.remove_link("eth0")
-        self.interface.release()
-        self.wires.add_link(0)
-        self.interface.take(self.number_of("eth0"))
-        self.sender = self.peer()
-        self.assertTrue(self.takes(numbered(1)))
+        self.assertIn("lldp.eth0.received=0", self.port.ask("show statistics"))
 
     def test_interface_in_a_bridge_is_heard(self) -> None:
         ip("-n", self.wires.here, "link", "add", "br0", "type", "bridge")
         ip("-n", self.wires.here, "link", "set", "br0", "up")
         self.wires.set_link("eth0", "master", "br0")
-        self.interface.take(self.number)
-        self.assertTrue(self.takes(numbered(1)))
+        self.assertTrue(self.takes(1, numbered(1)))
 
-    def test_what_found_no_room_is_counted(self) -> None:
-        self.interface.take(self.number)
-        for _ in range(20_000):
-            self.sender.send(numbered(1))
-        read: list[Frame] = []
-
-        def sum_of_both() -> int:
-            read.extend(self.interface.read(1000))
-            self.interface.count_drops()
-            return len(read) + self.interface.drops
-
-        eventually(lambda: sum_of_both() >= 20_000)
-        self.assertEqual(sum_of_both(), 20_000)
-        self.assertGreater(self.interface.drops, 0)
-
-    def test_a_question_comes_after_a_frame_whose_stamp_is_a_little_late(self) -> None:
-        self.interface.take(self.number)
-        ports, seconds = Ports([self.interface], [], print), Seconds()
-        seconds.ahead -= 0.9 * LEAST_CHANGE  # so little is not noticed
-        frames: list[tuple[float, Frame]] = []
-
-        async def turn(most: int) -> float:
-            moment = ports.read(seconds, most)
-            frames.extend(ports.frames_until(moment))
-            return moment
-
+    def test_a_question_comes_after_each_frame_that_came_before_it(self) -> None:
         for count in range(1, 101):
-            self.sender.send(numbered(count))
-            self.assertTrue(select.select([self.interface.socket], [], [], SECONDS)[0])
-            asyncio.run(Relay.catch_up(SimpleNamespace(turn=turn, ports=ports)))
-            self.assertEqual(len(frames), count)
-        ports.readable.close()
+            self.sender.send(numbered(count, 1000 + count))
+            self.assertIn(f"lldp.eth0.received={count}", self.port.ask("show statistics"))
+
+
+@on_links
+class TestNews(OnLinks):
+    """News of interfaces that the kernel could not deliver."""
+
+    links = 2
+
+    def test_what_the_kernel_lost_is_asked_for(self) -> None:
+        live = self.live("eth0", "eth1", "--", "--receive-only")
+        live.signal(signal.SIGSTOP)
+        for _ in range(300):
+            self.wires.set_link("eth1", "down")
+            self.wires.set_link("eth1", "up")
+        self.wires.remove_link("eth0")
+        self.wires.set_link("eth1", "down")
+        live.signal(signal.SIGCONT)
+        self.assertTrue(eventually(lambda: state_of(live) == ["awaited", "down", "down"]))
+        self.wires.add_link(0)
+        self.wires.set_link("eth1", "up")
+        self.assertTrue(eventually(lambda: state_of(live) == ["present", "up", "up"]))
+        self.peer().send(numbered(1))
+        self.assertTrue(eventually(live.neighbors))
+
+
+def state_of(live: Live) -> list[str]:
+    """Returns whether the first interface is there, and the links."""
+    return [live.told("live", key) for key in ("live.eth0.interface", "live.eth0.link",
+                                               "live.eth1.link")]

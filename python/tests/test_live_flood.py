@@ -6,36 +6,47 @@ import contextlib
 import re
 import signal
 import socket
+import subprocess
+import sys
 import time
 from pathlib import Path
 
 from lldpa.client import Client
-from lldpa.live.bucket import A_SECOND, AT_ONCE
 
 from running_live import Live, OnLinks, is_full, on_links
 from patience import SECONDS, by_the_clock, eventually, mostly
 from served import numbered
-from wires import flood
+from wires import flood, inside
 
 WITHOUT_END = 1_000_000_000
 QUESTIONS = 100
 # an answer for which lldpa-live works longer is late
 LATE = 0.1
 MOST_LATE = QUESTIONS // 10
-MOST_KIB = 40_000
+MOST_KIB = 8_000
+A_SECOND, AT_ONCE = 64, 1024  # frames of a port that may change its table
 
+# ten strangers that say something new in each frame, 5,000 a second together
+STRANGERS = """
+import socket, time
+sender = socket.socket(socket.AF_PACKET, socket.SOCK_RAW)
+sender.bind(("peer0", 0))
+head = bytes.fromhex("0180c200000e02000000000a88cc")
+began, count = time.monotonic(), 0
+while True:
+    while count < 5000 * (time.monotonic() - began):
+        name = b"%010d" % count
+        sender.send(head + bytes([2, 7, 4, 2, 0, 0, 0, 1, count % 10, 4, 2, 7, 65, 6, 2, 0, 120])
+                    + bytes([10, len(name)]) + name + bytes(2))
+        count += 1
+    time.sleep(0.002)
+"""
 FRAMES = [numbered(number) for number in range(200)]
 
 
 def spent(live: Live) -> float:
     """Returns the processor time of lldpa-live, in seconds, whatever else the machine does."""
     return int(Path(f"/proc/{live.process.pid}/schedstat").read_text().split()[0]) / 1e9
-
-
-def resident(live: Live) -> int:
-    """Returns the greatest resident set of lldpa-live, in KiB."""
-    status = Path(f"/proc/{live.process.pid}/status").read_text()
-    return int(re.search(r"VmHWM:\s*(\d+)", status)[1])
 
 
 def numbers(live: Live) -> dict[str, int]:
@@ -67,7 +78,7 @@ class TestFlood(OnLinks):
         late = sorted(seconds for seconds in worked if seconds > LATE)
         self.assertLessEqual(len(late), MOST_LATE, late)
         self.assertLess(mostly(times), 1)
-        self.assertLess(resident(live), MOST_KIB)
+        self.assertLess(live.resident("VmHWM"), MOST_KIB)
 
     def test_what_the_kernel_dropped_is_told(self) -> None:
         live = self.live("eth0", "--", "--receive-only")
@@ -92,6 +103,36 @@ class TestFlood(OnLinks):
         self.assertTrue(eventually(lambda: sum(numbers(live).values()) == 5000))
         most = AT_ONCE + A_SECOND * (time.monotonic() - began + 1)
         self.assertLessEqual(numbers(live)["received"], most)
+
+    def test_a_real_neighbor_outlives_strangers_that_change_all_the_time(self) -> None:
+        live, peer = self.live("eth0", "--", "--receive-only"), self.peer()
+        held = numbered(99, 20)
+        peer.send(held)
+        self.assertTrue(eventually(live.neighbors))
+        with inside(self.wires.there):
+            strangers = subprocess.Popen([sys.executable, "-c", STRANGERS])
+        self.addCleanup(strangers.wait)
+        self.addCleanup(strangers.kill)
+        self.assertTrue(eventually(lambda: live.neighbors() == 11))
+        began = time.monotonic()
+        for look in range(60):
+            if look % 5 == 0:
+                peer.send(held)
+            time.sleep(max(0, began + look + 1 - time.monotonic()))
+            self.assertIn("mac=02:00:00:00:00:63 ifname=p99", " ".join(live.ask("live")), look)
+        self.assertIsNone(strangers.poll())
+        self.assertGreater(numbers(live)["limit-drops"] + numbers(live)["kernel-drops"], 200_000)
+
+    @by_the_clock
+    def test_line_rate_costs_less_than_a_tenth_of_a_processor(self) -> None:
+        live = self.live("eth0", "--", "--receive-only")
+        sender = flood(self.wires, "peer0", FRAMES, WITHOUT_END)
+        self.addCleanup(sender.wait)
+        self.addCleanup(sender.kill)
+        self.assertTrue(eventually(lambda: numbers(live)["received"] > AT_ONCE))
+        began, before = time.monotonic(), spent(live)
+        time.sleep(10)
+        self.assertLess((spent(live) - before) / (time.monotonic() - began), 0.1)
 
     def test_hundred_frames_find_room_while_lldpa_live_sleeps(self) -> None:
         live, peer = self.live("eth0", "--", "--receive-only"), self.peer()
@@ -128,6 +169,26 @@ class TestManyPorts(OnLinks):
             self.peer(f"peer{number}").send(numbered(number))
         count = lambda: sum(line.endswith(".neighbors=1") for line in live.ask("show neighbors"))
         self.assertTrue(eventually(lambda: count() == 64))
+
+    def test_64_full_tables_take_little_and_outlive_a_restart(self) -> None:
+        state = Path(self.wires.folder, "state")
+        words = ["--state", str(state), *(f"eth{number}" for number in range(64)), "--",
+                 "--receive-only"]
+        Path(self.wires.folder).chmod(0o777)
+        live = self.live(*words)
+        for port in range(64):
+            peer = self.peer(f"peer{port}")
+            for number in range(32):
+                peer.send(numbered(number, 600).ljust(400, b"\0"))
+        full = lambda: sum(int(line.rpartition("=")[2]) for line in live.ask("show neighbors")
+                           if ".neighbors=" in line) == 64 * 32
+        self.assertTrue(eventually(full))
+        self.assertLess(live.resident(), 16_384)
+        self.assertEqual(live.ended(), 0)
+        live = self.live(*words)
+        self.assertTrue(full())
+        self.assertLess(live.resident(), 16_384)
+        self.assertLess(spent(live), 1)
 
     def test_frames_of_all_ports_go_in_by_their_stamps(self) -> None:
         folder = Path(self.wires.folder, "log")
@@ -186,9 +247,9 @@ class TestClients(OnLinks):
     def test_line_of_64_megabytes_takes_no_more_memory_than_one_of_a_megabyte(self) -> None:
         live = self.live("eth0")
         self.ask_behind(live, 1_000_000)
-        before = resident(live)
+        before = live.resident("VmHWM")
         self.ask_behind(live, 64_000_000)
-        self.assertLess(resident(live) - before, 1000)
+        self.assertLess(live.resident("VmHWM") - before, 1000)
 
     def ask_behind(self, live: Live, length: int) -> None:
         """Asks behind a line of that length, which is refused."""

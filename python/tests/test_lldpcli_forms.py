@@ -11,8 +11,6 @@ from typing import Dict, Iterable, Tuple
 import lldpd_heard
 from judges import SLIPS, flat
 from lldpa import Agent
-from lldpa.client.live_lines import LiveLines
-from lldpa.live.senders import Senders
 from lldpa.agent.framing import Refused
 from lldpa.lldpcli_forms.shows import Depth, Told, age, neighbors
 from lldpa.lldpcli_forms.words import Lines, Question, Watching, of_lldpcli, of_lldpctl
@@ -27,12 +25,14 @@ PORTS = ["swp1", "swp2"]
 
 def told_of(agent: Agent, frames: Iterable[Tuple[str, bytes]]) -> Told:
     """Returns the answers of an lldpa-live that hears frames at ports."""
-    senders = Senders()
+    since: Dict[Tuple[str, str], str] = {}
+    numbers: Dict[str, int] = {}
     for port, octets in frames:
         agent.frame(port, octets)
-        senders.hear(port, octets)
-    told = LiveLines(senders.about())
-    return Told(agent.show("neighbors"), told.since, told.numbers, 1e10)
+        for one in agent.neighbors():
+            since.setdefault((one.port, one.id), "2026-11-25T09:30:00Z")
+            numbers.setdefault(one.id.partition(" ")[0], len(numbers) + 1)
+    return Told(agent.show("neighbors"), since, numbers, 1e10)
 
 
 def tree_of(frames: Iterable[Tuple[str, bytes]]) -> Node:

@@ -127,10 +127,10 @@ class Handed(Program):
         words = [LLDPCTL, "-u", self.served.path, "-f", "keyvalue", "watch", "limit", "1"]
         with subprocess.Popen(words, stdout=subprocess.PIPE, text=True) as watch:
             self.assertTrue(eventually(lambda: b"live" in self.served.asked))
-            self.served.hangs = True
+            self.served.waits = True
             self.served.asked.clear()
             self.assertTrue(eventually(lambda: self.served.asked.count(b"show neighbors") > 1))
-            self.served.hangs = False
+            self.served.waits = False
             self.served.frame("eth1", numbered(8, 120, tlv(5, b"new")))
             self.assertIn(".chassis.name=new\n", watch.communicate(timeout=SECONDS)[0])
             self.assertEqual(watch.returncode, 0)

@@ -2,10 +2,13 @@
 
 from __future__ import annotations
 
+import ctypes
 import os
 import shutil
 import signal
+import socket
 import subprocess
+import threading
 import time
 from pathlib import Path
 
@@ -15,15 +18,36 @@ from replays import Moments, differing
 from served import numbered, tlv
 from wires import flood
 
-LONG = [numbered(number, 600 + number, tlv(5, b"n%d" % number)).ljust(1514, b"\0")
+PTRACE_DETACH, PTRACE_SEIZE, PTRACE_INTERRUPT = 17, 0x4206, 0x4207  # linux/ptrace.h
+WALL = 0x40000000  # waits for a thread, too
+# 25 neighbors, which say something new in each frame
+LONG = [numbered(number % 25, 600 + number, tlv(5, b"n%d" % number)).ljust(1514, b"\0")
         for number in range(200)]
 
 
-def log_process(live: Live) -> int:
-    """Returns the process that writes lldpa-live's log."""
-    pid = live.process.pid
-    children = Path(f"/proc/{pid}/task/{pid}/children").read_text().split()
-    return next(int(one) for one in children if int(one) != live.agent())
+class StoppedWriter:
+    """Holds the thread that writes lldpa-live's log, as a disk that hangs does."""
+
+    def __init__(self, live: Live) -> None:
+        threads = {*os.listdir(f"/proc/{live.process.pid}/task")} - {str(live.process.pid)}
+        self.thread = int(threads.pop())
+        self.libc = ctypes.CDLL(None, use_errno=True)
+        self.trace(PTRACE_SEIZE)
+        self.trace(PTRACE_INTERRUPT)
+        os.waitpid(self.thread, WALL)
+
+    def trace(self, what: int) -> None:
+        """Calls ptrace."""
+        if self.libc.ptrace(what, self.thread, None, None):
+            raise OSError(ctypes.get_errno(), "ptrace")
+
+    def release(self) -> None:
+        """Lets it go on."""
+        self.trace(PTRACE_DETACH)
+
+    def bury(self) -> None:
+        """Takes note of its end, without which the process would not be seen to end."""
+        threading.Thread(target=os.waitpid, args=[self.thread, WALL], daemon=True).start()
 
 
 @on_links
@@ -43,14 +67,15 @@ class TestFiles(OnLinks):
     def test_each_file_replays_alone_to_the_tables_that_were_there(self) -> None:
         live = self.live("--log", str(self.folder), "--log-most", "1", "--log-keep", "9",
                          "eth0", "eth1", "--", "--max-neighbors", "20")
-        peer, moments = self.peer("peer1"), Moments(live)
+        peer, many, moments = self.peer("peer1"), self.peer("peer0"), Moments(live)
         live.ask('configure system description "a log\'s own"')
         live.ask("configure lldp tx-interval 7")
         for number in range(6):
             peer.send(numbered(number, 20 + 40 * number))
         self.assertTrue(eventually(lambda: live.neighbors("eth1") == 6))
-        flood(self.wires, "peer0", LONG, 20_000)
-        for number in range(10):
+        for number in range(12):
+            for octets in LONG[:100] if number % 2 else LONG[100:]:
+                many.send(octets)
             peer.send(numbered(5 - number % 3, 30 + number))
             told = live.seconds_told()
             self.assertTrue(eventually(lambda: live.seconds_told() > told))
@@ -60,8 +85,7 @@ class TestFiles(OnLinks):
         moments.take()
         self.wires.set_link("eth1", "down")
         self.assertTrue(eventually(lambda: "live.eth1.link=down" in live.ask("live")))
-        live.signal(signal.SIGTERM)
-        self.assertEqual(live.ends(), 0)
+        self.assertEqual(live.ended(), 0)
         self.assertGreater(len(list(self.folder.iterdir())), 2)
         self.assertTrue(any(line == "lldp.eth0.too-many=yes" for line in
                             list(moments.answers.values())[-1]))
@@ -107,38 +131,45 @@ class TestFiles(OnLinks):
         self.folder.mkdir(mode=0o755)
         for _ in range(2):
             live = self.live("--log", str(self.folder), "eth0")
-            live.signal(signal.SIGTERM)
-            self.assertEqual(live.ends(), 0)
+            self.assertEqual(live.ended(), 0)
         self.assertEqual(len(list(self.folder.iterdir())), 2)
 
     @by_the_clock
     def test_log_that_stands_still_holds_nothing_up(self) -> None:
         peer, live = self.peer(), self.live("--log", str(self.folder), "eth0")
-        writer = log_process(live)
-        self.addCleanup(lambda: os.path.exists(f"/proc/{writer}") and os.kill(writer, 9))
-        os.kill(writer, signal.SIGSTOP)
+        self.assertTrue(eventually(lambda: list(self.folder.iterdir())))
+        writer = StoppedWriter(live)
+        peer.send(numbered(1))
         self.assertTrue(live.says("has made no progress for 5 seconds"))
         self.assertIn("live.log=stalled", live.ask("live"))
-        peer.send(numbered(1))
-        self.assertTrue(eventually(live.neighbors, 1))
-        os.kill(writer, signal.SIGCONT)
+        peer.send(numbered(2))
+        self.assertTrue(eventually(lambda: live.neighbors() == 2, 1))
+        writer.release()
         self.assertTrue(live.says("the log continues in"))
         self.assertTrue(eventually(lambda: len(list(self.folder.iterdir())) == 2))
         self.assertIn("live.log-lines-lost=0", live.ask("live"))
-        os.kill(writer, signal.SIGSTOP)
+        StoppedWriter(live).bury()
         while peer.hears(0.1):
             pass
         live.signal(signal.SIGTERM)
         self.assertIsNotNone(peer.hears(2, ttl=0))
         self.assertEqual(live.ends(2), 0)
 
-    @by_the_clock
-    def test_killed_process_of_the_log_is_followed_by_another(self) -> None:
-        live = self.live("--log", str(self.folder), "eth0")
-        os.kill(log_process(live), signal.SIGKILL)
-        self.assertTrue(live.says("its process has ended"))
-        self.assertTrue(eventually(lambda: "live.log=on" in live.ask("live")))
-        self.assertEqual(len(list(self.folder.iterdir())), 2)
+    def test_what_finds_no_room_is_counted_and_a_new_file_follows(self) -> None:
+        live = self.live("--log", str(self.folder), "--events", "eth0", "eth1", "--",
+                         "--receive-only", "--max-neighbors", "1")
+        self.assertTrue(eventually(lambda: list(self.folder.iterdir())))
+        writer = StoppedWriter(live)
+        flood(self.wires, "peer0", LONG, 3_000).wait()
+        flood(self.wires, "peer1", LONG, 3_000).wait()  # over 4 MB together, as text
+        self.assertTrue(eventually(lambda: live.number("log-lines-lost") > 100))
+        self.assertTrue(live.says("is behind, and lines are lost; lldpa-live continues"))
+        writer.release()
+        self.assertTrue(live.says("the log continues in"))
+        moments = Moments(live)
+        moments.take()
+        self.assertEqual(live.ended(), 0)
+        self.assertEqual(differing(self.folder, moments), [])
 
 
 @on_links
@@ -182,4 +213,12 @@ class TestFrozenDisk(OnLinks):
         self.assertTrue(eventually(lambda: live.seconds_told() > told + 1))
         live.signal(signal.SIGTERM)
         self.assertIsNotNone(peer.hears(2, ttl=0))
-        self.assertEqual(live.ends(2), 0)
+        self.assertTrue(eventually(lambda: not is_served(live.control), 2))
+        subprocess.run(["fsfreeze", "-u", self.folder], check=True)
+        self.assertEqual(live.ends(), 0)
+
+
+def is_served(path: str) -> bool:
+    """Returns whether anybody answers at a control socket."""
+    with socket.socket(socket.AF_UNIX) as client:
+        return client.connect_ex(path) == 0

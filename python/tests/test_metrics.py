@@ -6,7 +6,6 @@ import re
 import shutil
 import subprocess
 import unittest
-from dataclasses import fields
 
 from lldpa import read_show
 from lldpa.client.exposition import escaped
@@ -58,7 +57,7 @@ class Metrics(unittest.TestCase):
         series = self.shown()
         told = {(name, labels[0][1]): value for (name, labels), value in series.items()
                 if [label for label, _ in labels] == ["port"]}
-        counters = {counter.name: 0 for counter in fields(Counters)}
+        counters = {name: 0 for name in Counters._fields}
         counters.update(received=4, drops=1)
         for name, value in counters.items():
             self.assertEqual(told.pop((f"lldpa_{name}_total", "eth0")), value, name)
@@ -72,6 +71,7 @@ class Metrics(unittest.TestCase):
             ("lldpa_link_up", "eth0"): 1, ("lldpa_link_up", "eth1"): 0,
             ("lldpa_kernel_drops_total", "eth0"): 7, ("lldpa_kernel_drops_total", "eth1"): 0,
             ("lldpa_limit_drops_total", "eth0"): 6, ("lldpa_limit_drops_total", "eth1"): 0,
+            ("lldpa_other_frames_total", "eth0"): 8, ("lldpa_other_frames_total", "eth1"): 0,
             ("lldpa_unsent_total", "eth0"): 4, ("lldpa_unsent_total", "eth1"): 0,
             ("lldpa_left_out_total", "eth0"): 3, ("lldpa_left_out_total", "eth1"): 0})
 
@@ -86,16 +86,16 @@ class Metrics(unittest.TestCase):
         agent, log = "lldpa_agent_state", "lldpa_log_state"
         self.assertEqual(self.own(), {
             ("lldpa_up", ()): 1, ("lldpa_start_time_seconds", ()): 1795599000,
-            (agent, (("state", "running"),)): 1, (agent, (("state", "silent"),)): 0,
-            (agent, (("state", "waiting"),)): 0,
+            (agent, (("state", "running"),)): 1, (agent, (("state", "waiting"),)): 0,
             (log, (("state", "full"),)): 0, (log, (("state", "off"),)): 0,
             (log, (("state", "on"),)): 1, (log, (("state", "stalled"),)): 0,
+            ("lldpa_settings_refused", ()): 2, ("lldpa_ports_refused", ()): 1,
             ("lldpa_log_lines_lost_total", ()): 5})
         for state in ("off", "on", "stalled", "full"):
             series = self.own(b"live.log=" + state.encode())
             self.assertEqual([labels[0][1] for (name, labels), value in series.items()
                               if name == log and value], [state])
-        for state, is_up in (("running", 1), ("silent", 0), ("waiting", 0)):
+        for state, is_up in (("running", 1), ("waiting", 0)):
             series = self.own(b"live.agent=" + state.encode())
             self.assertEqual(series["lldpa_up", ()], is_up)
             self.assertEqual([labels[0][1] for (name, labels), value in series.items()
@@ -105,7 +105,7 @@ class Metrics(unittest.TestCase):
         self.served.live_lines = [b"live.eth0.kernel-drops=1", b"live.eth0.1.since=2",
                                     b"live.later=3"]
         names = {name for name, _ in self.shown() if not name.startswith("lldpa_neighbor")}
-        counters = {f"lldpa_{counter.name}_total" for counter in fields(Counters)}
+        counters = {f"lldpa_{name}_total" for name in Counters._fields}
         self.assertEqual(names - counters,
                          {"lldpa_up", "lldpa_too_many", "lldpa_kernel_drops_total"})
 

@@ -15,7 +15,7 @@ import lldpa
 from served import PROGRAM, REPOSITORY
 
 WHEEL = str(REPOSITORY / "tools" / "release" / "wheel.sh")
-PROGRAMS = ("lldpa-audit", "lldpa-capture", "lldpa-ctl", "lldpa-live")
+PROGRAMS = ("lldpa-audit", "lldpa-capture", "lldpa-ctl")
 TYPED = """\
 from typing import List, Optional
 
@@ -105,7 +105,7 @@ class Installed(unittest.TestCase):
         start = "from lldpa import Agent\nAgent.start(['eth0']).close()"
         alone = subprocess.run([str(self.bin("python")), "-c", start], capture_output=True,
                                env={"PATH": "/nonexistent"}, text=True, check=False)
-        self.assertIn("not on the path, and not in this wheel: 'lldpa'", alone.stderr)
+        self.assertIn("not found on the path: 'lldpa'", alone.stderr)
         self.assertIn("has not the program lldpa", self.run_it("pip", "show", "lldpa"))
         name = subprocess.run([WHEEL, str(self.folder)], capture_output=True, text=True, check=True,
                               env={**os.environ, "LLDPA": PROGRAM}).stdout.strip()

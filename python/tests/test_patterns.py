@@ -2,57 +2,39 @@
 
 from __future__ import annotations
 
-import unittest
-
 from lldpa.client import since_of
-from lldpa.live.patterns import NoPorts, first_ports, ports_of
 from patience import eventually
 from running_live import OnLinks, on_links
 from served import numbered
-from test_identity import one
 from wires import Peer, ip
 
-
-class TestPatterns(unittest.TestCase):
-    """Ports that are given by patterns."""
-
-    def setUp(self) -> None:
-        self.found = [one(number, f"swp{number}") for number in range(1, 6)] + [
-            one(9, "veth9", "veth"), one(10, "eth0"), one(11, "swp1.5", "vlan")]
-
-    def test_patterns(self) -> None:
-        for parts, wanted in ((["swp*", "!swp3"], "swp1 swp2 swp4 swp5"), (["eth0"], "eth0"),
-                              (["*", "!swp*", "!!swp2"], "swp2 eth0"), (["swp[12]"], "swp1 swp2"),
-                              (["veth9", "*"], "veth9 swp1 swp2 swp3 swp4 swp5 eth0"),
-                              (["eth7", "swp?"], "eth7 swp1 swp2 swp3 swp4 swp5"),
-                              (["veth*"], "veth9"), (["[v]eth*"], "")):
-            self.assertEqual(" ".join(ports_of(parts, self.found)), wanted, parts)
-
-    def test_none_and_too_many(self) -> None:
-        self.assertEqual(first_ports(["lan*", "!lan3"], self.found, True), [])
-        for parts, may_wait in ((["lan*"], False), (["!swp*"], True)):
-            with self.assertRaises(NoPorts):
-                first_ports(parts, self.found, may_wait)
-        with self.assertRaisesRegex(NoPorts, "65 ports.* has at most 64.* second service"):
-            first_ports(["p*"], [one(number, f"p{number}") for number in range(65)], True)
+MOST = 64  # ports
 
 
 @on_links
 class TestLaterPorts(OnLinks):
     """Interfaces that come later, and are given by a pattern."""
 
-    def lan(self, number: int) -> Peer:
+    def lan(self, number: int, name: str = "lan") -> Peer:
         """Makes a link of another name, and returns its far end."""
-        ip("link", "add", f"lan{number}", "netns", self.wires.here, "type", "veth",
+        ip("link", "add", f"{name}{number}", "up", "netns", self.wires.here, "type", "veth",
            "peer", "name", f"far{number}", "netns", self.wires.there)
-        for name, end in ((self.wires.here, f"lan{number}"), (self.wires.there, f"far{number}")):
-            ip("-n", name, "link", "set", end, "up")
+        ip("-n", self.wires.there, "link", "set", f"far{number}", "up")
         return self.peer(f"far{number}")
+
+    def guest(self, number: int) -> Peer:
+        """Makes the interface of a guest."""
+        return self.lan(number, "vnet")
+
+    def remove(self, name: str) -> None:
+        """Removes an interface."""
+        ip("-n", self.wires.here, "link", "del", name)
 
     def test_a_pattern_waits_and_takes_what_comes_later(self) -> None:
         live = self.live("lan*", "!lan7", awaits=False)
         self.assertTrue(live.says("lan* !lan7: no such interface yet; waiting for it, and until"))
-        self.assertEqual(live.ask_refused("show neighbors"), "waiting for an interface")
+        self.assertEqual(live.ask_refused("show neighbors"),
+                         "waiting for an interface: lan* !lan7")
         first = self.lan(1)
         self.assertTrue(eventually(live.ask_quietly))
         first.send(numbered(1, 500))
@@ -75,4 +57,69 @@ class TestLaterPorts(OnLinks):
         live = self.live("*", awaits=False)
         self.assertTrue(live.says("*: no such interface yet"))
         self.lan(1)
-        self.assertEqual(live.ask_refused("show neighbors"), "waiting for an interface")
+        self.assertEqual(live.ask_refused("show neighbors"), "waiting for an interface: *")
+
+    def test_guests_that_came_and_went_leave_room_for_the_next(self) -> None:
+        live = self.live("eth0", "vnet*", "--", "--receive-only")
+        for number in range(69):
+            guest = self.guest(number)
+            link = f"live.vnet{number}.link=up"
+            # pylint: disable=cell-var-from-loop
+            self.assertTrue(eventually(lambda: link in live.ask("live")), number)
+            if number < 68:
+                self.remove(f"vnet{number}")
+                self.assertTrue(eventually(lambda: f"live.vnet{number}." not in
+                                           "\n".join(live.ask("live"))), number)
+        guest.send(numbered(1))
+        self.assertTrue(eventually(lambda: live.neighbors("vnet68") == 1))
+        ports = [line for line in live.ask("show neighbors") if line.endswith("too-many=no")]
+        self.assertEqual(len(ports), 2)
+
+    def test_one_that_finds_no_place_is_told_and_taken_when_another_goes(self) -> None:
+        guests = [self.guest(number) for number in range(MOST - 1)]
+        live = self.live("eth0", "vnet*", "--", "--receive-only")
+        guests[7].send(numbered(7, 500))
+        self.assertTrue(eventually(lambda: live.neighbors("vnet7") == 1))
+        self.assertEqual(live.number("ports-refused"), 0)
+        late = self.guest(MOST)
+        self.assertTrue(live.says(f"vnet{MOST}: 64 ports are in use, so this interface is not "
+                                  "used\n"))
+        self.assertEqual(live.number("ports-refused"), 1)
+        self.remove("vnet3")
+        self.assertTrue(eventually(lambda: f"live.vnet{MOST}.link=up" in live.ask("live")))
+        late.send(numbered(1))
+        self.assertTrue(eventually(lambda: live.neighbors(f"vnet{MOST}") == 1))
+        self.assertEqual((live.number("ports-refused"), live.neighbors("vnet7")), (0, 1))
+
+    def test_a_port_that_was_named_stays_without_its_interface(self) -> None:
+        live = self.live("vnet1", "vnet*", awaits=False)
+        for number in (1, 2):
+            self.guest(number)
+        self.assertTrue(eventually(live.ask_quietly))
+        self.assertTrue(eventually(lambda: "live.vnet2.link=up" in live.ask("live")))
+        for number in (1, 2):
+            self.remove(f"vnet{number}")
+        self.assertTrue(eventually(lambda: "live.vnet1.interface=awaited" in live.ask("live")))
+        self.assertTrue(eventually(lambda: "vnet2" not in "\n".join(live.ask("live"))))
+
+    def test_which_interfaces_patterns_give(self) -> None:
+        for number in range(1, 6):
+            self.lan(number, "swp")
+        for words, wanted in ((["swp*", "!swp3"], "swp1 swp2 swp4 swp5"),
+                              (["swp*,!swp*,!!swp2"], "swp2"), (["swp[12]"], "swp1 swp2"),
+                              (["swp5", "*"], "swp5"), (["eth7", "swp?"], "eth7 swp1 swp2 swp3 "
+                                                        "swp4 swp5")):
+            live = self.live(*words, "--", "--receive-only")
+            ports = [line.split(".")[1] for line in live.ask("show neighbors")
+                     if ".too-many=" in line]
+            self.assertEqual(" ".join(ports), wanted, words)
+            live.close()
+
+    def test_none_and_too_many(self) -> None:
+        for words, text in ((["--only-existing", "lan*", "!lan3"],
+                             "no Ethernet interface has such"),
+                            (["!eth*"], "no Ethernet interface has such a name"),
+                            (["--once", "1", "lan*"], "no Ethernet interface has such a name")):
+            live = self.live(*words)
+            self.assertEqual(live.ends(), 1)
+            self.assertIn(text, live.errors())

@@ -17,7 +17,7 @@ from patience import SECONDS
 from served import LIVE_LINES, CTL, Served, numbered
 
 DOWN = """\
-# HELP lldpa_up Whether lldpa-live and its agent answer, 1 or 0.
+# HELP lldpa_up Whether lldpa-live answers and its agent runs, 1 or 0.
 # TYPE lldpa_up gauge
 lldpa_up 0
 """
@@ -66,22 +66,20 @@ class Publishing(unittest.TestCase):
             left_behind.bind(self.served.path)
         self.assertEqual(self.ctl(said=said, status=1), DOWN)
 
-    def test_an_agent_that_does_not_answer_is_not_waited_for(self) -> None:
-        for state in ("silent", "waiting"):
-            self.served.live_lines = [*LIVE_LINES, b"live.agent=" + state.encode()]
-            self.served.asked.clear()
-            printed = self.ctl(said=f"the agent is {state}", status=1)
-            self.assertEqual(self.served.asked, [b"live"])
-            self.assertIn("\nlldpa_up 0\n", printed)
-            self.assertIn(f'\nlldpa_agent_state{{state="{state}"}} 1\n', printed)
-            self.assertIn('\nlldpa_link_up{port="eth0"} 1\n', printed)
-            self.assertNotIn("lldpa_neighbors", printed)
-
-    def test_an_agent_that_becomes_silent_is_told_with_the_rest(self) -> None:
-        self.served.hangs = True
-        printed = self.ctl(said="the agent is silent", status=1)
+    def test_an_agent_that_waits_for_an_interface_is_not_asked(self) -> None:
+        self.served.live_lines = [*LIVE_LINES, b"live.agent=waiting"]
+        printed = self.ctl(said="the agent is waiting", status=1)
+        self.assertEqual(self.served.asked, [b"live"])
         self.assertIn("\nlldpa_up 0\n", printed)
-        self.assertIn('\nlldpa_agent_state{state="silent"} 1\n', printed)
+        self.assertIn('\nlldpa_agent_state{state="waiting"} 1\n', printed)
+        self.assertIn('\nlldpa_link_up{port="eth0"} 1\n', printed)
+        self.assertNotIn("lldpa_neighbors", printed)
+
+    def test_an_agent_that_waits_after_the_first_question_is_told_with_the_rest(self) -> None:
+        self.served.waits = True
+        printed = self.ctl(said="the agent is waiting", status=1)
+        self.assertIn("\nlldpa_up 0\n", printed)
+        self.assertIn('\nlldpa_agent_state{state="waiting"} 1\n', printed)
         self.assertIn('\nlldpa_link_up{port="eth0"} 1\n', printed)
 
     def test_lldpa_live_that_ends_or_answers_nonsense_is_down(self) -> None:

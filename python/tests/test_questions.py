@@ -1,18 +1,13 @@
-"""The words for people, of lldpa-ctl and of the console of lldpa-live."""
+"""The words for people."""
 
 from __future__ import annotations
 
 import json
 import subprocess
 import unittest
-from dataclasses import fields
 
-from running_live import OnLinks, on_links
-from lldpa.live.server.answering import HELP, answered
-from lldpa.agent.framing import Refused
 from lldpa.client.questions import COMMANDS, explanation, listed, question
 from lldpa.agent.shown import Counters
-from patience import SECONDS, eventually
 from served import CTL, Served, numbered, tlv
 
 LIVE = [b"live.began=2026-11-23T19:40:00Z", b"live.eth0.interface=present",
@@ -20,19 +15,12 @@ LIVE = [b"live.began=2026-11-23T19:40:00Z", b"live.eth0.interface=present",
           b"live.eth0.since.1=2026-11-23T19:45:02Z mac=02:00:00:00:00:01 ifname=p1"]
 
 
-class Told(Served):
-    """A socket with an lldpa-live that says more of itself."""
-
-    async def ask(self, line: bytes) -> list[bytes]:
-        """Returns lldpa-live's lines, or the agent's answer."""
-        return LIVE if line == b"live" else await super().ask(line)
-
-
 class Words(unittest.TestCase):
-    """With lldpa-live's socket: what both print."""
+    """With lldpa-live's socket: what is printed."""
 
     def setUp(self) -> None:
-        self.served = Told()
+        self.served = Served()
+        self.served.live_lines = LIVE
         self.addCleanup(self.served.close)
         self.served.frame("eth0", numbered(1, 120, tlv(5, b"sw"), tlv(127, b"\0\x80\xc2\1\0\x78")))
         self.served.frame("eth1", numbered(2, 60))
@@ -45,86 +33,73 @@ class Words(unittest.TestCase):
         self.assertEqual(told.stderr if not status else told.stdout, "")
         return (told.stderr if status else told.stdout).splitlines()
 
-    def console(self, line: str) -> list[str]:
-        """Returns what the console answers to a line, as lldpa-live's."""
-        async def ask(asked: bytes) -> list[bytes]:
-            try:
-                return await self.served.ask(asked)
-            except Refused as refused:
-                return [b"error: " + refused.text.encode()]
-        lines = self.served.call(answered(ask, line.encode("latin-1")))
-        return [one.decode() for one in lines]
-
-    def both(self, line: str) -> list[str]:
-        """Returns what both print, which is the same."""
-        lines = self.ctl(*line.split())
-        self.assertEqual(self.console(line), lines, line)
-        return lines
+    def told(self, line: str) -> list[str]:
+        """Returns what a line prints."""
+        return self.ctl(*line.split())
 
     def refused(self, line: str) -> str:
-        """Returns what both say of a line that is refused, which is the same."""
+        """Returns what is said of a line that is refused."""
         said, = self.ctl(*line.split(), status=1)
-        self.assertEqual(self.console(line), ["error: " + said[len("lldpa-ctl: "):]])
         return said[len("lldpa-ctl: "):]
 
     def test_tables(self) -> None:
         rows = ["PORT  NEIGHBOR           ITS PORT  VLAN  MANAGEMENT   LEFT",
                 "eth0  sw                 p1        120               120 s",
                 "eth1  02:00:00:00:00:02  p2                           60 s"]
-        self.assertEqual(self.both("neighbors"), [*rows, "2 neighbors on 2 ports."])
+        self.assertEqual(self.told("neighbors"), [*rows, "2 neighbors on 2 ports."])
         self.assertEqual(self.ctl(), self.ctl("neighbors"))
-        self.assertEqual(self.both("show neighbors summary"), self.ctl("neighbors"))
-        self.assertEqual(self.both("show neighbors summary ports eth1"),
+        self.assertEqual(self.told("show neighbors summary"), self.ctl("neighbors"))
+        self.assertEqual(self.told("show neighbors summary ports eth1"),
                          self.ctl("neighbors", "eth1"))
-        self.assertEqual(self.both("neighbors eth1,eth0"), self.both("neighbors"))
-        self.assertEqual(len(self.both("neighbors eth1")), 3)
-        self.assertEqual(self.both("neighbors eth1 eth0"), self.both("neighbors"))
+        self.assertEqual(self.told("neighbors eth1,eth0"), self.told("neighbors"))
+        self.assertEqual(len(self.told("neighbors eth1")), 3)
+        self.assertEqual(self.told("neighbors eth1 eth0"), self.told("neighbors"))
 
     def test_details(self) -> None:
-        lines = self.both("details")
+        lines = self.told("details")
         self.assertEqual([lines[0], lines[7]], ["eth0: sw p1", "eth1: 02:00:00:00:00:02 p2"])
         self.assertRegex(lines[1], "^  Heard       since .*:45:02, 120 s of 120 s left$")
-        self.assertEqual(self.both("details eth1"), lines[7:])
-        self.assertEqual(self.both("show neighbors details ports eth1"), lines[7:])
+        self.assertEqual(self.told("details eth1"), lines[7:])
+        self.assertEqual(self.told("show neighbors details ports eth1"), lines[7:])
         self.served.frame("eth0", numbered(1, 0))
-        self.assertEqual(self.both("details eth0"), ["no neighbors on 1 port."])
+        self.assertEqual(self.told("details eth0"), ["no neighbors on 1 port."])
 
     def test_interfaces(self) -> None:
         rows = ["PORT  INTERFACE  LINK  STATUS   NEIGHBORS",
                 "eth0  present    up    rx-only          1",
                 "eth1  awaited    down  rx-only          1"]
-        self.assertEqual(self.both("interfaces"), rows)
-        self.assertEqual(self.both("show interfaces"), rows)
-        self.assertEqual(self.both("interfaces eth1"), [rows[0], rows[2]])
+        self.assertEqual(self.told("interfaces"), rows)
+        self.assertEqual(self.told("show interfaces"), rows)
+        self.assertEqual(self.told("interfaces eth1"), [rows[0], rows[2]])
         told = json.loads("\n".join(self.ctl("--json", "interfaces", "eth1")))
         self.assertEqual(told, {"interfaces": [{
             "name": "eth1", "interface": "awaited", "link": "down", "status": "rx-only",
             "neighbors": 1}]})
 
     def test_statistics(self) -> None:
-        names = [one.name.replace("_", "-").upper() for one in fields(Counters)]
-        lines = [line.split() for line in self.both("statistics")]
+        names = [name.replace("_", "-").upper() for name in Counters._fields]
+        lines = [line.split() for line in self.told("statistics")]
         self.assertEqual(lines[0], ["PORT", *names])
         self.served.frame("eth0", numbered(1, 120)[:20])
-        lines = [line.split() for line in self.both("statistics")]
+        lines = [line.split() for line in self.told("statistics")]
         at = names.index("RECEIVED") + 1
         self.assertEqual([(line[0], line[at]) for line in lines[1:]],
                          [("eth0", "2"), ("eth1", "1"), ("all", "3")])
-        self.assertEqual(self.both("statistics eth1")[1].split(), lines[2])
-        self.assertEqual([line.split() for line in self.both("statistics summary")],
+        self.assertEqual(self.told("statistics eth1")[1].split(), lines[2])
+        self.assertEqual([line.split() for line in self.told("statistics summary")],
                          [lines[0], lines[3]])
         told = json.loads("\n".join(self.ctl("--json", "statistics", "summary")))
         self.assertEqual((told["summary"]["received"], told["summary"]["discarded"]), (3, 1))
 
     def test_lists_of_ports(self) -> None:
         for show in ("neighbors", "statistics"):
-            lines = self.both(f"show {show}")
-            self.assertEqual(self.both(f"show {show} eth0,eth1"), lines)
-            self.assertEqual(self.both(f"show {show} eth1 eth0"), lines)
-            self.assertEqual(self.both(f"show {show} eth1"),
+            lines = self.told(f"show {show}")
+            self.assertEqual(self.told(f"show {show} eth0,eth1"), lines)
+            self.assertEqual(self.told(f"show {show} eth1 eth0"), lines)
+            self.assertEqual(self.told(f"show {show} eth1"),
                              [line for line in lines if ".eth1." in line])
-        self.assertEqual(self.both("configure ports eth0,eth1 lldp status tx-only"), [])
-        self.assertEqual([line.split("=")[1] for line in self.both("show configuration")[-2:]],
+        self.assertEqual(self.told("configure ports eth0,eth1 lldp status tx-only"), [])
+        self.assertEqual([line.split("=")[1] for line in self.told("show configuration")[-2:]],
                          ["tx-only", "tx-only"])
         asked = [line for line in self.served.asked if line.startswith(b"configure")]
         self.assertEqual(asked[:2], [b"configure ports eth0 lldp status tx-only",
@@ -171,18 +146,6 @@ class Words(unittest.TestCase):
                          "help)")
         self.assertEqual(self.ctl("tick", status=1), ["lldpa-ctl: for lldpa-live alone"])
 
-    def test_other_lines_of_the_console_go_to_the_agent_as_they_are(self) -> None:
-        self.assertEqual(self.console("foo"), [
-            "error: unknown command: foo (neighbors, details, interfaces, statistics, live, show, "
-            "configure, update, help)"])
-        self.assertEqual(self.console("n eth1"), self.console("neighbors eth1"))
-        self.assertEqual(self.console('show "neighbors'), ["error: bad quote"])
-        self.assertEqual(self.console(""), [])
-        self.assertEqual(self.console("# a comment"), [])
-        self.assertEqual(self.console('configure system description "a b"'), [])
-        self.assertIn("local-chassis.descr=a b", self.console("show chassis"))
-        self.assertEqual(self.console("help"), list(HELP))
-
 
 class WhatIsKnown(unittest.TestCase):
     """The commands that are known here, and the agent's."""
@@ -194,33 +157,3 @@ class WhatIsKnown(unittest.TestCase):
     def test_refusals_of_whole_lines_stay(self) -> None:
         for text in ("no permission", "waiting for an interface", "too many held"):
             self.assertEqual(explanation(["configure", "lldp", "tx-hold", "0"], text), text)
-
-
-@on_links
-class Console(OnLinks):
-    """lldpa-live's standard input."""
-
-    def test_a_question_at_the_start_waits_for_the_agent(self) -> None:
-        live = self.live("eth0", "--", "--receive-only", awaits=False)
-        live.say("show neighbors")
-        self.assertEqual(live.lines.get(timeout=SECONDS), "lldp.eth0.neighbors=0")
-
-    def test_a_question_is_refused_while_an_interface_is_awaited(self) -> None:
-        live = self.live("eth7", awaits=False)
-        live.say("show neighbors")
-        self.assertEqual(live.lines.get(timeout=SECONDS), "error: waiting for an interface")
-
-    def test_it_takes_the_words(self) -> None:
-        live = self.live("eth0", "--", "--receive-only")
-        self.peer().send(numbered(1, 120, tlv(5, b"sw"), tlv(127, b"\0\x80\xc2\1\0\x78")))
-        self.assertTrue(eventually(live.neighbors))
-        self.assertEqual(live.told("neighbors")[0].split(),
-                         ["PORT", "NEIGHBOR", "ITS", "PORT", "VLAN", "MANAGEMENT", "LEFT"])
-        details = live.told("details eth0")
-        self.assertEqual(details[0], "eth0: sw p1")
-        self.assertRegex(details[1], r"^  Heard       since \d{4}-\d\d-\d\d \d\d:\d\d:\d\d, 1\d\d")
-        self.assertEqual(live.told("interfaces")[1].split(),
-                         ["eth0", "present", "up", "rx-only", "1"])
-        self.assertEqual(len(live.told("statistics summary")), 2)
-        self.assertEqual(live.told("configure lldp tx-hold 0"),
-                         ["error: out of range: 0 (intervals that peers keep a frame, 1 to 100)"])

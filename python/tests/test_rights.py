@@ -12,31 +12,15 @@ import subprocess
 import sys
 from pathlib import Path
 
-from lldpa.live.interface import IS_OURS, SO_ATTACH_FILTER, filter_program
-from lldpa.live.outbox import is_lldp
-
 from running_live import Live, OnLinks, on_links
 from patience import eventually
-from served import PROGRAM, REPOSITORY, numbered
+from served import numbered
 from wires import inside
 
-SO_DETACH_FILTER, SO_LOCK_FILTER = 27, 44
+SO_ATTACH_FILTER, SO_DETACH_FILTER, SO_LOCK_FILTER = 26, 27, 44
 SOL_PACKET, PACKET_ADD_MEMBERSHIP, PACKET_RX_RING = 263, 1, 5
 PACKET_MR_PROMISC = 1
 SYS_PIDFD_OPEN, SYS_PIDFD_GETFD = 434, 438
-
-# opens a port as lldpa-live does, gives up all rights, and tries to get more out of its socket
-WITHIN = """
-import socket, sys
-sys.path.insert(0, sys.argv[1])
-from lldpa.live.interface import IS_OURS, Interface, filter_program
-from lldpa.live.privileges import give_up
-from test_rights import what_is_refused
-port = Interface("eth0")
-give_up(None)
-port.take(socket.if_nametoindex("eth0"))
-print(what_is_refused(port.socket))
-"""
 
 
 def what_is_refused(packets: socket.socket) -> list[str]:
@@ -87,13 +71,6 @@ class TestFilter(OnLinks):
 
     links = 2
 
-    def test_kernel_refuses_from_within_the_process(self) -> None:
-        with inside(self.wires.here):
-            run = subprocess.run([sys.executable, "-c", WITHIN, str(REPOSITORY / "python")],
-                                 capture_output=True, text=True, check=False,
-                                 env={**os.environ, "PYTHONPATH": os.path.dirname(__file__)})
-        self.assertEqual(run.stdout.strip(), "['detach', 'attach', 'unlock']", run.stderr)
-
     def test_kernel_refuses_on_the_sockets_of_a_running_lldpa_live(self) -> None:
         live = self.live("eth0", "eth1")
         found = sockets_of(live)
@@ -111,9 +88,6 @@ class TestFilter(OnLinks):
         self.addCleanup(one.close)
         live.signal(signal.SIGSTOP)  # it would read the frame from the same socket
         with inside(self.wires.here):
-            number = socket.if_nametoindex("eth1")
-        one.bind(("eth1", 3)) if not number else None
-        with inside(self.wires.here):
             one.bind(("eth1", 3))
         sender = self.peer("peer1")
         sender.send(bytes.fromhex("ffffffffffff02005e0053770800") + b"a secret" * 9)
@@ -122,7 +96,6 @@ class TestFilter(OnLinks):
         self.assertEqual(one.recv(2000), numbered(1))
 
     def test_filter_stands_before_the_first_frame_could_come(self) -> None:
-        self.assertTrue(filter_program(IS_OURS))
         live = self.live("eth0", "eth7", "--", "--receive-only")
         for one in sockets_of(live):
             self.assertEqual(what_is_refused(one), ["detach", "attach", "unlock"])
@@ -157,17 +130,16 @@ class TestFilter(OnLinks):
 
 @on_links
 class TestSets(OnLinks):
-    """Capabilities and groups of lldpa-live, its agent and the process of its log."""
+    """Capabilities and groups of lldpa-live."""
 
     def test_bounding_set_is_empty(self) -> None:
         live = self.live("--log", os.path.join(self.wires.folder, "log"), "eth0")
         pid = live.process.pid
-        children = Path(f"/proc/{pid}/task/{pid}/children").read_text().split()
-        self.assertEqual(len(children), 2)
-        for process in (pid, *map(int, children)):
-            status = status_of(process)
+        self.assertEqual(Path(f"/proc/{pid}/task/{pid}/children").read_text(), "")
+        for thread in os.listdir(f"/proc/{pid}/task"):
+            status = status_of(int(thread))
             for kind in ("CapBnd", "CapInh", "CapPrm", "CapEff", "CapAmb"):
-                self.assertEqual(int(status[kind], 16), 0, (process, kind))
+                self.assertEqual(int(status[kind], 16), 0, kind)
             self.assertEqual(status["Groups"].strip(), "")
             self.assertEqual(status["NoNewPrivs"].strip(), "1")
             self.assertEqual(set(status["Uid"].split()), {"65534"})
@@ -190,32 +162,3 @@ class TestSets(OnLinks):
                                      f"/proc/{live.process.pid}/{name}"],
                                     capture_output=True, text=True, check=False)
             self.assertIn("PermissionError", looked.stderr, name)
-
-
-@on_links
-class Sending(OnLinks):
-    """Of what an agent wants to send, only LLDP frames of this host are sent."""
-
-    def test_what_is_an_lldp_frame_of_this_host(self) -> None:
-        own, other = bytes.fromhex("02000000000a"), bytes.fromhex("02000000000b")
-        good = numbered(1)
-        self.assertEqual(good[6:12], own)
-        for octets in (good, good[:14], good + bytes(1514 - len(good))):
-            self.assertTrue(is_lldp(octets, own, other))
-        for octets in (good[:13], b"", good + bytes(1515 - len(good)), b"\xff" * 6 + good[6:],
-                       good[:12] + b"\x08\x06" + good[14:], good[:6] + bytes(6) + good[12:]):
-            self.assertFalse(is_lldp(octets, own, b""))
-
-    def test_a_frame_from_a_foreign_address_is_not_sent(self) -> None:
-        program = Path(self.wires.folder, "lldpa")
-        foreign = numbered(7).hex()
-        program.write_text(f"#!/bin/sh\nwhile sleep 1 && echo tx eth0 {foreign}; do :; done &\n"
-                           f"exec {PROGRAM} \"$@\"")
-        program.chmod(0o755)
-        Path(self.wires.folder).chmod(0o755)
-        peer, live = self.peer(), self.live("eth0", program=str(program))
-        self.assertTrue(live.says("the agent tried to send what is not an LLDP frame of eth0: "
-                                  f"{foreign[:28]}; another one replaces it"))
-        self.assertEqual(live.ends(), 1)
-        while (heard := peer.hears(0.2)) is not None:
-            self.assertNotEqual(heard.hex(), foreign)

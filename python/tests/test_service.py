@@ -5,14 +5,16 @@ from __future__ import annotations
 import os
 import re
 import signal
+import socket
 import subprocess
-import time
+from pathlib import Path
 from typing import Any
 
 from running_live import Live, OnLinks, on_links
 from heard import Heard
-from patience import Standstill, by_the_clock, eventually
+from patience import SECONDS, by_the_clock, eventually
 from served import CTL, numbered, tlv
+from wires import inside
 
 
 @on_links
@@ -27,7 +29,7 @@ class Service(OnLinks):
 
     def service(self, *words: str, seconds: float = 4, **options: Any) -> Live:
         """Starts an lldpa-live that reports to the test, with a sign of life in so many seconds."""
-        return self.live("--stay", *words, env=self.heard.environment(seconds), **options)
+        return self.live(*words, env=self.heard.environment(seconds), **options)
 
     def metrics(self, live: Live) -> str:
         """Returns what Prometheus would get."""
@@ -92,24 +94,36 @@ class Systemd(Service):
         live.signal(signal.SIGCONT)
         self.assertTrue(self.heard.hears("WATCHDOG=1"))
 
+    def test_an_abstract_name_begins_with_an_at_sign(self) -> None:
+        name = f"lldpa-test-{os.getpid()}"
+        with inside(self.wires.here):
+            abstract = socket.socket(socket.AF_UNIX, socket.SOCK_DGRAM)
+        with abstract:
+            abstract.bind("\0" + name)
+            abstract.settimeout(SECONDS)
+            self.live("eth0", env={**os.environ, "NOTIFY_SOCKET": "@" + name}, awaits=False)
+            self.assertEqual(abstract.recv(100), b"READY=1")
+
+    def test_no_sign_of_life_is_given_that_nobody_wants(self) -> None:
+        for wanted in ({"WATCHDOG_USEC": "0"}, {"WATCHDOG_USEC": "30s"},
+                       {"WATCHDOG_USEC": "1000000", "WATCHDOG_PID": "1"}):
+            live = self.live("eth0", env={**self.heard.environment(), **wanted})
+            self.assertTrue(self.heard.hears("READY=1"), wanted)
+            self.assertFalse(self.heard.hears("WATCHDOG=1", 1.5), wanted)
+            live.close()
+
     @by_the_clock
-    def test_a_stopped_agent_is_told_and_gives_no_sign_of_life(self) -> None:
-        live = self.service("eth0")
-        self.assertTrue(self.heard.hears("WATCHDOG=1"))
-        self.assertIn("\nlldpa_up 1\n", self.metrics(live))
-        with Standstill() as standstill:
-            began = time.monotonic()
-            os.kill(live.agent(), signal.SIGSTOP)
-            self.assertTrue(live.says("the agent has not answered for 5 seconds"))
-            took = time.monotonic() - began
-        self.assertLess(took - standstill.overslept, 6)
-        self.assertIn("live.agent=silent", live.ask("live"))
-        self.assertIn("\nlldpa_up 0\n", self.metrics(live))
-        self.heard.forget()
-        self.assertFalse(self.heard.hears("WATCHDOG=1", 2.5))
-        os.kill(live.agent(), signal.SIGCONT)
-        self.assertTrue(self.heard.hears("WATCHDOG=1"))
-        self.assertTrue(eventually(lambda: "\nlldpa_up 1\n" in self.metrics(live)))
+    def test_nobody_who_reads_is_waited_for(self) -> None:
+        live, peer = self.service("eth0", "--", "--receive-only"), self.peer()
+        for number in range(200):  # more than the socket takes
+            live.signal(signal.SIGHUP)
+            peer.send(numbered(number))
+            self.assertTrue(eventually(live.ask_quietly, 5))
+        self.heard.close()
+        os.unlink(self.heard.path)
+        live.signal(signal.SIGHUP)
+        self.assertTrue(live.ask_quietly())
+        self.assertEqual(live.ended(), 0)
 
     def test_without_events_nobody_is_told(self) -> None:
         live, peer = self.service("eth0", "--", "--receive-only"), self.peer()
@@ -126,7 +140,7 @@ class Events(Service):
         return re.findall("^lldpa-live: (eth0 (?:came|changed|gone): .*)$", live.errors(), re.M)
 
     def test_a_line_for_each_that_comes_changes_or_goes(self) -> None:
-        live, peer = self.live("--stay", "--events", "eth0", "--", "--receive-only"), self.peer()
+        live, peer = self.live("--events", "eth0", "--", "--receive-only"), self.peer()
         steps = ((numbered(1, 60, tlv(5, b"a")), "eth0 came: a p1"),
                  (numbered(1, 60, tlv(5, b"b")), "eth0 changed: b p1; chassis.name: a -> b"),
                  (numbered(1, 0), "eth0 gone: b p1"),
@@ -143,7 +157,7 @@ class Events(Service):
         self.assertEqual(len(self.told(live)), 7)
 
     def test_who_repeats_what_was_said_is_no_news(self) -> None:
-        live, peer = self.live("--stay", "--events", "eth0", "--", "--receive-only"), self.peer()
+        live, peer = self.live("--events", "eth0", "--", "--receive-only"), self.peer()
         for _ in range(5):
             peer.send(numbered(1))
         self.assertTrue(live.says("eth0 came: "))
@@ -152,7 +166,7 @@ class Events(Service):
         self.assertEqual(len(self.told(live)), 1)
 
     def test_no_more_than_a_hundred_lines_a_minute(self) -> None:
-        live = self.live("--stay", "--events", "eth0", "--", "--receive-only", "--max-neighbors",
+        live = self.live("--events", "eth0", "--", "--receive-only", "--max-neighbors",
                          "128")
         peer = self.peer()
         for ttl, held in ((120, 120), (0, 0), (120, 120)):
@@ -163,9 +177,11 @@ class Events(Service):
         second = live.seconds_told()
         self.assertTrue(eventually(lambda: live.seconds_told() >= second + 2))
         self.assertEqual(len(self.told(live)), 100)
+        more = r"(?m)^lldpa-live: eth0: \d+ more came, changed or went within a minute$"
+        self.assertTrue(eventually(lambda: re.search(more, live.errors()), 65))
 
     def test_links_and_want_of_room_are_told(self) -> None:
-        live, peer = self.live("--stay", "--events", "eth0", "--", "--receive-only",
+        live, peer = self.live("--events", "eth0", "--", "--receive-only",
                                "--max-neighbors", "1"), self.peer()
         for number in (1, 2):
             peer.send(numbered(number, 60))
@@ -178,22 +194,32 @@ class Events(Service):
 
     def test_the_journal_is_told_levels_in_place_of_the_name(self) -> None:
         journal = ["sh", "-c", 'JOURNAL_STREAM=$(stat -L -c %d:%i /dev/fd/2) exec "$@"', "sh"]
-        live = self.live("--stay", "--events", "eth0", "--", "--receive-only", before=journal)
+        self.settings = Path(self.wires.folder, "settings.conf")
+        live = self.live("--events", "--config", str(self.settings), "eth0", "--",
+                         "--receive-only", before=journal)
         self.peer().send(numbered(1, 60, tlv(5, b"a")))
         self.assertTrue(live.says("<6>eth0 came: a p1\n"))
-        os.kill(live.agent(), signal.SIGKILL)
-        self.assertTrue(live.says("<4>the agent was killed by SIGKILL; another one replaces"))
-        self.assertTrue(eventually(live.ask_quietly))
         live.signal(signal.SIGHUP)
         self.assertTrue(live.says("<5>the settings were read again\n"))
-        os.kill(live.agent(), signal.SIGKILL)
-        self.assertEqual(live.ends(), 1)
-        last = live.errors().splitlines()[-1]
-        self.assertRegex(last, "^<3>.*the agent was killed by SIGKILL$")
+        self.settings.write_text("configure lldp tx-hold 0\n")
+        live.signal(signal.SIGHUP)
+        self.assertTrue(live.says("<4>1 setting was not applied\n"))
         self.assertNotIn("lldpa-live", live.errors())
+        live = self.live("--only-existing", "eth9", before=journal)
+        self.assertEqual((live.ends(), live.errors()[:9]), (1, "<3>eth9: "))
+
+    def test_no_line_is_too_long(self) -> None:
+        live, peer = self.live("--events", "eth0", "--", "--receive-only"), self.peer()
+        peer.send(numbered(1, 60, tlv(5, b"a" * 255)))
+        self.assertTrue(live.says("eth0 came: "))
+        peer.send(numbered(1, 60, tlv(5, b"\x01" * 255)))
+        self.assertTrue(live.says("eth0 changed: "))
+        lines = live.errors().splitlines()
+        self.assertEqual(lines[0], f"lldpa-live: eth0 came: {'a' * 255} p1")
+        self.assertEqual((len(lines[1]), lines[1][-4:]), (len("lldpa-live: ") + 1000, " ..."))
 
     def test_a_name_that_would_write_to_a_terminal_is_escaped(self) -> None:
-        live, peer = self.live("--stay", "--events", "eth0", "--", "--receive-only"), self.peer()
+        live, peer = self.live("--events", "eth0", "--", "--receive-only"), self.peer()
         peer.send(numbered(1, 60, tlv(5, b"\x1b[2J\nlldpa-live: eth0 gone: all")))
         self.assertTrue(live.says(r"eth0 came: \x1b[2J\x0alldpa-live: eth0 gone: all p1"))
         self.assertEqual(live.errors().count("\n"), 1)

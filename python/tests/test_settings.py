@@ -5,40 +5,14 @@ from __future__ import annotations
 import codecs
 import os
 import signal
-import subprocess
 import unittest
-from contextlib import suppress
 from pathlib import Path
 
 from heard import Heard
-from running_live import PYTHON, OnLinks, on_links
+from running_live import OnLinks, on_links
 from lldpa.client.refused import explained
-from patience import SECONDS, eventually
-from served import PROGRAM, REPOSITORY, numbered
-
-# a flood of signals, none of which the event loop reads before its end
-FLOOD = """
-import asyncio, signal
-from types import SimpleNamespace
-from lldpa.live.signals import Signals
-
-async def flood():
-    Signals(asyncio.Event(), SimpleNamespace(given=SimpleNamespace(stay=True), relay=None))
-    for _ in range(3000):
-        signal.raise_signal(signal.SIGHUP)
-
-asyncio.run(flood())
-"""
-# an agent that is not given its first setting before there is a file `go`
-HELD_UP = """#!/bin/sh
-while IFS= read -r line; do
-    case $line in "configure lldp"*)
-        : > FOLDER/held
-        until [ -e FOLDER/go ]; do sleep 0.05; done
-    esac
-    printf '%s\n' "$line"
-done | exec PROGRAM "$@"
-"""
+from patience import eventually
+from served import PROGRAM, numbered
 
 
 class TestExplained(unittest.TestCase):
@@ -82,7 +56,7 @@ class TestSettings(OnLinks):
 
     def words(self) -> list[str]:
         """Returns the words of an lldpa-live with both."""
-        return ["--stay", "--config", str(self.file), "--config", str(self.folder)]
+        return ["--config", str(self.file), "--config", str(self.folder)]
 
     def test_they_are_told_before_any_frame_goes_and_outlive_a_restart(self) -> None:
         self.file.write_text("# of this host\n\nconfigure lldp tx-interval 7\r\n"
@@ -103,28 +77,47 @@ class TestSettings(OnLinks):
             self.assertIsNotNone(peers[0].hears())
             self.assertIsNone(peers[1].hears(0.2))
             self.assertIn("lldp.eth1.sent=0", live.ask("show statistics"))
-            live.signal(signal.SIGTERM)
-            self.assertEqual(live.ends(), 0)
+            self.assertEqual(live.ended(), 0)
 
-    def test_wrong_lines_end_it_at_the_start_each_told(self) -> None:
+    def test_wrong_lines_at_the_start_are_told_and_the_agent_runs(self) -> None:
         self.file.write_text("configure lldp tx-hold 3\n#\nconfigure lldp tx-interval 3601\n"
-                             "show neighbors\nconfigure ports eth9 lldp status disabled\n")
-        peer = self.peer("peer0")
-        live = self.live(*self.words(), "eth0", "eth1")
-        self.assertEqual(live.ends(), 2)
+                             "show neighbors\nconfigure lldp tx-interval 7\n")
+        heard = Heard(self.wires.folder)
+        self.addCleanup(heard.close)
+        live = self.live(*self.words(), "eth0", "eth1", env=heard.environment())
         self.assertEqual(live.errors().splitlines(), [
             f"lldpa-live: {self.file}:3: configure lldp tx-interval 3601: "
             "out of range: 3601 (seconds between frames, 1 to 3600)",
             f"lldpa-live: {self.file}:4: show neighbors: show is not `configure`",
-            f"lldpa-live: {self.file}:5: configure ports eth9 lldp status disabled: "
-            "no such port: eth9 (a port of this agent)"])
-        self.assertIsNone(peer.hears(0.2))
+            "lldpa-live: 2 settings were not applied"])
+        shown = live.ask("show configuration")
+        self.assertIn("configuration.tx-hold=3", shown)
+        self.assertIn("configuration.tx-interval=7", shown)
+        self.assertIsNotNone(self.peer("peer0").hears())
+        self.assertEqual(live.number("settings-refused"), 2)
+        self.assertTrue(heard.hears("STATUS=no neighbors on 2 ports; 2 settings refused"))
 
-    def test_wrong_lines_end_it_also_where_it_waits_for_an_interface(self) -> None:
+    def test_one_wrong_line_is_told_as_one(self) -> None:
         self.file.write_text("configure lldp tx-hold 0\n")
-        live = self.live(*self.words(), "eth7")
-        self.assertEqual(live.ends(), 2)
-        self.assertIn(f"{self.file}:1: configure lldp tx-hold 0: out of range: 0", live.errors())
+        live = self.live(*self.words(), "eth0")
+        self.assertIn("lldpa-live: 1 setting was not applied\n", live.errors())
+
+    def test_a_line_for_a_port_that_is_not_there_waits_for_it(self) -> None:
+        self.file.write_text("configure ports eth2 lldp status rx-only\n")
+        live = self.live(*self.words(), "eth0", "eth1", "e*2")
+        self.assertEqual((live.errors(), live.number("settings-refused")), ("", 0))
+        self.wires.add_link(2)
+        self.assertTrue(eventually(lambda: "live.eth2.link=up" in live.ask("live")))
+        self.assertIn("configuration.eth2.status=rx-only", live.ask("show configuration"))
+        self.assertIn("lldp.eth2.sent=0", live.ask("show statistics"))
+
+    def test_wrong_lines_are_told_also_while_it_waits_for_an_interface(self) -> None:
+        self.file.write_text("configure lldp tx-hold 0\n")
+        live = self.live(*self.words(), "eth7", awaits=False)
+        self.assertTrue(live.says("eth7: no such interface yet"))
+        self.wires.add_link(7)
+        self.assertTrue(eventually(live.ask_quietly))
+        self.assertTrue(live.says("out of range: 0 (intervals that peers keep a frame, 1 to 100)"))
 
     def test_reload_takes_changes_without_a_frame_lost(self) -> None:
         self.file.write_text("configure lldp tx-interval 7\n")
@@ -159,78 +152,53 @@ class TestSettings(OnLinks):
         told = [f"lldpa-live: {self.folder}/{name}.conf: {why}" for name, why in (
             ("10-locked", "Permission denied"), ("11-dangling", "No such file or directory"),
             ("12-folder", "not a file"), ("13-pipe", "not a file"), ("14-device", "not a file"))]
+        told.append("lldpa-live: 5 settings were not applied")
         live = self.live(*self.words(), "eth0")
         self.assertEqual(live.errors().splitlines(), told)
         self.assertIn("configuration.tx-hold=3", live.ask("show configuration"))
         self.assertIn("configuration.tx-interval=9", live.ask("show configuration"))
         live.signal(signal.SIGHUP)
-        self.assertTrue(live.says("5 settings were not applied"))
-        self.assertEqual(live.errors().splitlines()[5:10], told)
-        self.assertIn("live.settings-refused=5", live.ask("live"))
-        self.assertNotIn("were read again", live.errors())
+        self.assertTrue(eventually(lambda: live.errors().splitlines() == 2 * told))
+        self.assertEqual(live.number("settings-refused"), 5)
         for path in self.folder.glob("1*.conf"):
             path.rmdir() if path.is_dir() else path.unlink()
         live.signal(signal.SIGHUP)
         self.assertTrue(live.says("the settings were read again"))
-        self.assertIn("live.settings-refused=0", live.ask("live"))
-        live.signal(signal.SIGTERM)
-        self.assertEqual(live.ends(), 0)
+        self.assertEqual(live.number("settings-refused"), 0)
+        self.assertEqual(live.ended(), 0)
 
     def test_refused_lines_are_escaped_and_cut(self) -> None:
         self.file.write_bytes(b"configure \x1b[31m" + b"x" * 300 + b"\n\xff\x07\n")
         live = self.live(*self.words(), "eth0")
-        self.assertEqual(live.ends(), 2)
         self.assertTrue(live.errors().isascii() and live.errors().replace("\n", "").isprintable())
         self.assertIn("configure \\x1b[31mxxx", live.errors())
         self.assertIn(":2: \\xff\\x07: ", live.errors())
         self.assertLess(max(map(len, live.errors().splitlines())), 500)
+        self.assertEqual(live.number("settings-refused"), 2)
 
-    def test_of_many_reloads_one_runs_and_one_waits(self) -> None:
-        self.file.write_text("configure lldp tx-hold 3\n")
-        live = self.live(*self.words(), "eth0")
-        agent = live.agent()
-        os.kill(agent, signal.SIGSTOP)
-        for _ in range(3000):
-            live.signal(signal.SIGHUP)
-        with suppress(ProcessLookupError):  # it is replaced if this machine stood still for long
-            os.kill(agent, signal.SIGCONT)
-        self.assertTrue(live.says("were read again"))
-        live.ask("show chassis")
-        self.assertIn(live.errors().count("were read again"), (1, 2))
-
-    def test_a_flood_of_signals_is_not_reported_by_the_interpreter(self) -> None:
-        run = subprocess.run([PYTHON, "-c", FLOOD], capture_output=True, text=True, check=False,
-                             timeout=SECONDS, cwd=REPOSITORY / "python")
-        self.assertEqual((run.returncode, run.stderr), (0, ""))
-
-    def test_a_reload_while_the_agent_is_opened_is_not_lost(self) -> None:
-        folder = Path(self.wires.folder)
-        folder.chmod(0o777)
-        program = folder / "program"
-        program.write_text(HELD_UP.replace("FOLDER", str(folder)).replace("PROGRAM", PROGRAM))
-        program.chmod(0o755)
-        self.file.write_text("configure lldp tx-interval 7\n")
-        live = self.live(*self.words(), "eth0", program=str(program), awaits=False)
-        self.assertTrue(eventually((folder / "held").exists))
-        self.file.write_text("configure lldp tx-interval 8\n")
-        live.signal(signal.SIGHUP)
-        (folder / "go").touch()
-        self.assertTrue(live.says("were read again"))
-        self.assertIn("configuration.tx-interval=8", live.ask("show configuration"))
-
-    def test_a_reload_that_meets_the_end_of_an_agent_is_answered(self) -> None:
+    def test_a_flood_of_signals_is_survived(self) -> None:
         heard = Heard(self.wires.folder)
         self.addCleanup(heard.close)
         self.file.write_text("configure lldp tx-hold 3\n")
         live = self.live(*self.words(), "eth0", env=heard.environment())
         self.assertTrue(heard.hears("READY=1"))
-        os.kill(live.agent(), signal.SIGSTOP)
-        self.file.write_text("configure lldp tx-hold 0\nconfigure lldp tx-interval 7\n")
+        for number in range(3000):
+            live.signal(signal.SIGHUP)
+            if number % 100 == 0:
+                self.assertTrue(live.ask_quietly())
+        self.file.write_text("configure lldp tx-hold 5\n")
         live.signal(signal.SIGHUP)
-        self.assertTrue(live.says("another one replaces it"))
-        self.assertTrue(live.says("1 settings were not applied"))
-        self.assertTrue(heard.hears("READY=1"))
-        self.assertIn("configuration.tx-interval=7", live.ask("show configuration"))
-        heard.forget()
-        said = [datagram[0] for datagram in heard.datagrams]
-        self.assertEqual((said.count("READY=1"), said.count("RELOADING=1")), (2, 1))
+        self.assertTrue(eventually(lambda: "configuration.tx-hold=5"
+                                   in live.ask("show configuration")))
+        self.assertEqual(set(live.errors().splitlines()),
+                         {"lldpa-live: the settings were read again"})
+
+    def test_a_reload_before_the_agent_is_open_is_not_lost(self) -> None:
+        self.file.write_text("configure lldp tx-interval 7\n")
+        live = self.live(*self.words(), "eth7", awaits=False)
+        self.assertTrue(live.says("eth7: no such interface yet"))
+        self.file.write_text("configure lldp tx-interval 8\n")
+        live.signal(signal.SIGHUP)
+        self.wires.add_link(7)
+        self.assertTrue(eventually(live.ask_quietly))
+        self.assertIn("configuration.tx-interval=8", live.ask("show configuration"))

@@ -4,7 +4,6 @@ from __future__ import annotations
 import subprocess
 import sys
 import unittest
-from dataclasses import fields
 from typing import Iterator, List, Tuple
 
 from lldpa.agent.synchronous import MARK, MARK_ANSWER
@@ -45,7 +44,7 @@ lldp.p1.too-many=no
 """.splitlines()
 
 # each counter and each number has a value of its own
-COUNTS = {one.name: number for number, one in enumerate(fields(Counters))}
+COUNTS = {name: number for number, name in enumerate(Counters._fields)}
 STATISTICS = [f"lldp.{port}.{name.replace('_', '-')}={number}"
               for port in ("eth0", "p1") for name, number in COUNTS.items()]
 
@@ -57,8 +56,8 @@ local-chassis.caps=Station:on
 local-chassis.mgmt=192.0.2.1,1,0,
 """.splitlines()
 
-NUMBERS = {one.name: number for number, one in enumerate(fields(Configuration), 30)
-           if one.name != "statuses"}
+NUMBERS = {name: number for number, name in enumerate(Configuration._fields, 30)
+           if name != "statuses"}
 CONFIGURATION = [f"configuration.{name.replace('_', '-')}={number}"
                  for name, number in NUMBERS.items()]
 CONFIGURATION += ["configuration.ports=2", "configuration.eth0.status=rx-and-tx",

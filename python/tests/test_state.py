@@ -6,6 +6,7 @@ import os
 import signal
 import time
 from pathlib import Path
+from typing import Iterator
 
 from lldpa import Neighbor
 from lldpa.client import since_of
@@ -13,7 +14,7 @@ from patience import eventually
 from replaced import LONG, Replaced
 from replays import Moments, differing
 from running_live import on_links
-from served import numbered
+from served import frame, numbered
 
 
 @on_links
@@ -30,8 +31,7 @@ class Restarts(Replaced):
         live = self.begun("--state", str(self.state))
         since = since_of(live.ask("live"))
         neighbors, moment = self.neighbors(live), time.monotonic()
-        live.signal(signal.SIGTERM)
-        self.assertEqual(live.ends(), 0)
+        self.assertEqual(live.ended(), 0)
         return neighbors, moment, since
 
     def test_no_neighbor_is_lost_and_their_seconds_go_on(self) -> None:
@@ -41,14 +41,12 @@ class Restarts(Replaced):
         live = self.live("--state", str(self.state), "--log", str(self.log), "eth0", "eth1")
         self.stays(before, began, live)
         self.assertEqual(since_of(live.ask("live")), since)
-        self.assertEqual(self.state.read_bytes(), b"")
         moments = Moments(live)
         moments.take()
         self.peers[0].send(numbered(1, 0))
         self.assertTrue(eventually(lambda: live.neighbors() == 2))
         moments.take()
-        live.signal(signal.SIGTERM)
-        self.assertEqual(live.ends(), 0)
+        self.assertEqual(live.ended(), 0)
         self.assertEqual(differing(self.log, moments), [])
         live = self.live("--state", str(self.state), "eth0")
         self.assertEqual(live.neighbors(), 2)
@@ -72,9 +70,9 @@ class Restarts(Replaced):
                             (old + rest, "it is too old"),
                             (first.replace(b".", b"0", 1) + b"\n" + rest, "it is not complete"),
                             (booted + rest, "booted since"), (was_set + rest, "clock was set"),
-                            (whole.replace(b"\ntick", b"\nupdate", 1), "a malformed line"),
+                            (whole.replace(b"\nrx ", b"\nupdate\nrx ", 1), "a malformed line"),
                             (whole.replace(b"# since eth0", b"# since eth7", 1), "not those"),
-                            (b"\xff" + whole, "'ascii' codec")):
+                            (b"\xff" + whole, "it is not complete")):
             self.state.write_bytes(octets)
             live = self.live("--state", str(self.state), "eth0", "eth1")
             self.assertTrue(live.says("the state is not used: "), why)
@@ -101,6 +99,61 @@ class Restarts(Replaced):
             live = self.live("--state", str(self.state), "eth0", "eth1")
             self.assertTrue(live.says("the state is not used: "))
             self.assertEqual(live.neighbors(), 0)
-            live.signal(signal.SIGTERM)
-            self.assertEqual(live.ends(), 0)
+            self.assertEqual(live.ended(), 0)
         self.assertEqual(other.read_text(), "of root")
+
+    def test_it_is_written_each_minute_so_that_a_crash_loses_little(self) -> None:
+        live = self.begun("--state", str(self.state))
+        before, began, since = self.neighbors(live), time.monotonic(), since_of(live.ask("live"))
+        self.assertTrue(eventually(lambda: self.state.read_bytes().count(b"# since ") == 4, 75))
+        self.assertEqual(live.ended(signal.SIGKILL), -signal.SIGKILL)
+        for _ in range(2):  # and again in the first minute
+            live = self.live("--state", str(self.state), "eth0", "eth1")
+            self.stays(before, began, live)
+            self.assertEqual(since_of(live.ask("live")), since)
+            self.assertEqual(live.ended(signal.SIGKILL), -signal.SIGKILL)
+
+    def test_neighbors_that_were_kept_are_no_news(self) -> None:
+        self.ended()
+        live = self.live("--state", str(self.state), "--events", "eth0", "eth1")
+        self.peers[1].send(numbered(4, LONG))
+        self.assertTrue(live.says("eth1 came: 02:00:00:00:00:04 p4"))
+        self.assertEqual(live.errors().count("came"), 1)
+        self.peers[1].send(numbered(9, 0))
+        self.assertTrue(live.says("eth1 gone: 02:00:00:00:00:09 p9"))
+
+    def test_8192_neighbors_of_one_port_take_less_than_a_second(self) -> None:
+        self.state.write_text("".join(f"{line}\n" for line in forged(8192)))
+        self.state.chmod(0o600)
+        live = self.live("--state", str(self.state), "eth0", "eth1", "--", "--max-neighbors", "128")
+        self.assertEqual((live.errors(), live.neighbors()), ("", 128))
+        ticks = Path(f"/proc/{live.process.pid}/stat").read_text().rpartition(")")[2].split()
+        self.assertLess((int(ticks[11]) + int(ticks[12])) / os.sysconf("SC_CLK_TCK"), 1)
+
+    def test_it_sleeps_while_it_waits_for_an_interface(self) -> None:
+        live = self.live("--state", str(self.state), "eth7", awaits=False)
+        self.assertTrue(live.says("eth7: no such interface yet"))
+        spent = Path(f"/proc/{live.process.pid}/schedstat")
+        before = int(spent.read_text().split()[0])
+        time.sleep(2)
+        self.assertLess((int(spent.read_text().split()[0]) - before) / 1e9, 0.1)
+
+    def test_a_state_of_very_many_seconds_holds_nothing_up(self) -> None:
+        *lines, end = forged(1)
+        self.state.write_text("\n".join([*lines, *["tick 60000"] * 100_000, end, ""]))
+        self.state.chmod(0o600)
+        began = time.monotonic()
+        live = self.live("--state", str(self.state), "eth0", "eth1")
+        self.assertIn("the state is not used: ", live.errors())
+        self.assertLess(time.monotonic() - began, 10)
+
+
+def forged(count: int) -> Iterator[str]:
+    """Returns the lines of a state with so many neighbors of eth0."""
+    now = time.clock_gettime(time.CLOCK_BOOTTIME)
+    yield f"# lldpa-live state 1 {time.time():.3f} {now:.3f}"
+    names = [b"\x07n%d" % number for number in range(count)]
+    yield from (f"# since eth0 {time.time():.3f} local={name[1:].decode()} ifname=p"
+                for name in names)
+    yield from (f"rx eth0 {frame(name, b'%cp' % 5, LONG).hex()}" for name in names)
+    yield "# end"

@@ -88,7 +88,7 @@ class Traces(FilesCase):
         heard = [packet(whole(LLDP), place=place) for place in range(65)]
         three = self.file(many + heard[7] + heard[64] + heard[3], "three")
         self.assertEqual(ports_of([Source(three)]), ["swp3", "swp7", "swp64"])
-        with self.assertRaisesRegex(TooManyPorts, "65 ports, and the limit is 64"):
+        with self.assertRaisesRegex(TooManyPorts, "65 ports; the limit is 64"):
             ports_of([Source(self.file(many + b"".join(heard)))])
 
     def test_interfaces_that_are_none_of_ours(self) -> None:
@@ -97,7 +97,7 @@ class Traces(FilesCase):
         file += packet(whole(LLDP)) + packet(whole(LLDP), place=1) + packet(whole(LLDP), place=2)
         self.assertEqual(self.trace(Source(self.file(file))), [RX.strip().replace("eth0", "eth1")])
         name, link_type = self.faults
-        self.assertIn("'eth0.10' cannot be a port", name)
+        self.assertIn("'eth0.10' has no name for a port", name)
         self.assertIn("--port 'eth0.10=NAME'", name)
         self.assertIn("interface 'any' is LINUX_SLL (113)", link_type)
 
@@ -120,7 +120,7 @@ class Traces(FilesCase):
                 self.assertEqual(self.trace(Source(path)), [RX.strip()])
                 whys = [(2, "truncated to 30 of 99 octets"), (3, "tagged"),
                         (4, "truncated to 9 of 60 octets"), (5, "longer than 1514 octets")]
-                want = [f"{path}: frame {number} is passed over: it is {why}"
+                want = [f"{path}: frame {number} is skipped: it is {why}"
                         for number, why in whys]
                 self.assertEqual((self.notes, self.faults), (want, []))
 
@@ -199,7 +199,7 @@ class Program(FilesCase):
         for words, text in ((["--port", "eth0.10", "a"], "eth0.10: a port's name has 1 to 15"),
                             (["eth0.10=a"], "eth0.10: a port's name has 1 to 15"),
                             (["--port", "x" * 16, "a"], "a port's name has 1 to 15"),
-                            ([f"p{i}=a" for i in range(65)], "65 ports, and the limit is 64"),
+                            ([f"p{i}=a" for i in range(65)], "65 ports; the limit is 64"),
                             ([], "FILE"), (["--por", "x", "a"], "--por")):
             written, said, status = self.ran(*words)
             with self.subTest(words[:2]):
@@ -223,7 +223,7 @@ class Program(FilesCase):
         self.file(b"", "empty")
         self.file(b"#!/bin/sh", "script")
         self.assertEqual(self.ran("empty"), ("", "lldpa-capture: empty: it is empty\n", 1))
-        self.assertIn("script: it is not a capture: octet 0", self.ran("script")[1])
+        self.assertIn("script: it is not a capture: it begins with 23", self.ran("script")[1])
         gone = "lldpa-capture: gone: No such file or directory\n"
         self.assertEqual(self.ran("gone"), ("", gone, 1))
         self.assertEqual(self.ran(str(self.folder))[2], 1)

@@ -2,6 +2,7 @@
 
 from __future__ import annotations
 
+import os
 import re
 import subprocess
 import sys
@@ -9,14 +10,19 @@ import unittest
 
 import lldpa
 
+from running_live import LIVE
 from served import REPOSITORY
 
-PROGRAMS = {"lldpa-audit": 1, "lldpa-capture": 1, "lldpa-ctl": 8, "lldpa-live": 8, "lldpctl": 1}
+PROGRAMS = {"lldpa-audit": 1, "lldpa-capture": 1, "lldpa-ctl": 8, "lldpctl": 1}
+if os.access(LIVE, os.X_OK):
+    PROGRAMS["lldpa-live"] = 8
 
 
 def said(name: str, word: str) -> str:
     """Returns what a program writes for a word."""
     words = [sys.executable, str(REPOSITORY / "bin" / name), word]
+    if name == "lldpa-live":
+        words = [LIVE, word]
     return subprocess.run(words, capture_output=True, text=True, check=True).stdout
 
 
@@ -35,7 +41,7 @@ class Programs(unittest.TestCase):
     def test_help_has_an_example_and_the_page(self) -> None:
         for name, section in PROGRAMS.items():
             text = said(name, "--help")
-            self.assertIn(f"example: {name} ", text)
+            self.assertRegex(text, rf"(?m)^examples?:\s+{name} ")
             self.assertIn(f"{name}({section})", text)
             folder = "audit" if name == "lldpa-audit" else "man"
             self.assertTrue((REPOSITORY / folder / f"{name}.{section}").is_file())

@@ -11,7 +11,7 @@ import subprocess
 import sys
 import tempfile
 import time
-from typing import Iterator, Optional
+from typing import Iterator, Optional, Tuple
 
 from patience import SECONDS, eventually
 
@@ -79,6 +79,13 @@ class Wires:
         """Removes a link."""
         ip("-n", self.here if end.startswith("eth") else self.there, "link", "del", end)
 
+    def address(self, end: str) -> bytes:
+        """Returns the address of an end."""
+        name = self.here if end.startswith("eth") else self.there
+        shown = subprocess.run(["ip", "-n", name, "-br", "link", "show", end], text=True,
+                               capture_output=True, check=True).stdout
+        return bytes.fromhex(shown.split()[2].replace(":", ""))
+
     def close(self) -> None:
         """Removes everything."""
         for name in (self.here, self.there):
@@ -138,12 +145,17 @@ class Peer:
         self.socket.close()
 
 
+def tlvs_of(octets: bytes) -> Iterator[Tuple[int, bytes]]:
+    """Returns the type and the body of each TLV of a frame, up to its end or to one that is cut."""
+    place = 14
+    while place + 2 <= len(octets):
+        head = int.from_bytes(octets[place:place + 2], "big")
+        place += 2 + head % 512
+        if head >> 9 == 0 or place > len(octets):
+            return
+        yield head >> 9, octets[place - head % 512:place]
+
+
 def ttl_of(octets: bytes) -> int:
     """Returns the time to live of a frame."""
-    rest = octets[14:]
-    while rest:
-        head = int.from_bytes(rest[:2], "big")
-        if head >> 9 == 3:
-            return int.from_bytes(rest[2:4], "big")
-        rest = rest[2 + head % 512:]
-    return -1
+    return int.from_bytes(dict(tlvs_of(octets))[3][:2], "big")

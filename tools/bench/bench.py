@@ -24,7 +24,7 @@ from typing import Any
 
 from bench_captures import AUDIT, audit_of_cabling, capture_rows, other_readers, seconds
 from bench_counts import counted, counted_start, library
-from bench_picture import picture, table as shown_table
+from bench_picture import picture
 from bench_rows import PORTS, Row, rows
 
 TOP = Path(__file__).resolve().parents[2]
@@ -150,20 +150,17 @@ def read_options() -> argparse.Namespace:
     add("--saved", metavar="FILE", help="measure nothing: take the table that was kept in this file")
     add("--captures", action="store_true", help="with --saved, measure what reads captures")
     add("--counts", action="store_true", help="with --saved, count the instructions of each row")
-    add("--table", metavar="FILE", help="write the table into this file, as docs/DECISIONS.md shows it")
     add("--svg", metavar="FILE", help="draw the table into this file (docs/bench.svg is the one that the pages show)")
     return parser.parse_args()
 
 
 def main() -> None:
-    """Measures, or takes what was saved; saves and draws it."""
+    """Measures, or reads what was saved; saves and draws it."""
     options = read_options()
     with tempfile.TemporaryDirectory() as folder:
         told = (kept if options.saved else measured)(options, Path(folder))
     if options.save:
         Path(options.save).write_text(json.dumps(told, indent=1) + "\n")
-    if options.table:
-        Path(options.table).write_text(shown_table(told))
     if options.svg:
         Path(options.svg).write_text(picture(told))
 

@@ -120,7 +120,7 @@ def capture_rows(room: Path, times: int) -> list[str]:
 
 
 def audit_of_cabling(room: Path) -> list[str]:
-    """Returns a line on what an audit of 100,000 links costs, and the memory that it takes."""
-    words = cabling.Network(2000, 100).write(room)
+    """Returns a line on what an audit of 100,000 links costs, and the memory that it needs."""
+    words = cabling.write(room, 50)
     used, _, megabytes = min(cabling.measured(words) for _ in range(3))
     return [f"{AUDIT}: {used:.1f} s, {megabytes:.0f} MB"]

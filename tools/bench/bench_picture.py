@@ -1,4 +1,4 @@
-"""The picture and the table of the benchmark: lldpa and C, in the words of those who have not read the benchmark."""
+"""The picture of the benchmark: lldpa and C, in the words of those who have not read the benchmark."""
 from __future__ import annotations
 
 import html
@@ -64,17 +64,6 @@ def head(told: dict[str, Any], height: float) -> list[str]:
             '<text x="16" y="24" font-size="16">Processor time of the agent, beside C that does the same work</text>',
             '<text x="16" y="44" fill="#555">shorter is better; the bar of plain C is as long in each row; on '
             f'{html.escape(told["machine"])}</text>']
-
-
-def table(told: dict[str, Any]) -> str:
-    """Returns the saved table as a page shows it: nanoseconds and instructions of each program."""
-    heads = ["ns", "ns, C", "ns, C by vectors", "instructions", "C's", "C's by vectors"]
-    lines = [f"| | {' | '.join(heads)} |", "|---|" + "---|" * len(heads)]
-    for row in told["rows"]:
-        figures = [value for side in ("time", "instructions") for value in (row[side] + [0, 0])[:3]]
-        cells = [f"{value:,.0f}" if value else "" for value in figures]
-        lines.append(f"| {WORDS[row['title']]} | {' | '.join(cells)} |")
-    return "\n".join(lines) + "\n"
 
 
 def picture(told: dict[str, Any]) -> str:

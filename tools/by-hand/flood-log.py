@@ -11,7 +11,7 @@ may, and no frame of the quiet port may be dropped.
 
 With --minutes one port receives hostile frames for so long, and another one those of five quiet
 neighbors; the interface of a third one comes and goes. Meanwhile settings are reloaded, questions
-asked, addresses changed, agents killed and stopped, and lldpa-live itself is stopped for a while.
+asked, addresses changed, and lldpa-live is stopped for a while.
 No frame of the quiet port may be lost, no neighbor be false, and nothing grow.
 
 It needs Linux and root. LLDPA names the program. The last line is `N passed, M failed`.

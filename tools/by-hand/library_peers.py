@@ -35,7 +35,7 @@ class Frame:
         return [tlv.body for tlv in self.inside if tlv.kind == kind]
 
     def is_shutdown(self) -> bool:
-        """Returns whether nothing behind the TTL matters."""
+        """Returns whether nothing after the TTL matters."""
         return self.told is not None and self.told.ttl == 0
 
 
@@ -75,7 +75,7 @@ TAKEN: list[Reason] = [
     ("1 to 31 octets of address", LLDPD, has_address_that_is_none),
 ]
 
-# Why a peer accepts a frame that the library refuses, or does not take for an LLDP frame.
+# Why a peer accepts a frame that the library refuses, or does not regard as an LLDP frame.
 REFUSED: list[Reason] = [
     ("Frames are sent to one of three group addresses", BOTH,
      lambda frame: frame.octets[:6] != model.NEAREST_BRIDGE),

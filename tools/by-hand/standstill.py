@@ -1,5 +1,5 @@
 #!/usr/bin/env python3
-"""Runs a command, and lets all that it starts stand still now and then, as on a busy machine.
+"""Runs a command, and stops everything that it starts now and then, as a busy machine does.
 
     tools/by-hand/standstill.py COMMAND ..
 

@@ -301,7 +301,7 @@ def sent(lab, comparison, name, frames):
     """Compares frames that are sent as they are, some at a time."""
     for at in range(0, len(frames), BATCH):
         some = frames[at:at + BATCH]
-        for number in range(2):  # one port behind the other, so that all come in one order
+        for number in range(2):  # one port after the other, so that the order is fixed
             for octets in some[number::2]:
                 lab.sending[number].send(octets)
             count = len(some[::2]) if number == 0 else len(some)

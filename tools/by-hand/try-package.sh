@@ -4,8 +4,9 @@
 #     tools/by-hand/try-package.sh [ROOT]
 # ROOT is a folder with a Debian that has python3, systemd-sysv, dbus and iproute2, and is left as it is; unless given,
 # debootstrap makes one, which takes a minute and a network. It needs Linux, root, and Debian's packages
-# systemd-container and, without ROOT, debootstrap. LLDPA names the program, as for tools/release/package.sh. The last
-# line is `N passed, M failed`; if something is missing it says so, and its status is 77.
+# systemd-container and, without ROOT, debootstrap. LLDPA and LLDPA_LIVE name the programs, as for
+# tools/release/package.sh. If BEFORE names a package of revision 0, an upgrade from it is tried first. The last line is
+# `N passed, M failed`; if something is missing it says so, and its status is 77.
 set -u
 skip() {
     echo "skipped: $1"
@@ -29,6 +30,7 @@ fi
 mkdir "$root/root/packages"
 "$tools/release/package.sh" "$root/root/packages" || exit 1
 "$tools/release/package.sh" --revision 2 "$root/root/packages" || exit 1
+[ -z "${BEFORE-}" ] || cp "$BEFORE" "$root/root/packages" || exit 1
 python3 "$tools/gate/examples.py" --as-root > "$root/root/commands" || exit 1
 
 # What runs there, once it has booted: each check is a line, `held` or `FAILED` with what was to hold.
@@ -115,9 +117,9 @@ confined_live() {
         lambda: connect("/run/systemd/journal/socket", socket.SOCK_DGRAM)' Type=oneshot Restart=no WatchdogSec=0
 }
 published() { eventually grep -x "lldpa_up $1" /var/lib/prometheus/node-exporter/lldpa.prom; }
-stop_agent() { kill -STOP "$(cat "/proc/$(process)/task/$(process)/children" | tr ' ' '\n' | while read -r one; do
-    [ "$(cat "/proc/$one/comm" 2> /dev/null)" = lldpa ] && echo "$one"; done)"; }
-is_replaced() { lldpa-ctl live | grep -x live.agent-restarts=1; }
+# Runs a command as a member of the group that may ask, or as nobody.
+as_member() { setpriv --reuid=4711 --regid=4711 --groups="$(getent group asking | cut -d: -f3)" "$@"; }
+as_nobody() { ! setpriv --reuid=4711 --regid=4711 --clear-groups "$@"; }
 # Sends the frame of a neighbor once, with a time to live of an hour.
 say_once() {
     python3 -c 'import socket
@@ -141,6 +143,24 @@ while True:
 ip link add eth0 type veth peer name far && ip link set eth0 up && ip link set far up
 neighbor &
 listed > /root/before
+if [ -e lldpa_*-0_*.deb ]; then
+    check "the version before installs" dpkg -i lldpa_*-0_*.deb
+    sed -i 's/--role station/--role bridge/' /etc/default/lldpa
+    echo 'configure system description "of the folder"' > /etc/lldpa.d/a.conf
+    systemctl enable --now lldpa
+    eventually answers Bridge:on
+    say_once
+    check "the version before sees a neighbor" keeps
+    ls /var/lib/lldpa/*.trace > /root/logs
+    check "an upgrade from it asks nothing" dpkg -i lldpa_*-1_*.deb
+    check "it keeps the table" keeps
+    check "it keeps the configuration" shows Bridge:on
+    check "it keeps the settings" shows 'descr=of the folder'
+    check "it keeps the logs" xargs ls < /root/logs
+    check "its package is purged" dpkg -P lldpa
+    listed > /root/after
+    check "the version before leaves no file" diff /root/before /root/after
+fi
 check "it installs" dpkg -i lldpa_*-1_*.deb
 check "it does not run before it is enabled" inactive
 check "its programs run" reads
@@ -161,13 +181,30 @@ check "metrics say that it does not answer" published 0
 rm -r /var/lib/prometheus
 systemctl restart lldpa
 check "the service answers" shows Station:on
-old=$(process)
-stop_agent
-check "an agent that hangs is replaced" eventually is_replaced
+groupadd asking
+mkdir -p /etc/systemd/system/lldpa.service.d
+printf '[Service]\nSupplementaryGroups=asking\n' > /etc/systemd/system/lldpa.service.d/group.conf
+cp /etc/default/lldpa /root/default
+sed -i 's/^LIVE_OPTIONS=.*/LIVE_OPTIONS="--control-group asking"/' /etc/default/lldpa
+systemctl daemon-reload
+systemctl restart lldpa
+shows Station:on > /root/said 2>&1
+check "a member of the group may ask" as_member lldpa-ctl
+check "a member of the group may ask without Python" as_member lldpa-live --ask 'show neighbors'
+check "nobody else may" as_nobody lldpa-ctl
+cp /root/default /etc/default/lldpa
+rm -r /etc/systemd/system/lldpa.service.d
+groupdel asking
+systemctl daemon-reload
+systemctl restart lldpa
+shows Station:on > /root/said 2>&1
 say_once
 check "a neighbor is seen" keeps
 check "a restart is done" systemctl restart lldpa
 check "a restart keeps the table" keeps
+sleep 70
+kill -KILL "$(process)"
+check "a crash keeps the table" keeps
 old=$(process)
 kill -STOP "$old"
 check "an lldpa-live that hangs is noticed, and the service starts again" starts_anew
@@ -176,14 +213,14 @@ check "it reloads" systemctl reload lldpa
 check "its settings are those of the folder" shows 'descr=of the folder'
 rm /etc/lldpa.d/a.conf
 check "the service keeps no right" grep -q '^CapEff:\s*0*$' "/proc/$(process)/status"
-sed -i 's/--role station/--role bridge/' /etc/default/lldpa
+sed -i 's/^AGENT_OPTIONS=.*/AGENT_OPTIONS="--role bridge"/' /etc/default/lldpa
 old=$(process)
 check "it upgrades" dpkg -i lldpa_*-2_*.deb
 check "the upgrade starts the service anew" is_another
 check "an upgrade keeps the table" keeps
 check "a changed configuration stays" shows Bridge:on
-check "all files are as the package has them, but the configuration" \
-    bash -c '! dpkg --verify lldpa | grep -v " c /etc/default/lldpa"'
+check "all files are as the package has them" \
+    bash -c '! dpkg --verify lldpa | grep .'
 check "lldpa-live may read, write and connect no more than it needs" confined_live
 check "it is removed" dpkg -r lldpa
 check "the service has ended" inactive
@@ -206,7 +243,7 @@ ln -s ../try.service "$root/etc/systemd/system/multi-user.target.wants/try.servi
 # systemd wants a hierarchy of control groups, whatever this host has.
 unshare --mount --pid --fork --kill-child sh -c 'mount --make-rprivate / && mount -t proc proc /proc &&
     { umount -R -l /sys/fs/cgroup; mount -t cgroup2 none /sys/fs/cgroup; } &&
-    exec timeout 300 systemd-nspawn --quiet --register=no --keep-unit --private-network -D "$0" -b' "$root" \
+    exec timeout 500 systemd-nspawn --quiet --register=no --keep-unit --private-network -D "$0" -b' "$root" \
     < /dev/null > "$room/said" 2>&1
 if ! [ -s "$root/root/tried" ]; then
     tail -n 5 "$room/said"
@@ -215,7 +252,7 @@ fi
 cat "$root/root/tried"
 passed=$(grep -c '^held: ' "$root/root/tried")
 failed=$(grep -c '^FAILED: ' "$root/root/tried")
-wanted=$((29 + $(wc -l < "$root/root/commands")))
+wanted=$((32 + ${BEFORE:+9} + $(wc -l < "$root/root/commands")))
 [ $((passed + failed)) -eq "$wanted" ] || failed=$((failed + 1))
 echo "$passed passed, $failed failed"
 [ "$failed" -eq 0 ]

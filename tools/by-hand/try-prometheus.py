@@ -51,7 +51,7 @@ class Watched:
         (self.folder / "prometheus.yml").write_text(CONFIGURATION)
         self.is_over = threading.Event()
         self.writing = threading.Thread(target=self.write, daemon=True)
-        self.live = Live(wires, "--stay", "eth0")
+        self.live = Live(wires, "eth0")
         self.control = self.live.control
         self.writing.start()
         self.running = [self.start(
@@ -100,7 +100,7 @@ class Watched:
         check("killed, it is seen down", 15, lambda: self.values("lldpa_up") == [0])
         check("and nothing else of it is told", 1, lambda: self.values('count({__name__=~"lldpa_.*"})') == [1])
         check("LldpaDown fires", 90, lambda: self.firing() == {"LldpaDown"})
-        self.live = Live(self.wires, "--stay", "--control", self.control, "eth0", awaits=False)
+        self.live = Live(self.wires, "--control", self.control, "eth0", awaits=False)
         check("started anew, it is seen up", 15, lambda: self.values("lldpa_up") == [1])
         check("LldpaDown goes", 15, lambda: self.firing() == set())
         self.is_over.set()

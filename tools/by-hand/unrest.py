@@ -9,16 +9,14 @@ import time
 from pathlib import Path
 from typing import Callable
 
-from lldpa import Refused, read_show
+from lldpa import Agent, Refused, read_show
 from lldpa.client import since_of
-from lldpa.live.senders import said_by
 from patience import eventually
 from replays import CLOCK, Moments, differing
 from running_live import Live
-from served import numbered, tlv
+from served import PROGRAM, numbered, tlv
 from wires import Peer, Wires, ip
 
-SECONDS_BETWEEN_ENDS = 63  # of agents: a second one within 60 ends lldpa-live
 HOSTILE_A_TURN, SECONDS_OF_A_TURN = 50, 0.05
 SECONDS_OF_A_WORD = 0.2  # so that a port hears fewer than 64 a second
 MOST_GROWTH = 1500  # KiB
@@ -46,6 +44,17 @@ def resident(number: int) -> int:
     return int(Path(f"/proc/{number}/status").read_text().split("VmRSS:")[1].split()[0])
 
 
+def ids_of(frames: list[bytes]) -> set[str]:
+    """Returns the neighbors that an agent keeps of each of these frames alone."""
+    found = set()
+    with Agent.start(["eth0"], PROGRAM, receive_only=True) as agent:
+        for octets in frames:
+            agent.frame("eth0", octets)
+            found |= {one.id for one in agent.neighbors()}
+            agent.tick(65535)
+    return found
+
+
 class Unrest:
     """An lldpa-live with a hostile port, a quiet one, and one whose interface comes and goes."""
 
@@ -54,21 +63,21 @@ class Unrest:
         self.log, self.settings = Path(wires.folder, "log"), Path(wires.folder, "settings.conf")
         os.chmod(wires.folder, 0o777)
         self.settings.write_text("")
-        self.live = Live(wires, "--stay", "--events", "--forget-on-down", "--config",
+        self.live = Live(wires, "--events", "--forget-on-down", "--config",
                          str(self.settings), "--log", str(self.log), "--log-most", "8",
                          "eth0", "eth1", "eth2")
         self.moments = Moments(self.live)
         self.quiet, self.far = Peer(wires, "peer1"), Peer(wires, "peer2")
         self.frames = hostile_frames(self.choice)
-        self.able = {said.id for frame in self.frames if (said := said_by(frame)) is not None}
+        self.able = ids_of(self.frames)
+        self.names = [ids_of([numbered(number)]).pop() for number in range(QUIET)]
         self.sent: list[bytes] = []
         self.expected: dict[str, str] = {}  # the last word of each quiet neighbor
         self.wrong: list[str] = []
         self.late = 0  # looks that a frame was not there for, and then was
         self.done: dict[str, int] = {}
         self.figures: list[tuple[float, int, int]] = []  # seconds, KiB and descriptors
-        self.agents: list[int] = []  # KiB of each, after the same time
-        self.began = self.agent_began = time.monotonic()
+        self.began = time.monotonic()
         self.is_over = threading.Event()
         self.is_there = True  # the interface eth2
 
@@ -84,9 +93,7 @@ class Unrest:
         """Has a quiet neighbor say something new."""
         number = len(self.sent)
         octets = numbered(number % QUIET, 600, tlv(5, b"word %d" % number))
-        said = said_by(octets)
-        assert said is not None
-        self.expected[said.id] = f"word {number}"
+        self.expected[self.names[number % QUIET]] = f"word {number}"
         self.sent.append(octets)
         self.quiet.send(octets)
 
@@ -186,19 +193,6 @@ class Unrest:
                 self.wires.set_link("peer2", state)
                 time.sleep(self.choice.random() / 2)
 
-    def end_agent(self) -> None:
-        """Kills the agent, or stops it for good, and notes what it took."""
-        agent, word = self.live.agent(), "another one replaces it"
-        before = self.live.errors().count(word)
-        number = self.choice.choice([signal.SIGKILL, signal.SIGSTOP])
-        self.note(number.name)
-        os.kill(agent, number)
-        while self.live.errors().count(word) == before and self.live.process.poll() is None:
-            self.speak()
-            self.look()
-            time.sleep(SECONDS_OF_A_WORD)
-        self.agent_began = time.monotonic()
-
     def measure(self) -> None:
         """Notes what lldpa-live takes."""
         number = self.live.process.pid
@@ -218,10 +212,7 @@ class Unrest:
             self.speak()
             self.look()
             self.measure()
-            if time.monotonic() > self.agent_began + SECONDS_BETWEEN_ENDS:
-                self.agents.append(resident(self.live.agent()))
-                self.end_agent()
-            elif self.choice.random() < 0.02:
+            if self.choice.random() < 0.02:
                 self.moments.take()
         self.is_over.set()
 
@@ -264,5 +255,4 @@ class Unrest:
             judge(least[-1] <= least[min(1, len(least) - 1)] + growth,
                   f"lldpa-live: {what}, at most {max(one[place] for one in self.figures)}, "
                   f"the least of each minute: {least}")
-        judge(max(self.agents) <= min(self.agents) + MOST_GROWTH, f"agents, KiB: {self.agents}")
         print(f"{self.late} frames came late", self.done, flush=True)

@@ -5,11 +5,9 @@
 
 It looks up links and their anchors; files, calls and options; and lines of sources in blocks that say `rust` or `antt`,
 which must be consecutive lines of one file. On pages about proofs it looks up each clause, definition, lemma and large
-number. A large number of out/REFERENCE.md must be in the code, and not only in its comments. The first line of each
-module of a crate and of each file of lemmas must say what it is, and each transcript must have its row in
-examples/README.md. Each row of SECURITY.md that says what shows it must name a law or call of the crates, a test of
-python/tests or audit/tests or a script, and these must exist. No page may call lldpa-live "the bridge", and no line of
-text may be over 120 columns long.
+number. The first line of each module of a crate and of each file of lemmas must say what it is. Each row of SECURITY.md
+that says what shows it must name a law or call of the crates, a test of python/tests or audit/tests or a script, and
+these must exist. No page may call lldpa-live "the bridge", and no line of text may be over 120 columns long.
 
 With --installed it looks up only the links of the pages in that folder, which tools/release/install.sh has filled. The
 last line counts what was looked up.
@@ -23,24 +21,21 @@ from counts import Counts
 TOP = pathlib.Path(__file__).resolve().parents[2]
 CRATES = [line.split(":")[0].split()[0] for line in (TOP / "crates.txt").read_text().splitlines()]
 PAGES = [path for folder in (".", "docs", "examples", "audit") for path in sorted((TOP / folder).glob("*.md"))]
-PAGES.append(TOP / "out" / "REFERENCE.md")  # which tools/write/reference.py writes
 SOURCE = "\n".join(path.read_text() for path in TOP.glob("crates/*/src/**/*.rt"))
 DEFINITIONS = "\n".join(path.read_text() for path in TOP.glob("crates/*/specs/**/*.antt"))
 FUNCTIONS = set(re.findall(r"\b(?:fn|const|type|struct|enum|trait) (\w+)", SOURCE))
 FUNCTIONS |= set(re.findall(r"^    (\w+)(?:\(|,| \{)", SOURCE, re.M))  # the cases of enums
 PROOFS = "\n".join(path.read_text() for path in TOP.glob("crates/*/proofs/**/*.antt"))
 FILES = {name for path in TOP.rglob("*") if not {"out", ".git"} & set(path.relative_to(TOP).parts) for name in (path.stem, path.name)}
-MUTANTS = "\n".join(path.read_text() for path in (TOP / "tools" / "mutants").glob("*.edits"))
-NAMES = FILES | {name for text in (SOURCE, DEFINITIONS, PROOFS, MUTANTS) for name in re.findall(r"\w+(?:-\w+)*", text)} | set(CRATES)
-ABOUT_PROOFS = ("CLAIMS.md", "REFERENCE.md", "DEFINITIONS.md", "PROOFS.md", "ARCHITECTURE.md", "STANDARD.md")
+NAMES = FILES | {name for text in (SOURCE, DEFINITIONS, PROOFS) for name in re.findall(r"\w+(?:-\w+)*", text)} | set(CRATES)
+ABOUT_PROOFS = ("CLAIMS.md", "DEFINITIONS.md", "PROOFS.md", "ARCHITECTURE.md", "STANDARD.md")
 SCRIPTS = "\n".join(path.read_text() for path in (TOP / "tools").rglob("*.*") if path.suffix in (".py", ".sh"))
 NUMBERS_OF_CODE = set(re.findall(r"\d+", (SOURCE + DEFINITIONS).replace("_", "")))
-WITHOUT_COMMENTS = re.sub(r"^\s*(?://|--).*$", "", SOURCE + DEFINITIONS, flags=re.M)
-NUMBERS_WITHOUT_COMMENTS = set(re.findall(r"\d+", WITHOUT_COMMENTS.replace("_", "")))
 NUMBERS_OF_SOURCES = NUMBERS_OF_CODE | set(re.findall(r"\d+", SCRIPTS.replace("_", "")))
 
-# what people run, and what its options stand in
-OF_OPTIONS = [TOP / "examples" / "help.txt"] + [path for folder in ("python", "audit", "bin", "tools", ".ci") for path in (TOP / folder).rglob("*")]
+# what people run, and the files that name its options
+OF_OPTIONS = [TOP / "examples" / "help.txt"] + [
+    path for folder in ("python", "audit", "bin", "tools", ".ci", "rust/live/src") for path in (TOP / folder).rglob("*")]
 OPTIONS = {option for path in OF_OPTIONS if path.is_file() and path.suffix != ".pyc"
            for option in re.findall(r"--[a-z][a-z-]*[a-z]", path.read_text(errors="replace"))}
 # of the toolchain and of other programs
@@ -181,9 +176,9 @@ def check_page(checks, page):
     if page.name in ABOUT_PROOFS:
         for word in names(text):
             checks.see(name, word, None if word in NAMES else "no such name in the sources")
-        known = NUMBERS_WITHOUT_COMMENTS if page.name == "REFERENCE.md" else NUMBERS_OF_SOURCES
         for number in large_numbers(text):
-            checks.see(name, number, None if number in known else "no such number in the sources")
+            known = number in NUMBERS_OF_SOURCES
+            checks.see(name, number, None if known else "no such number in the sources")
     for option in re.findall(r"(?<![\w-])--[a-z][a-z-]*[a-z]", page.read_text()):
         checks.see(name, option, None if option in OPTIONS else "no such option")
     for lines in excerpts(page.read_text()):
@@ -229,14 +224,6 @@ def check_security(checks):
                 checks.see(page, name, None if is_shown_by(name) else "no such law, call, test or script")
 
 
-def check_transcripts(checks):
-    """Checks that each transcript is a row of examples/README.md."""
-    page = "examples/README.md"
-    rows = re.findall(r"^\| \[([\w-]+)\]", (TOP / page).read_text(), re.M)
-    for path in sorted((TOP / "examples").glob("*.args")):
-        checks.see(page, path.stem, None if rows.count(path.stem) == 1 else "does not have one row")
-
-
 def check_installed(checks, folder):
     """Checks that each link of an installed page leads to an installed file in the folder."""
     for page in sorted(folder.rglob("*.md")):
@@ -256,7 +243,6 @@ def main():
         check_page(checks, page)
     check_modules(checks)
     check_security(checks)
-    check_transcripts(checks)
     return checks.end()
 
 

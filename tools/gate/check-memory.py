@@ -14,7 +14,7 @@ the library for C, which move the pointer of a handle.
 
     tools/gate/check-memory.py
 
-Mutants of tools/mutants that this script refuses break a rule each: with one of them, some rule must be seen broken.
+Each change in memory_mutants.py breaks a rule: with one of them, some rule must be seen broken.
 The last line is `N passed, M failed`.
 """
 from __future__ import annotations
@@ -24,12 +24,9 @@ import re
 import sys
 from concurrent.futures import ProcessPoolExecutor
 
+from memory_mutants import MUTANTS
+
 TOP = pathlib.Path(__file__).resolve().parents[2]
-sys.path.insert(0, str(TOP / "tools" / "mutants"))
-
-from mutants import Mutant, others  # noqa: E402
-
-ITSELF = "tools/gate/check-memory.py"
 CRATES = TOP / "crates"
 BELOW_THE_PROGRAM = ("lldp_pdu", "lldp_table", "lldp_transmit", "lldp_text", "lldp_engine")
 ROOM = "lldp_table/src/room.rt"
@@ -131,7 +128,7 @@ def fields(code: str) -> list[str]:
 
 
 def see_room(sources: Sources) -> None:
-    """Checks that one module takes memory, once, and that it is short enough to be read."""
+    """Checks that one module allocates memory, once, and that it is short enough to be read."""
     text = sources.texts[ROOM]
     code = re.sub(r"\bstd::alloc\b", "", without_comments(text))
     lines = text.count("\n")
@@ -192,7 +189,7 @@ def see_global(sources: Sources) -> None:
 
 
 def see_library(sources: Sources) -> None:
-    """Checks that the library for C takes memory only when it opens an agent, for the agent and for the box behind a
+    """Checks that the library for C allocates memory only when it opens an agent, for the agent and for the box behind a
     handle."""
     code = sources.code("lldpa_c/")
     for call in LIBRARY_TAKES:
@@ -251,13 +248,14 @@ def see_walks(sources: Sources) -> None:
         sources.see(is_known, f"{name}: by hand")
 
 
-def is_seen(mutant: Mutant) -> bool:
-    """Returns whether the sources with a mutant in them break some rule."""
+def is_seen(mutant: tuple[str, str, str]) -> bool:
+    """Returns whether the sources with a text of a file replaced break some rule."""
+    name, old, new = mutant
     sources = Sources()
-    for file, text in mutant.texts().items():
-        sources.texts[f"{mutant.crate}/{file}"] = text
+    is_there_once = sources.texts[name].count(old) == 1
+    sources.texts[name] = sources.texts[name].replace(old, new.replace("@", old))
     see_all(sources)
-    return len(sources.broken) > 0
+    return is_there_once and len(sources.broken) > 0
 
 
 def main() -> int:
@@ -265,10 +263,10 @@ def main() -> int:
     sources = Sources()
     see_all(sources)
     see_walks(sources)
-    mutants = [mutant for mutant in others() if mutant.refused_by == ITSELF]
+    mutants = [(name, *pair) for name, pairs in MUTANTS.items() for pair in pairs]
     with ProcessPoolExecutor() as pool:
-        for mutant, seen in zip(mutants, pool.map(is_seen, mutants)):
-            sources.see(seen, f"{mutant.crate}/{mutant.name}: not seen")
+        for (name, _, new), seen in zip(mutants, pool.map(is_seen, mutants)):
+            sources.see(seen, f"{name}, with {new}: not seen, or not there once")
     for fault in sources.broken:
         print(fault)
     print(f"{sources.rules - len(sources.broken)} passed, {len(sources.broken)} failed")

@@ -9,6 +9,7 @@ tools/gate/check.sh. A theorem alone does not count.
 """
 from __future__ import annotations
 
+import functools
 import pathlib
 import re
 import sys
@@ -21,6 +22,10 @@ TESTS = TOP / "crates" / "lldp_tests" / "src"
 CHECK = (TOP / "tools" / "gate" / "check.sh").read_text()
 WORDS = (TOP / "tools" / "gate" / "words.sh").read_text()
 KINDS = ("body", "tested", "example")
+# the test that runs the rows of a kind
+TEST_OF_ROWS = {"examine": "pdu::vectors::examined", "caps": "pdu::vectors::capabilities",
+                "mgmt": "pdu::vectors::management_addresses", "build": "pdu::vectors::built",
+                "machine": "transmit::machine", "open": "engine::opening::openings"}
 
 
 def fault_of_transcript(name: str) -> str | None:
@@ -39,7 +44,25 @@ def fault_of_vector(place: str) -> str | None:
     """Returns what is wrong with a named vector, by its kind and its name, or None."""
     kind, _, name = place.partition(" ")
     rows = [row.split("\t")[:2] for row in (TOP / "examples" / "vectors.rows").read_text().splitlines()]
-    return None if [kind, name] in rows else f"examples/vectors.rows has no row {place}"
+    if [kind, name] not in rows:
+        return f"examples/vectors.rows has no row {place}"
+    return fault_of_test(TEST_OF_ROWS[kind])
+
+
+@functools.cache
+def bodies() -> dict[str, str]:
+    """Returns the bodies of the functions of lldp_tests by their names."""
+    text = "\n".join(file.read_text() for file in TESTS.rglob("*.rt"))
+    functions = re.findall(r"^( *)(?:pub )?fn (\w+)(.*?)^\1\}$", text, re.M | re.S)
+    return {name: body for _, name, body in functions}
+
+
+def asserts(function: str, passed: frozenset[str] = frozenset()) -> bool:
+    """Returns whether a function of lldp_tests asserts something, or calls one that does."""
+    body = bodies()[function]
+    called = {name for name in re.findall(r"(\w+)(?:::<.*?>)?\(", body) if name in bodies()}
+    passed |= {function}
+    return "assert" in body or any(asserts(name, passed) for name in called - passed)
 
 
 def fault_of_test(place: str) -> str | None:
@@ -55,6 +78,8 @@ def fault_of_test(place: str) -> str | None:
     text = file.read_text()
     if not re.search(rf"^#\[test\]\nfn {function}\(", text, re.M):
         return f"{file.relative_to(TOP)} has no test {function}"
+    if not asserts(function):
+        return f"{function} of {file.relative_to(TOP)} asserts nothing"
     return fault_of_row(file, text, row) if row else None
 
 

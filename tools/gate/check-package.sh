@@ -2,8 +2,8 @@
 # Builds the Debian package, and compares it with what tools/release/install.sh installs; runs what is in it; and checks
 # that all that is installed is removed again, and that lintian, if it is installed, finds nothing.
 #     tools/gate/check-package.sh [PROGRAM]
-# No root is needed, and nothing is installed on this host. The last line is `N passed, M failed`; without dpkg-deb it
-# says so, and its status is 3.
+# No root is needed, and nothing is installed on this host. The last line is `N passed, M failed`; without dpkg-deb or
+# lldpa-live (tools/release/live.sh --dynamic) it says so, and its status is 3.
 set -u
 LLDPA=$(realpath -- "${1:-$(dirname "$0")/../../crates/lldpa/out/lldpa}")
 export LLDPA
@@ -11,6 +11,12 @@ cd "$(dirname "$0")/../.." || exit 2
 for needed in dpkg-deb dpkg strip objdump nm; do
     command -v "$needed" > /dev/null || { echo "skipped: the package, since there is no $needed"; exit 3; }
 done
+LLDPA_LIVE=${LLDPA_LIVE:-$PWD/rust/live/out/dynamic/lldpa-live}
+export LLDPA_LIVE
+if ! [ -x "$LLDPA_LIVE" ]; then
+    echo "skipped: the package, since there is no lldpa-live: tools/release/live.sh --dynamic builds it"
+    exit 3
+fi
 . tools/gate/parts.sh
 
 # Lists the files, folders and links of a tree, each with its mode and where it leads.
@@ -32,8 +38,10 @@ package=$(cat "$room/name")
 dpkg-deb -x "$package" "$room/package"
 judge $? "dpkg-deb -x $package"
 
-# The package has what is installed under /usr, and these files besides.
+# The package has what is installed under /usr, and these files besides. postinst puts the configuration in its place.
 install_into "$room/usr" --python /usr/lib/python3/dist-packages /usr
+mkdir -p "$room/package/etc/default"
+mv "$room/package/usr/share/lldpa/default" "$room/package/etc/default/lldpa"
 own='^usr/share/doc/lldpa/\(copyright\|changelog.Debian.gz\) \|^usr/share/lintian\>'
 listed "$room/package" | grep -v "$own" > "$room/packaged"
 listed "$room/usr" > "$room/installed"
@@ -43,7 +51,7 @@ tools/release/install.sh --list --python /usr/lib/python3/dist-packages /usr | s
 (cd "$room/usr" && find . -type f -printf '%m /%P\n' -o -type l -printf 'link /%P %l\n') | sort > "$room/found"
 sed '/^link/!s/ [^ ]*$//' "$room/out" | sort | diff - "$room/found"
 judge $? "tools/release/install.sh --list tells other files than it installs"
-strip --remove-section=.comment --remove-section=.note "$room/usr/usr/bin/lldpa"
+strip --remove-section=.comment --remove-section=.note "$room/usr/usr/bin/lldpa" "$room/usr/usr/bin/lldpa-live"
 diff -rq "$room/usr" "$room/package" | grep -v 'Only in .*package/usr/share' > "$room/out"
 [ ! -s "$room/out" ]
 judge $? "files differ: $(cat "$room/out")"
@@ -73,7 +81,7 @@ judge $? "tools/release/install.sh does not keep a configuration that was change
 for path in "$room"/package/usr/bin/* "$room/package/usr/lib/lldpa/bin/lldpctl"; do
     name=${path##*/}
     case $name in lldpa-live | lldpa-ctl) section=8 ;; *) section=1 ;; esac
-    for file in man/man$section/$name.$section.gz bash-completion/completions/$name zsh/vendor-completions/_$name; do
+    for file in man/man$section/$name.$section.gz bash-completion/completions/$name zsh/vendor-completions/_lldpa; do
         [ -f "$room/package/usr/share/$file" ]
         judge $? "$name has no usr/share/$file"
     done
@@ -107,10 +115,12 @@ judge $? "python3 -m lldpa_audit: $(cat "$room/out")"
 judge $? "the package has other pages: $(cat "$room/out")"
 python3 tools/gate/check-links.py --installed "$room/package/usr/share/doc/lldpa" > "$room/out" 2>&1
 judge $? "links of installed pages: $(cat "$room/out")"
-dpkg-deb --info "$package" conffiles | grep -qx /etc/default/lldpa
-judge $? "/etc/default/lldpa is not a configuration file of the package"
+! dpkg-deb --info "$package" conffiles | grep /etc/default/lldpa
+judge $? "/etc/default/lldpa is a configuration file of the package, about which an upgrade could ask"
+grep -qx 'LIVE_OPTIONS=""' "$room/package/etc/default/lldpa"
+judge $? "/etc/default/lldpa has options that belong in the unit"
 units=$room/package/usr/lib/systemd/system
-grep -q '^ExecStart=/usr/bin/lldpa-live --program /usr/bin/lldpa ' "$units/lldpa.service" &&
+grep -q '^ExecStart=/usr/bin/lldpa-live .* --log ${STATE_DIRECTORY} --events --forget-on-down ' "$units/lldpa.service" &&
     grep -q '^ExecStart=/usr/bin/lldpa-ctl metrics ' "$units/lldpa-metrics.service"
 judge $? "the services of the package do not run its programs"
 [ -f "$units/lldpa-metrics.timer" ] && [ -f "$room/package/usr/share/lldpa/lldpa.rules.yml" ]

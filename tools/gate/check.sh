@@ -13,15 +13,11 @@ case ${1-} in --*) stage=${1#--} && shift ;; esac
 program=$(realpath -m -- "${1:-crates/lldpa/out/lldpa}")
 
 cheap() {
-    part "scripts" python3 tools/gate/check-scripts.py
     part "imports of the Python packages" python3 tools/gate/imports.py
     part "generated files" python3 tools/write/check.py
     part "numbers of docs/TESTING.md" python3 tools/write/numbers.py --check
-    part "reference of the crates" python3 tools/write/reference.py
     part "links of the pages" python3 tools/gate/check-links.py
-    part "habits of English" python3 tools/gate/check-english.py
     part "what is tried by name" python3 tools/gate/check-named.py
-    part "whether each mutant can be applied" python3 tools/mutants/try.py --check
     part "manual pages and units" tools/gate/manuals-and-units.sh
     part "completions" python3 tools/gate/completions.py
     part "memory and accesses, by the sources" python3 tools/gate/check-memory.py
@@ -33,6 +29,7 @@ built() {
         judge 1 "no program at $program: rt run in crates/lldpa builds it"
         return
     fi
+    part "lldpa-live" tools/gate/check-live.sh
     part "transcripts, and examples of the pages" python3 tools/gate/examples.py "$program"
     part "arguments and streams" tools/gate/words.sh "$program"
     part "tests of the Python package" python3 tools/gate/test-python.py "$program"
@@ -56,6 +53,8 @@ case $stage in
     cheap) cheap ;;
     built) built ;;
     gate)
+        command -v cc > /dev/null
+        judge $? "there is no C compiler (cc), which the gate needs"
         cheap
         if [ "$failed" -eq 0 ]; then
             part "proofs, mutants and tests (rt ci)" rt ci

@@ -7,7 +7,7 @@ that goes the wrong way.
 The parts of a folder are its files and its folders. If a file below one part imports from below
 another, the first part imports the second, wherever the import is in the file. The parts of
 each folder must have an order in which each imports only earlier ones. Besides, lldpa imports
-nothing of lldpa_audit, and lldpa.client nothing of lldpa.live. The last line is `N passed, M failed`,
+nothing of lldpa_audit. The last line is `N passed, M failed`,
 counted by folder and by rule.
 """
 from __future__ import annotations
@@ -21,7 +21,7 @@ from typing import Dict, Iterator, Set, Tuple
 from counts import Counts
 
 TOP = Path(__file__).resolve().parents[2]
-NEVER = (("lldpa", "lldpa_audit"), ("lldpa.client", "lldpa.live"))
+NEVER = (("lldpa", "lldpa_audit"),)
 Name = Tuple[str, ...]
 Graph = Dict[str, Set[str]]
 

@@ -5,7 +5,7 @@
 
 Runs the command, unless the files of READ and the versions of the compilers are those with which it last passed here.
 If something was skipped, the count is not kept. The states are in out/kept, which git ignores, so a clean clone runs
-everything. tools/mutants/try.py notes there which crates it tried. The last line is `N passed, M failed`.
+everything. The last line is `N passed, M failed`.
 """
 from __future__ import annotations
 
@@ -49,7 +49,7 @@ def notes() -> dict[str, list[str]]:
 
 
 def note(name: str, state: str, passed: int) -> None:
-    """Notes that so many checks passed in that state."""
+    """Notes how many checks passed in that state."""
     KEPT.parent.mkdir(exist_ok=True)
     noted = {**notes(), name: [state, str(passed)]}
     KEPT.write_text("".join(f"{' '.join([one, *rest])}\n" for one, rest in sorted(noted.items())))

@@ -18,10 +18,10 @@ from typing import NamedTuple
 
 TOP = pathlib.Path(__file__).resolve().parents[2]
 TESTS = [TOP / "python" / "tests", TOP / "audit" / "tests"]
-# these take longest; one of them that began last would hold up the gate
-LONGEST = ("test_addresses", "test_log_files", "test_relay", "test_service", "test_places", "test_bad_files",
-           "test_live_log", "test_agents", "test_live_ends", "test_packaging", "test_audit_given", "test_settings",
-           "test_ctl_live", "test_audit_command", "test_identity", "test_state")
+# These run longest. If one of them began last, the gate would wait for it.
+LONGEST = ("test_service", "test_state", "test_control_paths", "test_addresses", "test_log_files", "test_relay",
+           "test_patterns", "test_control", "test_live_ends", "test_bad_files", "test_live_log", "test_packaging",
+           "test_settings", "test_ctl_live", "test_audit_command", "test_identity", "test_ask")
 # a test that wants an answer within a tenth of a second has the processors for itself
 ALONE = ("test_live_flood",)
 

@@ -89,7 +89,7 @@ bad_addresses() {
         ends 2 "lldpa: bad --mac" "lldpa --mac '$mac' eth0"
     done
     for address in 192.0.2 192.0.2.1.1 192.0.2.1. .192.0.2.1 192.0.2.256 192.0.2.01 192.0.2.00 192.0..1 192.0.2. \
-        192.0.2.+1 192.0.2.-1 "192.0.2.1 " " 192.0.2.1" 0xc0.0.2.1 1000.0.2.1 ::1 ""; do
+        192.0.2.+1 192.0.2.-1 "192.0.2.1 " " 192.0.2.1" 0xc0.0.2.1 1000.0.2.1 ::1 none ""; do
         ends 2 "lldpa: bad --management" "lldpa --management '$address' eth0"
     done
     ends 0 "" 'echo show chassis | lldpa --mac aB:Cd:eF:00:0a:FF eth0' "*local-chassis.mac=ab:cd:ef:00:0a:ff*"

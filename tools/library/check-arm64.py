@@ -59,6 +59,20 @@ def check_library(folder: pathlib.Path, room: pathlib.Path, counts: Counts) -> N
             NATIVE.run_program(name, command, room, counts)
 
 
+def has_live(folder: pathlib.Path, counts: Counts) -> bool:
+    """Builds lldpa-live, and returns whether that can be done here: Rust may have no library for arm64."""
+    settings = os.environ | {"LLDPA_LIB_DIR": str(folder / "lib")}
+    for words in ([], ["--dynamic"]):
+        made = ran([TOP / "tools" / "release" / "live.sh", "--arch", "arm64", *words], env=settings)
+        if made.returncode == 3:
+            skip(f"lldpa-live and the package lldpa for arm64: {made.stderr.strip()}")
+            return False
+        said = ran([*QEMU, made.stdout.strip(), "--version"])
+        is_right = said.stdout.startswith("lldpa-live ")
+        counts.judge(None if is_right else made.stderr + said.stderr, f"lldpa-live {' '.join(words)} for arm64")
+    return True
+
+
 def check_packages(folder: pathlib.Path, room: pathlib.Path, counts: Counts) -> None:
     """Checks that each Debian package can be made, and that what is compiled in it is for arm64."""
     for command in ("dpkg-deb", "dpkg-architecture"):
@@ -66,7 +80,8 @@ def check_packages(folder: pathlib.Path, room: pathlib.Path, counts: Counts) -> 
             skip(f"the packages for arm64, since there is no {command}")
             return
     settings = os.environ | {"LLDPA": str(folder / "lldpa"), "LLDPA_LIB_DIR": str(folder / "lib")}
-    for name, words in (("lldpa", []), ("lldpa-dev", ["--library"]), ("lldpa1", ["--shared"])):
+    of_the_program = [("lldpa", [])] if has_live(folder, counts) else []
+    for name, words in (*of_the_program, ("lldpa-dev", ["--library"]), ("lldpa1", ["--shared"])):
         made = ran([TOP / "tools" / "release" / "package.sh", *words, "--arch", "arm64", room], env=settings)
         package, tree = made.stdout.strip(), room / f"{name}.tree"
         is_named = made.returncode == 0 and package.startswith(f"{room}/{name}_") and package.endswith("_arm64.deb")

@@ -19,7 +19,6 @@ import os
 import pathlib
 import re
 import shutil
-import subprocess
 import sys
 import tempfile
 from typing import Any, Callable
@@ -34,11 +33,11 @@ from library_layout import check_layout  # noqa: E402
 from library_machine import check_machine  # noqa: E402
 from library_parts import (TOP, WARNINGS, Counts, Library, count_of, fault_of, ran,  # noqa: E402
                            side_by_side, skip)
+from library_rust import check_bindings, check_rust  # noqa: E402
 
 FRAMES = importlib.import_module("check-frames")
 TOOLS = TOP / "tools" / "library" / "c"
 ROWS = TOP / "examples" / "vectors.rows"
-CRATE = TOP / "rust" / "lldpa"
 MANUAL = TOP / "crates" / "lldpa_c" / "include" / "lldpa.3"
 SANITIZERS = ["-fsanitize=address,undefined", "-fno-sanitize-recover=all"]
 WRAPPED = ["-Wl,--wrap=malloc,--wrap=realloc,--wrap=free"]
@@ -70,6 +69,17 @@ def check_functions(library: Library, counts: Counts) -> None:
     counts.judge(None if is_same else f"{sorted(found ^ declared)}", "the functions of lldpa.h")
     named = set(re.findall(r'(lldpa_\w+) ?"?\(', MANUAL.read_text()))
     counts.judge(None if named == declared else f"{sorted(named ^ declared)}", "the functions of lldpa(3)")
+
+
+def check_plug_in(library: Library, counts: Counts) -> None:
+    """Checks that a shared object that contains the archive exports no function of it."""
+    plug_in = library.room / "plug-in.so"
+    (library.room / "plug-in.c").write_text("#include <lldpa.h>\nunsigned plug_in(void) { return lldpa_version(); }\n")
+    fault = fault_of(["cc", "-shared", "-fPIC", f"-I{library.folder}", library.room / "plug-in.c",
+                      library.folder / "liblldpa.a", "-o", plug_in])
+    counts.judge(fault, "building a shared object with the archive inside")
+    exported = ran(["nm", "-D", "--defined-only", plug_in]).stdout.split()[2::3]
+    counts.judge(None if exported == ["plug_in"] else f"{exported}", "what a shared object exports")
 
 
 def check_size(library: Library, counts: Counts) -> None:
@@ -171,6 +181,16 @@ def check_refused(library: Library, counts: Counts) -> None:
         count_of([*wrapper, str(library.room / "refused")], "refused", counts)
 
 
+def check_processor(library: Library, counts: Counts) -> None:
+    """Checks that the library for amd64 runs on an old processor."""
+    if shutil.which("qemu-x86_64") is None or os.uname().machine != "x86_64":
+        skip("an old processor, since there is no qemu-x86_64")
+        return
+    counts.judge(library.compiled(TOOLS / "vectors.c", "plain"), "building vectors")
+    command = ["qemu-x86_64", "-cpu", "core2duo", library.room / "plain", ROWS]
+    counts.judge(fault_of(command), "the library on a Core 2 Duo")
+
+
 def check_stack(library: Library, counts: Counts) -> None:
     """Checks that no call takes more stack than the header says. What each takes is printed."""
     fault = library.compiled(TOOLS / "stack.c", "stack", "-std=gnu99")
@@ -179,59 +199,10 @@ def check_stack(library: Library, counts: Counts) -> None:
         count_of([library.room / "stack"], "stack", counts)
 
 
-def strange_archive(library: Library) -> pathlib.Path:
-    """Makes an archive that answers 77 to all but lldpa_open, and is of another version if LLDPA_STRANGE is set.
-    Returns its folder."""
-    header = (library.folder / "lldpa.h").read_text()
-    found = re.search(r"define LLDPA_VERSION (\d+)", header)
-    assert found is not None
-    answers = {"lldpa_open": "0", "lldpa_version": f'getenv("LLDPA_STRANGE") ? 1 : {found[1]}', "lldpa_close": ""}
-    lines = [f"{kind} {name}() {{ return {answers.get(name, '77')}; }}"
-             for kind, name in re.findall(r"^(\w+) (lldpa_\w+)\(", header, re.M)]
-    source, strange = library.room / "strange.c", library.room / "strange.o"
-    source.write_text("\n".join(["#include <stdbool.h>", "#include <stdint.h>", "#include <stdlib.h>", *lines, ""]))
-    ran(["cc", "-c", source, "-o", strange])
-    ran(["ar", "rcs", library.room / "liblldpa.a", strange])
-    return library.room
-
-
-def cargo(words: list[str], folder: pathlib.Path, library: Library) -> subprocess.CompletedProcess[str]:
-    """Runs cargo in the crate over the archive in a folder. A warning is an error."""
-    settings = os.environ | {"LLDPA_LIB_DIR": str(folder), "RUSTFLAGS": "-D warnings",
-                             "CARGO_TARGET_DIR": str(library.room / "target")}
-    return ran(["cargo", words[0], "--offline", "--locked", "--quiet", *words[1:]], CRATE, settings)
-
-
-def check_crate(words: list[str], folder: pathlib.Path, library: Library, counts: Counts) -> None:
-    """Counts the tests of the crate that pass, as cargo says, and that cargo ends well."""
-    ended = cargo(words, folder, library)
-    results = re.findall(r"^test result: \w+\. (\d+) passed; \d+ failed", ended.stdout, re.M)
-    counts.passed += sum(map(int, results))
-    is_right = ended.returncode == 0 and (words[0] != "test" or sum(map(int, results)) > 0)
-    counts.judge(None if is_right else f"{ended.stdout[-1500:]}{ended.stderr[-1500:]}", f"cargo {' '.join(words)}")
-
-
-def check_rust(library: Library, counts: Counts) -> None:
-    """Checks the crate for Rust: its tests and examples, also over an archive that answers what no library does; clippy;
-    and that its build says what is missing."""
-    if shutil.which("cargo") is None:
-        skip("the crate for Rust, since there is no cargo")
-        return
-    check_crate(["test"], library.folder, library, counts)
-    if fault_of(["cargo", "clippy", "--version"]) is None:
-        for words in (["--all-targets"], ["--no-default-features"]):
-            check_crate(["clippy", *words, "--", "-D", "warnings"], library.folder, library, counts)
-    else:
-        skip("clippy, which is not installed")
-    check_crate(["test", "--test", "strange", "--", "--ignored"], strange_archive(library), library, counts)
-    missing = cargo(["check"], library.room / "none", library)
-    is_said = missing.returncode != 0 and "Set LLDPA_LIB_DIR to the folder" in missing.stderr
-    counts.judge(None if is_said else missing.stderr, "the crate for Rust without an archive")
-
-
 # The longest come first.
 CHECKS = (check_programs, check_rust, check_front, check_refused, check_receive, check_layout, check_header,
-          check_functions, check_size, check_machine, check_stack, check_page, check_who, check_sd_lldp_rx)
+          check_processor, check_functions, check_plug_in, check_bindings, check_size, check_machine, check_stack,
+          check_page, check_who, check_sd_lldp_rx)
 
 
 def made(room: pathlib.Path) -> pathlib.Path | None:

@@ -23,8 +23,8 @@ groups() {
     echo "version lldpa_version"
     echo "reading lldpa_frame_pdu lldpa_examine lldpa_next_kept lldpa_caps lldpa_mgmt"
     echo "building lldpa_build"
-    echo "machine lldpa_transmit_new lldpa_transmit_event lldpa_transmit_credit"
-    echo "texts lldpa_command_text lldpa_fault_text"
+    echo "machine lldpa_transmit_new lldpa_transmit_event"
+    echo "texts lldpa_fault_text lldpa_tlv_text lldpa_escape"
     echo "agent $(sed -n 's/^[a-z0-9_]* \(lldpa_[a-z_]*\)(\(const \)*lldpa_agent .*/\1/p' $header/lldpa.h | tr '\n' ' ') lldpa_open"
 }
 
@@ -62,10 +62,12 @@ fi
 "${tools}nm" --defined-only "$kept/liblldpa_c.a" | sed -n 's/^.* T \(lldpa_.*\)$/\1 proved_\1/p' > "$room/names"
 "${tools}objcopy" --redefine-syms="$room/names" "$kept/liblldpa_c.a" "$room/proved.a"
 compile() {
-    "${tools}gcc" -std=gnu99 -O2 -fPIC -ffunction-sections -Wall -Wextra -Werror -I"$header" -c "$1" -o "$2"
+    "${tools}gcc" -std=gnu99 -O2 -fPIC -ffunction-sections -Wall -Wextra -Werror -I"$header" -c "$@"
 }
-compile $front/lldpa.c "$room/front.o"
-compile $front/memory.c "$room/memory.o"
+# A shared object that contains the archive does not export its functions.
+compile -fvisibility=hidden $front/lldpa.c -o "$room/front.o"
+compile $front/lldpa.c -o "$room/exported.o"
+compile $front/memory.c -o "$room/memory.o"
 mkdir -p "$room/objects" "$folder"
 groups | while read -r name calls; do
     set --
@@ -84,6 +86,6 @@ install -m 644 "$room/liblldpa.a" "$header/lldpa.h" "$folder"
 cp "$room/proved.a" "$folder/proved.a"
 "${tools}ar" rsD "$folder/proved.a" "$room/memory.o" 2> /dev/null
 echo 'LLDPA_1 { global: lldpa_*; local: *; };' > "$room/exports"
-"${tools}gcc" -shared -o "$folder/liblldpa.so.1" "$room/front.o" -Wl,--start-group "$room/proved.a" "$room/memory.o" \
+"${tools}gcc" -shared -o "$folder/liblldpa.so.1" "$room/exported.o" -Wl,--start-group "$room/proved.a" "$room/memory.o" \
     -Wl,--end-group -Wl,--gc-sections -Wl,-z,defs,-z,now,-soname,liblldpa.so.1 -Wl,--version-script="$room/exports"
 echo "$folder"

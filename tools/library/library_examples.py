@@ -2,10 +2,10 @@
 """Runs the examples over the library, for tools/library/check-library.py: those of docs/LIBRARY.md, and
 those of examples/ in C and Python on a capture and on a link.
 
-    python3 tools/library/library_examples.py --hear PROGRAM
+    python3 tools/library/library_examples.py --hear PROGRAM [WORD ..]
 
-in a network namespace of its own: runs examples/c/receive.c, which was built as PROGRAM, at one end
-of a link, and sends frames at the other end until it reports their sender.
+in a network namespace of its own: runs a receive loop of examples/ at one end of a link, and sends
+frames at the other end until it reports what happens to their sender.
 """
 from __future__ import annotations
 
@@ -18,7 +18,7 @@ import socket
 import subprocess
 import sys
 import time
-from typing import Mapping, Sequence
+from typing import Callable, Mapping, Sequence
 
 from library_parts import SECONDS, TOP, Counts, Library, fault_of, ran, skip
 
@@ -28,11 +28,13 @@ PAGE = TOP / "docs" / "LIBRARY.md"
 LINK = ("link add here type veth peer name there", "link set here up", "link set there up")
 
 # Frames of 00:11:22:33:44:55, port eth0, and the reports about each: it comes, has a name, and leaves; it comes for one
-# second, and ages out.
+# second, and ages out. After a pause that is longer than its time to live it comes again, and is held.
 KEY = "02070400112233445504050565746830"
+PAUSE = "4.5"
 HEARD = ((KEY + "06020078", b"new"), (KEY + "060200780a03737731", b"changed"), (KEY + "06020000", b"gone"),
-         (KEY + "06020001", b"new"), ("", b"aged out"))
-SENDER = b" 04:00:11:22:33:44:55 05:65:74:68:30\n"
+         (KEY + "06020001", b"new"), ("", b"aged out"), (PAUSE, b""), (KEY + "06020003", b"new"),
+         (KEY + "060200780a03737731", b"changed"))
+SENDER = b" chassis.mac=00:11:22:33:44:55 port.ifname=eth0\n"
 
 # The input of examples/c/sd_lldp_rx.c, and what it writes.
 PLAYED = ((KEY + "06020003", "added eth0", "due in 3"), (KEY + "06020003", "refreshed eth0", "due in 3"),
@@ -79,27 +81,38 @@ def check_page(library: Library, counts: Counts) -> None:
                       counts, env=loading(library))
 
 
-def hear(program: str) -> int:
+def follow(heard: subprocess.Popen[bytes], send: Callable[[bytes], object]) -> bool:
+    """Returns whether a receive loop reports what happens to a neighbor whose frames are sent."""
+    told, end = b"", time.monotonic() + SECONDS
+    assert heard.stdout is not None
+    os.set_blocking(heard.stdout.fileno(), False)
+    for pdu, word in HEARD:
+        at = len(told)
+        if pdu == PAUSE:
+            time.sleep(float(PAUSE))
+            continue
+        while word + SENDER not in told[at:] and time.monotonic() < end and heard.poll() is None:
+            if pdu:
+                send(frame_of(pdu))
+            select.select([heard.stdout], [], [], 0.2)
+            told += heard.stdout.read() or b""
+    is_told = time.monotonic() < end
+    if not is_told:
+        sys.stderr.write(told.decode())
+    return is_told
+
+
+def hear(command: list[str]) -> int:
     """Returns 0 if a receive loop reports what happens to a neighbor on a link, and ends when it is asked to, or else
     1."""
     for words in LINK:
         subprocess.run(["ip", *words.split()], check=True)
-    told, end = b"", time.monotonic() + SECONDS
     with socket.socket(socket.AF_PACKET, socket.SOCK_RAW) as sender, \
-            subprocess.Popen([program, "here"], stdout=subprocess.PIPE) as heard:
+            subprocess.Popen([*command, "here"], stdout=subprocess.PIPE) as heard:
         sender.bind(("there", 0))
-        assert heard.stdout is not None
-        os.set_blocking(heard.stdout.fileno(), False)
-        for pdu, word in HEARD:
-            at = len(told)
-            while word + SENDER not in told[at:] and time.monotonic() < end and heard.poll() is None:
-                if pdu:
-                    sender.send(frame_of(pdu))
-                select.select([heard.stdout], [], [], 0.2)
-                told += heard.stdout.read() or b""
+        is_told = follow(heard, sender.send)
         heard.terminate()
-    sys.stdout.write(told.decode())
-    return 0 if time.monotonic() < end and heard.returncode == 0 else 1
+    return 0 if is_told and heard.returncode == 0 else 1
 
 
 def check_sd_lldp_rx(library: Library, counts: Counts) -> None:
@@ -117,14 +130,18 @@ def check_sd_lldp_rx(library: Library, counts: Counts) -> None:
 
 
 def check_receive(library: Library, counts: Counts) -> None:
-    """Checks that the receive loop hears a neighbor on a link, if a network namespace may be made."""
+    """Checks that the receive loops hear a neighbor on a link, if a network namespace may be made."""
     fault = library.compiled(EXAMPLES / "c" / "receive.c", "receive")
     counts.judge(fault, "building examples/c/receive.c")
     if shutil.which("ip") is None or fault_of(["unshare", "--net", "true"]) is not None:
         skip("hearing on a link, which needs root, ip and unshare")
         return
-    command = ["unshare", "--net", sys.executable, __file__, "--hear", library.room / "receive"]
-    counts.judge(fault_of(command), "examples/c/receive.c on a link")
+    python = [sys.executable, EXAMPLES / "python" / "receive.py"]
+    for name, example in (("c/receive.c", [library.room / "receive"]),
+                          *([("python/receive.py", python)] if library.shared() else [])):
+        command = ["unshare", "--net", sys.executable, __file__, "--hear", *example]
+        ended = ran(command, env=loading(library))
+        counts.judge(ended.stderr[-1500:] + ended.stdout if ended.returncode else None, f"examples/{name} on a link")
 
 
 def check_who(library: Library, counts: Counts) -> None:
@@ -140,4 +157,4 @@ def check_who(library: Library, counts: Counts) -> None:
 
 
 if __name__ == "__main__":
-    sys.exit(hear(sys.argv[2]) if sys.argv[1:2] == ["--hear"] else 2)
+    sys.exit(hear(sys.argv[2:]) if sys.argv[1:2] == ["--hear"] else 2)

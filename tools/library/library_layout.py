@@ -1,5 +1,4 @@
-"""Compares what the header, crates/lldpa_c and rust/lldpa/src/sys.rs say of each struct and function of the library:
-the fields and the parameters, in order, by their types, and which pointers are only read. The front asserts the size of
+"""Compares what the header and crates/lldpa_c say of each struct and function of the library: the fields and the parameters, in order, by their types, and which pointers are only read. The front asserts the size of
 each struct and the place of each field, and does not compile with a header that has another one.
 
 A slice of Rattle is a pointer and a length in C. A handle's memory is a pointer that only the library knows.
@@ -12,12 +11,11 @@ from library_parts import TOP, Counts, Library, ran
 
 CRATE = TOP / "crates" / "lldpa_c" / "src"
 FRONT = TOP / "crates" / "lldpa_c" / "front" / "lldpa.c"
-SYS = TOP / "rust" / "lldpa" / "src" / "sys.rs"
 PARTS = TOP / "crates" / "lldp_transmit" / "src" / "parts.rt"
 
-# The types of C, and of Rust and Rattle, by one name; a struct's is its name in small letters without a prefix.
+# The types of C and of Rattle by one name; a struct's is its name in small letters without a prefix.
 TYPES = {"uint8_t": "u8", "uint16_t": "u16", "uint32_t": "u32", "size_t": "usize", "bool": "bool", "void": "()",
-         "ticks_taken": "ticks", "tickstaken": "ticks", "parts": "machine", "statistics_told": "statistics",
+         "ticks_taken": "ticks", "parts": "machine", "statistics_told": "statistics",
          "configuration_told": "configuration"}
 
 # How many octets a type has, on the platforms that the library is built for.
@@ -42,9 +40,9 @@ def of_c(declared: str) -> str:
 
 
 def of_rust(declared: str) -> list[str]:
-    """Returns the types that a field or a parameter of Rust or Rattle is in C."""
+    """Returns the types that a field or a parameter of Rattle is in C."""
     declared = declared.strip()
-    is_written = re.match(r"(&('a )?mut |\*mut )", declared) is not None
+    is_written = re.match(r"&('a )?mut |\*mut ", declared) is not None
     pointer = "pointer" if is_written else "const pointer"
     if re.match(r"&('a )?(mut )?\[", declared):
         return [pointer, "usize"]
@@ -118,22 +116,19 @@ def check_assertions(library: Library, text: str, counts: Counts) -> None:
 
 
 def check_layout(library: Library, counts: Counts) -> None:
-    """Checks that the three say the same, and that the front asserts it."""
+    """Checks that both say the same, and that the front asserts it."""
     text = re.sub(r"/\*.*?\*/", "", (library.folder / "lldpa.h").read_text(), flags=re.S)
     check_assertions(library, text, counts)
-    header = header_lists(text)
     # The front gives a proved reader of an agent a copy of its handle.
-    fronted = header_lists(text.replace("(const lldpa_agent *", "(lldpa_agent *"))
-    proved: Lists = {}
+    wants = header_lists(text.replace("(const lldpa_agent *", "(lldpa_agent *"))
+    found: Lists = {}
     for file in [*sorted(CRATE.rglob("*.rt")), PARTS]:
-        proved |= rust_lists(file.read_text())
+        found |= rust_lists(file.read_text())
     # The front has a function of its own, and one that calls either of two.
-    proved["lldpa_version"] = header["lldpa_version"]
-    proved["lldpa_frame"] = proved.pop("lldpa_frame_news")
-    declared = rust_lists(SYS.read_text())
-    for what, found, wants in (("crates/lldpa_c", proved, fronted), ("rust/lldpa/src/sys.rs", declared, header)):
-        for name, wanted in wants.items():
-            is_same = found.get(name) == wanted
-            counts.judge(None if is_same else f"{found.get(name)}, and in lldpa.h {wanted}", f"{name} in {what}")
-        more = [name for name in found if name not in header and name not in ("held", "()")]
-        counts.judge(f"{more}" if more else None, f"what {what} has beside lldpa.h")
+    found["lldpa_version"] = wants["lldpa_version"]
+    found["lldpa_frame"] = found.pop("lldpa_frame_news")
+    for name, wanted in wants.items():
+        is_same = found.get(name) == wanted
+        counts.judge(None if is_same else f"{found.get(name)}, and in lldpa.h {wanted}", f"{name} in crates/lldpa_c")
+    more = [name for name in found if name not in wants and name not in ("held", "()")]
+    counts.judge(f"{more}" if more else None, "what crates/lldpa_c has beside lldpa.h")

@@ -30,7 +30,7 @@ QUESTIONS = 100
 QUESTION = b"show statistics\nx\n"
 END = b"error: unknown command\n"
 
-# an answer that takes longer was kept back, or the machine was busy; so many may be
+# If an answer takes longer, it was kept back or the machine was busy; this many may be so.
 LATE = 0.02
 MOST_LATE = QUESTIONS // 4
 

@@ -29,7 +29,7 @@ SENDING = ["eth0"]
 
 
 def lines_of(form):
-    """Returns all lines that are nearly one, and the line behind each mark."""
+    """Returns all lines that are nearly a right one, and the line after each mark."""
     lines = [" ".join(words).encode("latin-1") for words in near.lines_near(form)]
     whole = " ".join(form).encode("latin-1")
     for mark in near.MARKS:

@@ -64,7 +64,7 @@ def asked(client, octets):
 
 
 def cut_at_lines(octets, count):
-    """Returns the octets in so many pieces, each but the last ended by an LF or empty."""
+    """Returns the octets in this many pieces. Each except the last is empty or ends with an LF."""
     lines = re.findall(rb"[^\n]*\n|[^\n]+", octets)
     size = len(lines) // count
     pieces = [b"".join(lines[at * size:(at + 1) * size]) for at in range(count - 1)]
@@ -72,7 +72,7 @@ def cut_at_lines(octets, count):
 
 
 def number_of_connections(words):
-    """Returns how many connections the words ask for. A word behind `--` is a port, whatever it looks like."""
+    """Returns how many connections the words ask for. A word after `--` is a port, whatever it looks like."""
     try:
         given, _ = model.read_words(words)
     except model.NoRun:

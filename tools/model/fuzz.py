@@ -26,7 +26,7 @@ from examples import words_and_filter
 TOP = pathlib.Path(__file__).resolve().parents[2]
 
 
-# so many traces are handed to the processors at once
+# how many traces are given to the processors at once
 AT_ONCE = 200
 
 # ------------------------------------------------------------------------------------------------ frames
@@ -39,7 +39,7 @@ class Dice(random.Random):
     """Random choices with names."""
 
     def happens(self, one_in):
-        """Returns whether something happens that happens once in so many times."""
+        """Returns whether something happens, once in so many tries."""
         return self.randrange(one_in) == 0
 
     def octets(self, length):
@@ -187,7 +187,7 @@ def good_line(dice, ports):
 
 
 def restart(dice, port):
-    """Returns lines that stop a port, or take its link, and let it start again, with changes before and behind."""
+    """Returns lines that stop a port, or take its link, and let it start again, with changes before and after."""
     updates = [b"update"] * dice.randrange(7)
     if dice.happens(2):
         away, back = b"down " + port, b"up " + port

@@ -16,7 +16,7 @@ import model
 MARK = b"#" * 4097
 MARK_ANSWER = b"error: line too long"
 
-# at most so many seconds are judged, since each question goes over all events
+# the most seconds that are judged, since each question goes over all events
 MOST_TICKS = 300
 
 # what is not a local change; every other event is a setting, and one
@@ -31,7 +31,7 @@ class Event(NamedTuple):
 
 
 def events_of_line(line):
-    """Returns the events of a line that was accepted: so many seconds, one other event, or none (a show)."""
+    """Returns the events of a line that was accepted: its seconds, one other event, or none (a show)."""
     words = model.Words(line.decode("latin-1")).left
     if words[0] == "tick":
         return [Event("tick")] * int(words[1] if words[1:] else 1)

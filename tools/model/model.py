@@ -158,7 +158,7 @@ class Transmitter:
         return self.frame_if_due()
 
     def new_neighbor(self):
-        """Takes a neighbor that was not held: it opens a burst if none is open, and takes a signal of it."""
+        """Handles a new neighbor: it opens a burst if none is open, and uses a signal of it."""
         if self.is_active:
             self.signals_left = (self.signals_left or self.agent.options.tx_fast_init) - 1
             self.signal()
@@ -241,7 +241,7 @@ class Port:
             self.transmitter.fall_silent()
 
     def set_status(self, status):
-        """Takes a status command; one that takes receiving away empties the table."""
+        """Handles a status command. If the port may not receive any more, its table is emptied."""
         if self.status in RECEIVING and status not in RECEIVING:
             self.table = Table()
         self.status = status

@@ -76,7 +76,7 @@ def otherwise_written(word):
 
 
 def numbers(word):
-    """Returns a number with zeros before it, up to more digits than any integer has, and with digits behind it."""
+    """Returns a number with zeros before it, up to more digits than any integer has, and with digits after it."""
     for count in (*range(1, 70), 255, 1000):
         yield "0" * count + word
         yield word + "0" * count
@@ -85,7 +85,7 @@ def numbers(word):
 
 
 def longer_names(name):
-    """Returns a port's name with up to 16 octets before it or behind it."""
+    """Returns a port's name with up to 16 octets before or after it."""
     for filling in FILLINGS:
         for count in range(1, 17):
             yield filling * count + name

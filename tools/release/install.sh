@@ -1,13 +1,13 @@
 #!/bin/sh
-# Installs lldpa under a prefix, /usr/local unless given: the program, those of bin/ with the Python package that they
-# need, the manual pages, completions for bash and zsh, the service with its configuration, a timer that writes its
+# Installs lldpa under a prefix, /usr/local unless given: the program, lldpa-live, those of bin/ with the Python package
+# that they need, the manual pages, completions for bash and zsh, the service with its configuration, a timer that writes its
 # metrics, alerts for Prometheus, and the pages for operators.
 #     tools/release/install.sh [--list] [--uninstall] [--python FOLDER] [--library] [PREFIX]
 # With --list it only lists what it would install, and nothing need be built for that: mode, name and source of each
 # file, and where each link leads. With --uninstall it removes what it installs, except a configuration that was
 # changed. `import lldpa` works for the python3 that looks into FOLDER, by default the first folder below the prefix
 # into which python3 looks. If DESTDIR is set, it is put in front. LLDPA names the program, crates/lldpa/out/lldpa
-# unless it is set.
+# unless it is set, and LLDPA_LIVE lldpa-live, rust/live/out/lldpa-live unless it is set.
 # With --library it installs the library for C instead: the header, the archive, the shared object and
 # their description for pkg-config.
 # LLDPA_LIB_DIR names the folder that tools/library/library.sh made, crates/lldpa_c/out/lib unless it is set.
@@ -39,6 +39,7 @@ while [ $# -gt 0 ]; do
     shift
 done
 program=$(realpath -m -- "${LLDPA:-$(dirname "$0")/../../crates/lldpa/out/lldpa}")
+live=$(realpath -m -- "${LLDPA_LIVE:-$(dirname "$0")/../../rust/live/out/lldpa-live}")
 built=$(realpath -m -- "${LLDPA_LIB_DIR:-$(dirname "$0")/../../crates/lldpa_c/out/lib}")
 cd "$(dirname "$0")/../.."
 umask 022
@@ -83,8 +84,9 @@ files() {
         return
     fi
     echo "program $program $prefix/bin/lldpa"
+    echo "program $live $prefix/bin/lldpa-live"
     for file in bin/*; do
-        echo "script $file $prefix/lib/lldpa/$file"
+        [ "$file" = bin/lldpa-live ] || echo "script $file $prefix/lib/lldpa/$file"
     done
     find python/lldpa audit/lldpa_audit -name '*.py' -o -name py.typed | while read -r file; do
         echo "plain $file $prefix/lib/lldpa/$file"
@@ -92,8 +94,8 @@ files() {
     for file in man/*.[1-8] audit/*.1; do
         echo "packed $file $prefix/share/man/man${file##*.}/${file##*/}.gz"
     done
-    for file in share/bash-completion/completions/*; do
-        echo "plain $file $prefix/$file"
+    for name in lldpa lldpa-live lldpa-ctl lldpctl lldpa-audit lldpa-capture; do
+        echo "plain share/bash-completion/lldpa $prefix/share/bash-completion/completions/$name"
     done
     for file in share/zsh/*; do
         echo "plain $file $prefix/share/zsh/$zsh/${file##*/}"
@@ -125,7 +127,7 @@ links() {
         return
     fi
     for file in bin/lldpa-*; do
-        echo "../lib/lldpa/$file $prefix/$file"
+        [ "$file" = bin/lldpa-live ] || echo "../lib/lldpa/$file $prefix/$file"
     done
     [ -n "$looks" ] || return 0
     for file in python/lldpa audit/lldpa_audit; do
@@ -217,6 +219,7 @@ if [ -n "$library" ]; then
     looks=none
 else
     [ -f "$program" ] || { echo "no $program: build the program with rt run in crates/lldpa" >&2; exit 1; }
+    [ -f "$live" ] || { echo "no $live: tools/release/live.sh builds it" >&2; exit 1; }
 fi
 files | while read -r way source name; do
     put "$way" "$source" "$root$name"

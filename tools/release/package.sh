@@ -5,9 +5,10 @@
 #     tools/release/package.sh [--library | --shared] [--arch ARCH] [--revision N] [FOLDER]
 # The package is written to FOLDER, the present one unless given, and its name to standard output. VERSION is the newest
 # of CHANGELOG.md and must be what the program says of itself. N, 1 unless given, is for a second package of one
-# version. LLDPA names the program, crates/lldpa/out/lldpa unless it is set. With --arch, amd64 or arm64, it takes what
-# tools/release/build.sh --arch ARCH made, and asks a program for another machine for its version by qemu. DEBFULLNAME
-# and DEBEMAIL name the maker, by default who made the last commit. It needs dpkg-deb, dpkg and binutils, but not root.
+# version. It takes what tools/release/build.sh made for the architecture, amd64 or arm64: that of this machine unless
+# --arch is given; and the lldpa-live that tools/release/live.sh --dynamic made for it. It asks a program for another
+# machine for its version by qemu. LLDPA and LLDPA_LIVE, if they are set, name the programs. DEBFULLNAME and DEBEMAIL
+# name the maker, by default who made the last commit. It needs dpkg-deb, dpkg and binutils, but not root.
 set -eu
 usage() {
     echo "usage: tools/release/package.sh [--library | --shared] [--arch ARCH] [--revision N] [FOLDER]" >&2
@@ -44,11 +45,13 @@ while [ $# -gt 0 ]; do
 done
 folder=$(realpath -- "$folder")
 here=$(dpkg --print-architecture)
-built=$(realpath -- "$(dirname "$0")/../../crates/lldpa/out")${architecture:+/$architecture}
-if [ -n "$architecture" ]; then
-    export LLDPA_LIB_DIR="${LLDPA_LIB_DIR:-$built/lib}"
-fi
+other=$architecture
+[ "$other" != "$here" ] || other=
 architecture=${architecture:-$here}
+LLDPA_LIVE=$(realpath -m -- "${LLDPA_LIVE:-$(dirname "$0")/../../rust/live/out${other:+/$other}/dynamic/lldpa-live}")
+export LLDPA_LIVE
+built=$(realpath -m -- "$(dirname "$0")/../../crates/lldpa/out/$architecture")
+export LLDPA_LIB_DIR="${LLDPA_LIB_DIR:-$built/lib}"
 tools=
 emulator=
 if [ "$architecture" != "$here" ]; then
@@ -57,9 +60,9 @@ if [ "$architecture" != "$here" ]; then
     tools=$DEB_HOST_MULTIARCH-
     emulator="qemu-${DEB_HOST_MULTIARCH%%-*} -L /usr/$DEB_HOST_MULTIARCH"
 fi
-program=$(realpath -- "${LLDPA:-$built/lldpa}")
+program=$(realpath -m -- "${LLDPA:-$built/lldpa}")
 cd "$(dirname "$0")/../.."
-[ -x "$program" ] || fail "no $program: build the program with rt run in crates/lldpa"
+[ -x "$program" ] || fail "no $program: tools/release/build.sh builds it"
 version=$(sed -n 's/^## \([0-9][0-9.]*\)$/\1/p' CHANGELOG.md | head -n 1)
 # shellcheck disable=SC2086 # the emulator is several words
 said=$($emulator "$program" --version)
@@ -74,9 +77,9 @@ room=$(mktemp -d)
 trap 'rm -rf "$room"' EXIT
 tree=$room/tree
 
-# Prints the oldest GNU C library that a program or a shared object can run with.
+# Prints the oldest GNU C library that programs or a shared object can run with.
 c_library() {
-    "${tools}objdump" -T "$1" | grep -o 'GLIBC_[0-9.]*' | sort -uV | tail -n 1 | sed 's/GLIBC_//'
+    "${tools}objdump" -T "$@" | grep -o 'GLIBC_[0-9.]*' | sort -uV | tail -n 1 | sed 's/GLIBC_//'
 }
 
 control() {
@@ -86,17 +89,18 @@ Version: $version
 Architecture: $architecture
 Maintainer: $maker
 Installed-Size: $(du -sk --apparent-size "$tree" | cut -f 1)
-Depends: libc6 (>= $(c_library "$program")), python3:any (>= 3.9)
+Depends: libc6 (>= $(c_library "$program" "$LLDPA_LIVE")), libgcc-s1, python3:any (>= 3.9)
 Suggests: graphviz
 Section: net
 Priority: optional
 Description: agent for the Link Layer Discovery Protocol (LLDP)
- lldpa keeps the neighbors that LLDP tells of on up to 64 ports, and sends
- this host's own frames. It takes the main commands of lldpcli, and what it
- does with the lines that it reads is proved. The programs beside it are in
- Python and not proved: lldpa-live puts it on network interfaces, lldpa-ctl
- asks it, lldpa-capture reads captures, and lldpa-audit compares a plan of
- the cabling with who is seen. There is a package for Python, too.
+ lldpa shows which switch and port each network cable of a host leads to, and
+ announces the host to the switches. Its core is formally verified.
+ .
+ lldpa-live runs the agent on up to 64 network interfaces, lldpa-ctl prints
+ the neighbors, lldpa-capture reads captures, and lldpa-audit compares a plan
+ of the cabling with the neighbors. These are tested, not proved. A package
+ for Python is included.
 END
 }
 
@@ -112,10 +116,10 @@ Depends: libc6-dev, lldpa1 (= $version)
 Section: libdevel
 Priority: optional
 Description: agent for the Link Layer Discovery Protocol (LLDP) - library for C
- With these files a program in C, or in a language that calls C, reads and
- builds LLDPDUs, and runs an agent of its own. Every call of the library is
- proved to do what its definition says. The package has a header, a static
- archive, a file for pkg-config and examples.
+ With these files a program in C, or in a language that calls C, can read and
+ build LLDPDUs and run an agent of its own. Each call of the library is
+ formally verified. The package has a header, a static archive, a file for
+ pkg-config and examples.
 END
 }
 
@@ -133,8 +137,8 @@ Section: libs
 Priority: optional
 Description: agent for the Link Layer Discovery Protocol (LLDP) - shared library
  Programs that are linked with the library of lldpa load it from this package.
- They read and build LLDPDUs, or run an agent of their own. Every call of the
- library is proved to do what its definition says.
+ They read and build LLDPDUs, or run an agent of their own. Each call of the
+ library is formally verified.
 END
 }
 
@@ -150,7 +154,12 @@ END
 
 if [ "$name" = lldpa ]; then
     DESTDIR=$tree LLDPA=$program tools/release/install.sh --python /usr/lib/python3/dist-packages /usr > /dev/null
-    "${tools}strip" --remove-section=.comment --remove-section=.note "$tree/usr/bin/lldpa"
+    for file in lldpa lldpa-live; do
+        "${tools}strip" --remove-section=.comment --remove-section=.note "$tree/usr/bin/$file"
+    done
+    # The configuration is no file of the package, so that no upgrade asks about it. postinst puts this one in its place.
+    mv "$tree/etc/default/lldpa" "$tree/usr/share/lldpa/default"
+    rmdir "$tree/etc/default"
 else
     DESTDIR=$tree tools/release/install.sh --library /usr > /dev/null
     if [ "$name" = lldpa1 ]; then
@@ -172,7 +181,7 @@ sed "s/^lldpa:/$name:/; /^lldpa1:/{/^$name:/!d}" share/debian/lintian-overrides 
 mkdir "$room/DEBIAN"
 if [ "$name" = lldpa ]; then
     control > "$room/DEBIAN/control"
-    printf '%s\n' /etc/default/lldpa /etc/lldpa.conf /etc/lldpa.d/README > "$room/DEBIAN/conffiles"
+    printf '%s\n' /etc/lldpa.conf /etc/lldpa.d/README > "$room/DEBIAN/conffiles"
     install -m 755 share/debian/postinst share/debian/prerm share/debian/postrm "$room/DEBIAN"
 elif [ "$name" = lldpa1 ]; then
     shared_control > "$room/DEBIAN/control"

@@ -1,6 +1,5 @@
 #!/usr/bin/env python3
-"""Compares each generated file, and each generated table of a page, with what its script writes
-now.
+"""Compares each generated file with what its script writes now.
 
     tools/write/check.py
 
@@ -17,12 +16,12 @@ TOP = pathlib.Path(__file__).resolve().parents[2]
 sys.path.append(str(TOP / "tools" / "gate"))
 from counts import Counts  # noqa: E402
 
-# each file, and what writes it when the name of a file is put behind
+# each file, and the command that writes it if the name of a file follows
 WRITTEN_BY = {
     "crates/lldpa/proofs/Transcripts.antt": "tools/write/transcripts.py",
     "crates/lldp_pdu/proofs/Vectors/Rows.antt": "tools/write/vectors.py",
+    "crates/lldp_tests/src/rows.rt": "tools/write/vectors.py --table",
     "docs/bench.svg": "tools/bench/bench.py --saved docs/bench.json --svg",
-    "docs/DECISIONS.md": "tools/bench/bench.py --saved docs/bench.json --table",
 }
 
 
@@ -32,10 +31,8 @@ def fault_of(file: str, command: str, written: pathlib.Path) -> str | None:
                          stdout=subprocess.DEVNULL, check=False)
     if ran.returncode != 0:
         return f"{command} ends with status {ran.returncode}"
-    is_page = file.endswith(".md")
-    text, wanted = (TOP / file).read_text(), written.read_text()
-    is_so = wanted in text if is_page else wanted == text
-    return None if is_so else f"it {'does not have' if is_page else 'is not'} what {command} writes"
+    is_same = (TOP / file).read_text() == written.read_text()
+    return None if is_same else f"it is not what {command} writes"
 
 
 def main() -> int:

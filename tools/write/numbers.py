@@ -4,12 +4,17 @@
     tools/write/numbers.py [--check | --parts [FOLDER]]
 
 Without --check it prints the table. With it, it fails if a number of the page is off by more than
-a twentieth; the last line is then `N passed, M failed`. --parts prints how many lines people keep
-by hand, part by part, here or in another checkout of the repository.
+a twentieth, or if people keep more lines by hand than tools/write/lines.txt says; the last line is
+then `N passed, M failed`. --parts prints how many lines people keep by hand, part by part, here or
+in another checkout of the repository. Who adds lines takes away others in the same step. When they
+have become fewer, this keeps it so:
 
-Lines are those that are not blank. People keep by hand what git keeps as text, without what a
-script or a program wrote: theorems of transcripts, vectors, the reference of the crates, figures
-and pictures, expected outputs, recorded answers of other programs, and locks of other packages.
+    tools/write/numbers.py --parts > tools/write/lines.txt
+
+Lines are those that are not blank. People keep by hand what git keeps as text, without the imports
+of `.antt`, which `rt check --fix-imports` writes, and without what a script or a program wrote:
+theorems of transcripts, vectors, declarations of the library for Rust, figures and pictures,
+expected outputs, recorded answers of other programs, and locks of other packages.
 """
 import collections
 import fnmatch
@@ -22,18 +27,20 @@ TOP = pathlib.Path(__file__).resolve().parents[2]
 sys.path.append(str(TOP / "tools" / "gate"))
 from counts import Counts  # noqa: E402
 
-WRITTEN = ("*/Transcripts.antt", "*/Rows.antt", "*/REFERENCE.md", "*/bench.json", "*.svg",
+WRITTEN = ("*/Transcripts.antt", "*/Rows.antt", "*/rows.rt", "*/bench.json", "*.svg",
            "*.expect", "*.pcap", "*/Cargo.lock", "*/judged.json", "*/tests/lldpd/*", "*/leaf1.json",
-           "*/host01.xml")
+           "*/host01.json", "*.walk", "*/lines.txt", "rust/lldpa/src/sys.rs")
 PARTS = (("proved code", "crates/*/src/*"), ("definitions", "crates/*/specs/*"),
          ("proofs", "crates/*/proofs/*"), ("mutants", "crates/*/must-fail/*"),
-         ("mutants", "tools/mutants/*.edits"), ("mutants", "tools/*.edit"),
+         ("mutants", "tools/*.edit"),
          ("library for C and Rust", "rust/*"), ("library for C and Rust", "crates/lldpa_c/*"),
          ("audit", "audit/*"), ("audit", "*/lldpa/audit/*"), ("audit", "python/tests/*audit*"),
          ("Python package", "python/lldpa/*"), ("tests of the Python package", "python/tests/*"),
          ("scripts", "tools/*"), ("scripts", ".ci/*"), ("pages and manual pages", "*.md"),
          ("pages and manual pages", "man/*"), ("examples", "examples/*"), ("the rest", "*"))
 CRATES = TOP / "crates"
+LINES = TOP / "tools" / "write" / "lines.txt"
+IMPORT, IMPORTS, SUM = "use ", "imports of .antt besides", "in all"
 FUNCTION = r"^\s*(?:pub(?:\(\w+\))? )?(?:const )?fn \w+"
 
 
@@ -63,7 +70,7 @@ def numbers():
     sources = files("*/src/**/*.rt")
     tests = sorted([*TOP.glob("python/tests/test_*.py"), *TOP.glob("audit/tests/test_*.py")])
     return {
-        "lines that people keep by hand, in all": sum(kept_by_hand(TOP).values()),
+        "lines that people keep by hand, without imports of proofs": sum_of(kept_by_hand(TOP)),
         "lines of proved code, contracts and comments among them": lines(sources),
         "functions written in it, each proved to meet its contract": occurrences(FUNCTION, sources),
         "lines of definitions that contracts cite (`specs`, without `specs/Code`)":
@@ -71,8 +78,6 @@ def numbers():
         "lines of proofs, without those that a script writes": lines(files("*/proofs/**/*.antt", "Transcripts")),
         "mutants that the prover refuses in each run of the gate (`must-fail`)":
             len(files("*/must-fail/*.edit")),
-        "mutants that are tried when their crate changes (`tools/mutants`)":
-            occurrences(r"^mutant ", (TOP / "tools" / "mutants").glob("*.edits")),
         "transcripts, each run in one piece, in two and octet by octet": len(list((TOP / "examples").glob("*.args"))),
         "tests of the crates on the built code (`lldp_tests`)":
             occurrences(r"^\s*#\[test\]", sorted(CRATES.glob("lldp_tests/src/**/*.rt"))),
@@ -96,16 +101,35 @@ def kept_by_hand(top):
     for name in filter(None, names.split("\0")):
         path, is_written = pathlib.Path(top, name), any(fnmatch.fnmatch(name, one) for one in WRITTEN)
         if path.is_file() and not path.is_symlink() and not is_written:
-            found[part_of(name)] += lines([path])
+            imports = occurrences(f"^{IMPORT}", [path]) if path.suffix == ".antt" else 0
+            found[IMPORTS] += imports
+            found[part_of(name)] += lines([path]) - imports
     return found
 
 
+def sum_of(found):
+    """Returns how many lines people keep by hand, in all parts."""
+    return sum(found.values()) - found[IMPORTS]
+
+
 def print_parts(top):
-    """Prints the lines of each part that people keep by hand, and their sum."""
+    """Prints the lines of each part that people keep by hand, their sum, and the imports."""
     found = kept_by_hand(top)
+    imports = found[IMPORTS]
     for part, number in found.most_common():
-        print(f"{number:7,}  {part}")
-    print(f"{sum(found.values()):7,}  in all")
+        if part != IMPORTS:
+            print(f"{number:7,}  {part}")
+    print(f"{sum_of(found):7,}  {SUM}\n{imports:7,}  {IMPORTS}\n{sum_of(found) + imports:7,}  with them")
+
+
+def judge_lines(counts):
+    """Counts whether people keep no more lines by hand than the file says."""
+    most = int(re.search(rf"^ *([\d,]+)  {SUM}$", LINES.read_text(), re.M)[1].replace(",", ""))
+    more = sum_of(kept_by_hand(TOP)) - most
+    fault = f"{more} more than in tools/write/lines.txt: take away as many, see --parts"
+    counts.judge(fault if more > 0 else None, "lines that people keep by hand")
+    if more < 0:
+        print(f"{-more} lines fewer: keep it so by tools/write/numbers.py --parts > tools/write/lines.txt")
 
 
 def said():
@@ -129,6 +153,7 @@ def main():
     for what, number in counted.items():
         is_near = what in told and abs(told[what] - number) * 20 <= number
         counts.judge(None if is_near else f"{told.get(what, 'missing')}, counted {number}", f"docs/TESTING.md: {what}")
+    judge_lines(counts)
     return counts.end()
 
 

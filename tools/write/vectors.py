@@ -1,9 +1,11 @@
 #!/usr/bin/env python3
-"""Writes the rows of examples/vectors.rows that are about LLDPDUs as theorems of lldp_pdu.
+"""Writes the rows of examples/vectors.rows that are about LLDPDUs as theorems of lldp_pdu, or all
+rows as a table of lldp_tests.
 
-    tools/write/vectors.py [FILE]
+    tools/write/vectors.py [--table] [FILE]
 
-FILE is crates/lldp_pdu/proofs/Vectors/Rows.antt unless given.
+FILE is crates/lldp_pdu/proofs/Vectors/Rows.antt unless given, and with --table
+crates/lldp_tests/src/rows.rt.
 """
 from __future__ import annotations
 
@@ -15,6 +17,7 @@ from itertools import groupby
 TOP = pathlib.Path(__file__).resolve().parents[2]
 ROWS = TOP / "examples" / "vectors.rows"
 FILE = TOP / "crates" / "lldp_pdu" / "proofs" / "Vectors" / "Rows.antt"
+TABLE = TOP / "crates" / "lldp_tests" / "src" / "rows.rt"
 # So many equal octets are written as so many times one.
 LONG_RUN = 8
 FAULTS = ("Truncated", "NoChassis", "ChassisLength", "NoPort", "PortLength", "NoTtl", "TtlLength", "Repeated")
@@ -37,9 +40,14 @@ use Rattle.lldp_pdu.proofs.Vectors.Parts.{Gives, Tells, ShutsDown, tlv, begun, a
 """
 
 
+def all_rows() -> list[str]:
+    """Returns the rows."""
+    return [line for line in ROWS.read_text().splitlines() if not line.startswith("#")]
+
+
 def rows_of(kind: str) -> list[list[str]]:
     """Returns the rows of a kind, each as its fields behind the kind."""
-    rows = [line.split("\t") for line in ROWS.read_text().splitlines() if not line.startswith("#")]
+    rows = [line.split("\t") for line in all_rows()]
     return [row[1:] for row in rows if row[0] == kind]
 
 
@@ -132,5 +140,15 @@ def proofs() -> str:
     return HEAD + faults_theorem() + "".join(told) + bodies_theorems() + "".join(built)
 
 
+def table() -> str:
+    """Returns the table."""
+    rows = [row.replace("\t", "\\t") for row in all_rows()]
+    return ("//! The rows of examples/vectors.rows, written by tools/write/vectors.py.\n\n"
+            "pub const ROWS: &[&str] = &[\n" + "".join(f'    "{row}",\n' for row in rows) + "];\n")
+
+
 if __name__ == "__main__":
-    pathlib.Path(sys.argv[1] if sys.argv[1:] else FILE).write_text(proofs())
+    files = [word for word in sys.argv[1:] if word != "--table"]
+    is_table = "--table" in sys.argv
+    file = pathlib.Path(files[0]) if files else TABLE if is_table else FILE
+    file.write_text(table() if is_table else proofs())

@@ -49,15 +49,14 @@ def picture(host: str, faults: Sequence[Finding], hints: Hints) -> str:
 
 def lines_of(fault: Finding, hints: Hints) -> list[Line]:
     """Returns the lines of an end: to each neighbor, and to the wanted one if it is missing."""
-    wants, is_wanted = fault.wants, False
-    lines = []
-    for neighbor in fault.has:
-        is_it = wants is not None and hints.names.answers(neighbor, hints.names.end(wants))
-        is_wanted = is_wanted or is_it
-        lines.append(Line("right" if is_it else "has", str(wants if is_it else neighbor)))
-    if len(lines) > MOST_NEIGHBORS:
-        more = len(lines) - MOST_NEIGHBORS
-        lines[MOST_NEIGHBORS:] = [Line("has", f"{more} more")]
+    wants = fault.wants
+    key = hints.names.end(wants) if wants is not None else None
+    are_it = [key is not None and hints.names.answers(one, key) for one in fault.has]
+    is_wanted = any(are_it)
+    lines = [Line("right" if is_it else "has", str(wants if is_it else neighbor))
+             for is_it, neighbor in zip(are_it[:MOST_NEIGHBORS], fault.has)]
+    if len(fault.has) > MOST_NEIGHBORS:
+        lines.append(Line("has", f"{len(fault.has) - MOST_NEIGHBORS} more"))
     if wants is not None and not is_wanted:
         unknown = fault.verdict is Verdict.NO_DATA
         lines.append(Line("unknown" if unknown else "wants", str(wants)))

@@ -1,7 +1,9 @@
-"""Writes what is drawn of a report into files."""
+"""Writes what is made of a report into files."""
 from __future__ import annotations
 
 import os
+import tempfile
+from contextlib import suppress
 from pathlib import Path
 
 from lldpa.faults import LldpaFault
@@ -18,12 +20,21 @@ def write(file: str, octets: bytes) -> None:
     try:
         if path.exists() and not path.is_file():
             path.write_bytes(octets)
-            return
-        part = path.with_name(f".{path.name}.{os.getpid()}")
-        try:
-            part.write_bytes(octets)
-            part.replace(path)
-        finally:
-            part.unlink(missing_ok=True)
+        else:
+            replace(path, octets)
     except OSError as fault:
         raise FileFault(f"{file}: {fault.strerror or fault}") from None
+
+
+def replace(path: Path, octets: bytes) -> None:
+    """Replaces a file by a new one, whose name nobody knows until it is whole."""
+    number, part = tempfile.mkstemp(prefix=f".{path.name}.", dir=path.parent)
+    try:
+        with open(number, "wb") as new:
+            os.fchmod(new.fileno(), 0o644)
+            new.write(octets)
+        os.replace(part, path)
+    except BaseException:
+        with suppress(OSError):
+            os.unlink(part)
+        raise

@@ -18,22 +18,23 @@ def metrics_of(report: Report) -> bytes:
 
 def parts(report: Report) -> Iterator[str]:
     """Yields each metric with its help."""
-    count = report.count
+    count, now = report.count, time.time()
     verdicts = Counter(one.verdict.value for one in report.findings)
     verdicts[MISMATCH] = count.mismatches
     verdicts[Verdict.RIGHT.value] -= count.mismatches
-    verdicts["not looked at"] = count.unseen
-    names = [*(verdict.value for verdict in Verdict), MISMATCH, "not looked at"]
+    names = [*(verdict.value for verdict in Verdict), MISMATCH]
+    yield from gauge("lldpa_audit_cables", "Planned cables by state.", "state", {
+        "right": count.right, "wrong": count.wrong, "known": count.known,
+        "not looked at": count.not_looked_at, "not judged": count.not_judged})
     yield from gauge("lldpa_audit_ends", "Ends by verdict.", "verdict",
                      {name: verdicts[name] for name in names})
     kinds = Counter(repair.kind for repair in report.fault_lines.repairs)
     yield from gauge("lldpa_audit_repairs", "Repairs by kind.", "kind",
                      {kind: kinds[kind] for kind in TO_DO})
     if count.ages is not None:
-        yield from gauge("lldpa_audit_source_age_seconds", "Age of what is seen.", "source",
-                         {"newest": count.ages.newest, "oldest": count.ages.oldest})
-    yield from gauge("lldpa_audit_run_timestamp_seconds", "Time of the audit.", "",
-                     {"": time.time()})
+        yield from gauge("lldpa_audit_source_timestamp_seconds", "Time of what is seen.", "source",
+                         {"newest": now - count.ages.newest, "oldest": now - count.ages.oldest})
+    yield from gauge("lldpa_audit_run_timestamp_seconds", "Time of the audit.", "", {"": now})
 
 
 def gauge(name: str, told: str, label: str, values: Mapping[str, float]) -> Iterator[str]:

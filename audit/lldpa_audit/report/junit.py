@@ -2,28 +2,32 @@
 from __future__ import annotations
 
 from collections import Counter
-from typing import Iterator, Sequence
+from typing import Iterator
 from xml.sax.saxutils import quoteattr
 
 from lldpa.texts import printable
 
 from ..judging import Finding, Verdict
-from ..names import text_of
-from ..plan import Wish
+from ..names import End, text_of
 from .report import Report
 
 NAME = "lldpa-audit"
 
 
-def junit_of(report: Report, unseen: Sequence[Wish] = ()) -> bytes:
-    """Returns the report in XML."""
-    return "".join(parts(report, unseen)).encode()
+NOT_JUDGED = "cables that cannot be followed through patch panels"
 
 
-def parts(report: Report, unseen: Sequence[Wish]) -> Iterator[str]:
-    """Yields the report from its begin to its end."""
-    cases = [(one.end, *case_of(report, one)) for one in report.in_order()]
-    cases += [(wish.end, "failure", "not looked at: no source covers its host") for wish in unseen]
+def junit_of(report: Report, needs_all: bool = False) -> bytes:
+    """Returns the report in XML. What was not looked at is skipped, or fails if all is needed."""
+    return "".join(parts(report, "failure" if needs_all else "skipped")).encode()
+
+
+def parts(report: Report, unseen: str) -> Iterator[str]:
+    """Yields the report from its beginning to its end."""
+    cases = [(one.end, *case_of(report, one, unseen)) for one in report.in_order()]
+    if report.count.not_judged:
+        cases.append((End("not judged", "panels"), unseen,
+                      f"{report.count.not_judged} {NOT_JUDGED}"))
     counted = Counter(element for _, element, _ in cases)
     counts = (f'tests="{len(cases)}" failures="{counted["failure"]}" errors="0" '
               f'skipped="{counted["skipped"]}"')
@@ -37,8 +41,10 @@ def parts(report: Report, unseen: Sequence[Wish]) -> Iterator[str]:
     yield "</testsuite>\n</testsuites>\n"
 
 
-def case_of(report: Report, one: Finding) -> tuple[str, str]:
+def case_of(report: Report, one: Finding, unseen: str) -> tuple[str, str]:
     """Returns the element that says what became of an end, empty if it is right, and its text."""
+    if one.verdict is Verdict.NOT_LOOKED_AT:
+        return unseen, "not looked at: no source covers either end of its cable"
     if one.verdict is Verdict.KNOWN:
         return "skipped", one.reason
     text = report.fault_lines.text(one)

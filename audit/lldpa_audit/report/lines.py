@@ -14,17 +14,19 @@ from ..seen.tables import Tables
 from .exchanges import Exchanges
 from .hints import Hints
 from .order import in_order, natural
-from .renames import renamed
+from .renames import exchanged, renamed
 from .repairs import Faults, Repair
 from .runs import broken_out, looped, shifted, turned
 from .texts import FaultTexts
 from .together import together
+from .whole_hosts import of_one_name, silent, without_data
 
 # places that are longer stand in no column
 WIDEST = 48
 # how much of what the plan says further of a cable stands in its line
 MOST_DETAILS, LONGEST_DETAIL = 4, 40
 
+NO_FAULTS = (Verdict.RIGHT, Verdict.KNOWN, Verdict.NOT_LOOKED_AT)
 # which end of a link is reported first: the one that is wrong
 RANKS = (Verdict.WRONG, Verdict.SWAPPED, Verdict.DOUBLED, Verdict.EXTRA, Verdict.NO_DATA,
          Verdict.ONE_SIDED, Verdict.SILENT, Verdict.DISAGREES)
@@ -38,8 +40,8 @@ class FaultLines:
         self.plan = plan
         self.names = tables.names
         self.mismatches = mismatches or {}
-        right, known = Verdict.RIGHT, Verdict.KNOWN
-        faults = [one for one in findings if one.verdict is not right and one.verdict is not known]
+        right = Verdict.RIGHT
+        faults = [one for one in findings if one.verdict not in NO_FAULTS]
         if self.mismatches:
             faults += [one for one in findings
                        if one.verdict is right and one.end in self.mismatches]
@@ -98,7 +100,8 @@ class FaultLines:
     def _repairs(self) -> Iterator[Repair]:
         """Yields the repairs: first those of many ends, last those of one link."""
         faults = Faults(self.plan, self.hints, self.faults)
-        for find in (renamed, turned, looped, broken_out, shifted):
+        for find in (exchanged, renamed, turned, looped, broken_out, shifted, without_data, silent,
+                     of_one_name):
             yield from find(faults)
         yield from self._of_exchanges(faults)
         yield from self._of_links(faults)

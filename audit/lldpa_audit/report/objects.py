@@ -10,7 +10,7 @@ from .lines import FaultLines
 from .repairs import Repair
 from .together import MISMATCH
 
-FORM = 1
+FORM = 2
 Json = Union[None, str, int, float, Sequence["Json"], Dict[str, "Json"]]
 
 
@@ -28,13 +28,17 @@ class Objects:
         counted, ages = self.counted, self.counted.ages
         return {
             "form": FORM,
-            "planned": counted.planned,
-            "right": counted.right,
+            "cables": {
+                "planned": counted.planned,
+                "right": counted.right,
+                "wrong": counted.wrong,
+                "known": counted.known,
+                "not_looked_at": counted.not_looked_at,
+                "not_judged": counted.not_judged,
+            },
             "unplanned": counted.unplanned,
             "mismatches": counted.mismatches,
-            "not_looked_at": counted.unseen,
             "hosts_not_looked_at": [text_of(host) for host in counted.hosts],
-            "known": counted.known,
             "sources": None if ages is None else {"newest": round(ages.newest, 3),
                                                   "oldest": round(ages.oldest, 3)},
             "repairs": [self.of_repair(number, one)

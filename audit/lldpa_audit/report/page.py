@@ -15,7 +15,9 @@ from .report import Report
 from .together import MISMATCH
 from .style import STYLE
 
-FOREIGN = re.compile(r"[^\s<>&;]*[^\x00-\x7f][^\s<>&;]*")
+# no browser shows more rows in good time
+MOST_ROWS = 10_000
+WORD = re.compile(r"[^\s<>&;]+")
 
 
 def page_of(report: Report) -> bytes:
@@ -31,7 +33,7 @@ class Page:
         self.lines = report.fault_lines
         self.names = report.names
         self.hosts: dict[str, list[Finding]] = {}
-        for fault in self.lines.told:
+        for fault in self.lines.told[:MOST_ROWS]:
             self.hosts.setdefault(self.names.host(fault.end.host), []).append(fault)
 
     def parts(self) -> Iterator[str]:
@@ -57,12 +59,15 @@ class Page:
             return
         yield ("<table class=repairs><caption>Repairs</caption><tr><th>No.<th>Where"
                "<th>What is wrong<th>What to do<th>In the plan<th>Links</tr>\n")
-        for number, repair in enumerate(self.lines.repairs, 1):
+        for number, repair in enumerate(self.lines.repairs[:MOST_ROWS], 1):
             yield (f'<tr id="r{number}"><td class=number>{number}'
                    f"<td><b>{text(self.lines.place(repair))}</b><td>{text(repair.text)}"
                    f"<td>{repair.to_do}<td>{self.planned(repair.end)}"
                    f"<td class=number>{self.lines.links_of(repair)}</tr>\n")
         yield "</table>\n"
+        if len(self.lines.told) > MOST_ROWS:
+            yield (f"<p>This page has the first {MOST_ROWS} of {len(self.lines.repairs)} repairs "
+                   f"and of {len(self.lines.told)} ends.</p>\n")
 
     def by_kind(self) -> Iterator[str]:
         """Returns how many ends have each kind of fault."""
@@ -130,4 +135,10 @@ def kind_of(fault: Finding) -> str:
 
 def text(name: str) -> str:
     """Returns a text as HTML. Each word whose letters may run from the right is set apart."""
-    return FOREIGN.sub(r"<bdi>\g<0></bdi>", html.escape(printable(text_of(name))))
+    escaped = html.escape(printable(text_of(name)))
+    return escaped if escaped.isascii() else WORD.sub(set_apart, escaped)
+
+
+def set_apart(word: re.Match[str]) -> str:
+    """Returns a word that runs in its own direction, if it is not in Latin letters."""
+    return word[0] if word[0].isascii() else f"<bdi>{word[0]}</bdi>"

@@ -1,16 +1,55 @@
 """Hosts that answer by another name at their links: one line each, and none for their links."""
 from __future__ import annotations
 
-from typing import Iterator
+from typing import Iterator, Mapping, Sequence
 
 from ..judging import Verdict
 from ..names import End, Seen, shown
 from .repairs import HAVE_ANOTHER, Faults, Repair
 
+FEWEST = 2
+
+# the ends at which a name is heard, each with the neighbor, by that name
+Heard = Mapping[str, Sequence[tuple[End, Seen]]]
+
+
+def exchanged(faults: Faults) -> Iterator[Repair]:
+    """Yields a repair for each two hosts of which each has the other's name at all its links, two
+    at least."""
+    heard = other_names(faults)
+    for host, by_name in heard.items():
+        other = next(iter(by_name))
+        if (host < other and all(len(heard.get(one, ())) == 1 for one in (host, other))
+                and next(iter(heard[other])) == host
+                and not any(is_heard_rightly(faults, one) for one in (host, other))):
+            some = [end for one, name in ((host, other), (other, host))
+                    for end, _ in heard[one][name]]
+            if len(some) >= 2 * FEWEST:
+                yield exchange(faults, host, other, some)
+
+
+def exchange(faults: Faults, host: str, other: str, some: Sequence[End]) -> Repair:
+    """Returns the repair of two hosts that are exchanged; the ends are those of both."""
+    names = [shown(faults.plan.hosts[one]) for one in (host, other)]
+    counts = [sum(end.host == one for end in some) for one in (host, other)]
+    ends = [far for end in some for far in (faults.far(end), end) if far is not None]
+    return Repair("exchanged", End(faults.plan.hosts[host], some[0].port),
+                  f"exchanged with {names[1]}: each answers at all links of the other "
+                  f"({counts[0]} and {counts[1]})", faults.take(ends), names[0])
+
 
 def renamed(faults: Faults) -> Iterator[Repair]:
     """Yields a repair for each planned host of which another name is heard at each of its links,
     two at least, with the ports that are planned."""
+    for host, by_name in other_names(faults).items():
+        some = max(by_name.values(), key=len)
+        if (len(some) >= FEWEST and not is_heard_rightly(faults, host)
+                and not is_miswired(faults, some)):
+            yield repair(faults, host, some)
+
+
+def other_names(faults: Faults) -> Mapping[str, Heard]:
+    """Returns the other names that are heard in place of planned hosts, at the planned ports."""
     heard: dict[str, dict[str, list[tuple[End, Seen]]]] = {}
     for key, fault in faults:
         neighbor, wanted = faults.only(fault), faults.far(key)
@@ -18,17 +57,14 @@ def renamed(faults: Faults) -> Iterator[Repair]:
             continue
         name = faults.names.host(neighbor.hosts[0])
         heard.setdefault(wanted.host, {}).setdefault(name, []).append((wanted, neighbor))
-    for host, by_name in heard.items():
-        some = max(by_name.values(), key=len)
-        if len(some) > 1 and not is_heard_rightly(faults, host) and not is_miswired(faults, some):
-            yield repair(faults, host, some)
+    return heard
 
 
 def has_port(faults: Faults, neighbor: Seen, wanted: End) -> bool:
     """Returns whether a neighbor has, or may have, the port of the end that is wanted, at another
     host."""
     names = faults.names
-    hosts = [*map(names.host, neighbor.hosts)]
+    hosts = names.hosts_of(neighbor)
     return bool(hosts) and wanted.host not in hosts and (
         names.is_any_member(neighbor, hosts[0])
         or any(wanted.port in names.ports(hosts[0], port) for port in names.heeded(neighbor)))
@@ -43,12 +79,12 @@ def is_heard_rightly(faults: Faults, host: str) -> bool:
                for neighbor in told.neighbors)
 
 
-def is_miswired(faults: Faults, some: list[tuple[End, Seen]]) -> bool:
+def is_miswired(faults: Faults, some: Sequence[tuple[End, Seen]]) -> bool:
     """Returns whether the host itself hears others than it wants: then its cables are wrong."""
     return any(faults.left[end].verdict in HAVE_ANOTHER for end, _ in some if end in faults.left)
 
 
-def repair(faults: Faults, host: str, some: list[tuple[End, Seen]]) -> Repair:
+def repair(faults: Faults, host: str, some: Sequence[tuple[End, Seen]]) -> Repair:
     """Returns the repair of a host that is heard at these ends by another name."""
     name, neighbor = faults.plan.hosts[host], some[0][1]
     differs = faults.hints.differences.of_neighbor(neighbor, some[0][0])

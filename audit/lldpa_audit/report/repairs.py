@@ -14,6 +14,7 @@ HAVE_NOBODY = (Verdict.SILENT, Verdict.ONE_SIDED, Verdict.NO_DATA)
 
 TO_DO = {
     "renamed": "correct the name, at the host or in the plan",
+    "exchanged": "exchange the two hosts, or their names",
     "turned": "turn the lanes of the breakout cable",
     "loop": "take the cable out",
     "not broken out": "break the port out",

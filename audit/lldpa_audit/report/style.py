@@ -1,10 +1,24 @@
 """How a page looks: on a wide screen and on a telephone, by day and by night."""
 
-STYLE = """
+# the colors, and the pictures
+PICTURES = """
 :root { --ink: #1d2329; --dim: #5c6670; --rule: #d5dade; --paper: #fff; --red: #c00a24;
   --orange: #a86200; --box: #f4f6f7; color-scheme: light dark; }
 @media (prefers-color-scheme: dark) { :root { --ink: #e4e8eb; --dim: #9aa5af; --rule: #3a424a;
   --paper: #14181c; --red: #ff6b7a; --orange: #f0a840; --box: #20262c; } }
+svg { display: block; max-width: 100%; height: auto; }
+svg text { font: 11px ui-monospace, monospace; fill: var(--ink); }
+svg rect { fill: var(--box); stroke: var(--rule); }
+svg line { stroke: var(--rule); stroke-width: 1.5; }
+svg .port.fault rect { fill: var(--red); stroke: var(--red); }
+svg .port.unknown rect { fill: var(--orange); stroke: var(--orange); }
+svg .port text { fill: var(--paper); font-weight: bold; }
+svg line.has, svg .peer.has rect { stroke: var(--red); }
+svg line.has { stroke-width: 2.5; }
+svg line.wants, svg .peer.wants rect { stroke: var(--red); stroke-dasharray: 4 3; }
+svg line.unknown, svg .peer.unknown rect { stroke: var(--orange); stroke-dasharray: 4 3; }
+"""
+STYLE = PICTURES + """
 * { box-sizing: border-box; }
 body { margin: 0 auto; padding: 16px; max-width: 1180px; background: var(--paper);
   color: var(--ink); font: 15px/1.45 system-ui, sans-serif; overflow-wrap: anywhere; }
@@ -31,17 +45,6 @@ details { margin: 16px 0 0; color: var(--dim); }
 .faults td:last-child { min-width: 22em; }
 .pictures { display: grid; grid-template-columns: repeat(auto-fill, minmax(min(100%, 360px), 1fr));
   gap: 12px; margin: 0 0 10px; align-items: start; }
-svg { display: block; max-width: 100%; height: auto; }
-svg text { font: 11px ui-monospace, monospace; fill: var(--ink); }
-svg rect { fill: var(--box); stroke: var(--rule); }
-svg line { stroke: var(--rule); stroke-width: 1.5; }
-svg .port.fault rect { fill: var(--red); stroke: var(--red); }
-svg .port.unknown rect { fill: var(--orange); stroke: var(--orange); }
-svg .port text { fill: var(--paper); font-weight: bold; }
-svg line.has, svg .peer.has rect { stroke: var(--red); }
-svg line.has { stroke-width: 2.5; }
-svg line.wants, svg .peer.wants rect { stroke: var(--red); stroke-dasharray: 4 3; }
-svg line.unknown, svg .peer.unknown rect { stroke: var(--orange); stroke-dasharray: 4 3; }
 @media (max-width: 640px) {
   .faults tr:first-child, .repairs tr:first-child { display: none; }
   .faults, .faults tbody, .faults tr, .faults td { display: block; }

@@ -32,6 +32,8 @@ class FaultTexts:
         """Returns what is wrong at an end, or nothing if it is right."""
         if fault.verdict is Verdict.KNOWN:
             return f"known: {shown(fault.reason)}"
+        if fault.verdict is Verdict.NOT_LOOKED_AT:
+            return f"not looked at: wants {fault.wants}"
         if fault.verdict is Verdict.RIGHT:
             found = self.mismatches.get(fault.end)
             return found.text if found is not None else ""
@@ -91,16 +93,16 @@ class FaultTexts:
         if fault.verdict is Verdict.EXTRA and fault.wants is not None:
             wanted = self.names.end(fault.wants)
             has = [neighbor for neighbor in has if not self.names.answers(neighbor, wanted)]
-        texts = [self.hints.neighbor(neighbor, fault.end, fault.wants) for neighbor in has]
+        texts = [self.hints.neighbor(neighbor, fault.end, fault.wants)
+                 for neighbor in has[:MOST_NAMED]]
         if len(set(texts)) < len(texts):
             texts = [f"{text} ({neighbor.ids})" for text, neighbor in zip(texts, has)]
-        return listed(texts)
+        return listed(texts, len(has) - len(texts))
 
 
-def listed(texts: Sequence[str]) -> str:
-    """Texts in a row; of many the first ones."""
-    if len(texts) > MOST_NAMED:
-        texts = [*texts[:MOST_NAMED], f"{len(texts) - MOST_NAMED} more"]
+def listed(texts: Sequence[str], more: int) -> str:
+    """Returns texts in a row, and how many more there are."""
+    texts = [*texts, f"{more} more"] if more else texts
     return " and ".join(filter(None, [", ".join(texts[:-1]), texts[-1]]))
 
 

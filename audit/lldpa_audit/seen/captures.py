@@ -20,7 +20,7 @@ LINES_AT_ONCE = 1000
 MOST_HEARD = 512
 # what gzip makes small may be endless
 MOST_UNPACKED = 1 << 27
-PASSED_OVER = "is passed over"
+PASSED_OVER = "is skipped"
 
 
 class NoPortNamed(LldpaFault, ValueError):

@@ -1,48 +1,212 @@
-"""The fields of vendors' JSON: each that a neighbor cannot be without is needed."""
+"""The forms of JSON that list neighbors: where each has ports, neighbors, and their fields.
+
+A way is names that lead from object to object; a list on the way is each of its elements, and `*`
+is each name of an object. Of ways between commas the first that leads to a text counts.
+"""
 from __future__ import annotations
 
-from typing import Any, Mapping, Sequence
+import re
+from typing import Any, Iterator, NamedTuple, Optional
 
-from .listing import SeenFault
+from ..link_settings import Settings, settings_of
+from ..names import NAMELESS, Seen
+from .listing import Listing, Ports, SeenFault
+from .neighbor import neighbor
+from .tlvs import IS_SETTING, settings_of_tlvs
+
+
+class Form(NamedTuple):
+    """The ways to ports, from a port to its neighbors, and from a neighbor to its fields.
+
+    `sign` leads somewhere in this form alone. Without `port` the name that `*` stands for is the
+    port. After `?` come neighbors that a port may lack. Without `kind` the look of a port ID tells
+    whether an interface has that name. `settings` are the ways to the frame size, the PVID, the MAU
+    type and the aggregate. A neighbor has a chassis ID and a port ID; one `of_names` has only some
+    name of its host and of its port.
+    """
+
+    sign: str
+    ports: str
+    port: str
+    neighbors: str
+    chassis: str
+    kind: str
+    port_id: str
+    name: str
+    descr: str
+    addresses: str = ""
+    settings: tuple[str, ...] = ()
+    of_names: bool = False
+
+
+INFO = "neighborInterfaceInfo"
+NAPALM = Form("", "*", "", "", "remote_chassis_id", "", "remote_port, port",
+              "remote_system_name, hostname", "remote_port_description", of_names=True)
+LLDPCLI = Form("", "", "interface", "", "chassis id", "port id type", "port id", "chassis name",
+               "port descr", "chassis mgmt-ip",
+               ("port mfs", "pvid vlan-id", "port auto-negotiation current", "port aggregation"))
+# lldpa-ctl --json
+OURS = Form("ports neighbors_held", "ports", "name", "neighbors", "chassis text", "port_id kind",
+            "port_id text", "name", "port_descr", "management")
+FORMS = (
+    OURS,
+    # Arista's EOS, which once put a port ID in quotes
+    Form("lldpNeighbors", "lldpNeighbors *", "", "lldpNeighborInfo", "chassisId",
+         f"{INFO} interfaceIdType", f"{INFO} interfaceId_v2, {INFO} interfaceId", "systemName",
+         f"{INFO} interfaceDescription", "managementAddresses address",
+         (f"{INFO} maxFrameSize", f"{INFO} portVlanId", "", f"{INFO} linkAggregationInterfaceId")),
+    # Cisco's NX-OS
+    Form("TABLE_nbor_detail", "TABLE_nbor_detail ROW_nbor_detail", "l_port_id", "", "chassis_id",
+         "", "port_id", "sys_name", "port_desc", "mgmt_addr, mgmt_addr_ipv6",
+         ("max_frame_size", "vlan_id", "", "")),
+    # Juniper's Junos
+    Form("lldp-neighbors-information", "lldp-neighbors-information lldp-neighbor-information",
+         "lldp-local-interface, lldp-local-port-id", "", "lldp-remote-chassis-id",
+         "lldp-remote-port-id-subtype", "lldp-remote-port-id", "lldp-remote-system-name",
+         "lldp-remote-port-description", "lldp-remote-management-address"),
+    # NVUE of Cumulus Linux
+    Form("* lldp neighbor", "*", "", "?lldp neighbor *", "chassis chassis-id", "port type",
+         "port name", "chassis system-name", "port description",
+         "chassis management-address-ipv4, chassis management-address-ipv6"),
+    # systemd's networkctl
+    Form("Neighbors InterfaceName", "Neighbors", "InterfaceName", "?Neighbors", "ChassisID",
+         "RawPortID", "PortID", "SystemName", "PortDescription", "", ("", "VlanID", "", "")),
+    # OpenConfig
+    Form("interface name, openconfig-lldp:interface name", "interface, openconfig-lldp:interface",
+         "name", "?neighbors neighbor", "state chassis-id", "state port-id-type", "state port-id",
+         "state system-name", "state port-description",
+         "state management-address"),
+    # rows of ntc-templates, whose columns have names in capital letters in TextFSM itself
+    Form("local_interface, local_port", "", "local_interface, local_port", "",
+         "chassis_id, remote_chassis_id", "",
+         "neighbor_port_id, neighbor_interface, remote_port, remote_port_id, port_id, port_info",
+         "neighbor_name, neighbor, system_name, remote_system_name",
+         "neighbor_interface, neighbor_description, port_description, remote_port_desc",
+         "mgmt_address, management_ip, mgmt_address_v6", ("", "vlan_id, vlan", "", ""), True),
+)
 
 # what stands for a field that a neighbor does not send
 ABSENT = ("", "N/A", "null", "not advertised", "- not advertised")
-# the subtypes of a port ID that are an interface's name or alias, as vendors word them
+# the kinds of a port ID that are an interface's name or alias, as vendors word them
 OF_INTERFACES = {"5": "ifname", "1": "ifalias", "interfacename": "ifname", "ifname": "ifname",
                  "interfacealias": "ifalias", "ifalias": "ifalias"}
+# letters and a number, as the names of interfaces are; not a MAC address, and not a number alone
+INTERFACE = re.compile(r"[A-Za-z][A-Za-z-]*[ /]?[0-9][0-9/:.]*(?:[A-Za-z][A-Za-z0-9]*)?")
 
 
-def text(node: Mapping[str, Any], name: str) -> str:
-    """Returns a field's text or number as text, empty if there is none."""
-    found = node.get(name)
-    return found if isinstance(found, str) and found not in ABSENT else ""
+def walk(node: Any, way: str, name: str = "") -> Iterator[tuple[str, Any]]:
+    """Yields where a way leads to, each with the name that the last `*` stands for."""
+    step, _, rest = way.partition(" ")
+    if not way:
+        yield name, node
+    elif isinstance(node, list):
+        for one in node:
+            yield from walk(one, way, name)
+    elif isinstance(node, dict) and step == "*":
+        for key, inner in node.items():
+            yield from walk(inner, rest, key)
+    elif isinstance(node, dict) and node.get(step) is not None:
+        yield from walk(node[step], rest, name)
 
 
-def needed(node: Mapping[str, Any], name: str, port: str) -> str:
-    """Returns a field's text. Raises SeenFault if there is none."""
-    found = text(node, name)
-    if not found:
-        raise SeenFault(f"{port!r} has a neighbor without {name}")
-    return found
+def ways_of(node: Any, ways: str) -> Iterator[tuple[str, Any]]:
+    """Yields where some ways lead."""
+    for way in ways.split(", "):
+        yield from walk(node, way)
 
 
-def part(node: Any, name: str, of: str) -> Mapping[str, Any]:
-    """Returns the object in a field. Raises SeenFault if there is none."""
-    found = node.get(name) if isinstance(node, dict) else None
-    if not isinstance(found, dict):
-        raise SeenFault(f"{of!r} has no {name}")
-    return found
+def leads(node: Any, ways: str) -> bool:
+    """Returns whether one of some ways leads somewhere."""
+    return any(True for _ in ways_of(node, ways))
 
 
-def listed(node: Any, of: str) -> Sequence[Mapping[str, Any]]:
+def texts(node: Any, ways: str) -> Iterator[str]:
+    """Yields the texts to which ways lead: themselves, or in what Junos and lldpcli put around."""
+    for _, found in ways_of(node, ways) if ways else ():
+        for leaf in found if isinstance(found, list) else [found]:
+            if isinstance(leaf, dict):
+                leaf = next((leaf[key] for key in ("value", "data") if key in leaf), "")
+            if isinstance(leaf, str) and leaf not in ABSENT:
+                yield leaf
+
+
+def text(node: Any, ways: str) -> str:
+    """Returns the first text to which ways lead, or an empty one."""
+    return next(texts(node, ways), "")
+
+
+def listed(node: Any, of: str) -> list[Any]:
     """Returns the objects of a list, which some vendors omit around a single one. Raises
     SeenFault."""
     some = [node] if isinstance(node, dict) else node
     if not isinstance(some, list) or not all(isinstance(one, dict) for one in some):
-        raise SeenFault(f"{of!r} has no list of objects")
+        raise SeenFault(f"{of!r} has something other than a list of objects")
     return some
+
+
+def read_form(tree: Any, form: Form) -> Listing:
+    """Returns the neighbors in JSON of a form. Raises SeenFault."""
+    ports: dict[str, list[Seen]] = {}
+    places: dict[str, int] = {}
+    for name, found in ways_of(tree, form.ports):
+        for place, node in enumerate(listed(found, form.ports) if form.port else [found], 1):
+            port = text(node, form.port) if form.port else name
+            if not port:
+                raise SeenFault(f"a neighbor without {form.port}: is the list of `detail`?")
+            if form.neighbors and places.setdefault(port, place) != place:
+                raise SeenFault(f"the port {port!r} is in it twice: in places {places[port]} and "
+                                f"{place}")
+            some = [seen(one, form, port) for one in neighbors_of(node, form, port)]
+            ports.setdefault(port, []).extend(some)
+            if form is OURS and node.get("too_many") is True:
+                ports[port].append(NAMELESS)
+    return Listing(dict(ports), form is not OURS)
+
+
+def neighbors_of(node: Any, form: Form, port: str) -> Iterator[Any]:
+    """Yields the neighbors of a port. Raises SeenFault if there is no place for them."""
+    way = form.neighbors.removeprefix("?")
+    found = list(walk(node, way))
+    if not found and way == form.neighbors:
+        raise SeenFault(f"{port!r} has no {way}")
+    for _, one in found:
+        yield from listed(one, port)
+
+
+def seen(node: Any, form: Form, port: str) -> Seen:
+    """Returns a neighbor. Raises SeenFault if it lacks what it needs."""
+    chassis, port_id = text(node, form.chassis), text(node, form.port_id)
+    name, descr = text(node, form.name), text(node, form.descr)
+    if form.of_names:
+        if not (chassis or name) or not (port_id or descr):
+            raise SeenFault(f"{port!r} has a neighbor without a name of its host or of its port")
+    elif not chassis or not port_id:
+        lacks = form.port_id if chassis else form.chassis
+        raise SeenFault(f"{port!r} has a neighbor without {lacks}: is the list of `detail`?")
+    kind = kind_of(text(node, form.kind)) if form.kind else guessed_kind(port_id)
+    if form.chassis == "chassisId":
+        port_id = port_id.strip('"')
+    return neighbor(chassis, kind, port_id, name, descr, texts(node, form.addresses),
+                    settings(node, form))
+
+
+def settings(node: Any, form: Form) -> Optional[Settings]:
+    """Returns what a neighbor says of its link."""
+    if form is OURS:
+        tlvs = [(f"org.{text(one, 'kind')}", text(one, "octets")) for _, org in walk(node, "org")
+                for one in listed(org, "org")]
+        return settings_of_tlvs(tuple(one for one in tlvs if IS_SETTING.fullmatch(one[0])))
+    if not form.settings:
+        return None
+    size, pvid, mau, aggregate = (text(node, way) for way in form.settings)
+    return settings_of(size, pvid, mau, aggregate if aggregate != "0" else "")
 
 
 def kind_of(subtype: str) -> str:
     """Returns the kind of a port ID by a vendor's word or number for its subtype."""
-    return OF_INTERFACES.get(subtype.lower().replace(" ", "").replace("-", ""), "local")
+    return OF_INTERFACES.get(re.sub(".*:|[ _-]", "", subtype.lower()), "local")
+
+
+def guessed_kind(port_id: str) -> str:
+    """Returns the kind of a port ID by its look."""
+    return "ifname" if INTERFACE.fullmatch(port_id) else "local"

@@ -10,23 +10,24 @@ from lldpa.capture.source import opened
 from lldpa.capture.unzip import MAGIC, Unzipped
 from lldpa.capture.window import BadCapture
 
+from ..limits import LimitFault, limited
 from ..what import What
-from .forms import FRONT, reader_of
+from .forms import UTF_16, is_text, read_list
 from .listing import Listing, SeenFault
 
 # one process reads fewer files sooner than several have begun
 MANY = 100
 # a process hands on the names in so many files once
 FILES_AT_A_TIME = 100
-# more than the show of 64 ports with 128 neighbors each has; what is read takes up to 30 times it
-MOST_OCTETS = 32 * 1024 * 1024
+FRONT = 512
+MOST_OCTETS = 32 << 20
 
 Take = Callable[[int], bytes]
 
 
 class SeenFile(NamedTuple):
-    """The neighbors of ports in a file, or what is wrong with it; neither if it has no form that
-    is read here, and may be a capture. `time` is when the file was written, since 1970."""
+    """The neighbors of ports in a file, or what is wrong with it; neither if it is not text, and
+    may be a capture. `time` is when the file was written, since 1970."""
 
     listing: Optional[Listing] = None
     fault: str = ""
@@ -36,35 +37,22 @@ class SeenFile(NamedTuple):
 def read_file(path: str) -> SeenFile:
     """Returns what is in a file. Raises OSError."""
     try:
-        with opened(path) as file:
+        with limited(path), opened(path) as file:
             begin = file.read(len(MAGIC))
             take: Take = file.read
             if begin == MAGIC:
                 begin, take = b"", Unzipped(file, begin).read
             front = begin + taken(take, FRONT)
-            read = reader_of(front)
-            if read is not None:
-                return SeenFile(read(front + rest_of(take)), "", os.fstat(file.fileno()).st_mtime)
-            if is_text(front):
-                raise SeenFault("it is text, but no list of neighbors that is known: see "
-                                "lldpa-audit(1)")
-            return SeenFile()
+            if not is_text(front) and not front.startswith(UTF_16):
+                return SeenFile()
+            listing = read_list(front + taken(take, MOST_OCTETS - len(front)))
+            if take(1):
+                raise SeenFault(f"it has over {MOST_OCTETS >> 20} MB: no list has so much")
+            return SeenFile(listing, "", os.fstat(file.fileno()).st_mtime)
+    except LimitFault as fault:
+        return SeenFile(None, str(fault))
     except (BadCapture, ShowFault, SeenFault) as fault:
         return SeenFile(None, f"{path}: {fault}")
-
-
-def is_text(front: bytes) -> bool:
-    """Returns whether a file that begins like this is text: no capture has so few control
-    characters."""
-    return bool(front) and all(octet >= 0x20 or octet in b"\t\r\n" for octet in front)
-
-
-def rest_of(take: Take) -> bytes:
-    """Returns what is left of a list of neighbors. Raises SeenFault if it is too much for one."""
-    octets = taken(take, MOST_OCTETS)
-    if len(octets) == MOST_OCTETS:
-        raise SeenFault(f"it has over {MOST_OCTETS} octets, and no list has so many")
-    return octets
 
 
 def taken(take: Take, size: int) -> bytes:

@@ -9,11 +9,8 @@ from lldpa.capture.source import opened
 from lldpa.capture.unzip import MAGIC, Unzipped
 from lldpa.capture.window import BadCapture
 
-from ..what import What, read_what
+from ..what import What, read_what, without_ending
 
-# what ends the name of a file, and is not part of a host's name or a port's
-ENDINGS = (".gz", ".json", ".json0", ".xml", ".keyvalue", ".kv", ".plain", ".txt", ".show", ".out",
-           ".pcap", ".pcapng", ".cap")
 LEFT_BY_EDITORS = ("~", ".bak", ".orig", ".swp", ".tmp")
 
 Say = Callable[[str], None]
@@ -81,12 +78,6 @@ def why_passed_over(entry: "os.DirEntry[str]") -> str:
     if entry.is_dir() or entry.is_file():
         return ""
     return "it is a link that leads nowhere" if entry.is_symlink() else "it is no file"
-
-
-def without_ending(name: str) -> str:
-    """Returns a file's name without the ending that gives its form."""
-    front, ending = os.path.splitext(name)
-    return without_ending(front) if front and ending.lower() in ENDINGS else name
 
 
 def is_of_one_port(path: str) -> bool:

@@ -10,12 +10,13 @@ from lldpa.capture.source import opened
 from lldpa.client.connection import Client
 
 from ..ages import worded
-from ..names import End
+from ..limits import SECONDS, LimitFault, limited
+from ..names import End, shown
 from ..plan import Plan
 from ..what import What, of_hosts
 from .captures import Recorded, read_interfaces, read_port
 from .files import SeenFile
-from .fleet import Fleet
+from .listing import Listing
 from .shows import read_ports
 from .tables import Tables
 
@@ -25,8 +26,9 @@ SECONDS_BETWEEN_LOOKS = 0.5
 class Gathering:
     """Puts what is given into tables. What is damaged is said, and its ports are not known.
 
-    Its calls raise OSError for what cannot be read, ValueError for what names no port or a port
-    twice, and Ended if the agent that reads captures ends.
+    `status` is 1 if something is damaged, and 2 if a host cannot be judged since two sources have
+    the same of it. Its calls raise OSError for what cannot be read, ValueError for what names no
+    port, and Ended if the agent that reads captures ends.
     """
 
     def __init__(self, tables: Tables, program: str, say: Callable[[str], None],
@@ -36,7 +38,7 @@ class Gathering:
         self.say = say
         self.stale_after = stale_after
         self.now = time.time()
-        self.is_damaged = False
+        self.status = 0
 
     def add_files(self, whats: Sequence[What], files: Iterator[SeenFile]) -> None:
         """Takes files, those of hosts as they were read. Several captures of one port are one."""
@@ -49,7 +51,7 @@ class Gathering:
                 if not what.is_found:
                     opened(what.file).close()
         for end, captures in of_ports.items():
-            recorded = read_port(captures, end.port, self.program)
+            recorded = limited_to(captures, lambda: read_port(captures, end.port, self.program))
             self.add_recorded(end.host, end.port, captures[0], recorded)
 
     def add_file(self, what: What, file: SeenFile) -> None:
@@ -57,15 +59,26 @@ class Gathering:
         if file.fault:
             self.damaged(what.host, "", file.fault)
         elif file.listing is None:
-            recorded = read_interfaces(what.file, self.program)
+            recorded = limited_to([what.file], lambda: read_interfaces(what.file, self.program))
             self.add_recorded(what.host, "", what.file, recorded)
         else:
             for host, listing in (file.listing.hosts or {what.host: file.listing}).items():
-                if self.is_stale(host, "", what.file, file.time):
-                    continue
-                self.tables.add_ports(host, listing.ports)
-                if listing.has_all_heard:
-                    self.tables.add_listed(host)
+                self.add_listing(host, listing, what.file, listing.time or file.time)
+
+    def add_listing(self, host: str, listing: Listing, file: str, at: float) -> None:
+        """Takes the list of a host."""
+        if listing.fault:
+            self.damaged(host, "", f"{file}: {shown(host)}: {listing.fault}")
+        elif not self.is_stale(host, "", file, at):
+            self.need_one(host, self.tables.add_ports(host, listing.ports, file)
+                          or (self.tables.add_listed(host, file) if listing.has_all_heard else ""))
+
+    def need_one(self, host: str, why: str) -> None:
+        """Gives up a host if there is a reason why it cannot be judged."""
+        if why:
+            self.say(why)
+            self.status = 2
+            self.tables.forget(host, why)
 
     def is_stale(self, host: str, port: str, file: str, at: float) -> bool:
         """Notes the time of a source. If it is too old, the host's ports are not known by it."""
@@ -86,12 +99,12 @@ class Gathering:
             return
         if not recorded.ports:
             self.tables.add_reason(host, port, f"{file}: it names no Ethernet interface")
-        at = max(recorded.times, default=0.0) or modified(file)
+        at = max(recorded.times, default=0.0) or stat_of(file).st_mtime
         if not self.is_stale(host, port, file, at):
             for name, neighbors in recorded.ports.items():
-                self.add_heard(host, name, recorded)
+                self.add_heard(host, name, file, recorded)
 
-    def add_heard(self, host: str, port: str, recorded: Recorded) -> None:
+    def add_heard(self, host: str, port: str, file: str, recorded: Recorded) -> None:
         """Takes a port of a capture, but not what it sent itself, which a capture has too.
 
         One without neighbors is not known if LLDP frames were skipped.
@@ -99,7 +112,7 @@ class Gathering:
         own = self.tables.names.end(End(host, port))
         neighbors = [one for one in recorded.ports[port] if not self.tables.names.answers(one, own)]
         if neighbors or not recorded.passed_over:
-            self.tables.add(host, port, neighbors)
+            self.need_one(host, self.tables.add(host, port, neighbors, file))
         else:
             self.tables.add_reason(host, port, recorded.passed_over)
 
@@ -114,26 +127,27 @@ class Gathering:
                 if not waits or time.monotonic() >= end:
                     break
                 time.sleep(SECONDS_BETWEEN_LOOKS)
-        self.tables.add_ports(host, ports)
+        self.need_one(host, self.tables.add_ports(host, ports, path))
         self.tables.times.append(self.now)
-
-    def add_fleet(self, fleet: Fleet, plan: Plan) -> None:
-        """Takes the hosts of a Prometheus. Of those that have no ports, the planned ones count."""
-        for host, ports in fleet.ports.items():
-            self.tables.add_ports(host, ports)
-            self.tables.times.append(self.now - fleet.ages.get(host, 0.0))
-        for host, reason in fleet.reasons.items():
-            if self.tables.names.host(host) in plan.hosts:
-                self.tables.add_reason(host, "", reason)
 
     def damaged(self, host: str, port: str, why: str) -> None:
         """Says what is wrong with a file, whose port, or whose host's ports, are not known."""
         self.say(why)
-        self.is_damaged = True
+        self.status = max(self.status, 1)
         self.tables.add_reason(host, port, why)
 
 
-def modified(file: str) -> float:
-    """Returns when a file was written, in seconds since 1970."""
+def limited_to(files: Sequence[str], read: Callable[[], Recorded]) -> Recorded:
+    """Returns what is read of captures, or that they need too much. A large one may take long."""
+    try:
+        octets = sum(stat_of(file).st_size for file in files)
+        with limited(files[0], max(SECONDS, octets >> 21)):
+            return read()
+    except LimitFault as fault:
+        return Recorded({}, [str(fault)], [])
+
+
+def stat_of(file: str) -> os.stat_result:
+    """Returns the size of a file, and when it was written."""
     with opened(file) as octets:
-        return os.fstat(octets.fileno()).st_mtime
+        return os.fstat(octets.fileno())

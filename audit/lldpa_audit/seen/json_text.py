@@ -1,79 +1,88 @@
-"""Files of JSON, whose form their names tell: of one host, or of many."""
+"""JSON as devices and tools print it: behind a prompt or a banner, and with odd names."""
 from __future__ import annotations
 
 import json
 import re
-from typing import Any, Callable, Sequence
+from typing import Any
 
-from .ctl_json import is_ctl_json, read_ctl_json
-from .eos import is_eos, read_eos
-from .junos import is_junos, read_junos
 from .listing import Listing, SeenFault
-from .lldpcli import read_tree
-from .napalm import is_napalm, read_napalm
-from .networkctl import is_networkctl, read_networkctl
-from .nvue import is_nvue, read_nvue
-from .nxos import is_nxos, read_nxos
+from .trees import listing_of
 
-# what takes some 300 MB; a list of 64 ports with 128 neighbors each has a tenth of it
-MOST_VALUES = 1_500_000
-
+# where JSON begins, which `{master:0}` of Junos' prompt is not
+BEGIN = re.compile(r'^[ \t]*(?:\{\s*["}]|\[\s*["{\[\]])', re.M)
+LONGEST_BANNER = 4096
 # a line of lldpcli's with a name, such as the System Name, in which it escapes nothing
 NAME_LINE = re.compile(r'^( *)"(.*)": ([{\[])$', re.M)
+TOKEN = re.compile(r'("[^"\\]*(?:\\.[^"\\]*)*")(\s*:)?|[{}\[\]]', re.S)
 
 
-def read_json(octets: bytes) -> Listing:
+class Twice(ValueError):
+    """A name that is twice in an object."""
+
+
+def read_json(text: str) -> Listing:
     """Returns the neighbors of each port. Raises SeenFault."""
-    if sum(map(octets.count, (b",", b"[", b"{"))) > MOST_VALUES:
-        raise SeenFault(f"it has over {MOST_VALUES} values, and no list has so many")
-    text = octets.decode("utf-8-sig", "surrogateescape")
     try:
-        tree = parsed(text)
-    except json.JSONDecodeError as fault:
-        tree = parsed_with_names_escaped(text, fault)
+        return listing_of(tree_of(text))
+    except Twice as fault:
+        raise SeenFault(f"the name {fault} is in it twice{places_of_twice(text)}") from None
     except RecursionError:
         raise SeenFault("it is JSON whose parts are too deep in one another") from None
-    return listing_of(tree)
 
 
-def listing_of(tree: Any) -> Listing:
-    """Returns the neighbors in JSON of any form, or of many hosts. Raises SeenFault."""
-    for is_form, read in FORMS:
-        if is_form(tree):
-            return read(tree)
-    if not is_napalm(tree) and is_of_hosts(tree):
-        return Listing({}, True, {host: listing_of(one) for host, one in tree.items()})
-    return read_napalm(tree)
+def begin_of(text: str) -> int:
+    """Returns where JSON begins, or -1 if there is none."""
+    begin = BEGIN.search(text, 0, LONGEST_BANNER)
+    return begin.start() if begin else -1
 
 
-def is_lldpcli(tree: Any) -> bool:
-    """Returns whether JSON is lldpcli's."""
-    return isinstance(tree, dict) and isinstance(tree.get("lldp"), (dict, list))
-
-
-def is_of_hosts(tree: Any) -> bool:
-    """Returns whether each name leads to a list of some form, as nornir and salt have hosts."""
-    return isinstance(tree, dict) and bool(tree) and all(
-        isinstance(one, dict) and (is_napalm(one) or any(is_form(one) for is_form, _ in FORMS))
-        for one in tree.values())
-
-
-FORMS: Sequence[tuple[Callable[[Any], bool], Callable[[Any], Listing]]] = (
-    (is_lldpcli, read_tree), (is_eos, read_eos), (is_nxos, read_nxos), (is_junos, read_junos),
-    (is_ctl_json, read_ctl_json), (is_networkctl, read_networkctl), (is_nvue, read_nvue))
-
-
-def parsed(text: str) -> Any:
+def tree_of(text: str) -> Any:
     """Returns what JSON says. Names may have octets that are not UTF-8, or control characters, as
-    those of lldpcli have; numbers stay texts, of whatever length."""
-    return json.loads(text, strict=False, parse_int=str, parse_float=str, parse_constant=str)
-
-
-def parsed_with_names_escaped(text: str, fault: json.JSONDecodeError) -> Any:
-    """Returns what lldpcli says if a name has a quote or a backslash, or the fault of the text."""
-    text = text.replace("\r\n", "\n")
-    text = NAME_LINE.sub(lambda line: f"{line[1]}{json.dumps(line[2])}: {line[3]}", text)
+    those of lldpcli have; numbers stay texts, of whatever length. Raises SeenFault."""
+    begin = max(begin_of(text), 0)
     try:
-        return parsed(text)
-    except (json.JSONDecodeError, RecursionError):
-        raise SeenFault(f"it is no JSON: line {fault.lineno}: {fault.msg}") from None
+        tree, end = parsed(text, begin)
+    except json.JSONDecodeError as fault:
+        text = NAME_LINE.sub(lambda line: f"{line[1]}{json.dumps(line[2])}: {line[3]}", text)
+        try:
+            tree, end = parsed(text, begin)
+        except json.JSONDecodeError:
+            raise SeenFault(f"it is no JSON: line {fault.lineno}: {fault.msg}") from None
+    if BEGIN.search(text, end) or len(text[end:].strip()) > LONGEST_BANNER:
+        raise SeenFault("it has more than JSON and a prompt: give one answer")
+    return tree
+
+
+def parsed(text: str, begin: int) -> tuple[Any, int]:
+    """Returns what JSON says, and where it ends. Raises Twice."""
+    decoder = json.JSONDecoder(strict=False, parse_int=str, parse_float=str, parse_constant=str,
+                               object_pairs_hook=each_once)
+    return decoder.raw_decode(text, begin + len(text[begin:]) - len(text[begin:].lstrip()))
+
+
+def each_once(pairs: list[tuple[str, Any]]) -> dict[str, Any]:
+    """Returns an object. Raises Twice."""
+    found = dict(pairs)
+    if len(found) < len(pairs):
+        names: set[str] = set()
+        for name, _ in pairs:
+            if name in names:
+                raise Twice(repr(name))
+            names.add(name)
+    return found
+
+
+def places_of_twice(text: str) -> str:
+    """Returns the lines of the first name that is twice in an object, in words."""
+    objects: list[dict[str, int]] = [{}]
+    for found in TOKEN.finditer(text, max(begin_of(text), 0)):
+        if found[0] in "{[":
+            objects.append({})
+        elif found[0] in "}]":
+            objects.pop()
+        elif found[2]:
+            before = objects[-1].setdefault(found[1], found.start())
+            if before != found.start():
+                lines = (text.count("\n", 0, at) + 1 for at in (before, found.start()))
+                return ": lines {} and {}".format(*lines)
+    return ""

@@ -1,99 +1,79 @@
-"""The forms `json`, `json0` and `xml` of lldpcli's `show neighbors`, as one tree of nodes.
+"""The forms `json` and `json0` of lldpcli's `show neighbors`.
 
-In `json0`, as in XML, each name leads to a list of nodes, and a node's text is its `value`. `json`
-has a node alone if there is one, a text in place of a node that has nothing else, and names an
-interface, and a chassis that has a System Name, by a name that leads to it.
+In `json0` each name leads to a list, and a text is its `value`. `json` has an object alone if there
+is one, a text in place of an object that has nothing else, and names an interface, and a chassis
+that has a System Name, by a name that leads to it.
 """
 from __future__ import annotations
 
-from typing import Any, Iterator
+from itertools import product
+from typing import Any, Iterator, Sequence
 
-from ..link_settings import settings_of
+from ..names import Seen
+from .fields import LLDPCLI, leads, seen, text, walk
 from .listing import Listing, SeenFault
-from .neighbor import neighbor
-from .protocols import Heard, by_ports
 
-Node = Any
+LLDP = "LLDP"
 
 
-def read_tree(tree: Node) -> Listing:
-    """Returns the neighbors of each port. Raises SeenFault if the tree is of something else."""
-    heard = [heard_of(name, node)
-             for lldp in nodes(tree, "lldp")
-             for interfaces in nodes(lldp, "interface")
-             for name, node in named(interfaces)]
-    return Listing(by_ports(heard), True)
+def is_lldpcli(tree: Any) -> bool:
+    """Returns whether JSON is lldpcli's."""
+    return (isinstance(tree, dict) and isinstance(tree.get("lldp"), (dict, list))
+            and not leads(tree, "lldp interfaces"))
 
 
-def named(interfaces: Node) -> Iterator[tuple[str, Node]]:
-    """Returns the name of each interface, and its node."""
+def read_lldpcli(tree: Any) -> Listing:
+    """Returns the neighbors of each port. Raises SeenFault if the JSON is of something else."""
+    heard: dict[str, list[tuple[str, Seen]]] = {}
+    for _, interfaces in walk(tree, "lldp interface"):
+        for one in interfaces if isinstance(interfaces, list) else [interfaces]:
+            for port, node in named(one):
+                via = text(node, "via")
+                if not via:
+                    raise SeenFault(f"{port} has no protocol: it is not of show neighbors")
+                heard.setdefault(port, []).append((via, seen(plain(node), LLDPCLI, port)))
+    return Listing({port: each_once(some) for port, some in heard.items()}, True)
+
+
+def named(interfaces: Any) -> Iterator[tuple[str, Any]]:
+    """Yields the name of each interface, and its object."""
     if not isinstance(interfaces, dict):
         raise SeenFault("it has something else in place of an interface")
     name = interfaces.get("name")
     if isinstance(name, str):
         yield name, interfaces
         return
-    for name in interfaces:
-        for node in nodes(interfaces, name):
-            yield name, node
+    for name, node in interfaces.items():
+        for one in node if isinstance(node, list) else [node]:
+            yield name, one
 
 
-def heard_of(port: str, node: Node) -> Heard:
-    """Returns a neighbor by its node."""
-    via = text(first(node, "via"))
-    if not via:
-        raise SeenFault(f"{port} has no protocol: it is not of show neighbors")
-    name, chassis = chassis_of(node)
-    itself = first(node, "port")
-    chassis_id, port_id = first(chassis, "id"), first(itself, "id")
-    if not has_type(chassis_id) or not has_type(port_id):
-        raise SeenFault(f"{port} has a neighbor without chassis ID or port ID")
-    pvid: Node = next((vlan for vlan in nodes(node, "vlan") if is_on(first(vlan, "pvid"))), {})
-    settings = settings_of(
-        text(first(itself, "mfs")), text(first(pvid, "vlan-id")),
-        text(first(first(itself, "auto-negotiation"), "current")),
-        text(first(itself, "aggregation")))
-    addresses = [text(one) for one in nodes(chassis, "mgmt-ip")]
-    seen = neighbor(text(chassis_id), text(first(port_id, "type")), text(port_id), name,
-                    text(first(itself, "descr")), addresses, settings)
-    return Heard(port, via, seen)
+def plain(node: Any) -> Any:
+    """Returns an interface with its chassis and its PVID where the table of forms expects them. A
+    name may be any, as `id` or `name`."""
+    found = [inner for _, one in walk(node, "chassis") for inner in
+             (one if isinstance(one, list) else [one]) if isinstance(inner, dict)]
+    chassis = found[0] if found else {}
+    if len(chassis) == 1 and not leads(chassis, "id type"):
+        name, inner = next(iter(chassis.items()))
+        chassis = {**inner, "name": name} if isinstance(inner, dict) else {}
+    vlans = [one for _, some in walk(node, "vlan")
+             for one in (some if isinstance(some, list) else [some])]
+    pvid: dict[str, Any] = next(
+        (one for one in vlans if isinstance(one, dict) and one.get("pvid") is True), {})
+    return {**node, "chassis": chassis, "pvid": pvid}
 
 
-def chassis_of(node: Node) -> tuple[str, Node]:
-    """Returns the System Name and the chassis. A name may be any, as `id` or `name`."""
-    chassis = first(node, "chassis")
-    if isinstance(chassis, dict) and len(chassis) == 1 and not has_type(first(chassis, "id")):
-        name = next(iter(chassis))
-        return name, first(chassis, name)
-    return text(first(chassis, "name")), chassis
+def each_once(heard: Sequence[tuple[str, Seen]]) -> Sequence[Seen]:
+    """Returns the neighbors of a port, each with its protocol, without those that were heard by
+    LLDP as well: a switch may speak both.
+
+    They are the same if a name of the host and a name of the port are the same.
+    """
+    by_lldp = {name for via, one in heard if via == LLDP for name in names_of(one)}
+    return [one for via, one in heard if via == LLDP or by_lldp.isdisjoint(names_of(one))]
 
 
-def nodes(node: Node, name: str) -> list[Node]:
-    """Returns the nodes that a name leads to."""
-    found = node.get(name, []) if isinstance(node, dict) else []
-    return found if isinstance(found, list) else [found]
-
-
-def first(node: Node, name: str) -> Node:
-    """Returns the first node that a name leads to, or an empty one."""
-    found = node.get(name) if isinstance(node, dict) else None
-    if isinstance(found, list):
-        found = found[0] if found else None
-    return {} if found is None else found
-
-
-def text(node: Node) -> str:
-    """Returns a node's text."""
-    if isinstance(node, dict):
-        node = node.get("value", "")
-    return node if isinstance(node, str) else ""
-
-
-def has_type(node: Node) -> bool:
-    """Returns whether a node is a chassis ID or port ID."""
-    return isinstance(node, dict) and isinstance(node.get("type"), str)
-
-
-def is_on(node: Node) -> bool:
-    """Returns whether a node says yes: true in JSON, and a word in XML."""
-    return node is True or text(node) == "yes"
+def names_of(one: Seen) -> Iterator[tuple[str, str]]:
+    """Yields each name of a neighbor's host with each of its port."""
+    return product(one.hosts, one.ports)

@@ -1,105 +1,109 @@
-"""The ports of a show and their neighbors, as an audit looks at them."""
+"""The ports of `show neighbors` and their neighbors, as an audit looks at them.
+
+An audit of a large network spends most of its time here, so an expression takes a whole neighbor.
+"""
 from __future__ import annotations
 
+import re
 from functools import lru_cache
 from sys import intern
-from typing import Iterable, Iterator, Sequence, Tuple
+from typing import Sequence
 
-from lldpa.agent.show import Port, Show, ShowFault, read_show, unescaped
+from lldpa.agent.show import CHASSIS_KINDS, DIGITS, NAME, PORT_KINDS, ShowFault, unescaped
+from lldpa.agent.shown import SAID_KEY
 
 from ..names import NAMELESS, Seen
-from .listing import Listing, Ports, check_lines
+from .listing import Listing, Ports
 from .neighbor import MOST_KEPT, neighbor
-from .quickshow import NAMES, USUAL_PORT
-from .tlvs import IS_SETTING, settings_of_tlvs
+from .tlvs import SETTING, settings_of_tlvs
+
+TEXT = "[ -~]*"
+PORT = re.compile(rf"lldp\.({NAME})\.neighbors=({DIGITS})\nlldp\.\1\.octets={DIGITS}\n"
+                  r"lldp\.\1\.too-many=(yes|no)\n")
+# a neighbor: its port and place, its chassis ID, the kind of its port ID, that ID, what it says
+# first in the usual order, and further lines
+NEIGHBOR = re.compile(
+    rf"lldp\.({NAME})\.({DIGITS})\.chassis\.(?:{'|'.join(sorted(CHASSIS_KINDS))})=({TEXT})\n"
+    rf"lldp\.\1\.\2\.port\.({'|'.join(sorted(PORT_KINDS))})=({TEXT})\n"
+    rf"lldp\.\1\.\2\.ttl={DIGITS}\nlldp\.\1\.\2\.expires={DIGITS}"
+    rf"(?:\nlldp\.\1\.\2\.port\.descr=({TEXT}))?(?:\nlldp\.\1\.\2\.chassis\.name=({TEXT}))?"
+    rf"(?:\nlldp\.\1\.\2\.chassis\.descr={TEXT})?(?:\nlldp\.\1\.\2\.chassis\.caps={TEXT})?"
+    rf"(?:\nlldp\.\1\.\2\.chassis\.mgmt=({TEXT}))?"
+    rf"((?:\nlldp\.\1\.\2\.{SAID_KEY}={TEXT})*)\n")
+# the further lines that name the neighbor, or say something of its link
+SAID = re.compile(rf"\nlldp\.[^.]+\.[0-9]+\.(?:(chassis\.name)|(chassis\.mgmt)|(port\.descr)"
+                  rf"|({SETTING}))=(.*)")
+OTHER_SHOW = re.compile(rf"lldp\.{NAME}\.sent=|local-chassis\.|configuration\.")
 
 
-def read_shows(octets: bytes) -> Listing:
+def read_shows(text: str) -> Listing:
     """Returns the neighbors of each port. Raises ShowFault. A show has each port of its agent, or
     one."""
-    check_lines(octets)
-    return Listing(read_ports(octets.decode("latin-1")), False)
+    return Listing(read_ports(text), False)
 
 
 def read_ports(text: str) -> Ports:
     """Returns the neighbors of each port of a show. Raises ShowFault, which names the line."""
     if not text.endswith("\n"):
         raise ShowFault("its last line has no end: it was cut short")
-    try:
-        return quick_ports(text)
-    except ShowFault:
-        return slow_ports(text)
-
-
-def slow_ports(text: str) -> Ports:
-    """Returns the ports of a show, each line read by `read_show`, which counts them from the
-    first."""
-    return dict(seen_ports(read_show(text[:-1].split("\n"))))
-
-
-def quick_ports(text: str) -> Ports:
-    """Returns the ports of a show, the usual ones taken whole. The lines of a fault are not the
-    show's."""
-    pairs = list(port_by_port(text))
-    ports = dict(pairs)
-    if len(ports) < len(pairs):
-        raise ShowFault("a port stands twice")
+    ports: Ports = {}
+    at = 0
+    while found := PORT.match(text, at):
+        name = intern(found[1])
+        if name in ports:
+            raise ShowFault(f"line {line_of(text, at)}: the port {name} is in it twice, first in "
+                            f"line {line_of(text, text.find(found[0].partition('=')[0]))}")
+        ports[name], at = neighbors_at(text, found.end(), name, int(found[2]), found[3] == "yes")
+    if at < len(text) and (not OTHER_SHOW.match(text, at) or PORT.search(text, at)):
+        raise fault(text, at)
     return ports
 
 
-def port_by_port(text: str) -> Iterator[Tuple[str, Sequence[Seen]]]:
-    """Returns the name of each port and its neighbors. Other shows may follow the last one."""
-    at = 0
-    for found in USUAL_PORT.finditer(text):
-        if found.start() > at:
-            yield from seen_ports(only_ports(text[at:found.start()]))
-        _, name, chassis, kind, port_id, *usual, further = found.groups("")
-        said = NAMES.findall(further) if further else ()
-        yield intern(name), (seen_neighbor(chassis, kind, port_id, said, *usual),)
+def neighbors_at(text: str, at: int, port: str, count: int, is_full: bool
+                 ) -> tuple[Sequence[Seen], int]:
+    """Returns so many neighbors of a port, and where the lines of the next port begin. All those
+    for which there was no room are one, without a name."""
+    seen: list[Seen] = []
+    while len(seen) < count:
+        found = NEIGHBOR.match(text, at)
+        if found is None or found[1] != port or found[2] != str(len(seen) + 1):
+            raise fault(text, at)
+        _, _, chassis, kind, port_id, descr, name, address, said = found.groups("")
+        further = SAID.findall(said) if said else ()
+        seen.append(seen_neighbor(chassis, kind, port_id, descr, name, address, further))
         at = found.end()
-    if at < len(text):
-        yield from seen_ports(read_show(text[at:-1].split("\n")))
+    return (*seen, NAMELESS) if is_full else tuple(seen), at
 
 
-def only_ports(text: str) -> Show:
-    """Returns a show of ports, which further ports follow, and so no other show."""
-    show = read_show(text[:-1].split("\n"))
-    if show != Show(show.ports):
-        raise ShowFault("another show stands between ports")
-    return show
-
-
-def seen_ports(show: Show) -> Iterator[Tuple[str, Sequence[Seen]]]:
-    """Returns the name of each port and its neighbors."""
-    for port in show.ports:
-        yield port.name, seen_at(port)
-
-
-def seen_at(port: Port) -> Sequence[Seen]:
-    """Returns the neighbors of a port. All those for which there was no room are one, without a
-    name."""
-    seen = [seen_neighbor(one.chassis.text, one.port_id.kind, one.port_id.text, one.said)
-            for one in port.neighbors]
-    return (*seen, NAMELESS) if port.too_many else tuple(seen)
-
-
-def seen_neighbor(chassis: str, kind: str, port_id: str, said: Iterable[Tuple[str, str]],
-                  descr: str = "", name: str = "", management: str = "") -> Seen:
-    """Returns a neighbor by its chassis ID, the kind of its port ID, that ID, what else it said,
-    and what of that is known already."""
-    addresses, tlvs = [management], []
-    for key, value in said:
-        if key == "chassis.name":
+def seen_neighbor(chassis: str, kind: str, port_id: str, descr: str, name: str, address: str,
+                  said: Sequence[tuple[str, ...]]) -> Seen:
+    """Returns a neighbor by what it says, and by what else it says."""
+    addresses, tlvs = [plain(address)] if address else [], []
+    for is_name, is_address, is_descr, setting, value in said:
+        if is_name:
             name = value
-        elif key == "port.descr":
+        elif is_descr:
             descr = value
-        elif key == "chassis.mgmt":
-            addresses.append(value)
-        elif IS_SETTING.fullmatch(key):
-            tlvs.append((key, value))
+        elif is_address:
+            addresses.append(plain(value))
+        else:
+            tlvs.append((setting, value))
     settings = settings_of_tlvs(tuple(tlvs)) if tlvs else None
-    return neighbor(plain(chassis), kind, plain(port_id), plain(name), plain(descr),
-                    map(plain, addresses), settings)
+    return neighbor(plain(chassis), kind, plain(port_id), plain(name), plain(descr), addresses,
+                    settings)
+
+
+def fault(text: str, at: int) -> ShowFault:
+    """Returns the fault that lines from here on are not those of a whole port or neighbor."""
+    line = text[at:text.index("\n", at)] if at < len(text) else ""
+    found = repr(line) if line else "the end"
+    return ShowFault(f"line {line_of(text, at)}: {found} where a whole port or neighbor was "
+                     "expected")
+
+
+def line_of(text: str, at: int) -> int:
+    """Returns the number of the line at a place of a text."""
+    return text.count("\n", 0, at) + 1
 
 
 @lru_cache(MOST_KEPT)

@@ -26,7 +26,9 @@ class Tables:
         self.hosts: dict[str, str] = {}
         self.ends: dict[End, KnownPort] = {}
         self._reasons: dict[End, str] = {}
-        self._listed: set[str] = set()
+        self._files: dict[str, list[str]] = {}
+        self._listed: dict[str, str] = {}
+        self._forgotten: dict[str, str] = {}
         self.times: list[float] = []  # of each source, in seconds since 1970
 
     def add_host(self, host: str) -> None:
@@ -39,34 +41,49 @@ class Tables:
                 raise ValueError(f"{shown(before)} and {shown(host)} would be one host by "
                                  "--short-names")
 
-    def add(self, host: str, port: str, neighbors: Sequence[Seen]) -> None:
-        """Adds the neighbors of a port. Raises ValueError if they were added before."""
-        self.add_ports(host, {port: neighbors})
+    def add(self, host: str, port: str, neighbors: Sequence[Seen], file: str = "") -> str:
+        """Adds the neighbors of a port. Returns what `add_ports` does."""
+        return self.add_ports(host, {port: neighbors}, file)
 
-    def add_ports(self, host: str, ports: Mapping[str, Sequence[Seen]]) -> None:
-        """Adds the neighbors of each of a host's ports. Raises ValueError if they were added
-        before."""
+    def add_ports(self, host: str, ports: Mapping[str, Sequence[Seen]], file: str = "") -> str:
+        """Adds the neighbors of each of a host's ports by a source. Returns an empty text, or why
+        the host cannot be judged: two sources have the same port."""
         self.add_host(host)
+        files = self._files.setdefault(self.names.host(host), [])
+        files.append(file)
         for port, neighbors in ports.items():
             end = End(host, port)
             key = self.names.end(end)
             if key in self.ends:
-                raise ValueError(f"the neighbors of {end} are told twice")
+                return f"{end} is in two of its files: {', '.join(files)}"
             self.ends[key] = KnownPort(end, neighbors)
+        return ""
 
-    def add_listed(self, host: str) -> None:
-        """Notes that each port of a host that has a neighbor was added, or will be."""
+    def add_listed(self, host: str, file: str) -> str:
+        """Notes that each port of a host that has a neighbor was added by a list, or will be.
+        Returns an empty text, or why the host cannot be judged: it has another list."""
         self.add_host(host)
-        key = self.names.host(host)
-        if key in self._listed:
-            raise ValueError(f"{shown(host)} has two lists, and each has all that it hears")
-        self._listed.add(key)
+        name = self.names.host(host)
+        before = self._listed.get(name)
+        self._listed[name] = file
+        return "" if before is None else f"{shown(host)} has two lists: {before} and {file}"
 
-    def add_unlisted(self, plan: Plan) -> None:
-        """Adds the planned ports of such hosts that were not added: they have no neighbor.
+    def forget(self, host: str, reason: str) -> None:
+        """Gives up all that is known of a host, for this reason."""
+        self.add_host(host)
+        self._forgotten.setdefault(self.names.host(host), reason)
+
+    def complete(self, plan: Plan) -> None:
+        """Adds the planned ports that lists do not have: they have no neighbor.
 
         If something of a host, or of such a port, is damaged, its neighbors are not known.
         """
+        for name, reason in self._forgotten.items():
+            self._listed.pop(name, None)
+            self._reasons[End(name, "")] = reason
+        if self._forgotten:
+            self.ends = {key: port for key, port in self.ends.items()
+                         if key.host not in self._forgotten}
         for key, wish in plan.ends.items():
             if key.host in self._listed and key not in self.ends and not self.reason(key):
                 self.ends[key] = KnownPort(wish.end, ())

@@ -1,6 +1,5 @@
 -- What the laws rest on; no call does.
 pub mod LastSet
-pub mod FormsOrder
 pub mod PortAt
 pub mod Marks
 pub mod Whose
@@ -13,9 +12,7 @@ pub mod Tally
 pub mod Losses
 pub mod Opening
 pub mod InUse
-pub mod Sayings
 pub mod OnlyForms
-pub mod Numbering
 pub mod Places
 pub mod Shows
 pub mod FirstFault

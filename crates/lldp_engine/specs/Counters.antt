@@ -1,6 +1,7 @@
 -- The counters of a port (IEEE 802.1AB-2009, 9.2.6), each modulo 2^32.
 use Rattle.std.specs.Prelude.{ℕ, ◌+◌, ◌%◌, ◌^◌, Bool, true, false, nat_lt, if◌then◌else◌, List, [], ◌∷◌, length, filter}
 use Rattle.std.specs.List.{sum_by}
+use Rattle.lldp_pdu.specs.Kept.{kept_of, discarded_of, count_unrecognized}
 use Rattle.lldp_table.specs.Events.{TableEvent, learned, is_tick, aged_out}
 use Rattle.lldp_table.specs.declared.learned.Learned.TheVariants.{Dropped}
 use Rattle.lldp_transmit.specs.declared.event.Mark.{Mark}
@@ -21,19 +22,19 @@ is_refused heard = false
 
 -- how many of its TLVs were discarded, if it is about a neighbor that lives
 abbrev pub discarded_tlvs : Heard → ℕ
-discarded_tlvs (tells info) = info.discarded
+discarded_tlvs (tells pdu) = discarded_of pdu
 discarded_tlvs heard = 0
 
 -- how many of its kept TLVs are unrecognized
 abbrev pub unrecognized_tlvs : Heard → ℕ
-unrecognized_tlvs (tells info) = info.unrecognized
+unrecognized_tlvs (tells pdu) = count_unrecognized (kept_of pdu)
 unrecognized_tlvs heard = 0
 
 -- it was refused, or at least one of its TLVs was discarded
 abbrev pub is_error : Heard → Bool
 is_error refused = true
 is_error (leaves msap) = false
-is_error (tells info) = nat_lt 0 info.discarded
+is_error (tells pdu) = nat_lt 0 (discarded_of pdu)
 
 -- ## Of one table event
 

@@ -1,11 +1,14 @@
 -- The numbers of ranges, rooms and faults.
-use Rattle.std.specs.Prelude.{◌≡◌, ℕ, [], ◌∷◌, map}
+use Rattle.std.specs.Prelude.{◌≡◌, ℕ, ◌<◌, ◌↔◌, [], ◌∷◌, map}
 use Rattle.lldp_transmit.specs.declared.limits.TheConstants.{MOST_CREDIT, MOST_FAST, MOST_REINIT}
 use Rattle.lldp_engine.specs.declared.agent.options.TheConstants.{MOST_NEIGHBORS}
+use Rattle.lldp_engine.specs.declared.agent.event.TheConstants.{MOST_INTERVAL, MOST_HOLD}
 use Rattle.lldp_engine.specs.declared.show.lines.TheConstants.{MOST_LINES}
 use Rattle.lldp_text.specs.declared.writing.TheConstants.{LINE_ROOM, ROOM}
 use Rattle.lldp_engine.specs.declared.agent.open_fault.OpenFault.{OpenFault}
 use Rattle.lldp_engine.specs.declared.agent.open_fault.OpenFault.TheVariants as refusal
+use Rattle.lldp_engine.specs.Event.{interval, hold}
+use Rattle.lldp_engine.specs.AgentState.{AgentState, AllowsSetting}
 
 -- the number of a refusal of opening
 abbrev pub number_of_refusal : OpenFault → ℕ
@@ -22,8 +25,15 @@ pub record AreConstants : Type 0 where
   pub credit : MOST_CREDIT ≡ 10
   pub fast : MOST_FAST ≡ 8
   pub wait : MOST_REINIT ≡ 10
+  pub interval : MOST_INTERVAL ≡ 3600
+  pub hold : MOST_HOLD ≡ 100
   pub lines : MOST_LINES ≡ 6127808
   pub line : LINE_ROOM ≡ 2049
   pub room : ROOM ≡ 8192
   pub refusals : map number_of_refusal (refusal.Memory ∷ refusal.NoPorts ∷ refusal.TooManyPorts ∷ refusal.PortName ∷ refusal.SamePort ∷ refusal.Text ∷ [])
       ≡ 1 ∷ 2 ∷ 3 ∷ 4 ∷ 5 ∷ 6 ∷ []
+
+-- The numbers that commands may set are those above 0 and below these.
+pub record MaySet (agent : AgentState) (n : ℕ) : Type 0 where
+  pub interval : AllowsSetting agent (interval n) ↔ ((0 < n) × (n < 3601))
+  pub hold : AllowsSetting agent (hold n) ↔ ((0 < n) × (n < 101))

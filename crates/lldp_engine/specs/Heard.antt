@@ -5,7 +5,6 @@ use Rattle.lldp_pdu.specs.Msap.{MsapId}
 use Rattle.lldp_pdu.specs.Frame.{lldpdu_of}
 use Rattle.lldp_pdu.specs.Fault.{fault_of}
 use Rattle.lldp_pdu.specs.Lldpdu.{ttl_of, msap_of}
-use Rattle.lldp_pdu.specs.Info.{LldpInfo, info_of}
 use Rattle.lldp_engine.specs.declared.port.status.Status.{Status}
 use Rattle.lldp_engine.specs.Status.{receives}
 
@@ -14,13 +13,13 @@ use Rattle.lldp_engine.specs.Status.{receives}
 pub data Heard : Type 0 where
   refused : Heard
   leaves : (msap : MsapId) → Heard
-  tells : (info : LldpInfo) → Heard
+  tells : (pdu : List ℕ) → Heard
 
--- what an LLDPDU says, by its first fault, its TTL and its parts
+-- what an LLDPDU says, by its first fault and its TTL
 unfoldable pub heard_of : List ℕ → Heard
 heard_of pdu =
     if is_some (fault_of pdu) then refused
-    else (if ttl_of pdu == 0 then leaves (msap_of pdu) else tells (info_of pdu))
+    else (if ttl_of pdu == 0 then leaves (msap_of pdu) else tells pdu)
 
 -- what a port hears from octets that come: an LLDP frame, while its status receives and its link is up
 abbrev pub heard_by : Status → Bool → List ℕ → Option Heard

@@ -2,17 +2,13 @@
 pub mod CauseOf
 pub mod Deaf
 pub mod FirstFault
-pub mod FixedKeys
-pub mod FixedTexts
 pub mod FrameOctets
 pub mod InUse
 pub mod LastSet
 pub mod Neighbors
-pub mod Numbering
 pub mod OnlyForms
 pub mod Opening
 pub mod Places
 pub mod PortAt
-pub mod Sayings
 pub mod Shows
 pub mod Tally

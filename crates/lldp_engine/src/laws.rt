@@ -15,7 +15,6 @@ ghost use Rattle.lldp_engine.specs.Headline.{Promised};
 pub mod counting;
 pub mod deafness;
 pub mod fixed;
-pub mod forms;
 pub mod frames;
 pub mod in_use;
 pub mod local_changes;

@@ -26,4 +26,3 @@ pub use port::counters::Counters;
 pub use port::status::Status;
 pub use show::line::LineSink;
 pub use show::lines::MOST_LINES;
-pub use show::one_line::OneLine;

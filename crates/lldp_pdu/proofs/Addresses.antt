@@ -115,13 +115,8 @@ record Tail (xs : List ℕ) : Type 0 where
   pub is : xs ≡ tail_of n a b c d o oid
 
 six_octets : (xs : List ℕ) → 6 ≤ length xs → Tail xs
-six_octets [] h = absurd (omega (arith, h))
-six_octets (n ∷ []) h = absurd (omega (arith, h))
-six_octets (n ∷ a ∷ []) h = absurd (omega (arith, h))
-six_octets (n ∷ a ∷ b ∷ []) h = absurd (omega (arith, h))
-six_octets (n ∷ a ∷ b ∷ c ∷ []) h = absurd (omega (arith, h))
-six_octets (n ∷ a ∷ b ∷ c ∷ d ∷ []) h = absurd (omega (arith, h))
 six_octets (n ∷ a ∷ b ∷ c ∷ d ∷ o ∷ oid) h = record { n = n; a = a; b = b; c = c; d = d; o = o; oid = oid; is = refl }
+six_octets other h = absurd (omega (arith, h))
 
 -- the lengths of a well-formed body
 long_enough : (body : List ℕ) (found : Address) → address_of body ≡ Some found → Fits (get_or body 0 0) (get_or body (get_or body 0 0 + 6) 0) (length body)

@@ -31,12 +31,8 @@ and_from_among enabled available among = same_from_bits (bit_and enabled availab
 -- ---- four octets
 
 four_octets : (body : List ℕ) → length body ≡ 4 → (a : ℕ) × (b : ℕ) × (c : ℕ) × (d : ℕ) × (body ≡ a ∷ b ∷ c ∷ d ∷ [])
-four_octets [] h = absurd (omega (arith, h))
-four_octets (a ∷ []) h = absurd (omega (arith, h))
-four_octets (a ∷ b ∷ []) h = absurd (omega (arith, h))
-four_octets (a ∷ b ∷ c ∷ []) h = absurd (omega (arith, h))
 four_octets (a ∷ b ∷ c ∷ d ∷ []) h = (a, b, c, d, refl)
-four_octets (a ∷ b ∷ c ∷ d ∷ e ∷ more) h = absurd (omega (arith, h))
+four_octets other h = absurd (omega (arith, h))
 
 two_back : (a b : ℕ) → a < 256 → b < 256 → (to_be_bytes w16 (256 * a + b) ≡ a ∷ b ∷ []) × (256 * a + b < 2 ^ 16)
 two_back a b h k = grind (arith, h, k)

@@ -13,10 +13,4 @@ framed a b c d e f lldpdu h =
 
 pub has_lldpdu : (source lldpdu : List ℕ) → length source ≡ 6 → length lldpdu ≤ 1500 → lldpdu_of (nearest_bridge ++ source ++ lldp_ethertype ++ lldpdu) ≡ Some lldpdu
 has_lldpdu (a ∷ b ∷ c ∷ d ∷ e ∷ f ∷ []) lldpdu l h = framed a b c d e f lldpdu h
-has_lldpdu [] lldpdu l h = absurd (omega arith)
-has_lldpdu (a ∷ []) lldpdu l h = absurd (omega arith)
-has_lldpdu (a ∷ b ∷ []) lldpdu l h = absurd (omega arith)
-has_lldpdu (a ∷ b ∷ c ∷ []) lldpdu l h = absurd (omega arith)
-has_lldpdu (a ∷ b ∷ c ∷ d ∷ []) lldpdu l h = absurd (omega arith)
-has_lldpdu (a ∷ b ∷ c ∷ d ∷ e ∷ []) lldpdu l h = absurd (omega arith)
-has_lldpdu (a ∷ b ∷ c ∷ d ∷ e ∷ f ∷ g ∷ s) lldpdu l h = absurd (omega arith)
+has_lldpdu other lldpdu l h = absurd (omega arith)

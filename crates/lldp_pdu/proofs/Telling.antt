@@ -171,10 +171,8 @@ record IsLater (u : TlvUnit) : Type 0 where
 
 pub later_kind : (kind : ℕ) → eqb kind 0 ≡ false → (leb 1 kind && leb kind 3) ≡ false → 4 ≤ kind
 later_kind zero h k = absurd (true≢false h)
-later_kind (suc zero) h k = absurd (true≢false k)
-later_kind (suc (suc zero)) h k = absurd (true≢false k)
-later_kind (suc (suc (suc zero))) h k = absurd (true≢false k)
 later_kind (suc (suc (suc (suc n)))) h k = omega arith
+later_kind (suc other) h k = absurd (true≢false k)
 
 all_later : (us : List TlvUnit) → AllByRecursion IsTlv us → list_any is_mandatory (before_end us) ≡ false → AllByRecursion IsLater (before_end us)
 all_later [] h m = tt

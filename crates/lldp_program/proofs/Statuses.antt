@@ -15,7 +15,8 @@ use Rattle.lldp_program.specs.Trace.Items.{Item, text_of_all, items_of_lines}
 use Rattle.lldp_program.specs.Trace.Runs.{Done, Failed, Ends, HasRun, StoppedAt}
 use Rattle.lldp_program.specs.Code.Output.{WrittenBy}
 use Rattle.lldp_program.specs.Faults.ProgramFault.{line_of, status_of, fault_of_run, ended_by}
-use Rattle.lldp_program.specs.Faults.Told.{IsTold, EndsBy, EndsWellOr}
+use Rattle.lldp_program.specs.Faults.Told.{IsTold, EndsBy, EndsWellOr, Stream, stream}
+use Rattle.lldp_program.specs.Devices.Counts.{failures_after}
 use Rattle.lldp_program.specs.declared.device.DeviceFault.{DeviceFault}
 use Rattle.lldp_program.specs.declared.fault.ProgramFault.{ProgramFault}
 use Rattle.lldp_program.specs.declared.fault.ProgramFault.TheVariants as ending
@@ -64,7 +65,7 @@ run_kept to_come left old mid new before after r h k =
     }
 
 -- an agent that was just opened ran the streams
-pub opened_ran : (options : Options) (to_come left old new told_before told_after : Option (List ℕ)) (before after : AgentState) (status : ℕ)
+pub opened_ran : (options : Options) (to_come left old new : Option (List ℕ)) (told_before told_after : Stream) (before after : AgentState) (status : ℕ)
     → Stands (opened options) before → RanStreams to_come left old new told_before told_after before after status → RanBy options to_come left old new told_before told_after status
 opened_ran options to_come left old new told_before told_after before after status stands ran =
     record {
@@ -82,17 +83,24 @@ opened_ran options to_come left old new told_before told_after before after stat
     }
 
 -- what was written of the line of a fault is what is told of it
-pub told_by : (fault : ProgramFault) (answer : Result (Unit {0}) DeviceFault) (old mid left new : Option (List ℕ)) → mid ≡ old → left ≡ new → WrittenBy answer (line_of fault) mid left → IsTold fault old new
-told_by fault (Ok done) old mid left new o n written = inl (rw (← o, ← n) written)
-told_by fault (Err _) old mid left new o n written = inr (rw (← o, ← n) written)
+pub told_by : (fault : ProgramFault) (answer : Result (Unit {0}) DeviceFault) (line : List ℕ) (old new : Option (List ℕ)) (before after : ℕ) → line ≡ line_of fault → WrittenBy answer line old new
+    → after ≡ failures_after before answer → IsTold fault (stream old before) (stream new after)
+told_by fault (Ok done) line old new before after is written failures = inl (rw is at written, failures)
+told_by fault (Err _) line old new before after is written failures = let cut = rw is at written in inr (cut.0, cut.1, cut.2, failures)
+
+-- what is told by an adapter is told to its stream, with some number of failed writes
+pub told_through : (P : Stream → Stream → Type 0) (old taken left new : Option (List ℕ)) (none failed : ℕ) → taken ≡ old → none ≡ 0 → left ≡ new → P (stream taken none) (stream left failed)
+    → (n : ℕ) × P (stream old 0) (stream new n)
+told_through P old taken left new none failed o z n h =
+    (failed, subst (λ s. P (stream s 0) (stream new failed)) o (subst (λ k. P (stream taken k) (stream new failed)) z (subst (λ s. P (stream taken none) (stream s failed)) n h)))
 
 -- the run failed, and its fault was told
-pub failed_end : (r : Result (Unit {0}) RunFault) (fault : RunFault) (told : ProgramFault) (flushed : Result (Unit {0}) DeviceFault) (old new : Option (List ℕ)) (status : ℕ)
+pub failed_end : (r : Result (Unit {0}) RunFault) (fault : RunFault) (told : ProgramFault) (flushed : Result (Unit {0}) DeviceFault) (old new : Stream) (status : ℕ)
     → r ≡ Err fault → told ≡ fault_of_run fault → status ≡ status_of told → IsTold told old new → EndsBy (ended_by r flushed) old new status
 failed_end r fault told flushed old new status e is answered t = rw e record { ends = answered ∙ ap status_of is; told = subst (λ f. IsTold f old new) is t }
 
 -- the run went well, and the flush decides
-pub flushed_end : (r : Result (Unit {0}) RunFault) (flushed : Result (Unit {0}) DeviceFault) (passed : Bool) (old new : Option (List ℕ)) (status : ℕ)
+pub flushed_end : (r : Result (Unit {0}) RunFault) (flushed : Result (Unit {0}) DeviceFault) (passed : Bool) (old new : Stream) (status : ℕ)
     → r ≡ Ok tt → passed ≡ is_ok flushed → (passed ≡ true → EndsBy (Ok tt) old new status) → (passed ≡ false → EndsBy (Err ending.Write) old new status) → EndsBy (ended_by r flushed) old new status
 flushed_end r (Ok done) passed old new status e is well failed = rw e (well is)
 flushed_end r (Err fault) passed old new status e is well failed = rw e (failed is)
@@ -111,7 +119,7 @@ asks_for_help words kind (inr version) (inl memory) = let bad : DisplayVersion �
 asks_for_help words kind (inl help) (inr fails) = inl (subst (MayFail words) help fails)
 asks_for_help words kind (inr version) (inr fails) = inr (subst (MayFail words) version fails)
 
-pub ends_below_two : (old new : Option (List ℕ)) (status : ℕ) → EndsWellOr ending.Write old new status → status ≡ 2 → ⊥
+pub ends_below_two : (old new : Stream) (status : ℕ) → EndsWellOr ending.Write old new status → status ≡ 2 → ⊥
 ends_below_two old new status (inl well) two = omega (arith, well.ends, two)
 ends_below_two old new status (inr told) two = omega (arith, told.ends, two)
 

@@ -1,6 +1,5 @@
 -- What only laws say: the definitions in other words, by octets, positions and counts.
 pub mod FixedNumbers
-pub mod FixedTexts
 pub mod Sayings
 pub mod Lines
 pub mod OnlyLines

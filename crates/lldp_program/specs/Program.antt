@@ -9,7 +9,7 @@ use Rattle.lldp_engine.specs.declared.agent.open_fault.OpenFault.{OpenFault}
 use Rattle.lldp_engine.specs.Options.{IsRefusal, Options, fault_of}
 use Rattle.lldp_engine.specs.Past.{opened}
 use Rattle.lldp_program.specs.Faults.ProgramFault.{ended_by, fault_of_address, fault_of_opening}
-use Rattle.lldp_program.specs.Faults.Told.{EndsBy, EndsWellOr, IsTold}
+use Rattle.lldp_program.specs.Faults.Told.{EndsBy, EndsWellOr, IsTold, Stream}
 use Rattle.lldp_program.specs.Trace.Runs.{HasRun, HasRead, Ends}
 use Rattle.lldp_program.specs.CommandLine.Usage.{AskForHelp, Asks, HasBadAddress, IsParse, MayFail}
 use Rattle.lldp_program.specs.declared.arguments.AddressFault.{AddressFault}
@@ -19,8 +19,8 @@ use Rattle.lldp_program.specs.declared.trace.RunFault.{RunFault}
 
 -- The agent ran the trace that came, and what was written was flushed: with status 0 all of it, and with another status
 -- it may have stopped at a fault. The status is that of the first fault of the two, which was reported.
-pub record RanStreams (to_come left old new told_before told_after : Option (List ℕ)) (before after : AgentState)
-    (status : ℕ) : Type 0 where
+pub record RanStreams (to_come left old new : Option (List ℕ)) (told_before told_after : Stream)
+    (before after : AgentState) (status : ℕ) : Type 0 where
   pub result : Result (Unit {0}) RunFault
   pub run : HasRun to_come left old new before after result
   pub done : status ≡ 0 → is_ok result ≡ true
@@ -41,8 +41,8 @@ pub record Ran (options : Options) (to_come left old new : Option (List ℕ)) (r
   pub ends : Ends (opened options) input left old new agent result
 
 -- the same by the status of the program and the line that it wrote
-pub record RanBy (options : Options) (to_come left old new told_before told_after : Option (List ℕ)) (status : ℕ) :
-    Type 0 where
+pub record RanBy (options : Options) (to_come left old new : Option (List ℕ)) (told_before told_after : Stream)
+    (status : ℕ) : Type 0 where
   pub result : Result (Unit {0}) RunFault
   pub ran : Ran options to_come left old new result
   pub done : status ≡ 0 → is_ok result ≡ true
@@ -52,7 +52,7 @@ pub record RanBy (options : Options) (to_come left old new told_before told_afte
 -- What became of reader and writer, by the text of `--listen`: if there is none, the trace of the reader was run; if
 -- there is one, nothing was read and nothing written, and the status is 0 or that of a socket, which was reported.
 abbrev pub RanBut : Option Text → Options → Option (List ℕ) → Option (List ℕ) → Option (List ℕ) → Option (List ℕ) →
-    Option (List ℕ) → Option (List ℕ) → ℕ → Type 0
+    Stream → Stream → ℕ → Type 0
 RanBut None options to_come left old new told_before told_after status =
     RanBy options to_come left old new told_before told_after status
 RanBut (Some port) options to_come left old new told_before told_after status =
@@ -60,14 +60,14 @@ RanBut (Some port) options to_come left old new told_before told_after status =
 
 -- the same by the words
 abbrev pub RanAs : List Row → Options → Option (List ℕ) → Option (List ℕ) → Option (List ℕ) → Option (List ℕ) →
-    Option (List ℕ) → Option (List ℕ) → ℕ → Type 0
+    Stream → Stream → ℕ → Type 0
 RanAs rows options to_come left old new told_before told_after status =
     RanBut (one_of (codes "listen") rows) options to_come left old new told_before told_after status
 
 -- The words have no fault by `clap`'s own specification; their options, of which each is the value of its words, have
 -- no fault either; and the program did as they ask.
-pub record HasRunWords (words : List Text) (to_come left old new told_before told_after : Option (List ℕ)) (status : ℕ) :
-    Type 0 where
+pub record HasRunWords (words : List Text) (to_come left old new : Option (List ℕ)) (told_before told_after : Stream)
+    (status : ℕ) : Type 0 where
   pub rows : List Row
   pub parse : IsParse words rows
   pub options : Options
@@ -78,18 +78,18 @@ pub record HasRunWords (words : List Text) (to_come left old new told_before tol
 -- What a status other than 2 means: the words ask for help or the version, nothing was read, and the status is 0 or
 -- that of a write, which was reported; or they were run.
 abbrev pub HasAnswered : List Text → Option (List ℕ) → Option (List ℕ) → Option (List ℕ) → Option (List ℕ) →
-    Option (List ℕ) → Option (List ℕ) → ℕ → Type 0
+    Stream → Stream → ℕ → Type 0
 HasAnswered words to_come left old new told_before told_after status =
     (AskForHelp words × Keeps to_come left × EndsWellOr program.Write told_before told_after status)
     ⊎ HasRunWords words to_come left old new told_before told_after status
 
 -- An address among the words cannot be read, and that was reported.
-abbrev pub RefusesAddress : List Row → Option (List ℕ) → Option (List ℕ) → Type 0
+abbrev pub RefusesAddress : List Row → Stream → Stream → Type 0
 RefusesAddress rows told_before told_after =
     (fault : AddressFault) × HasBadAddress rows fault × IsTold (fault_of_address fault) told_before told_after
 
 -- The options of the words open no agent, for the first check that fails or for lack of memory, and that was reported.
-abbrev pub RefusesOpening : List Row → Option (List ℕ) → Option (List ℕ) → Type 0
+abbrev pub RefusesOpening : List Row → Stream → Stream → Type 0
 RefusesOpening rows told_before told_after =
     (options : Options) × (fault : OpenFault) × Asks rows options × IsRefusal options fault
     × IsTold (fault_of_opening fault) told_before told_after
@@ -100,7 +100,7 @@ AreWrong words = (kind : ErrorKind) × MayFail words kind × (kind ≢ DisplayHe
 
 -- What status 2 means: the words are wrong; there was no memory to read them, and that was reported; or they were read,
 -- and an address or the opening was refused.
-abbrev pub HasRefused : List Text → Option (List ℕ) → Option (List ℕ) → Type 0
+abbrev pub HasRefused : List Text → Stream → Stream → Type 0
 HasRefused words told_before told_after =
     AreWrong words
     ⊎ (IsTold program.Memory told_before told_after

@@ -1,20 +1,18 @@
 //! The program, over arguments and streams that its caller passes.
-ghost use Rattle.std.specs.Prelude.{◌≡◌, ◌≢◌, ◌≤◌, ◌⊎◌, true, false, None, Ok, Err, map, if◌then◌else◌};
+ghost use Rattle.std.specs.Prelude.{◌≡◌, ◌≢◌, ◌≤◌, ◌⊎◌, ℕ, true, false, None, Ok, Err, map, if◌then◌else◌};
 ghost use Rattle.std.specs.Io.KnownBytes.{Keeps};
 ghost use Rattle.clap.specs.Values.{kind_of};
 ghost use Rattle.clap.specs.Words.{found_of, rows_of};
 ghost use Rattle.lldp_engine.specs.Options.{Options, fault_of};
 ghost use Rattle.lldp_program.specs.CommandLine.Arguments.{IsProgramParse};
-ghost use Rattle.lldp_program.specs.Code.Output.{WrittenBy};
-ghost use Rattle.lldp_program.specs.Devices.Counts.{failures_after};
-ghost use Rattle.lldp_program.specs.Faults.ProgramFault.{line_of, status_of};
-ghost use Rattle.lldp_program.specs.Faults.Told.{EndsBy, EndsWellOr, IsTold};
+ghost use Rattle.lldp_program.specs.Faults.ProgramFault.{status_of};
+ghost use Rattle.lldp_program.specs.Faults.Told.{EndsBy, EndsWellOr, IsTold, stream};
 ghost use Rattle.lldp_program.specs.Program.{FailedBy, HasAnswered, HasRefused, RanAs, RanStreams, RefusesAddress, RefusesOpening};
 ghost use Rattle.lldp_program.specs.CommandLine.Usage.{Asks};
 
 use crate::acceptor::AtPort;
 use crate::arguments::{Listening, listening_of, parse, read_options};
-use crate::device::{DeviceFault, Flush, FromReader, Sink, Source, ToWriter};
+use crate::device::{Flush, FromReader, Sink, Source, ToWriter};
 use crate::fault::ProgramFault;
 use crate::output::send;
 use crate::serve::listen;
@@ -70,25 +68,28 @@ pub fn run_program<S: AsStr, R: Read, W: Write, E: Write>(
     ensures status { result ≤ 2 }
     // Help or the version was asked for, or the words have no fault, and the trace was run with
     // their options.
-    ensures answered { result ≢ 2 → HasAnswered (map S.text words.now)
+    ensures answered { result ≢ 2 → (failed : ℕ) × HasAnswered (map S.text words.now)
         (R.remaining reader.old) (R.remaining reader.new)
         (W.contents writer.old) (W.contents writer.new)
-        (E.contents faults.old) (E.contents faults.new) result }
+        (stream (E.contents faults.old) 0) (stream (E.contents faults.new) failed) result }
     // If it refuses, it has said why, and has read nothing and written nothing.
-    ensures refused { result ≡ 2 → HasRefused (map S.text words.now)
-        (E.contents faults.old) (E.contents faults.new) }
+    ensures refused { result ≡ 2 → (failed : ℕ) × HasRefused (map S.text words.now)
+        (stream (E.contents faults.old) 0) (stream (E.contents faults.new) failed) }
     ensures silent { result ≡ 2 →
         Keeps (R.remaining reader.old) (R.remaining reader.new)
         × Keeps (W.contents writer.old) (W.contents writer.new) }
 {
     match parse(alloc, words) {
-        Ok(matches) => run_matches(rt, alloc, &matches, reader, writer, faults),
+        Ok(matches) => {
+            let mut faults = ToWriter::new(faults);
+            run_matches(rt, alloc, &matches, reader, writer, &mut faults)
+        }
         Err(error) => answer_words(&error, writer, faults),
     }
 }
 
 /// Runs the program with the options that its words give.
-fn run_matches<R: Read, W: Write, E: Write>(
+fn run_matches<R: Read, W: Write, E: Sink>(
     rt: &impl Net<Listener = TcpListener, Stream = TcpStream>,
     alloc: Global,
     matches: &ArgMatches<'_>,
@@ -104,15 +105,19 @@ fn run_matches<R: Read, W: Write, E: Write>(
         × RanAs (rows_of (found_of matches.now)) options
         (R.remaining reader.old) (R.remaining reader.new)
         (W.contents writer.old) (W.contents writer.new)
-        (E.contents faults.old) (E.contents faults.new) result }
+        (stream (E.taken faults.old) (E.failures faults.old))
+        (stream (E.taken faults.new) (E.failures faults.new)) result }
     ensures refused { result ≡ 2 →
         RefusesAddress (rows_of (found_of matches.now))
-        (E.contents faults.old) (E.contents faults.new)
+        (stream (E.taken faults.old) (E.failures faults.old))
+        (stream (E.taken faults.new) (E.failures faults.new))
         ⊎ RefusesOpening (rows_of (found_of matches.now))
-        (E.contents faults.old) (E.contents faults.new) }
+        (stream (E.taken faults.old) (E.failures faults.old))
+        (stream (E.taken faults.new) (E.failures faults.new)) }
     ensures silent { result ≡ 2 →
         Keeps (R.remaining reader.old) (R.remaining reader.new)
         × Keeps (W.contents writer.old) (W.contents writer.new) }
+    ensures place { E.place faults.new ≡ E.place faults.old }
 {
     let options = match read_options(matches) {
         Ok(options) => options,
@@ -127,16 +132,18 @@ fn run_matches<R: Read, W: Write, E: Write>(
     }
 }
 
-/// Writes the help or version that was asked for, or reports what is wrong with the words.
+/// Reports what is wrong with the words, or writes the help or version that was asked for.
 fn answer_words<W: Write, E: Write>(error: &Error, writer: &mut W, faults: &mut E) -> u8
     ensures refused { (kind_of error.now ≢ ErrorKind.DisplayHelp) →
         (kind_of error.now ≢ ErrorKind.DisplayVersion) →
         (result ≡ 2) × Keeps (W.contents writer.old) (W.contents writer.new) }
-    ensures memory { (kind_of error.now ≡ ErrorKind.OutOfMemory) →
-        IsTold ProgramFault.Memory (E.contents faults.old) (E.contents faults.new) }
+    ensures memory { (kind_of error.now ≡ ErrorKind.OutOfMemory) → (failed : ℕ) ×
+        IsTold ProgramFault.Memory
+        (stream (E.contents faults.old) 0) (stream (E.contents faults.new) failed) }
     ensures answered { ((kind_of error.now ≡ ErrorKind.DisplayHelp)
-        ⊎ (kind_of error.now ≡ ErrorKind.DisplayVersion)) →
-        EndsWellOr ProgramFault.Write (E.contents faults.old) (E.contents faults.new) result }
+        ⊎ (kind_of error.now ≡ ErrorKind.DisplayVersion)) → (failed : ℕ) ×
+        EndsWellOr ProgramFault.Write
+        (stream (E.contents faults.old) 0) (stream (E.contents faults.new) failed) result }
     ensures status { result ≤ 2 }
     ensures silent { result ≡ 2 → Keeps (W.contents writer.old) (W.contents writer.new) }
 {
@@ -147,6 +154,17 @@ fn answer_words<W: Write, E: Write>(error: &Error, writer: &mut W, faults: &mut 
         let _ = write!(faults, "{error}");
         return REFUSED;
     }
+    write_help(error, writer, &mut ToWriter::new(faults))
+}
+
+/// Writes and flushes the help or version that was asked for.
+fn write_help<W: Write, E: Sink>(error: &Error, writer: &mut W, faults: &mut E) -> u8
+    ensures status { result ≤ 1 }
+    ensures ended { EndsWellOr ProgramFault.Write
+        (stream (E.taken faults.old) (E.failures faults.old))
+        (stream (E.taken faults.new) (E.failures faults.new)) result }
+    ensures place { E.place faults.new ≡ E.place faults.old }
+{
     if write!(writer, "{error}").is_err() {
         return tell(ProgramFault::Write, faults);
     }
@@ -154,7 +172,7 @@ fn answer_words<W: Write, E: Write>(error: &Error, writer: &mut W, faults: &mut 
 }
 
 /// Runs the trace that comes from the reader, and flushes the writer even if the run failed.
-fn run_streams<R: Read, W: Write, E: Write>(
+fn run_streams<R: Read, W: Write, E: Sink>(
     agent: &mut Agent,
     reader: &mut R,
     writer: &mut W,
@@ -163,7 +181,9 @@ fn run_streams<R: Read, W: Write, E: Write>(
     ensures status { result ≤ 1 }
     ensures ran { RanStreams (R.remaining reader.old) (R.remaining reader.new)
         (W.contents writer.old) (W.contents writer.new)
-        (E.contents faults.old) (E.contents faults.new) agent.old agent.new result }
+        (stream (E.taken faults.old) (E.failures faults.old))
+        (stream (E.taken faults.new) (E.failures faults.new)) agent.old agent.new result }
+    ensures place { E.place faults.new ≡ E.place faults.old }
 {
     let mut source = FromReader::new(reader);
     let mut sink = ToWriter::new(writer);
@@ -173,7 +193,7 @@ fn run_streams<R: Read, W: Write, E: Write>(
 /// Runs the trace that comes from a source, and flushes the sink behind the last write, even if the
 /// run failed. Status 0 means that no read, write or flush failed, status 1 that one did or that
 /// the trace was too long.
-fn run_devices<S: Source, W: Flush, E: Write>(
+fn run_devices<S: Source, W: Flush, E: Sink>(
     agent: &mut Agent,
     source: &mut S,
     sink: &mut W,
@@ -182,7 +202,8 @@ fn run_devices<S: Source, W: Flush, E: Write>(
     ensures status { result ≤ 1 }
     ensures ran { RanStreams (S.to_come source.old) (S.to_come source.new)
         (W.taken sink.old) (W.taken sink.new)
-        (E.contents faults.old) (E.contents faults.new) agent.old agent.new result }
+        (stream (E.taken faults.old) (E.failures faults.old))
+        (stream (E.taken faults.new) (E.failures faults.new)) agent.old agent.new result }
     // Status 0 says that no read, write or flush failed, and status 1 that one did or that the
     // trace was too long.
     ensures done { result ≡ 0 → (S.failures source.new ≡ S.failures source.old)
@@ -194,6 +215,7 @@ fn run_devices<S: Source, W: Flush, E: Write>(
         × (W.place sink.new ≡ W.place sink.old) }
     // It was asked to pass on all that was written, even if the run failed.
     ensures flushed { W.is_flushed sink.new ≡ true }
+    ensures place { E.place faults.new ≡ E.place faults.old }
 {
     let ran = run_trace(agent, source, sink);
     let flushed = sink.flush();
@@ -204,7 +226,7 @@ fn run_devices<S: Source, W: Flush, E: Write>(
 }
 
 /// Runs the traces that come over connections to a port of this host.
-fn run_sockets<E: Write>(
+fn run_sockets<E: Sink>(
     rt: &impl Net<Listener = TcpListener, Stream = TcpStream>,
     agent: &mut Agent,
     listening: Listening,
@@ -212,7 +234,9 @@ fn run_sockets<E: Write>(
 ) -> u8
     ensures status { result ≤ 1 }
     ensures ended { EndsWellOr ProgramFault.Socket
-        (E.contents faults.old) (E.contents faults.new) result }
+        (stream (E.taken faults.old) (E.failures faults.old))
+        (stream (E.taken faults.new) (E.failures faults.new)) result }
+    ensures place { E.place faults.new ≡ E.place faults.old }
 {
     let mut acceptor = AtPort {
         network: rt,
@@ -225,12 +249,15 @@ fn run_sockets<E: Write>(
 }
 
 /// Returns the status after a flush at the end. If the flush failed, writes the line of that fault.
-fn finish<E: Write>(flushed: bool, faults: &mut E) -> u8
+fn finish<E: Sink>(flushed: bool, faults: &mut E) -> u8
     ensures status { result ≡ (if flushed then 0 else 1) }
     ensures well { flushed ≡ true → EndsBy (Ok tt)
-        (E.contents faults.old) (E.contents faults.new) result }
+        (stream (E.taken faults.old) (E.failures faults.old))
+        (stream (E.taken faults.new) (E.failures faults.new)) result }
     ensures failed { flushed ≡ false → EndsBy (Err ProgramFault.Write)
-        (E.contents faults.old) (E.contents faults.new) result }
+        (stream (E.taken faults.old) (E.failures faults.old))
+        (stream (E.taken faults.new) (E.failures faults.new)) result }
+    ensures place { E.place faults.new ≡ E.place faults.old }
 {
     if flushed {
         return DONE;
@@ -241,26 +268,21 @@ fn finish<E: Write>(flushed: bool, faults: &mut E) -> u8
 /// Reports that there was no memory, and returns the status 2.
 pub fn no_memory<E: Write>(faults: &mut E) -> u8
     ensures status { result ≡ 2 }
-    ensures told { IsTold ProgramFault.Memory (E.contents faults.old) (E.contents faults.new) }
+    ensures told { (failed : ℕ) × IsTold ProgramFault.Memory
+        (stream (E.contents faults.old) 0) (stream (E.contents faults.new) failed) }
 {
-    tell(ProgramFault::Memory, faults)
+    tell(ProgramFault::Memory, &mut ToWriter::new(faults))
 }
 
-/// Writes the line of a fault, and returns its status. If the line cannot be written, the status is
-/// the same.
-fn tell<E: Write>(fault: ProgramFault, faults: &mut E) -> u8
+/// Writes the line of a fault: all of it, or what comes before a write that failed. Returns its
+/// status, which is the same if the line cannot be written.
+fn tell<E: Sink>(fault: ProgramFault, faults: &mut E) -> u8
     ensures status { result ≡ status_of fault }
-    ensures told { IsTold fault (E.contents faults.old) (E.contents faults.new) }
+    ensures told { IsTold fault
+        (stream (E.taken faults.old) (E.failures faults.old))
+        (stream (E.taken faults.new) (E.failures faults.new)) }
+    ensures place { E.place faults.new ≡ E.place faults.old }
 {
-    let _ = tell_at(fault, &mut ToWriter::new(faults));
+    let _ = send(faults, fault.line());
     fault.status()
-}
-
-/// Writes the line of a fault: all of it, or what comes before a write that failed.
-fn tell_at<E: Sink>(fault: ProgramFault, sink: &mut E) -> Result<(), DeviceFault>
-    ensures written { WrittenBy result (line_of fault) (E.taken sink.old) (E.taken sink.new) }
-    ensures failures { E.failures sink.new ≡ failures_after (E.failures sink.old) result }
-    ensures place { E.place sink.new ≡ E.place sink.old }
-{
-    send(sink, fault.line())
 }

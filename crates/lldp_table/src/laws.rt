@@ -58,21 +58,13 @@ pub fn extents_can_be_stored()
         12 + 2 * length (kept_of neighbor.octets) ≤ length neighbor.octets }
 {}
 
-/// A table that stands for a list of calls holds for each name its last stored frame that has not
-/// expired, and nothing else: since that frame no call stored another of its name, forgot it or
-/// purged the table, and fewer ticks than its TTL came. They are in the order in which the names
-/// were last new, never more than the limit, nor more than 1,500 octets for each.
+/// The calls leave for each name its last stored frame that has not expired, and nothing else:
+/// since that frame no call stored another of its name, forgot it or purged the table, and fewer
+/// ticks than its TTL came. They are in the order in which the names were last new. If the table
+/// was opened with a limit of 1 to 128 and each call was possible, the resulting table is sound and
+/// stands for the list, and a table that stands for it is that one: it holds no more neighbors than
+/// the limit, nor more than 1,500 octets for each.
 pub fn tables_hold_last_stored_frames()
-    ensures held { (table : Contents) (neighbor : Neighbor) → ForEachCalls table (λ opened calls.
-        Contains table.neighbors neighbor ↔ IsLastStored (events_of opened calls) neighbor) }
-    ensures order { (table : Contents) → ForEachCalls table (λ opened calls.
-        AllPairs (IsNewBefore (events_of opened calls)) table.neighbors) }
-    ensures sound { (table : Contents) → ForEachCalls table (λ opened calls. IsSound table) }
-{}
-
-/// The same of the list of calls itself. If the table was opened with a limit of 1 to 128 and each
-/// call was possible, the resulting table is sound and stands for the list.
-pub fn calls_leave_last_stored_frames()
     ensures held { (opened : ℕ) (calls : List Call) (neighbor : Neighbor) →
         Contains (neighbors (events_of opened calls)) neighbor
         ↔ IsLastStored (events_of opened calls) neighbor }

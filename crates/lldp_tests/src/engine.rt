@@ -20,16 +20,27 @@ const NAMES: [&str; 64] = [
 ];
 
 /// Opens an agent with the program's defaults, except that its ports only receive.
-fn open<A: Allocator + Clone>(
+pub fn open<A: Allocator + Clone>(
     rt: &impl Abort,
     alloc: A,
     ports: &[&str],
     max_neighbors: u8,
 ) -> Result<Agent<A>, OpenFault> {
+    open_as(rt, alloc, ports, "localhost", max_neighbors)
+}
+
+/// Opens the same with this hostname.
+fn open_as<A: Allocator + Clone>(
+    rt: &impl Abort,
+    alloc: A,
+    ports: &[&str],
+    hostname: &str,
+    max_neighbors: u8,
+) -> Result<Agent<A>, OpenFault> {
     let options = Options {
         ports,
         mac: [2, 0, 0, 0, 0, 1],
-        hostname: "localhost",
+        hostname,
         management: None,
         role: Role::Station,
         max_neighbors,

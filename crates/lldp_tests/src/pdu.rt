@@ -1,4 +1,9 @@
 //! TLVs that are read one by one, and the numbers of faults.
+mod altered;
+mod slow_reader;
+mod told;
+mod vectors;
+
 use lldp_pdu::{BuildFault, PduFault, Tlvs};
 
 #[test]

@@ -30,12 +30,9 @@ mac_back (c ∷ d ∷ cs) h = ap (λ x. x ∷ pairs_read (mac_text (d ∷ cs))) 
 -- ## IPv6 addresses
 
 pub fours_read : List ℕ → List ℕ
-fours_read [] = []
-fours_read (a ∷ []) = []
-fours_read (a ∷ b ∷ []) = []
-fours_read (a ∷ b ∷ c ∷ []) = []
 fours_read (a ∷ b ∷ c ∷ d ∷ []) = octet a b ∷ octet c d ∷ []
 fours_read (a ∷ b ∷ c ∷ d ∷ colon ∷ cs) = octet a b ∷ octet c d ∷ fours_read cs
+fours_read other = []
 
 two_back : (a b : ℕ) (cs : List ℕ) → a < 256 → b < 256 → octet (high a) (low a) ∷ octet (high b) (low b) ∷ cs ≡ a ∷ b ∷ cs
 two_back a b cs la lb = ap (λ x. x ∷ octet (high b) (low b) ∷ cs) (octet_is a la) ∙ ap (λ x. a ∷ x ∷ cs) (octet_is b lb)
@@ -129,9 +126,6 @@ ipv4_without (c ∷ d ∷ cs) h =
 
 pub ipv6_with : (octets : List ℕ) → 4 ≤ length octets → list_any is_colon (ipv6_text octets) ≡ true
 unfolding encode_with
-ipv6_with [] long = absurd (omega arith)
-ipv6_with (a ∷ []) long = absurd (omega arith)
-ipv6_with (a ∷ b ∷ []) long = absurd (omega arith)
-ipv6_with (a ∷ b ∷ c ∷ []) long = absurd (omega arith)
 ipv6_with (a ∷ b ∷ c ∷ d ∷ cs) long =
     or_right (is_colon (high a)) _ (or_right (is_colon (low a)) _ (or_right (is_colon (high b)) _ (or_right (is_colon (low b)) _ refl)))
+ipv6_with other long = absurd (omega arith)

@@ -28,18 +28,13 @@ data Shown : Type 0 where
 
 -- a kind, whether there are seven octets, and what the address is
 abbrev shown_as : IdentifierKind → Bool → AddressKind → Shown
-shown_as Component seven address = text Component
-shown_as InterfaceAlias seven address = text InterfaceAlias
-shown_as PortComponent seven address = text PortComponent
 shown_as Mac true address = mac
 shown_as Mac false address = whole
 shown_as Network seven Ipv4 = ipv4
 shown_as Network seven Ipv6 = ipv6
 shown_as Network seven Unknown = whole
-shown_as InterfaceName seven address = text InterfaceName
-shown_as CircuitId seven address = text CircuitId
-shown_as Local seven address = text Local
 shown_as Other seven address = whole
+shown_as kind seven address = text kind
 
 abbrev written : Shown → List ℕ → List ℕ
 written (text Component) body = codes "component=" ++ escaped (drop 1 body)
@@ -48,9 +43,7 @@ written (text PortComponent) body = codes "portcomp=" ++ escaped (drop 1 body)
 written (text InterfaceName) body = codes "ifname=" ++ escaped (drop 1 body)
 written (text CircuitId) body = codes "circuit=" ++ escaped (drop 1 body)
 written (text Local) body = codes "local=" ++ escaped (drop 1 body)
-written (text Mac) body = []
-written (text Network) body = []
-written (text Other) body = []
+written (text kind) body = []
 written mac body = codes "mac=" ++ mac_text (drop 1 body)
 written ipv4 body = codes "ip=" ++ ipv4_text (drop 2 body)
 written ipv6 body = codes "ip=" ++ ipv6_text (drop 2 body)
@@ -58,18 +51,12 @@ written whole body = codes "unhandled=" ++ encode_lower body
 
 is_written : (kind : IdentifierKind) (body : List ℕ) (seven : Bool) (address : AddressKind) → (length body == 7) ≡ seven → address_kind (slice_index body 1) (length (drop 2 body)) ≡ address
     → identifier_text kind body ≡ written (shown_as kind seven address) body
-is_written Component body seven address e f = refl
-is_written InterfaceAlias body seven address e f = refl
-is_written PortComponent body seven address e f = refl
 is_written Mac body true address e f = ap (λ (b : Bool). if b then codes "mac=" ++ mac_text (drop 1 body) else codes "unhandled=" ++ encode_lower body) e
 is_written Mac body false address e f = ap (λ (b : Bool). if b then codes "mac=" ++ mac_text (drop 1 body) else codes "unhandled=" ++ encode_lower body) e
 is_written Network body seven Ipv4 e f = ap (λ a. network_text a body) f
 is_written Network body seven Ipv6 e f = ap (λ a. network_text a body) f
 is_written Network body seven Unknown e f = ap (λ a. network_text a body) f
-is_written InterfaceName body seven address e f = refl
-is_written CircuitId body seven address e f = refl
-is_written Local body seven address e f = refl
-is_written Other body seven address e f = refl
+is_written kind body seven address e f = refl
 
 -- ## What was shown, by its key
 
@@ -119,50 +106,32 @@ address_is family len =
 
 is_shown_as : (number : IdentifierKind → ℕ) (kind : IdentifierKind) (body : List ℕ) (seven : Bool) (address : AddressKind) → HasSubtype number kind (slice_index body 0)
     → IsAddress address (slice_index body 1) (length (drop 2 body)) → IsShownAs number (shown_as kind seven address) body
-is_shown_as number Component body seven address s a = s
-is_shown_as number InterfaceAlias body seven address s a = s
-is_shown_as number PortComponent body seven address s a = s
 is_shown_as number Mac body true address s a = s
 is_shown_as number Mac body false address s a = tt
 is_shown_as number Network body seven Ipv4 s a = (s, a.0, a.1)
 is_shown_as number Network body seven Ipv6 s a = (s, a.0, a.1)
 is_shown_as number Network body seven Unknown s a = tt
-is_shown_as number InterfaceName body seven address s a = s
-is_shown_as number CircuitId body seven address s a = s
-is_shown_as number Local body seven address s a = s
 is_shown_as number Other body seven address s a = tt
+is_shown_as number kind body seven address s a = s
 
 has_text : (kind : IdentifierKind) (seven : Bool) (address : AddressKind) → HasText (shown_as kind seven address)
-has_text Component seven address = tt
-has_text InterfaceAlias seven address = tt
-has_text PortComponent seven address = tt
 has_text Mac true address = tt
 has_text Mac false address = tt
 has_text Network seven Ipv4 = tt
 has_text Network seven Ipv6 = tt
 has_text Network seven Unknown = tt
-has_text InterfaceName seven address = tt
-has_text CircuitId seven address = tt
-has_text Local seven address = tt
-has_text Other seven address = tt
+has_text kind seven address = tt
 
 -- ## Reading it back
 
 by_key : (number : IdentifierKind → ℕ) (shown : Shown) (body : List ℕ) → HasText shown → IsShownAs number shown body → AreOctets (drop 2 body) → shown_by (written shown body) ≡ shown
 unfolding shown_by
-by_key number (text Component) body h s o = refl
-by_key number (text InterfaceAlias) body h s o = refl
-by_key number (text PortComponent) body h s o = refl
-by_key number (text InterfaceName) body h s o = refl
-by_key number (text CircuitId) body h s o = refl
-by_key number (text Local) body h s o = refl
 by_key number (text Mac) body h s o = absurd h
 by_key number (text Network) body h s o = absurd h
 by_key number (text Other) body h s o = absurd h
-by_key number mac body h s o = refl
 by_key number ipv4 body h s o = ap (λ (b : Bool). if b then ipv6 else ipv4) (ipv4_without (drop 2 body) o)
 by_key number ipv6 body h s o = ap (λ (b : Bool). if b then ipv6 else ipv4) (ipv6_with (drop 2 body) (let n = s.2 in omega arith))
-by_key number whole body h s o = refl
+by_key number shown body h s o = refl
 
 -- the body of a line that is shown so
 read_as : (IdentifierKind → ℕ) → Shown → List ℕ → List ℕ
@@ -187,15 +156,10 @@ behind_two n t m u rest back e f g = cc
 read_back : (number : IdentifierKind → ℕ) (shown : Shown) (t u : ℕ) (rest : List ℕ) → HasText shown → IsShownAs number shown (t ∷ u ∷ rest) → AreOctets (t ∷ u ∷ rest)
     → read_as number shown (written shown (t ∷ u ∷ rest)) ≡ t ∷ u ∷ rest
 unfolding read_as
-read_back number (text Component) t u rest h s o = behind _ t (u ∷ rest) _ s (text_back (u ∷ rest) o.1)
-read_back number (text InterfaceAlias) t u rest h s o = behind _ t (u ∷ rest) _ s (text_back (u ∷ rest) o.1)
-read_back number (text PortComponent) t u rest h s o = behind _ t (u ∷ rest) _ s (text_back (u ∷ rest) o.1)
-read_back number (text InterfaceName) t u rest h s o = behind _ t (u ∷ rest) _ s (text_back (u ∷ rest) o.1)
-read_back number (text CircuitId) t u rest h s o = behind _ t (u ∷ rest) _ s (text_back (u ∷ rest) o.1)
-read_back number (text Local) t u rest h s o = behind _ t (u ∷ rest) _ s (text_back (u ∷ rest) o.1)
 read_back number (text Mac) t u rest h s o = absurd h
 read_back number (text Network) t u rest h s o = absurd h
 read_back number (text Other) t u rest h s o = absurd h
+read_back number (text kind) t u rest h s o = behind _ t (u ∷ rest) _ s (text_back (u ∷ rest) o.1)
 read_back number mac t u rest h s o = behind _ t (u ∷ rest) _ s (mac_back (u ∷ rest) o.1)
 read_back number ipv4 t u rest h s o = behind_two _ t _ u rest _ s.0 s.1 (ipv4_back rest (let n = s.2 in omega arith) o.1.1)
 read_back number ipv6 t u rest h s o = behind_two _ t _ u rest _ s.0 s.1 (ipv6_back 8 rest s.2 o.1.1)

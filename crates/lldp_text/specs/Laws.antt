@@ -1,5 +1,3 @@
--- What only laws say: texts and values by literal octets, their forms, and what is written alike.
+-- What only laws say: the forms of values, and what is written alike.
 pub mod Alike
-pub mod FixedTexts
-pub mod FixedValues
 pub mod Forms

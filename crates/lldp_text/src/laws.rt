@@ -1,5 +1,4 @@
-//! Laws of the definitions of text: octet by octet, both ways, and that no two are written alike.
+//! Laws of the definitions of text: forms of values, words, and that no two are written alike.
 pub mod alike;
-pub mod fixed;
 pub mod forms;
 pub mod words;

@@ -136,9 +136,7 @@ ordinary_cause t _ n q = cc q
 -- at a start the link is up, and later a lost link would have ended it
 up_at : (c : Cause) (x l u r : Bool) → (not ((x && not l) || is_down c) && ((is_tick c && (l && (up_after c u && (not x && r)))) || x)) ≡ true → (x ≡ true → u ≡ true) → up_after c u ≡ true
 up_at Up x l u r e i = refl
-up_at Down x l u r e i = grind (arith, common_steps)
-up_at Tick x l u r e i = grind (arith, common_steps)
-up_at _ x l u r e i = grind (arith, common_steps)
+up_at other x l u r e i = grind (arith, common_steps)
 
 -- An active port has its link up.
 up_if_active : (s : Settings) (h : History) → is_active (moments s h) ≡ true → is_up (moments s h) ≡ true

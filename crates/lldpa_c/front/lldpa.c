@@ -1,10 +1,10 @@
 /*
- * The functions that programs call. Each looks whether a pointer is NULL that must not be, and says so. Else it calls
- * the proved function, with the same arguments; for NULL with a length of 0 that one is given an address, as its
- * contract asks. tools/library/library.sh puts `proved_` before the names of the proved functions.
+ * The functions that programs call. Each checks the pointers that must not be NULL, and then calls the proved function
+ * with the same arguments; NULL with a length of 0 becomes an address, as the contract asks.
+ * tools/library/library.sh puts `proved_` before the names of the proved functions.
  *
- * A proved function takes the agent out of its handle and puts it back. One that only reads is given a copy of the handle
- * for that, so that nothing is written where the caller has a `const`.
+ * A proved function takes the agent out of its handle and puts it back. One that only reads gets a copy of the handle for
+ * that, so that nothing is written where the caller has a `const`.
  */
 #include "lldpa.h"
 
@@ -15,24 +15,23 @@ PROVED(lldpa_examine);
 PROVED(lldpa_next_kept);
 PROVED(lldpa_caps);
 PROVED(lldpa_mgmt);
+PROVED(lldpa_tlv_text);
+PROVED(lldpa_escape);
 PROVED(lldpa_build);
 PROVED(lldpa_transmit_new);
 PROVED(lldpa_transmit_event);
-PROVED(lldpa_transmit_credit);
 PROVED(lldpa_open);
-PROVED(lldpa_tick);
 PROVED(lldpa_ticks);
 PROVED(lldpa_due);
 PROVED(lldpa_link);
+PROVED(lldpa_leave);
 PROVED(lldpa_neighbor_count);
 PROVED(lldpa_neighbor);
 PROVED(lldpa_statistics);
 PROVED(lldpa_configuration);
 PROVED(lldpa_command);
-PROVED(lldpa_command_text);
 PROVED(lldpa_fault_text);
 PROVED(lldpa_show_lines);
-PROVED(lldpa_show_line);
 PROVED(lldpa_frame_of);
 PROVED(lldpa_close);
 
@@ -106,59 +105,67 @@ static uint8_t *room_at(uint8_t *at)
     return at != NULL ? at : (uint8_t *)&nowhere;
 }
 
+/* A copy of a handle that is only read. */
+#define COPY(agent) (&(lldpa_agent){(agent)->held, (agent)->open})
+
+/* In the archive the build of the crate for Rust looks for these words, and reads the number. */
+static const volatile struct {
+    char words[20];
+    uint32_t number;
+} version = {"liblldpa version", LLDPA_VERSION};
+
 uint32_t lldpa_version(void)
 {
-    return LLDPA_VERSION;
+    return version.number;
 }
 
 uint8_t lldpa_fault_text(uint32_t fault, uint8_t *room, size_t room_length, size_t *length)
 {
-    if (is_missing(room, room_length) || length == NULL) {
-        return LLDPA_NULL;
-    }
-    return proved_lldpa_fault_text(fault, room_at(room), room_length, length);
+    return is_missing(room, room_length) || length == NULL
+               ? LLDPA_NULL
+               : proved_lldpa_fault_text(fault, room_at(room), room_length, length);
 }
 
 /* ---- Reading ---------------------------------------------------------------------------------------------------- */
 
 bool lldpa_frame_pdu(const uint8_t *frame, size_t length, lldpa_place *pdu)
 {
-    if (is_missing(frame, length) || pdu == NULL) {
-        return false;
-    }
-    return proved_lldpa_frame_pdu(octets(frame), length, pdu);
+    return is_missing(frame, length) || pdu == NULL ? false : proved_lldpa_frame_pdu(octets(frame), length, pdu);
 }
 
 uint8_t lldpa_examine(const uint8_t *pdu, size_t length, lldpa_examined *told)
 {
-    if (is_missing(pdu, length) || told == NULL) {
-        return LLDPA_NULL;
-    }
-    return proved_lldpa_examine(octets(pdu), length, told);
+    return is_missing(pdu, length) || told == NULL ? LLDPA_NULL : proved_lldpa_examine(octets(pdu), length, told);
 }
 
 bool lldpa_next_kept(const uint8_t *extent, size_t length, lldpa_kept *walk)
 {
-    if (is_missing(extent, length) || walk == NULL) {
-        return false;
-    }
-    return proved_lldpa_next_kept(octets(extent), length, walk);
+    return is_missing(extent, length) || walk == NULL ? false : proved_lldpa_next_kept(octets(extent), length, walk);
 }
 
 bool lldpa_caps(const uint8_t *body, size_t length, lldpa_capabilities *told)
 {
-    if (is_missing(body, length) || told == NULL) {
-        return false;
-    }
-    return proved_lldpa_caps(octets(body), length, told);
+    return is_missing(body, length) || told == NULL ? false : proved_lldpa_caps(octets(body), length, told);
 }
 
 bool lldpa_mgmt(const uint8_t *body, size_t length, lldpa_management *told)
 {
-    if (is_missing(body, length) || told == NULL) {
-        return false;
-    }
-    return proved_lldpa_mgmt(octets(body), length, told);
+    return is_missing(body, length) || told == NULL ? false : proved_lldpa_mgmt(octets(body), length, told);
+}
+
+uint8_t lldpa_tlv_text(uint32_t kind, const uint8_t *body, size_t body_length, uint8_t *room, size_t room_length,
+                       size_t *length)
+{
+    return is_missing(body, body_length) || is_missing(room, room_length) || length == NULL
+               ? LLDPA_NULL
+               : proved_lldpa_tlv_text(kind, octets(body), body_length, room_at(room), room_length, length);
+}
+
+uint8_t lldpa_escape(const uint8_t *text, size_t text_length, uint8_t *room, size_t room_length, size_t *length)
+{
+    return is_missing(text, text_length) || is_missing(room, room_length) || length == NULL
+               ? LLDPA_NULL
+               : proved_lldpa_escape(octets(text), text_length, room_at(room), room_length, length);
 }
 
 /* ---- Building --------------------------------------------------------------------------------------------------- */
@@ -200,15 +207,7 @@ uint8_t lldpa_transmit_new(lldpa_machine *machine, uint32_t credit_max, uint32_t
 
 uint8_t lldpa_transmit_event(lldpa_machine *machine, uint32_t cause, uint32_t interval, uint8_t *mark)
 {
-    if (machine == NULL || mark == NULL) {
-        return LLDPA_NULL;
-    }
-    return proved_lldpa_transmit_event(machine, cause, interval, mark);
-}
-
-uint8_t lldpa_transmit_credit(const lldpa_machine *machine)
-{
-    return machine == NULL ? 0 : proved_lldpa_transmit_credit(machine);
+    return machine == NULL || mark == NULL ? LLDPA_NULL : proved_lldpa_transmit_event(machine, cause, interval, mark);
 }
 
 /* ---- The agent -------------------------------------------------------------------------------------------------- */
@@ -251,15 +250,6 @@ uint8_t lldpa_open(const lldpa_options *options, lldpa_agent *agent)
     return proved_lldpa_open(&given, agent);
 }
 
-uint8_t lldpa_tick(lldpa_agent *agent, lldpa_marks *marks, uint32_t *aged_out)
-{
-    uint32_t unasked = 0;
-    if (agent == NULL || marks == NULL) {
-        return LLDPA_NULL;
-    }
-    return proved_lldpa_tick(agent, marks, aged_out != NULL ? aged_out : &unasked);
-}
-
 uint8_t lldpa_ticks(lldpa_agent *agent, uint32_t count, lldpa_marks *marks, lldpa_ticks_taken *told)
 {
     return agent == NULL || marks == NULL || told == NULL ? LLDPA_NULL
@@ -268,11 +258,7 @@ uint8_t lldpa_ticks(lldpa_agent *agent, uint32_t count, lldpa_marks *marks, lldp
 
 uint8_t lldpa_due(const lldpa_agent *agent, uint32_t *seconds)
 {
-    if (agent == NULL || seconds == NULL) {
-        return LLDPA_NULL;
-    }
-    lldpa_agent copy = *agent;
-    return proved_lldpa_due(&copy, seconds);
+    return agent == NULL || seconds == NULL ? LLDPA_NULL : proved_lldpa_due(COPY(agent), seconds);
 }
 
 uint8_t lldpa_frame(lldpa_agent *agent, uint32_t port, const uint8_t *frame, size_t length, lldpa_marks *marks,
@@ -290,87 +276,55 @@ uint8_t lldpa_link(lldpa_agent *agent, uint32_t port, bool up, lldpa_marks *mark
     return agent == NULL || marks == NULL ? LLDPA_NULL : proved_lldpa_link(agent, port, up, marks);
 }
 
+uint8_t lldpa_leave(lldpa_agent *agent, lldpa_marks *marks)
+{
+    return agent == NULL || marks == NULL ? LLDPA_NULL : proved_lldpa_leave(agent, marks);
+}
+
 uint8_t lldpa_neighbor_count(const lldpa_agent *agent, uint32_t port, uint32_t *count)
 {
-    if (agent == NULL || count == NULL) {
-        return LLDPA_NULL;
-    }
-    lldpa_agent copy = *agent;
-    return proved_lldpa_neighbor_count(&copy, port, count);
+    return agent == NULL || count == NULL ? LLDPA_NULL : proved_lldpa_neighbor_count(COPY(agent), port, count);
 }
 
 uint8_t lldpa_neighbor(const lldpa_agent *agent, uint32_t port, uint32_t index, uint8_t *room, size_t room_length,
                        lldpa_held *told)
 {
-    if (agent == NULL || is_missing(room, room_length) || told == NULL) {
-        return LLDPA_NULL;
-    }
-    lldpa_agent copy = *agent;
-    return proved_lldpa_neighbor(&copy, port, index, room_at(room), room_length, told);
+    return agent == NULL || is_missing(room, room_length) || told == NULL
+               ? LLDPA_NULL
+               : proved_lldpa_neighbor(COPY(agent), port, index, room_at(room), room_length, told);
 }
 
 uint8_t lldpa_statistics(const lldpa_agent *agent, uint32_t port, lldpa_statistics_told *told)
 {
-    if (agent == NULL || told == NULL) {
-        return LLDPA_NULL;
-    }
-    lldpa_agent copy = *agent;
-    return proved_lldpa_statistics(&copy, port, told);
+    return agent == NULL || told == NULL ? LLDPA_NULL : proved_lldpa_statistics(COPY(agent), port, told);
 }
 
 uint8_t lldpa_configuration(const lldpa_agent *agent, lldpa_configuration_told *told)
 {
-    if (agent == NULL || told == NULL) {
-        return LLDPA_NULL;
-    }
-    lldpa_agent copy = *agent;
-    return proved_lldpa_configuration(&copy, told);
+    return agent == NULL || told == NULL ? LLDPA_NULL : proved_lldpa_configuration(COPY(agent), told);
 }
 
 uint8_t lldpa_command(lldpa_agent *agent, const uint8_t *line, size_t length, uint32_t *show, lldpa_marks *marks)
 {
-    if (agent == NULL || is_missing(line, length) || show == NULL || marks == NULL) {
-        return LLDPA_NULL;
-    }
-    return proved_lldpa_command(agent, octets(line), length, show, marks);
-}
-
-uint8_t lldpa_command_text(uint32_t fault, uint8_t *room, size_t room_length, size_t *length)
-{
-    if (is_missing(room, room_length) || length == NULL) {
-        return LLDPA_NULL;
-    }
-    return proved_lldpa_command_text(fault, room_at(room), room_length, length);
+    return agent == NULL || is_missing(line, length) || show == NULL || marks == NULL
+               ? LLDPA_NULL
+               : proved_lldpa_command(agent, octets(line), length, show, marks);
 }
 
 uint8_t lldpa_show_lines(const lldpa_agent *agent, uint32_t show, uint32_t from, uint8_t *room, size_t room_length,
                          lldpa_lines *told)
 {
-    if (agent == NULL || is_missing(room, room_length) || told == NULL) {
-        return LLDPA_NULL;
-    }
-    lldpa_agent copy = *agent;
-    return proved_lldpa_show_lines(&copy, show, from, room_at(room), room_length, told);
-}
-
-uint8_t lldpa_show_line(const lldpa_agent *agent, uint32_t show, uint32_t line, uint8_t *room, size_t room_length,
-                        size_t *length)
-{
-    if (agent == NULL || is_missing(room, room_length) || length == NULL) {
-        return LLDPA_NULL;
-    }
-    lldpa_agent copy = *agent;
-    return proved_lldpa_show_line(&copy, show, line, room_at(room), room_length, length);
+    return agent == NULL || is_missing(room, room_length) || told == NULL
+               ? LLDPA_NULL
+               : proved_lldpa_show_lines(COPY(agent), show, from, room_at(room), room_length, told);
 }
 
 uint8_t lldpa_frame_of(const lldpa_agent *agent, uint32_t port, uint32_t mark, uint8_t *room, size_t room_length,
                        size_t *length)
 {
-    if (agent == NULL || is_missing(room, room_length) || length == NULL) {
-        return LLDPA_NULL;
-    }
-    lldpa_agent copy = *agent;
-    return proved_lldpa_frame_of(&copy, port, mark, room_at(room), room_length, length);
+    return agent == NULL || is_missing(room, room_length) || length == NULL
+               ? LLDPA_NULL
+               : proved_lldpa_frame_of(COPY(agent), port, mark, room_at(room), room_length, length);
 }
 
 void lldpa_close(lldpa_agent *agent)

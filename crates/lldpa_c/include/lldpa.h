@@ -1,30 +1,33 @@
 /*
- * lldpa: the proved LLDP reader, transmit machine and agent (IEEE 802.1AB-2009), for C and for what calls C.
+ * lldpa: the proved LLDP reader, transmit machine and agent (IEEE 802.1AB-2009), for C and for languages that call C.
  *
- * Link with liblldpa.so.1 (`pkg-config --cflags --libs lldpa`), or with liblldpa.a (`-l:liblldpa.a` for `-llldpa`). It
- * takes memory by malloc and gives it back by free. C99.
+ * Link with liblldpa.so.1 (`pkg-config --cflags --libs lldpa`), or with liblldpa.a (`-l:liblldpa.a` instead of `-llldpa`).
+ * The library allocates memory by malloc and frees it by free. The header is C99 and C++.
  *
- * What the caller must keep, everywhere:
- *  - A pointer that is not NULL points to memory of its type that is there and aligned. What a call reads is
- *    initialized; what it only writes need not be. A pointer and the length behind it are one thing: so many elements
- *    stand there. No length is over SIZE_MAX / 2.
- *  - What a call writes to overlaps nothing else that it is given, and nobody else reads or writes it during the call. It
- *    writes nothing behind a pointer to const.
+ * Rules for the caller, for every function:
+ *  - A pointer that is not NULL points to existing, aligned memory of its type. Memory that a call reads is initialized;
+ *    memory that it only writes need not be. A pointer and the length behind it belong together: there are so many
+ *    elements. No length is over SIZE_MAX / 2.
+ *  - Memory that a call writes does not overlap its other arguments, and nobody else reads or writes it during the call.
+ *    A call writes nothing behind a pointer to const.
  *  - A bool is 0 or 1.
- * A number or a place may be out of its range: the answer says so, and nothing is done.
+ * A number or a place that is out of its range is reported, and nothing is done.
  *
- * NULL is allowed, too. With a length of 0 it stands for no elements, even in a struct. Elsewhere the answer
- * is LLDPA_NULL, or false or 0 if a function answers a bool or a number of frames, whatever else is given; nothing is
- * written, and lldpa_close does nothing.
+ * NULL is allowed. With a length of 0 it means no elements, even in a struct. As `news` it omits that result. Elsewhere
+ * the answer is LLDPA_NULL, or false if a function answers a bool, whatever the other arguments are; nothing is written,
+ * and lldpa_close does nothing.
  *
- * Stack: a call takes at most 12 KB.
+ * Stack: a call needs at most 12 KB.
  *
- * Memory: no function takes any but lldpa_open, and only lldpa_close gives it back. Nothing that a call was given is
- * kept once it has returned. Places are offsets in the octets that the caller gave.
+ * Memory: only lldpa_open allocates memory, and only lldpa_close frees it. A call keeps nothing that it was given. Places
+ * are offsets in the octets that the caller gave.
  *
- * Threads: no function has any state of its own, waits, or starts a thread. Calls over different memory may run at the
- * same time. Two calls over the same lldpa_machine or lldpa_agent may not. An agent is used and closed on the thread that
- * opened it. From a signal handler, or in the child of a fork of a process with threads, call no function of an agent.
+ * Threads: no function has state of its own, waits, or starts a thread. Calls on different memory may run at the same
+ * time. Two calls on the same lldpa_machine or lldpa_agent may not. Use and close an agent on the thread that opened it.
+ * Call no function of an agent from a signal handler, or in the child of a fork of a process with threads.
+ *
+ * Within 1.x functions, arguments, numbers and the fields of structs stay. Only lldpa_options may grow, at its end: its
+ * `size` says which one the caller has.
  */
 #ifndef LLDPA_H
 #define LLDPA_H
@@ -44,8 +47,8 @@ extern "C" {
 uint32_t lldpa_version(void);
 
 /*
- * ---- Answers. 0 is well. Each kind of fault has numbers of its own, listed at the function that answers them: 1 to
- * 8 of LLDPDUs, 11 to 13 of TLVs that are put, 21 to 26 of openings, 31 to 38 of commands.
+ * ---- Answers. 0 means success. Each kind of fault has its own numbers, listed at the function that returns them: 1 to 8
+ * for LLDPDUs, 11 to 13 for TLVs that are built, 21 to 26 for openings, 31 to 38 for commands.
  */
 
 #define LLDPA_OK 0
@@ -54,10 +57,11 @@ uint32_t lldpa_version(void);
 #define LLDPA_NOT_OPEN 102     /* the agent is not open */
 #define LLDPA_NO_PORT 103      /* the agent has no port of that number */
 #define LLDPA_IS_OPEN 104      /* the agent is open already */
-#define LLDPA_NULL 105         /* a pointer is NULL that must not be */
+#define LLDPA_NULL 105         /* a pointer that must not be NULL is NULL */
 
 /*
- * What a fault or a misuse is, in words, as "the first TLV is not a Chassis ID".
+ * What a fault or a misuse is, in words, as "the first TLV is not a Chassis ID". The line that the program writes of a
+ * refused command is "error: " and these words.
  *   fault   an answer other than 0: a number that stands in this header at a fault, or one of those above
  *   length  how many octets it has, at most LLDPA_FAULT_ROOM
  * Answers 0, LLDPA_OUT_OF_RANGE or LLDPA_NO_ROOM; only if it is 0 anything is written.
@@ -69,13 +73,13 @@ uint8_t lldpa_fault_text(uint32_t fault, uint8_t *room, size_t room_length, size
 #define LLDPA_PDU_ROOM 1500      /* for lldpa_build */
 #define LLDPA_FRAME_ROOM 1514    /* for lldpa_frame_of */
 #define LLDPA_NEIGHBOR_ROOM 1500 /* for lldpa_neighbor */
-#define LLDPA_LINE_ROOM 2049     /* for lldpa_show_line, and for one line of lldpa_show_lines */
-#define LLDPA_TEXT_ROOM 22       /* for lldpa_command_text */
+#define LLDPA_LINE_ROOM 2049     /* for one line of lldpa_show_lines */
+#define LLDPA_VALUE_ROOM 1058    /* for lldpa_tlv_text */
 #define LLDPA_FAULT_ROOM 65      /* for lldpa_fault_text */
 
 /* ---- Reading ---------------------------------------------------------------------------------------------------- */
 
-/* Octets among those that the caller gave: how many stand before them, and how many they are. */
+/* Some of the octets that the caller gave: how many precede them, and how many there are. */
 typedef struct lldpa_place {
     size_t start;
     size_t length;
@@ -84,12 +88,12 @@ typedef struct lldpa_place {
 /*
  * Where the LLDPDU of an Ethernet frame lies.
  *   frame, length  the frame from its destination address on, without a VLAN tag and without the check sequence
- *   pdu            written if the answer is true: all that follows the EtherType, at most 1500 octets
+ *   pdu            written if the answer is true: what follows the EtherType, at most 1500 octets
  * True exactly for an LLDP frame: 14 to 1514 octets, to 01-80-C2-00-00-0E, of EtherType 88-CC.
  */
 bool lldpa_frame_pdu(const uint8_t *frame, size_t length, lldpa_place *pdu);
 
-/* The faults of an LLDPDU, in the order in which they are looked for. */
+/* The faults of an LLDPDU, in the order of the checks. */
 #define LLDPA_TRUNCATED 1      /* no complete TLV where a mandatory one belongs */
 #define LLDPA_NO_CHASSIS 2     /* the first TLV is not a Chassis ID */
 #define LLDPA_CHASSIS_LENGTH 3 /* the Chassis ID does not have 2 to 256 octets */
@@ -103,8 +107,8 @@ bool lldpa_frame_pdu(const uint8_t *frame, size_t length, lldpa_place *pdu);
 typedef struct lldpa_examined {
     lldpa_place chassis; /* the body of the Chassis ID, 2 to 256 octets, its subtype first */
     lldpa_place port;    /* the body of the Port ID, in the same form */
-    size_t extent;       /* how many octets count, from the front: those before the End Of LLDPDU */
-    size_t discarded;    /* how many TLVs are discarded, one that is not complete among them */
+    size_t extent;       /* how many octets count, from the first: those before the End Of LLDPDU */
+    size_t discarded;    /* how many TLVs are discarded, including an incomplete one at the end */
     size_t unrecognized; /* how many kept TLVs are of the types 9 to 127 */
     uint16_t ttl;        /* the time to live in seconds; 0: the neighbor is gone, and the three above are 0 */
 } lldpa_examined;
@@ -131,7 +135,7 @@ typedef struct lldpa_kept {
  *   extent, length  the first `extent` octets of an LLDPDU for which lldpa_examine answered 0, with a TTL above 0;
  *                   the same ones for a whole walk
  *   walk            gets the TLV, and is advanced; it is unchanged if no TLV is left
- * True with the next TLV, false if none is left. For any other octets the answer is some TLV in them, or none.
+ * True with the next TLV, false if none is left. For other octets the result is some TLV in them, or none.
  */
 bool lldpa_next_kept(const uint8_t *extent, size_t length, lldpa_kept *walk);
 
@@ -164,18 +168,40 @@ typedef struct lldpa_management {
  */
 bool lldpa_mgmt(const uint8_t *body, size_t length, lldpa_management *told);
 
+/*
+ * What `show neighbors` writes of a TLV behind "lldp.PORT.N.": "chassis.mac=00:11:22:33:44:55", "port.ifname=eth0",
+ * "chassis.mgmt=192.0.2.1,2,3,". The value is what follows the first '='. Texts are escaped as by lldpa_escape.
+ *   kind    the type of the TLV: 1 for a Chassis ID, 2 for a Port ID, or 4 to 127
+ *   body    its body, which must be well formed for the type and have at most 511 octets
+ *   room    LLDPA_VALUE_ROOM octets are always enough
+ *   length  how many octets were written, if the answer is 0
+ * Answers the first of these: LLDPA_OUT_OF_RANGE for the type or the body, LLDPA_NO_ROOM; else 0.
+ */
+uint8_t lldpa_tlv_text(uint32_t kind, const uint8_t *body, size_t body_length, uint8_t *room, size_t room_length,
+                       size_t *length);
+
+/*
+ * Escapes a text that came from a neighbor, so that it can be printed: a backslash is written twice, an octet that is not
+ * printable ASCII as a backslash, an x and two hexadecimal digits, and any other octet as it is.
+ *   text    at most 511 octets
+ *   room    four times as many octets are always enough
+ *   length  how many octets were written, if the answer is 0
+ * Answers the first of these: LLDPA_OUT_OF_RANGE for the length of the text, LLDPA_NO_ROOM; else 0.
+ */
+uint8_t lldpa_escape(const uint8_t *text, size_t text_length, uint8_t *room, size_t room_length, size_t *length);
+
 /* ---- Building --------------------------------------------------------------------------------------------------- */
 
-/* A TLV that is to be put: its body, and its type. */
+/* A TLV to build: its body, and its type. */
 typedef struct lldpa_tlv {
     const uint8_t *body;
     size_t length;
     uint8_t kind;
 } lldpa_tlv;
 
-/* Why a TLV is not put. They are looked for in the order Kind, Body, Full. */
+/* Why a TLV is left out. The checks come in the order Kind, Body, Full. */
 #define LLDPA_FULL 11 /* it and the End Of LLDPDU do not fit in 1500 octets */
-#define LLDPA_KIND 12 /* its type is not 4 to 127, or one of 4 to 7 that was put before, or the TTL is 0 */
+#define LLDPA_KIND 12 /* its type is not 4 to 127, or is one of 4 to 7 and was put before; or the TTL is 0 */
 #define LLDPA_BODY 13 /* its body is over 511 octets, or not well formed for its type */
 
 /*
@@ -196,13 +222,13 @@ uint8_t lldpa_build(const uint8_t *chassis, size_t chassis_length, const uint8_t
 
 /* ---- The transmit machine of one port (clause 9) ---------------------------------------------------------------- */
 
-/* The machine. lldpa_transmit_new makes it; its fields are not the caller's to change, but may be copied and read. */
+/* The machine. lldpa_transmit_new makes it. The caller may copy it and read its fields, but not change them. */
 typedef struct lldpa_machine {
     uint16_t timer;     /* ticks until the timer ends */
     uint8_t credit_max; /* txCreditMax */
     uint8_t fast_init;  /* txFastInit */
     uint8_t reinit;     /* reinitDelay, in seconds */
-    uint8_t credit;     /* ordinary frames that may go before the next tick */
+    uint8_t credit;     /* ordinary frames that may be sent before the next tick, 0 to credit_max */
     uint8_t wait;       /* ticks until the port may start again */
     uint8_t left;       /* signals left in the burst */
     bool waiting;       /* a signal has had no frame yet */
@@ -221,7 +247,7 @@ typedef struct lldpa_machine {
 #define LLDPA_CAUSE_UP 6       /* the link came up */
 #define LLDPA_CAUSE_NOTHING 7  /* nothing that concerns transmitting */
 
-/* Which frame goes. */
+/* Which frame is sent. */
 #define LLDPA_QUIET 0    /* none */
 #define LLDPA_ORDINARY 1 /* one with the whole configuration */
 #define LLDPA_SHUTDOWN 2 /* one with a time to live of 0 */
@@ -247,12 +273,9 @@ uint8_t lldpa_transmit_new(lldpa_machine *machine, uint32_t credit_max, uint32_t
  */
 uint8_t lldpa_transmit_event(lldpa_machine *machine, uint32_t cause, uint32_t interval, uint8_t *mark);
 
-/* How many ordinary frames may go before the next tick, 0 to 10. */
-uint8_t lldpa_transmit_credit(const lldpa_machine *machine);
-
 /* ---- The agent -------------------------------------------------------------------------------------------------- */
 
-/* A text: octets, with no 0 behind them. */
+/* A text: octets, which no 0 ends. */
 typedef struct lldpa_text {
     const uint8_t *octets;
     size_t length;
@@ -269,7 +292,7 @@ typedef struct lldpa_options {
     const lldpa_text *ports; /* the names of the ports in order: 1 to 15 letters, digits, '-', '_', '/' and ':' */
     size_t port_count;       /* 1 to 64 */
     lldpa_text hostname;     /* at most 255 octets, printable ASCII */
-    uint8_t mac[6];          /* the source address of every frame */
+    uint8_t mac[6];          /* the source address and the chassis ID of every frame */
     uint8_t management[4];   /* the IPv4 address under which the agent can be managed */
     bool managed;            /* whether there is one; if not, management may hold anything */
     bool receive_only;       /* whether each port begins with the status rx-only */
@@ -286,15 +309,15 @@ typedef struct lldpa_options {
       32, 5, 4, 2 }
 
 /*
- * A handle. Begin with one that is all 0: lldpa_agent agent = {0}. Its fields are not the caller's to read or change,
- * and it is not to be copied while it is open.
+ * A handle. Begin with one that is all 0: lldpa_agent agent = {0}. Do not read or change its fields, and do not copy it
+ * while it is open.
  */
 typedef struct lldpa_agent {
     void *held;
     bool open;
 } lldpa_agent;
 
-/* Why an agent is not opened, in the order of the checks from 22 on. */
+/* Why an agent is not opened. From 22 on they are in the order of the checks. */
 #define LLDPA_MEMORY 21         /* there was no memory for it */
 #define LLDPA_NO_PORTS 22       /* no port was named */
 #define LLDPA_TOO_MANY_PORTS 23 /* more than 64 ports were named */
@@ -303,7 +326,7 @@ typedef struct lldpa_agent {
 #define LLDPA_TEXT 26           /* the hostname is over 255 octets, or has one that is not printable */
 
 /*
- * Opens an agent. All memory that it will ever need is taken here: about 1.6 KB for each of max_neighbors on each port.
+ * Opens an agent, and allocates all memory that it will ever need: about 1.6 KB for each of max_neighbors on each port.
  * Answers the first of these: LLDPA_OUT_OF_RANGE for another size; LLDPA_IS_OPEN; LLDPA_OUT_OF_RANGE for role, one of the
  * four numbers, or a text that is not UTF-8; the first fault, 22 to 26; LLDPA_MEMORY; else 0, and the agent is open. If it
  * is not 0, the handle stays as it was. Of more than 65 names only the first 65 are looked at.
@@ -316,18 +339,11 @@ typedef struct lldpa_mark {
     uint8_t mark; /* LLDPA_ORDINARY or LLDPA_SHUTDOWN */
 } lldpa_mark;
 
-/* Which ports send: the first `count` of items, by rising port. */
+/* Which ports send: the first `count` items, in ascending order. */
 typedef struct lldpa_marks {
     lldpa_mark items[64];
     uint8_t count;
 } lldpa_marks;
-
-/*
- * One second has passed. Answers 0 or LLDPA_NOT_OPEN.
- *   marks     which ports send, if the answer is 0
- *   aged_out  how many neighbors aged out, if the answer is 0; or NULL. They are those that had 1 second left before.
- */
-uint8_t lldpa_tick(lldpa_agent *agent, lldpa_marks *marks, uint32_t *aged_out);
 
 /* What several ticks did. */
 typedef struct lldpa_ticks_taken {
@@ -336,11 +352,12 @@ typedef struct lldpa_ticks_taken {
 } lldpa_ticks_taken;
 
 /*
- * Up to `count` seconds have passed: takes as many ticks, but stops behind the first at which a port sends or a neighbor
- * ages out. It does what so many calls of lldpa_tick do. Answers 0 or LLDPA_NOT_OPEN.
+ * Up to `count` seconds have passed: takes as many ticks, but stops after the first at which a port sends or a neighbor
+ * ages out. Answers 0 or LLDPA_NOT_OPEN.
+ *   count  no more than the seconds that passed: LLDPA_NEVER would be 4,294,967,295 ticks, which need minutes
  *   marks  which ports send at the last tick, if the answer is 0
  *   told   written if the answer is 0. If fewer were taken than count, send the frames of marks and call it again for the
- *          others.
+ *          others. The neighbors that age out at a tick are those that had 1 second left before it.
  */
 uint8_t lldpa_ticks(lldpa_agent *agent, uint32_t count, lldpa_marks *marks, lldpa_ticks_taken *told);
 
@@ -350,9 +367,10 @@ uint8_t lldpa_ticks(lldpa_agent *agent, uint32_t count, lldpa_marks *marks, lldp
  * At which tick, from 1, a port sends or a neighbor ages out, if no other call comes before it. Answers 0 or
  * LLDPA_NOT_OPEN.
  *   seconds  1 to 65535, or LLDPA_NEVER, if the answer is 0
- * A caller may sleep so many seconds, and then give all of them to lldpa_ticks, which takes just so many before it stops.
+ * You may sleep so many seconds, and then give all of them to lldpa_ticks, which stops only after the last of them.
  * At the ticks before that one only clocks go on: seconds that are left, the credit of a port, what shows tell of these.
- * Any other call may bring it nearer or put it off, so ask again behind it.
+ * Any other call may bring it nearer or put it off, so ask again after it.
+ * If you wake for something else, such as a frame, give the seconds that passed first, and then the frame.
  */
 uint8_t lldpa_due(const lldpa_agent *agent, uint32_t *seconds);
 
@@ -380,7 +398,8 @@ typedef struct lldpa_news {
 
 /*
  * A frame came on a port: any octets; if they are not an LLDP frame, nothing changes. Answers 0, LLDPA_NOT_OPEN or
- * LLDPA_NO_PORT.
+ * LLDPA_NO_PORT. First give the seconds that passed before the frame came: its time to live begins at this call, and a
+ * second that you give later counts against it.
  *   port   its number, from 0, in the order of the options
  *   marks  which ports send, if the answer is 0
  *   news   what the frame did, if the answer is 0; or NULL
@@ -388,15 +407,22 @@ typedef struct lldpa_news {
 uint8_t lldpa_frame(lldpa_agent *agent, uint32_t port, const uint8_t *octets, size_t length, lldpa_marks *marks,
                     lldpa_news *news);
 
-/* The link of a port came up, or went down. The rest as of lldpa_frame. */
+/* The link of a port came up, or went down. The rest is as for lldpa_frame. */
 uint8_t lldpa_link(lldpa_agent *agent, uint32_t port, bool up, lldpa_marks *marks);
+
+/*
+ * Disables every port, as at the end of a program. Answers 0 or LLDPA_NOT_OPEN.
+ *   marks  which ports send, if the answer is 0: a shutdown frame on each port that was active, and nothing else
+ */
+uint8_t lldpa_leave(lldpa_agent *agent, lldpa_marks *marks);
 
 /* How many neighbors a port holds. Answers 0, LLDPA_NOT_OPEN or LLDPA_NO_PORT; count is written if it is 0. */
 uint8_t lldpa_neighbor_count(const lldpa_agent *agent, uint32_t port, uint32_t *count);
 
 /* A neighbor that a port holds. */
 typedef struct lldpa_held {
-    lldpa_examined pdu; /* what its last stored LLDPDU says; its places are in the octets that were written */
+    lldpa_examined pdu; /* what its last stored LLDPDU says; its places are in the octets that were written. An
+                           incomplete TLV at its end is not stored, and `discarded` does not count it here */
     uint32_t left;      /* seconds until it ages out */
 } lldpa_held;
 
@@ -421,7 +447,7 @@ typedef struct lldpa_statistics_told {
     uint32_t tlvs_discarded; /* TLVs that were discarded */
     uint32_t unrecognized;   /* kept TLVs of the types 9 to 127 */
     uint32_t ageouts;        /* neighbors that aged out */
-    uint32_t drops;          /* LLDPDUs that were dropped for want of room */
+    uint32_t drops;          /* LLDPDUs that were dropped since there was no room */
 } lldpa_statistics_told;
 
 /* What a port counted. Answers 0, LLDPA_NOT_OPEN or LLDPA_NO_PORT; told is written if it is 0. */
@@ -433,7 +459,7 @@ uint8_t lldpa_statistics(const lldpa_agent *agent, uint32_t port, lldpa_statisti
 #define LLDPA_TX_ONLY 2
 #define LLDPA_DISABLED 3
 
-/* How an agent is configured: by the last command that set each, else as it was opened. */
+/* How an agent is configured: each by the last command that set it, or as it was opened. */
 typedef struct lldpa_configuration_told {
     uint32_t interval;      /* tx-interval, in seconds */
     uint32_t hold;          /* tx-hold */
@@ -443,7 +469,7 @@ typedef struct lldpa_configuration_told {
     uint32_t credit_max;    /* txCreditMax */
     uint32_t max_neighbors; /* the limit in force */
     uint32_t ports;         /* how many ports there are */
-    uint8_t status[64];     /* LLDPA_RX_AND_TX to LLDPA_DISABLED of each port; behind the last port 0 */
+    uint8_t status[64];     /* LLDPA_RX_AND_TX to LLDPA_DISABLED for each port; 0 after the last port */
 } lldpa_configuration_told;
 
 /* How an agent is configured. Answers 0 or LLDPA_NOT_OPEN; told is written if it is 0. */
@@ -467,26 +493,18 @@ uint8_t lldpa_configuration(const lldpa_agent *agent, lldpa_configuration_told *
 #define LLDPA_IN_USE 38       /* some port holds more neighbors than the limit */
 
 /*
- * Takes a line of a command, "configure ..", "update" or "show ..", without its line feed. A setting is carried out, a
- * show is only read: lldpa_show_lines gives its lines.
+ * Runs the line of a command, "configure ..", "update" or "show ..", without its line feed. A show is only read:
+ * lldpa_show_lines writes its lines.
  *   show   LLDPA_SHOW_NOTHING, or which show it is, if the answer is 0
  *   marks  which ports send, if the answer is 0
- * Answers 0; or 31 to 38, LLDPA_NOT_OPEN, and nothing is changed.
+ * Answers 0; or 31 to 38 or LLDPA_NOT_OPEN, and then nothing is changed.
  */
 uint8_t lldpa_command(lldpa_agent *agent, const uint8_t *line, size_t length, uint32_t *show, lldpa_marks *marks);
-
-/*
- * The line that reports a refused command, without its line feed, as "error: unknown command".
- *   fault   31 to 38
- *   length  how many octets it has, at most LLDPA_TEXT_ROOM
- * Answers 0, LLDPA_OUT_OF_RANGE or LLDPA_NO_ROOM; if it is not 0, nothing is written.
- */
-uint8_t lldpa_command_text(uint32_t fault, uint8_t *room, size_t room_length, size_t *length);
 
 /* What was written of a show. */
 typedef struct lldpa_lines {
     size_t length; /* how many octets, each line with its line feed */
-    uint32_t next; /* the line to go on with */
+    uint32_t next; /* the line to continue with; if no line is left, the number of lines, or `from` if it is greater */
     bool done;     /* whether no line is left */
 } lldpa_lines;
 
@@ -497,22 +515,11 @@ typedef struct lldpa_lines {
  *   room  of LLDPA_LINE_ROOM octets each line fits
  *   told  written if the answer is 0
  * Answers the first of these: LLDPA_OUT_OF_RANGE for the show, LLDPA_NOT_OPEN, LLDPA_NO_ROOM if not even the first line
- * fits; else 0. If it is not 0, nothing is written. To get all lines, go on with `next`, as long as the agent is given
- * nothing in between. A call goes through the lines before `from` too, so a room for the whole show costs least.
+ * fits; else 0. If it is not 0, nothing is written. To get all lines, continue with `next`, and give the agent nothing in
+ * between. A call also goes through the lines before `from`, so a room for the whole show costs least.
  */
 uint8_t lldpa_show_lines(const lldpa_agent *agent, uint32_t show, uint32_t from, uint8_t *room, size_t room_length,
                          lldpa_lines *told);
-
-/*
- * One line of a show, without its line feed.
- *   line    its number, from 0
- *   room    of LLDPA_LINE_ROOM octets each line fits
- *   length  how many octets it has, if the answer is 0
- * Answers the first of these: LLDPA_OUT_OF_RANGE for the show, LLDPA_NOT_OPEN, LLDPA_OUT_OF_RANGE if the show has no such
- * line, LLDPA_NO_ROOM; else 0.
- */
-uint8_t lldpa_show_line(const lldpa_agent *agent, uint32_t show, uint32_t line, uint8_t *room, size_t room_length,
-                        size_t *length);
 
 /*
  * The frame that a port sends, with the present configuration.
@@ -524,7 +531,7 @@ uint8_t lldpa_show_line(const lldpa_agent *agent, uint32_t show, uint32_t line, 
 uint8_t lldpa_frame_of(const lldpa_agent *agent, uint32_t port, uint32_t mark, uint8_t *room, size_t room_length,
                        size_t *length);
 
-/* Closes an agent, and gives its memory back. Of one that is not open nothing happens. */
+/* Closes an agent, and frees its memory. Does nothing if it is not open. */
 void lldpa_close(lldpa_agent *agent);
 
 #ifdef __cplusplus

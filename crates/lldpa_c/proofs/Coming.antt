@@ -1,6 +1,6 @@
 -- What is in a room once lines have come.
 use Rattle.std.proofs.Common.{◌≡◌, ℕ, zero, suc, ◌+◌, ◌-◌, ◌%◌, ◌^◌, ◌<◌, ◌≤◌, Bool, true, false, not, List, [], ◌∷◌, ◌++◌, length, take, drop, Some, None, refl, sym, ap, subst, ◌∙◌, append-nil, append_assoc, arith}
-use Rattle.std.specs.Prelude.{Option, slice_get, nat_le}
+use Rattle.std.specs.Prelude.{Option, max, slice_get, nat_le}
 use Rattle.std.specs.Option.{option_map}
 use Rattle.std.specs.List.{flat_map}
 use Rattle.std.proofs.lemmas.Bool.{leb-true, leb-false, lt-ltb, le-ltb}
@@ -20,7 +20,7 @@ pub record Comes (size : ℕ) (v r : View) (lines : List (List ℕ)) : Type 0 wh
   pub next : r.next ≡ v.next + count
   pub text : r.text ≡ v.text ++ flat_map ended (take count lines)
   pub within : r.used ≤ size
-  pub done : r.is_full ≡ false → slice_get lines count ≡ None
+  pub done : r.is_full ≡ false → count ≡ length lines
   pub full : r.is_full ≡ true → IsFull lines count size r.used
 
 -- if the room is full nothing comes
@@ -55,7 +55,7 @@ one_comes true size v line lines is skip room within few others =
       next = omega (arith, c.next, low);
       text = c.text ∙ append_assoc v.text text (flat_map ended (take c.count lines));
       within = c.within;
-      done = c.done;
+      done = λ room. ap suc (c.done room);
       full = λ full. let f = c.full full in record { line = f.line; is = f.is; over = f.over };
     }
 one_comes false size v line lines is skip room within few others =
@@ -138,8 +138,11 @@ fills lines from size r c = record {
   are = c.text ∙ ap (λ (n : ℕ). flat_map ended (take n (drop from lines))) (omega (arith, c.next));
 }
 
-pub no_more : (lines : List (List ℕ)) (from size : ℕ) (r : View) → Comes size (begun from) r (drop from lines) → r.is_full ≡ false → slice_get lines r.next ≡ None
-no_more lines from size r c room = ap (slice_get lines) c.next ∙ sym (get_behind from c.count lines) ∙ c.done room
+pub ends : (lines : List (List ℕ)) (from size : ℕ) (r : View) → Comes size (begun from) r (drop from lines) → r.is_full ≡ false → r.next ≡ max from (length lines)
+ends lines from size r c room = omega (arith, c.next, c.done room, length-drop from lines)
+
+pub no_more : (lines : List (List ℕ)) (from : ℕ) → from ≡ max from (length lines) → slice_get lines from ≡ None
+no_more lines from e = slice_get_past lines from (omega (arith, e))
 
 pub is_full : (lines : List (List ℕ)) (from size : ℕ) (r : View) → Comes size (begun from) r (drop from lines) → r.is_full ≡ true → IsFull lines r.next size r.used
 is_full lines from size r c full =

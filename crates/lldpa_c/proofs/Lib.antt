@@ -5,3 +5,5 @@ pub mod Coming
 pub mod Ticking
 pub mod Dueness
 pub mod Newly
+pub mod Stepping
+pub mod Disabling

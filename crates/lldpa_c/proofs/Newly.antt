@@ -41,6 +41,12 @@ named_in frame pdu table told h t sound =
       port = ap (octets_at frame) (t.port sound) ∙ port.1;
     }
 
+pub hears_it : (p : PortState) (frame pdu other : List ℕ) → hears p ≡ true → Some pdu ≡ lldpdu_of frame → heard_pdu p frame ≡ Some other → other ≡ pdu
+hears_it p frame pdu other up h heard =
+    let e : lldpdu_of frame ≡ Some pdu = sym h in
+    let is : heard_pdu p frame ≡ Some pdu = rw (up, e) refl in
+    cc
+
 pub reports : (p : PortState) (frame pdu : List ℕ) (told : LldpaNews) → hears p ≡ true → Some pdu ≡ lldpdu_of frame → TellsPdu p.table pdu told → Reports p frame told
 reports p frame pdu told up h t =
     let e : lldpdu_of frame ≡ Some pdu = sym h in

@@ -14,7 +14,7 @@ use Rattle.lldp_engine.specs.Standing.{Stands}
 use Rattle.lldp_engine.specs.Port.Event.{each_port, tick as port_tick}
 use Rattle.lldp_engine.specs.Code.Step.{ports_step, agent_after, agent_marks}
 use Rattle.lldpa_c.specs.Agent.{Steps}
-use Rattle.lldpa_c.specs.Ticks.{held_by, neighbors_held, AgesOut, ticked, with_ticks, IsQuiet, LastDid}
+use Rattle.lldpa_c.specs.Ticks.{held_by, neighbors_held, AgesOut, ticked, with_ticks, IsQuiet, LastDid, LastPromised}
 
 -- ---- how many neighbors ports hold
 
@@ -49,9 +49,10 @@ pub record TakesSo (taken : ℕ) (before after : AgentState) (sent : List (ℕ �
   pub last : LastDid taken before sent gone
   pub quiet : (k : ℕ) → k + 1 < taken → IsQuiet (ticked k before)
   pub stands : (past : Past) → Stands past before → Stands (with_ticks taken past) after
+  pub promised : (past : Past) → Stands past before → LastPromised taken past sent after
 
 pub none_taken : (agent : AgentState) → TakesSo 0 agent agent [] 0
-none_taken agent = record { is = refl; last = (refl, refl); quiet = λ k h. absurd (omega arith); stands = λ past s. s }
+none_taken agent = record { is = refl; last = (refl, refl); quiet = λ k h. absurd (omega arith); stands = λ past s. s; promised = λ past s. tt }
 
 quiet_more : (taken : ℕ) (before after : AgentState) (sent : List (ℕ × Mark)) (gone : ℕ) → TakesSo taken before after sent gone → sent ≡ [] → gone ≡ 0
     → (k : ℕ) → k + 1 < suc taken → IsQuiet (ticked k before)
@@ -70,6 +71,7 @@ one_suc taken gone gone' before after after' sent sent' t e z s a = record {
   last = (s.marks ∙ ap (agent_marks tick) t.is, omega (arith, a, ap neighbors_held t.is, ap neighbors_held (s.next ∙ ap (agent_after tick) t.is)));
   quiet = quiet_more taken before after sent gone t e z;
   stands = λ past st. s.stands (with_ticks taken past) (t.stands past st);
+  promised = λ past st. (s.marks_past (with_ticks taken past) (t.stands past st), s.headline (with_ticks taken past) (t.stands past st));
 }
 
 pub one_more : (taken gone gone' : ℕ) (before after after' : AgentState) (sent sent' : List (ℕ × Mark)) → TakesSo taken before after sent gone → sent ≡ [] → gone ≡ 0

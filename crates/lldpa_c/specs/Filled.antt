@@ -1,11 +1,16 @@
 -- Lines of a show, as many as fit into the caller's room.
-use Rattle.std.specs.Prelude.{◌≡◌, ℕ, ◌+◌, ◌-◌, ◌<◌, ◌≤◌, true, false, List, length, take, drop, Some, None, slice_get}
+use Rattle.std.specs.Prelude.{◌≡◌, ℕ, ◌+◌, ◌-◌, ◌<◌, ◌≤◌, true, false, not, max, List, [], ◌∷◌, length, take, drop, Option, Some, is_none, slice_get, option_and_then}
 use Rattle.std.specs.List.{flat_map}
+use Rattle.std.specs.Option.{option_map}
+use Rattle.lldp_pdu.specs.Check.{Check}
 use Rattle.lldp_text.specs.Text.{ended}
 use Rattle.lldp_engine.specs.declared.command.Show.{Show}
 use Rattle.lldp_engine.specs.AgentState.{AgentState}
 use Rattle.lldp_engine.specs.Lines.{lines_of}
+use Rattle.lldpa_c.specs.declared.holder.LldpaAgent.{LldpaAgent}
 use Rattle.lldpa_c.specs.declared.lines.LldpaLines.{LldpaLines}
+use Rattle.lldpa_c.specs.declared.answer.TheConstants.{OUT_OF_RANGE, NO_ROOM, NOT_OPEN}
+use Rattle.lldpa_c.specs.Answer.{is_over}
 use Rattle.lldpa_c.specs.Command.{show_numbered}
 
 -- these octets are the lines from one on up to another, each with its line feed
@@ -19,12 +24,26 @@ pub record IsFull (lines : List (List ℕ)) (next room used : ℕ) : Type 0 wher
   pub is : slice_get lines next ≡ Some line
   pub over : room < used + length line + 1
 
--- What was written of a show by its number, to the front of a room: the lines from one on up to another. No line is left
--- if that is said; else at least one was written, and the next does not fit.
+-- What was written of a show by its number, to the front of a room: the lines from one on up to another. If it is said
+-- that no line is left, the next is behind the last line, or the one that was wanted if that is farther; else at least
+-- one was written, and the next does not fit.
 pub record Filled (agent : AgentState) (number from : ℕ) (told : LldpaLines) (room : List ℕ) : Type 0 where
   pub show : Show
   pub numbered : show_numbered number ≡ Some show
   pub lines : Fills (lines_of show agent) from told.next (take told.length room)
-  pub done : told.done ≡ true → slice_get (lines_of show agent) told.next ≡ None
+  pub done : told.done ≡ true → told.next ≡ max from (length (lines_of show agent))
   pub some : told.done ≡ false → from < told.next
   pub full : told.done ≡ false → IsFull (lines_of show agent) told.next (length room) told.length
+
+-- that line of the show of that number, if there is one
+abbrev pub line_numbered : AgentState → ℕ → ℕ → Option (List ℕ)
+line_numbered agent number line = option_and_then (λ show. slice_get (lines_of show agent) line) (show_numbered number)
+
+-- Why no lines are written: the number of the show is none, the handle is not open, or the show has the first line that
+-- is wanted and it does not fit into so many octets with its line feed.
+abbrev pub lines_checks : LldpaAgent → ℕ → ℕ → ℕ → List (Check ℕ)
+lines_checks handle number from room =
+    record { fails = is_none (show_numbered number); fault = OUT_OF_RANGE }
+    ∷ record { fails = not handle.is_open; fault = NOT_OPEN }
+    ∷ record { fails = is_over room (option_map ended (line_numbered handle.held.agent number from)); fault = NO_ROOM }
+    ∷ []

@@ -12,11 +12,14 @@ pub mod Agent
 pub mod Frame
 pub mod Opening
 pub mod Command
-pub mod Show
 pub mod Filled
 pub mod Filling
 pub mod Texts
 pub mod News
+pub mod NewsStep
+pub mod Leaving
+pub mod Values
+pub mod Laws
 pub mod Ticks
 pub mod Held
 pub mod Due

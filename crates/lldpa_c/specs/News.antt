@@ -8,7 +8,7 @@ use Rattle.lldp_pdu.specs.Msap.{MsapId}
 use Rattle.lldp_pdu.specs.Frame.{lldpdu_of}
 use Rattle.lldp_pdu.specs.Fault.{fault_of}
 use Rattle.lldp_pdu.specs.Lldpdu.{extent, ttl_of, msap_of}
-use Rattle.lldp_table.specs.Contents.{Contents, is_named}
+use Rattle.lldp_table.specs.Contents.{Contents, is_named, IsSound}
 use Rattle.lldp_engine.specs.AgentState.{AgentState, PortState}
 use Rattle.lldp_engine.specs.Status.{receives}
 use Rattle.lldpa_c.specs.declared.place.LldpaPlace.{LldpaPlace}
@@ -83,3 +83,9 @@ pub record Reports (port : PortState) (frame : List ℕ) (told : LldpaNews) : Ty
 -- the same on the port of this number
 abbrev pub ReportsAt : AgentState → ℕ → List ℕ → LldpaNews → Type 0
 ReportsAt agent number frame told = (port : PortState) → slice_get agent.ports number ≡ Some port → Reports port frame told
+
+-- the table of a port that hears a sound LLDPDU is sound, as every table is
+abbrev pub HearsSound : AgentState → ℕ → List ℕ → Type 0
+HearsSound agent number frame =
+    (port : PortState) (pdu : List ℕ) → slice_get agent.ports number ≡ Some port → heard_pdu port frame ≡ Some pdu →
+    fault_of pdu ≡ None → IsSound port.table

@@ -19,7 +19,6 @@ use Rattle.lldpa_c.specs.Frame.{mark_numbered}
 use Rattle.lldpa_c.specs.Command.{show_number, show_numbered}
 use Rattle.lldpa_c.specs.Settings.{status_number}
 use Rattle.lldpa_c.specs.Opening.{role_numbered}
-use Rattle.lldpa_c.specs.Texts.{fault_numbered}
 
 -- the item that has this number, if the first has that one and each other the next
 abbrev pub item_numbered : {A : Type 0} → ℕ → List A → ℕ → Option A
@@ -35,8 +34,6 @@ pub record AreGiven : Type 0 where
   pub shows : (n : ℕ) → show_numbered n
       ≡ item_numbered 1 (shown.Neighbors ∷ shown.Statistics ∷ shown.Chassis ∷ shown.Configuration ∷ []) n
   pub roles : (n : ℕ) → role_numbered n ≡ item_numbered 0 (role.Station ∷ role.Bridge ∷ role.Router ∷ []) n
-  pub faults : (n : ℕ) → fault_numbered n
-      ≡ item_numbered 31 (command.Unknown ∷ command.NoSuchPort ∷ command.Number ∷ command.Range ∷ command.Text ∷ command.Extra ∷ command.Quote ∷ command.InUse ∷ []) n
 
 -- These are told by these numbers.
 pub record AreTold : Type 0 where

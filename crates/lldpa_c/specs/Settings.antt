@@ -1,5 +1,5 @@
 -- What a port counted and how an agent is configured, as C is told it.
-use Rattle.std.specs.Prelude.{◌≡◌, ℕ, length, map, take}
+use Rattle.std.specs.Prelude.{◌≡◌, ℕ, length, map, take, drop, replicate}
 use Rattle.lldp_engine.specs.declared.port.counters.Counters.{Counters}
 use Rattle.lldp_engine.specs.declared.port.status.Status.{Status}
 use Rattle.lldp_engine.specs.declared.port.status.Status.TheVariants.{RxAndTx, RxOnly, TxOnly, Disabled}
@@ -29,7 +29,7 @@ status_number RxOnly = 1
 status_number TxOnly = 2
 status_number Disabled = 3
 
--- What is in force is told: each number, and the status of each port in the order of opening.
+-- What is in force is told: each number, and the status of each port in the order of opening, behind which all is 0.
 pub record TellsConfiguration (agent : AgentState) (told : LldpaConfiguration) : Type 0 where
   pub interval : told.interval ≡ agent.configuration.interval
   pub hold : told.hold ≡ agent.configuration.hold
@@ -40,3 +40,4 @@ pub record TellsConfiguration (agent : AgentState) (told : LldpaConfiguration) :
   pub max_neighbors : told.max_neighbors ≡ agent.configuration.limit
   pub ports : told.ports ≡ length agent.ports
   pub status : take told.ports told.status ≡ map (λ port. status_number port.status) agent.ports
+  pub others : drop told.ports told.status ≡ drop told.ports (replicate 64 0)

@@ -3,8 +3,9 @@ use Rattle.std.specs.Prelude.{◌≡◌, ℕ, zero, suc, ◌+◌, ◌<◌, ◌�
 use Rattle.lldp_transmit.specs.declared.event.Mark.{Mark}
 use Rattle.lldp_engine.specs.AgentState.{AgentState, PortState}
 use Rattle.lldp_engine.specs.Event.{tick}
-use Rattle.lldp_engine.specs.Past.{Past, with_event}
+use Rattle.lldp_engine.specs.Past.{Past, with_event, marks_of}
 use Rattle.lldp_engine.specs.Standing.{Stands}
+use Rattle.lldp_engine.specs.Headline.{PromisedStep}
 use Rattle.lldp_engine.specs.Code.Step.{agent_after, agent_marks}
 use Rattle.lldpa_c.specs.declared.holder.LldpaAgent.{LldpaAgent}
 use Rattle.lldpa_c.specs.declared.marks.LldpaMarks.{LldpaMarks}
@@ -44,6 +45,11 @@ abbrev pub LastDid : ℕ → AgentState → List (ℕ × Mark) → ℕ → Type 
 LastDid zero agent sent gone = (sent ≡ []) × (gone ≡ 0)
 LastDid (suc n) agent sent gone = (sent ≡ agent_marks tick (ticked n agent)) × AgesOut (ticked n agent) (ticked (suc n) agent) gone
 
+-- What is promised of the last of so many ticks, for each past that the agent stood for before them.
+abbrev pub LastPromised : ℕ → Past → List (ℕ × Mark) → AgentState → Type 0
+LastPromised zero past sent after = Unit {0}
+LastPromised (suc n) past sent after = (sent ≡ marks_of (with_ticks (suc n) past)) × PromisedStep (with_ticks n past) tick sent after
+
 -- So many ticks were taken of those that were asked for. At each of them but the last nothing was sent and nobody aged
 -- out; if fewer were taken, something was at the last.
 pub record Takes (asked taken : ℕ) (before after : AgentState) (sent : List (ℕ × Mark)) (gone : ℕ) : Type 0 where
@@ -53,6 +59,7 @@ pub record Takes (asked taken : ℕ) (before after : AgentState) (sent : List (�
   pub quiet : (k : ℕ) → k + 1 < taken → IsQuiet (ticked k before)
   pub why : taken < asked → (sent ≡ []) × (gone ≡ 0) → ⊥
   pub stands : (past : Past) → Stands past before → Stands (with_ticks taken past) after
+  pub promised : (past : Past) → Stands past before → LastPromised taken past sent after
 
 -- They are taken if the handle is open. Else nothing is told.
 pub record TicksTaken (before : LldpaAgent) (asked : ℕ) (marks_before : LldpaMarks) (told_before : LldpaTicks) (answer : ℕ)

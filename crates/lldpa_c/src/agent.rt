@@ -1,15 +1,14 @@
 //! What happens to an agent behind a handle.
 ghost use Rattle.std.specs.Prelude.{◌≡◌, false};
-ghost use Rattle.lldp_engine.specs.Event.{event_of, tick, frame, link};
+ghost use Rattle.lldp_engine.specs.Event.{event_of, frame, link};
 ghost use Rattle.lldpa_c.specs.Agent.{Answers, happening_on};
 ghost use Rattle.lldpa_c.specs.News.{ReportsAt};
-ghost use Rattle.lldpa_c.specs.Ticks.{AgesOut};
+ghost use Rattle.lldpa_c.specs.NewsStep.{TellsStepAt};
 
 use crate::answer::{NO_PORT, NOT_OPEN, OK};
 use crate::holder::LldpaAgent;
 use crate::marks::{LldpaMarks, tell};
 use crate::news::{LldpaNews, news_of};
-use crate::ticks::tick_once;
 use lldp_engine::Event;
 use std::alloc::Global;
 
@@ -55,29 +54,6 @@ fn take_on(
     OK
 }
 
-/// Takes a tick: one second has passed. Returns which ports send, and how many neighbors aged out.
-#[unsafe(no_mangle)]
-pub extern "C" fn lldpa_tick(
-    alloc: Global,
-    agent: &mut LldpaAgent,
-    marks: &mut LldpaMarks,
-    aged_out: &mut u32,
-) -> u8
-    ensures answer { Answers agent.old tick marks.old result agent.new marks.new }
-    ensures aged_out { result ≡ 0 →
-        AgesOut agent.old.held.agent agent.new.held.agent aged_out.new }
-    ensures refused { ¬ (result ≡ 0) → aged_out.new ≡ aged_out.old }
-{
-    let Some(mut held) = agent.take(alloc) else {
-        return NOT_OPEN;
-    };
-    let (sent, gone) = tick_once(&mut held);
-    agent.put(held);
-    tell(&sent, marks);
-    *aged_out = gone;
-    OK
-}
-
 /// Takes octets that a port received. Returns which ports send.
 #[unsafe(no_mangle)]
 pub extern "C" fn lldpa_frame(
@@ -104,6 +80,8 @@ pub extern "C" fn lldpa_frame_news(
 ) -> u8
     ensures answer { Answers agent.old (frame port octets.now) marks.old result agent.new marks.new }
     ensures news { result ≡ 0 → ReportsAt agent.old.held.agent port octets.now news.new }
+    ensures step { result ≡ 0 →
+        TellsStepAt agent.old.held.agent agent.new.held.agent port octets.now news.new.what }
     ensures refused { ¬ (result ≡ 0) → news.new ≡ news.old }
 {
     let Some(mut held) = agent.take(alloc) else {

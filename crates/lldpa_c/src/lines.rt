@@ -1,15 +1,14 @@
 //! Lines of a show, as many as fit into the caller's room.
-ghost use Rattle.std.specs.Prelude.{◌≡◌, ◌+◌, ◌≤◌, ◌<◌, ◌++◌, true, false, length, take, drop, None, slice_get, IfSome, IfNone};
+ghost use Rattle.std.specs.Prelude.{◌≡◌, ◌+◌, ◌≤◌, ◌<◌, ◌++◌, true, false, max, length, take, drop, IfSome, IfNone};
 ghost use Rattle.lldp_engine.specs.Lines.{lines_of};
 ghost use Rattle.lldpa_c.specs.Frame.{Keeps};
 ghost use Rattle.lldpa_c.specs.Answer.{answer_of};
-ghost use Rattle.lldpa_c.specs.Filled.{Fills, IsFull, Filled};
-ghost use Rattle.lldpa_c.specs.Show.{lines_checks};
+ghost use Rattle.lldpa_c.specs.Command.{show_numbered};
+ghost use Rattle.lldpa_c.specs.Filled.{Fills, IsFull, Filled, lines_checks};
 ghost use Rattle.lldpa_c.specs.Filling.{view, settled, begun, come_all, TakesLine, LeavesRest};
 
 use crate::answer::{NO_ROOM, NOT_OPEN, OK, OUT_OF_RANGE};
 use crate::holder::LldpaAgent;
-use crate::show::show_numbered;
 use lldp_engine::{Agent, LineSink, Show, Writer};
 use std::alloc::Global;
 
@@ -23,6 +22,19 @@ pub struct LldpaLines {
     pub next: u32,
     /// Whether no line is left.
     pub done: bool,
+}
+
+/// Returns the show of that number.
+fn show_numbered(number: u32) -> Option<Show>
+    ensures { result ≡ show_numbered number }
+{
+    match number {
+        1 => Some(Show::Neighbors),
+        2 => Some(Show::Statistics),
+        3 => Some(Show::Chassis),
+        4 => Some(Show::Configuration),
+        _ => None,
+    }
 }
 
 /// Writes a text behind the used octets of the room, if it fits. Returns how many are then used.
@@ -142,7 +154,7 @@ fn fill(agent: &Agent, show: Show, from: u32, room: &mut [u8]) -> LldpaLines
     ensures octets { Fills (lines_of show agent.now) from result.next
         (take result.length room.new) }
     ensures rest { drop result.length room.new ≡ drop result.length room.old }
-    ensures done { result.done ≡ true → slice_get (lines_of show agent.now) result.next ≡ None }
+    ensures done { result.done ≡ true → result.next ≡ max from (length (lines_of show agent.now)) }
     ensures full { result.done ≡ false →
         IsFull (lines_of show agent.now) result.next (length room.new) result.length }
 {

@@ -3,9 +3,7 @@ ghost use Rattle.std.specs.Prelude.{◌≡◌, ◌≤◌, ◌↔◌, ℕ, [], �
 ghost use Rattle.lldp_transmit.specs.declared.event.Cause.{Cause};
 ghost use Rattle.lldp_transmit.specs.declared.event.Mark.{Mark};
 ghost use Rattle.lldp_transmit.specs.History.{settings};
-ghost use Rattle.lldp_transmit.specs.Moments.{moments};
-ghost use Rattle.lldp_transmit.specs.Remaining.{credit_left};
-ghost use Rattle.lldp_transmit.specs.Standing.{AreSettings, Stands, ForEachHistory};
+ghost use Rattle.lldp_transmit.specs.Standing.{AreSettings, Stands};
 ghost use Rattle.lldp_transmit.specs.Code.Machine.{opened};
 ghost use Rattle.lldp_transmit.specs.Code.Parts.{machine_of_parts};
 ghost use Rattle.lldpa_c.specs.Machine.{cause_numbered, mark_number, CanTake, Takes};
@@ -109,20 +107,4 @@ pub extern "C" fn lldpa_transmit_event(
     *machine = transmit.parts();
     *mark = mark_number(answer);
     OK
-}
-
-/// Returns how many ordinary frames may be sent before the next tick, or 0 if this is not a
-/// machine.
-#[unsafe(no_mangle)]
-pub extern "C" fn lldpa_transmit_credit(machine: &Parts) -> u8
-    ensures value { machine.now.credit ≤ machine.now.credit_max → result ≡ machine.now.credit }
-    ensures left { machine.now.credit ≤ machine.now.credit_max →
-        ForEachHistory (machine_of_parts machine.now) (λ s past.
-        result ≡ credit_left s (moments s past)) }
-    ensures none { ¬ (machine.now.credit ≤ machine.now.credit_max) → result ≡ 0 }
-{
-    match Transmit::of_parts(machine) {
-        Some(transmit) => transmit.credit(),
-        None => 0,
-    }
 }

@@ -5,11 +5,12 @@ ghost use Rattle.lldp_pdu.specs.FaultNumber.{pdu_fault_number};
 ghost use Rattle.lldp_pdu.specs.Fault.{fault_of};
 ghost use Rattle.lldp_pdu.specs.Lldpdu.{msap_of};
 ghost use Rattle.lldp_pdu.specs.View.{msap_view};
+ghost use Rattle.lldp_table.specs.Contents.{IsSound};
 ghost use Rattle.lldp_table.specs.Msap.{same_msap};
 ghost use Rattle.lldp_engine.specs.AgentState.{IsPort};
 ghost use Rattle.lldp_engine.specs.Status.{receives};
 ghost use Rattle.lldpa_c.specs.Examined.{chassis_place, port_place};
-ghost use Rattle.lldpa_c.specs.News.{stored_of, life_news, leave_news, pdu_news, in_frame, TellsNoName, ReportsAt};
+ghost use Rattle.lldpa_c.specs.News.{stored_of, life_news, leave_news, pdu_news, in_frame, TellsNoName, ReportsAt, HearsSound};
 
 use crate::examine::TLV_HEADER;
 use crate::frame::HEADER;
@@ -116,6 +117,7 @@ fn stored<'a>(table: &'a Table<Global>, name: &Msap<'_>) -> Option<&'a [u8]>
     ensures none { IfNone result (stored_of table.now.shown (msap_view name.now) ≡ None) }
     ensures some { IfSome result (λ octets. stored_of table.now.shown (msap_view name.now)
         ≡ Some octets.now) }
+    ensures sound { IsSound table.now.shown }
 {
     for entry in table.entries() {
         if is_same(name, &entry.msap()) {
@@ -127,8 +129,9 @@ fn stored<'a>(table: &'a Table<Global>, name: &Msap<'_>) -> Option<&'a [u8]>
 
 /// Returns what an LLDPDU with a TTL above 0 does to a table.
 fn life_news(table: &Table<Global>, info: &Info<'_>) -> u32
-    ensures { result ≡ life_news table.now.shown info.now.octets
+    ensures news { result ≡ life_news table.now.shown info.now.octets
         (stored_of table.now.shown info.now.msap) }
+    ensures sound { IsSound table.now.shown }
 {
     match stored(table, &info.msap()) {
         Some(octets) if octets == info.octets() => SAME,
@@ -140,7 +143,8 @@ fn life_news(table: &Table<Global>, info: &Info<'_>) -> u32
 
 /// Returns what an LLDPDU with a TTL of 0 does to a table.
 fn leave_news(table: &Table<Global>, name: &Msap<'_>) -> u32
-    ensures { result ≡ leave_news (stored_of table.now.shown (msap_view name.now)) }
+    ensures news { result ≡ leave_news (stored_of table.now.shown (msap_view name.now)) }
+    ensures sound { IsSound table.now.shown }
 {
     match stored(table, name) {
         Some(_) => GONE,
@@ -158,6 +162,7 @@ fn pdu_news(table: &Table<Global>, pdu: &[u8]) -> LldpaNews
         result.chassis ≡ in_frame (chassis_place (msap_of pdu.now)) }
     ensures port { fault_of pdu.now ≡ None →
         result.port ≡ in_frame (port_place (msap_of pdu.now)) }
+    ensures sound { fault_of pdu.now ≡ None → IsSound table.now.shown }
 {
     match examine(pdu) {
         Err(fault) => unnamed(REFUSED, u32::from(fault.number())),
@@ -169,7 +174,8 @@ fn pdu_news(table: &Table<Global>, pdu: &[u8]) -> LldpaNews
 /// Returns what octets that a port receives do.
 pub(crate) fn news_of(agent: &Agent, port: u8, octets: &[u8]) -> LldpaNews
     requires { IsPort agent.now port }
-    ensures { ReportsAt agent.now port octets.now result }
+    ensures news { ReportsAt agent.now port octets.now result }
+    ensures sound { HearsSound agent.now port octets.now }
 {
     if !receives(agent.status(port)) || !agent.is_up(port) {
         return unnamed(DEAF, 0);

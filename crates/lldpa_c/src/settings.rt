@@ -1,5 +1,5 @@
 //! What a port counted, and how an agent is configured.
-ghost use Rattle.std.specs.Prelude.{◌≡◌, Some, length, map, take, slice_get};
+ghost use Rattle.std.specs.Prelude.{◌≡◌, Some, length, map, take, drop, replicate, slice_get};
 ghost use Rattle.std.specs.Option.{option_map};
 ghost use Rattle.lldpa_c.specs.Answer.{answer_of};
 ghost use Rattle.lldpa_c.specs.Frame.{Keeps};
@@ -101,8 +101,10 @@ fn status_number(status: Status) -> u8
 
 /// Returns the numbers of the statuses of the ports.
 fn statuses(agent: &Agent) -> [u8; 64]
-    ensures { take (length agent.now.ports) result
+    ensures status { take (length agent.now.ports) result
         ≡ map (λ p. status_number p.status) agent.now.ports }
+    ensures others { drop (length agent.now.ports) result
+        ≡ drop (length agent.now.ports) (replicate 64 0) }
 {
     let mut statuses = [0; 64];
     for port in 0..agent.ports() {

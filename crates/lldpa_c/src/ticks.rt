@@ -32,7 +32,7 @@ fn count_neighbors(agent: &Agent) -> u32
 }
 
 /// Takes one tick. Returns which ports send, and how many neighbors aged out.
-pub(crate) fn tick_once(agent: &mut Agent) -> (Marks, u32)
+fn tick_once(agent: &mut Agent) -> (Marks, u32)
     ensures steps { Steps agent.old tick agent.new result.0.items }
     ensures aged_out { AgesOut agent.old agent.new result.1 }
 {

@@ -1,4 +1,4 @@
-"""lldpa as a child process whose trace goes over a socket."""
+"""Runs lldpa as a child process, and exchanges its trace over a socket."""
 from __future__ import annotations
 
 import errno
@@ -47,7 +47,7 @@ def path_of(program: str) -> str:
         return program
     beside = os.path.join(os.path.dirname(sys.executable), program)
     if not os.access(beside, os.X_OK):
-        raise FileNotFoundError(errno.ENOENT, "not on the path, and not in this wheel", program)
+        raise FileNotFoundError(errno.ENOENT, "not found on the path", program)
     return beside
 
 
@@ -55,36 +55,23 @@ class Child:
     """A process that was started with these words. Ctrl-C does not reach it: it ends with its
     input."""
 
-    def __init__(self, words: List[str], environment: Optional[Mapping[str, str]] = None,
-                 blocked: Sequence[signal.Signals] = ()) -> None:
-        """Starts it, with the environment of its parent unless one is given. The blocked signals
-        never reach it. Raises OSError if there is no such program."""
+    def __init__(self, words: List[str]) -> None:
+        """Starts it. Raises OSError if there is no such program."""
         self.socket, theirs = socket.socketpair()
-        mask = signal.pthread_sigmask(signal.SIG_BLOCK, blocked)
         try:
             with theirs:
                 self._process = subprocess.Popen(
                     words, stdin=theirs.fileno(), stdout=theirs.fileno(), stderr=subprocess.PIPE,
-                    start_new_session=True, env=environment)
+                    start_new_session=True)
         except OSError:
             self.socket.close()
             raise
-        finally:
-            signal.pthread_sigmask(signal.SIG_SETMASK, mask)
         self._end: Optional[Ended] = None
 
     @property
     def pid(self) -> int:
         """Returns the number of the process."""
         return self._process.pid
-
-    def is_running(self) -> bool:
-        """Returns whether it has not ended yet."""
-        return self._process.poll() is None
-
-    def kill(self) -> None:
-        """Ends it at once."""
-        self._process.kill()
 
     def end(self, patience: float = PATIENCE) -> Ended:
         """Waits for its end, kills it if that does not come in time, and returns how it ended."""

@@ -1,4 +1,4 @@
-"""Lines for an agent, and whole answers from it: what its plain and its asyncio form share.
+"""Lines for an agent, and whole answers from it.
 
 The agent does not mark the end of an answer. So a mark is written behind the lines: a comment one
 octet too long. The answer to the lines is what comes before `error: line too long`. Nothing else

@@ -5,11 +5,11 @@ Each line is `KEY=VALUE`; the manual page lldpa(1) lists every key.
 from __future__ import annotations
 
 import re
-from dataclasses import fields
 from typing import Iterable, Iterator, List, Tuple
 
 from ..faults import LldpaFault
-from .shown import SAID_KEY, Configuration, Counters, Identifier, LocalChassis, Neighbor, Port, Show
+from .shown import (NUMBERED_KEY, SAID_KEY, SAID_KEYS, Configuration, Counters, Identifier,
+                    LocalChassis, Neighbor, Port, Show)
 
 __all__ = ["Configuration", "Counters", "Identifier", "LocalChassis", "Neighbor", "Port", "Show",
            "ShowFault", "lines_of", "read_show", "unescaped"]
@@ -22,7 +22,7 @@ COUNTERS_BEGIN = re.compile(rf"lldp\.({NAME})\.sent={DIGITS}")
 STATUS_LINE = re.compile(rf"configuration\.({NAME})\.status=(rx-and-tx|rx-only|tx-only|disabled)")
 CHASSIS_KINDS = {"component", "ifalias", "portcomp", "mac", "ip", "ifname", "local", "unhandled"}
 PORT_KINDS = {"ifalias", "component", "mac", "ip", "ifname", "circuit", "local", "unhandled"}
-SAID = re.compile(SAID_KEY)
+NUMBERED = re.compile(NUMBERED_KEY)
 ESCAPE = re.compile(r"\\(\\|x[0-9a-f]{2})".encode())
 
 
@@ -47,7 +47,7 @@ def read_show(lines: Iterable[str]) -> Show:
 
 
 class Reader:
-    """Takes the lines one after another, each as what is expected at its place."""
+    """Reads the lines one after another, each as what is expected in its place."""
 
     def __init__(self, lines: Iterable[str]) -> None:
         self.lines = [line[:-1] if line.endswith("\n") else line for line in lines]
@@ -64,14 +64,14 @@ class Reader:
         return ShowFault(f"line {self.at + 1}: {found} where {expected} was expected")
 
     def next(self, further: int = 0) -> str:
-        """Returns the next line, or one further on, or an empty text behind the end."""
+        """Returns the next line, or a later one; an empty text after the end."""
         try:
             return self.lines[self.at + further]
         except IndexError:
             return ""
 
     def text(self, key: str) -> str:
-        """Takes the line of that key, and returns its value."""
+        """Reads the line of that key, and returns its value."""
         line = self.next()
         if not line.startswith(key + "="):
             raise self.fault(f"{key}=")
@@ -79,7 +79,7 @@ class Reader:
         return line[len(key) + 1:]
 
     def number(self, key: str) -> int:
-        """Takes the line of that key, and returns its number."""
+        """Reads the line of that key, and returns its number."""
         text = self.text(key)
         if not NUMBER.fullmatch(text):
             self.at -= 1
@@ -87,7 +87,7 @@ class Reader:
         return int(text)
 
     def show(self) -> Show:
-        """Takes all lines."""
+        """Reads all lines."""
         ports = tuple(self.ports())
         counters = dict(self.counters())
         chassis = self.chassis() if self.next().startswith("local-chassis.") else None
@@ -98,7 +98,7 @@ class Reader:
         return Show(ports, counters, chassis, configuration)
 
     def ports(self) -> Iterator[Port]:
-        """Takes the ports of `show neighbors`."""
+        """Reads the ports of `show neighbors`."""
         names = set()
         while found := PORT_BEGIN.fullmatch(self.next()):
             name, count = found[1], int(found[2])
@@ -115,7 +115,7 @@ class Reader:
             yield Port(name, count, octets, too_many == "yes", neighbors)
 
     def neighbor(self, port: str, place: int) -> Neighbor:
-        """Takes one neighbor, with the lines of what it said."""
+        """Reads one neighbor, with the lines of what it sent."""
         front = f"lldp.{port}.{place}."
         chassis = self.identifier(front + "chassis.", CHASSIS_KINDS)
         port_id = self.identifier(front + "port.", PORT_KINDS)
@@ -124,7 +124,7 @@ class Reader:
         line = self.next()
         while line.startswith(front):
             key, mark, value = line[len(front):].partition("=")
-            if not mark or not SAID.fullmatch(key):
+            if not mark or not is_said(key):
                 raise self.fault("a key of a neighbor")
             said.append((key, value))
             self.at += 1
@@ -132,7 +132,7 @@ class Reader:
         return Neighbor(port, place, chassis, port_id, ttl, expires, tuple(said))
 
     def identifier(self, front: str, kinds: set[str]) -> Identifier:
-        """Takes a chassis ID or port ID."""
+        """Reads a chassis ID or port ID."""
         line = self.next()
         kind, mark, text = line[len(front):].partition("=")
         if not line.startswith(front) or not mark or kind not in kinds:
@@ -141,25 +141,25 @@ class Reader:
         return Identifier(kind, text)
 
     def counters(self) -> Iterator[Tuple[str, Counters]]:
-        """Takes the ports of `show statistics`."""
+        """Reads the ports of `show statistics`."""
         names = set()
         while found := COUNTERS_BEGIN.fullmatch(self.next()):
             if found[1] in names:
                 raise self.fault("another port's name")
             names.add(found[1])
-            keys = [f"lldp.{found[1]}.{shown_key(one.name)}" for one in fields(Counters)]
+            keys = [f"lldp.{found[1]}.{shown_key(name)}" for name in Counters._fields]
             yield found[1], Counters(*(self.number(key) for key in keys))
 
     def chassis(self) -> LocalChassis:
-        """Takes the lines of `show chassis`."""
-        keys = [one.name for one in fields(LocalChassis)]
+        """Reads the lines of `show chassis`."""
+        keys = list(LocalChassis._fields)
         if not self.next(4).startswith("local-chassis.mgmt="):
             keys.remove("mgmt")
         return LocalChassis(**{key: self.text(f"local-chassis.{key}") for key in keys})
 
     def configuration(self) -> Configuration:
-        """Takes the lines of `show configuration`."""
-        names = [one.name for one in fields(Configuration) if one.name != "statuses"]
+        """Reads the lines of `show configuration`."""
+        names = [name for name in Configuration._fields if name != "statuses"]
         numbers = {name: self.number(f"configuration.{shown_key(name)}") for name in names}
         begin, count, statuses = self.at, self.number("configuration.ports"), {}
         while found := STATUS_LINE.fullmatch(self.next()):
@@ -168,6 +168,12 @@ class Reader:
         if self.at != begin + 1 + count or len(statuses) != count:
             raise self.fault(f"the status of {count} ports")
         return Configuration(**numbers, statuses=statuses)
+
+
+def is_said(key: str) -> bool:
+    """Returns whether a neighbor's later lines may have this key. The pattern of all keys takes
+    long to compile, and few neighbors need it."""
+    return bool(key in SAID_KEYS or NUMBERED.fullmatch(key) or re.fullmatch(SAID_KEY, key))
 
 
 def shown_key(name: str) -> str:
@@ -179,10 +185,10 @@ def lines_of(show: Show) -> List[str]:
     """Returns the lines of a show that was read, each without its line feed."""
     lines = [line for port in show.ports for line in port_lines(port)]
     for name, counters in show.counters.items():
-        lines += [f"lldp.{name}.{shown_key(one.name)}={getattr(counters, one.name)}"
-                  for one in fields(Counters)]
+        lines += [f"lldp.{name}.{shown_key(key)}={number}"
+                  for key, number in counters._asdict().items()]
     if show.chassis is not None:
-        values = ((one.name, getattr(show.chassis, one.name)) for one in fields(LocalChassis))
+        values = show.chassis._asdict().items()
         lines += [f"local-chassis.{key}={value}" for key, value in values if value is not None]
     if show.configuration is not None:
         lines += configuration_lines(show.configuration)
@@ -211,9 +217,9 @@ def neighbor_lines(neighbor: Neighbor) -> Iterator[str]:
 
 def configuration_lines(configuration: Configuration) -> Iterator[str]:
     """Returns the lines of `show configuration`."""
-    for one in fields(Configuration):
-        if one.name != "statuses":
-            yield f"configuration.{shown_key(one.name)}={getattr(configuration, one.name)}"
+    for name, number in configuration._asdict().items():
+        if name != "statuses":
+            yield f"configuration.{shown_key(name)}={number}"
     yield f"configuration.ports={len(configuration.statuses)}"
     for name, status in configuration.statuses.items():
         yield f"configuration.{name}.status={status}"

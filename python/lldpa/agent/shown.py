@@ -1,27 +1,24 @@
-"""What lldpa's shows say: ports, their neighbors and counters, and the agent itself.
+"""What the shows of lldpa contain: ports, their neighbors and counters, and the agent itself.
 
 Texts are kept as they are shown, each octet that is not printable escaped, so they can be printed
 as they are. `show.unescaped` returns the octets of one.
 """
-from __future__ import annotations
-
+# Without `annotations` of __future__, which would be texts: typing compiles each text of a field.
 import re
-from dataclasses import dataclass, field
 from typing import List, Mapping, NamedTuple, Optional, Tuple
 
-# the keys of what a neighbor says, except those of TLVs of other types, which have numbers
+# the keys of a neighbor's lines, except those with the number of a TLV
 SAID_KEYS = ("port.descr", "chassis.name", "chassis.descr", "chassis.caps", "chassis.mgmt")
 
-# a key that is not known here, as a later agent may have it; not one of the keys of earlier lines,
-# since each of those occurs once
+# a key that is not known here, perhaps of a later agent; not a key of the earlier lines, each of
+# which occurs once
 EARLIER = (r"(?:ttl|expires|(?:chassis|port)\.(?:mac|ip|ifname|ifalias|local|component|portcomp"
            r"|circuit|unhandled))(?:=|$)")
 FURTHER_KEY = rf"(?!{EARLIER}|(?:org|unknown)(?:\.|=|$))[a-z][a-z0-9-]*(?:\.[a-z0-9-]+)*"
 
-# a key of what a neighbor says
-SAID_KEY = (f"(?:{'|'.join(map(re.escape, SAID_KEYS))}"
-            r"|unknown\.[1-9][0-9]{0,2}|org\.[0-9a-f]{6}\.(?:0|[1-9][0-9]{0,2})"
-            rf"|{FURTHER_KEY})")
+# a key with the number of a TLV, and any key of a neighbor's later lines
+NUMBERED_KEY = r"(?:unknown\.[1-9][0-9]{0,2}|org\.[0-9a-f]{6}\.(?:0|[1-9][0-9]{0,2}))"
+SAID_KEY = rf"(?:{'|'.join(map(re.escape, SAID_KEYS))}|{NUMBERED_KEY}|{FURTHER_KEY})"
 
 
 class Identifier(NamedTuple):
@@ -33,8 +30,7 @@ class Identifier(NamedTuple):
         return f"{self.kind}={self.text}"
 
 
-@dataclass(frozen=True)
-class Neighbor:
+class Neighbor(NamedTuple):
     """A neighbor of a port. `place` counts from 1 and changes when another one leaves; `id` stays.
 
     `ttl` is the time to live that it sent, `expires` what is left of it, both in seconds. `said`
@@ -82,7 +78,7 @@ class Neighbor:
 
     @property
     def management(self) -> Tuple[str, ...]:
-        """Returns its management addresses, without the numbers behind them in the line."""
+        """Returns its management addresses, without the numbers that follow them in the line."""
         return tuple(text.partition(",")[0] for key, text in self.said if key == "chassis.mgmt")
 
     @property
@@ -101,8 +97,7 @@ class Neighbor:
         return next((text for name, text in self.said if name == key), None)
 
 
-@dataclass(frozen=True)
-class Port:
+class Port(NamedTuple):
     """A port's neighbors in the order of its table.
 
     `octets` is the sum of what is stored of them. `too_many` says whether a neighbor was dropped
@@ -115,29 +110,36 @@ class Port:
     neighbors: Tuple[Neighbor, ...] = ()
 
 
-def counter(counts: str) -> int:
-    """Returns a field that counts this."""
-    described: int = field(metadata={"counts": counts})
-    return described
+class Counters(NamedTuple):
+    """A port's counters; `COUNTED` says what each counts. Each starts again at 0 after
+    4,294,967,295."""
+    sent: int
+    shutdowns: int
+    received: int
+    discarded: int
+    errors: int
+    tlvs_discarded: int
+    unrecognized: int
+    ageouts: int
+    drops: int
 
 
-@dataclass(frozen=True)
-class Counters:
-    """A port's counters, and what each counts. Each starts again at 0 after 4,294,967,295."""
-    sent: int = counter("Ordinary frames sent.")
-    shutdowns: int = counter("Shutdown frames sent.")
-    received: int = counter("LLDP frames received while the port was up and could receive.")
-    discarded: int = counter("LLDPDUs refused.")
-    errors: int = counter("LLDPDUs refused or with a discarded TLV.")
-    tlvs_discarded: int = counter("TLVs discarded.")
-    unrecognized: int = counter("TLVs kept whose meaning the agent does not know.")
-    ageouts: int = counter("Neighbors that aged out.")
-    drops: int = counter("LLDPDUs dropped because the table was full.")
+COUNTED = {
+    "sent": "Ordinary frames sent.",
+    "shutdowns": "Shutdown frames sent.",
+    "received": "LLDP frames received while the port was up and could receive.",
+    "discarded": "LLDPDUs refused.",
+    "errors": "LLDPDUs refused or with a discarded TLV.",
+    "tlvs_discarded": "TLVs discarded.",
+    "unrecognized": "TLVs kept whose meaning the agent does not know.",
+    "ageouts": "Neighbors that aged out.",
+    "drops": "LLDPDUs dropped because the table was full.",
+}
+NO_COUNTERS: Mapping[str, Counters] = {}
 
 
-@dataclass(frozen=True)
-class LocalChassis:
-    """What the agent says of itself. `mgmt` is the whole value of its line, or None."""
+class LocalChassis(NamedTuple):
+    """What the agent announces. `mgmt` is the whole value of its line, or None."""
     mac: str
     name: str
     descr: str
@@ -145,8 +147,7 @@ class LocalChassis:
     mgmt: Optional[str] = None
 
 
-@dataclass(frozen=True)
-class Configuration:
+class Configuration(NamedTuple):
     """The numbers in force, and the status of each port by its name."""
     tx_interval: int
     tx_hold: int
@@ -158,11 +159,10 @@ class Configuration:
     statuses: Mapping[str, str]
 
 
-@dataclass(frozen=True)
-class Show:
-    """What one or several shows say; what none of them says is empty or None."""
+class Show(NamedTuple):
+    """The content of one or several shows; what none of them has is empty or None."""
     ports: Tuple[Port, ...] = ()
-    counters: Mapping[str, Counters] = field(default_factory=dict)
+    counters: Mapping[str, Counters] = NO_COUNTERS
     chassis: Optional[LocalChassis] = None
     configuration: Optional[Configuration] = None
 

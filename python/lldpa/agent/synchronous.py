@@ -1,7 +1,4 @@
-"""A running lldpa: a child of this process, or one that listens on 127.0.0.1.
-
-`Agent` is for scripts and waits for each answer; `AsyncAgent` has the same calls for asyncio.
-"""
+"""A running lldpa: a child of this process, or one that listens on 127.0.0.1."""
 from __future__ import annotations
 
 import select
@@ -11,7 +8,6 @@ from contextlib import suppress
 from functools import partial
 from typing import Callable, Iterable, List, Mapping, Optional, Sequence
 
-from .asynchronous import AsyncAgent
 from .child import PATIENCE, PROGRAM, Child, Closed, Ended, Option, words_of
 from .framing import (AT_ONCE, HOST, MARK, MARK_ANSWER, NO_ANSWER, NO_CONNECTION, SILENCE, Answers,
                       FrameCallback, Line, Refused, accepted, checked, command, hand_over, rx,
@@ -19,7 +15,7 @@ from .framing import (AT_ONCE, HOST, MARK, MARK_ANSWER, NO_ANSWER, NO_CONNECTION
 from .show import Counters, Neighbor, Show, read_show
 from ..limits import LONGEST_LINE
 
-__all__ = ["LONGEST_LINE", "MARK", "MARK_ANSWER", "Agent", "Answers", "AsyncAgent", "Closed",
+__all__ = ["LONGEST_LINE", "MARK", "MARK_ANSWER", "Agent", "Answers", "Closed",
            "Ended", "Refused", "checked"]
 
 

@@ -24,7 +24,7 @@ NO_PACKET = b"\0" * 1024
 
 def reader_of(file: BinaryIO, most_unpacked: Optional[int] = None) -> Reader:
     """Returns a reader of a capture from its beginning, which gzip may have compressed. Reads at
-    most so many octets of what gzip unpacks.
+    most this many octets of what gzip unpacks.
 
     Raises BadCapture if it is not a capture.
     """
@@ -41,7 +41,7 @@ def reader_of(file: BinaryIO, most_unpacked: Optional[int] = None) -> Reader:
         return PcapngReader(window)
     if magic[:2] in COMPRESSED:
         raise BadCapture(f"it is compressed by {COMPRESSED[magic[:2]]}: unpack it first")
-    raise BadCapture(f"it is not a capture: octet 0 begins with {magic.hex(' ')}, "
+    raise BadCapture(f"it is not a capture: it begins with {magic.hex(' ')}, "
                      "which is neither pcap nor pcapng")
 
 

@@ -1,4 +1,4 @@
-"""Files of pcap: a header, then each packet behind its time and lengths.
+"""Reads pcap files: a header, then each packet after its time and lengths.
 
 See https://datatracker.ietf.org/doc/draft-ietf-opsawg-pcap/.
 """

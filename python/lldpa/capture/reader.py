@@ -15,7 +15,7 @@ class Reader:
     `at` is the place of the next record in the window, `number` counts the packets before it, and
     `latest` is the last one's time stamp in the file's own units, or UNKNOWN, which is after every
     time stamp, so that the next packet is looked at. A record's octets mostly begin OCTETS_AT
-    behind its beginning.
+    after its beginning.
     """
     HEAD_SIZE = 0
     OCTETS_AT = 0

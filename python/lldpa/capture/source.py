@@ -40,7 +40,7 @@ def is_port_name(text: str) -> bool:
     return PORT_NAME.fullmatch(text) is not None
 
 
-# copies of what can be read only once, by the names of the files
+# copies of files that can be read only once, by name
 HELD: Dict[str, IO[bytes]] = {}
 
 

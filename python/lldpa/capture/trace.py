@@ -55,7 +55,7 @@ def ports_of(sources: Sequence[Source]) -> List[str]:
         heard = {line.split(" ")[1] for line in frames_of(sources, Told(ignored, ignored), False)}
         ports = {name: None for name in ports if name in heard}
     if len(ports) > MOST_PORTS:
-        raise TooManyPorts(f"{len(ports)} ports, and the limit is {MOST_PORTS}")
+        raise TooManyPorts(f"{len(ports)} ports; the limit is {MOST_PORTS}")
     return list(ports)
 
 
@@ -70,7 +70,7 @@ def names_of(source: Source) -> Sequence[str]:
 
 
 def ignored(_: str) -> None:
-    """Takes a line, and does nothing."""
+    """Ignores a line."""
 
 
 def trace_of(sources: Sequence[Source], told: Told, seconds: bool = True) -> Iterator[str]:
@@ -91,8 +91,8 @@ def frames_of(sources: Sequence[Source], told: Told, seconds: bool) -> Iterator[
         if seconds and time is not None:
             missing = clock.seconds_to(time)
             if missing > MOST_TICKS:
-                notes.tell("jump", f"no packet came for {missing} s (was the clock set?): "
-                           f"{MOST_TICKS} are counted, and no neighbor is left")
+                notes.tell("jump", f"no packet for {missing} s (was the clock set?): only "
+                           f"{MOST_TICKS} are counted, after which no neighbor is left")
                 missing = MOST_TICKS
             if missing:
                 yield from ticks(missing)
@@ -172,7 +172,7 @@ class Recording:
             return ""
         fault = fault_of(octets, length)
         if fault:
-            self._notes.tell(fault, f"frame {number} is passed over: it is "
+            self._notes.tell(fault, f"frame {number} is skipped: it is "
                                     f"{fault.format(len(octets), length)}")
             return ""
         port = self._ports.get(interface)
@@ -185,7 +185,7 @@ class Recording:
         port = port_of(self._source, interface)
         if is_port_name(port):
             return port
-        self._fault(f"its interface {port!r} cannot be a port: {PORT_NAME_RULE}; "
+        self._fault(f"its interface {port!r} has no name for a port: {PORT_NAME_RULE}; "
                     f"write --port '{port}=NAME'")
         return ""
 
@@ -194,7 +194,7 @@ class Recording:
         if interface.link_type != ETHERNET and interface not in self._ports:
             self._ports[interface] = ""
             name = f" of its interface {interface.name!r}" if interface.name else ""
-            self._fault(f"the link type{name} is {link_type_text(interface.link_type)}, and only "
+            self._fault(f"the link type{name} is {link_type_text(interface.link_type)}; only "
                         "ETHERNET (1) is read: capture on an Ethernet interface")
 
     def _fault(self, why: str) -> None:
@@ -205,8 +205,8 @@ class Recording:
         not at all for less than a second, since packets of several queues may be out of order."""
         if nanoseconds < SECOND:
             return 0
-        self._notes.tell("set back", f"the time stamps go back by {nanoseconds // SECOND} s, "
-                                     "which adds no tick")
+        self._notes.tell("set back", f"the time stamps go back by {nanoseconds // SECOND} s: "
+                                     "no second is added")
         return nanoseconds
 
 

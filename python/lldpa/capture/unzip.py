@@ -8,7 +8,7 @@ from .window import AT_ONCE, BadCapture, Readable
 
 MAGIC = b"\x1f\x8b"
 GZIP = 31  # zlib's number for a stream with the head of gzip
-# how much of the file a part gets at first: zlib copies what is left behind the part's end
+# how much of the file a part gets at first: zlib copies what is left after the part's end
 FIRST = 256
 
 
@@ -26,8 +26,8 @@ class Unzipped:
         self._inflate = zlib.decompressobj(GZIP)
 
     def read(self, size: int) -> bytes:
-        """Returns at most so many octets; none at the end. Raises BadCapture after the octets that
-        are whole."""
+        """Returns at most this many octets; none at the end. Raises BadCapture after the last
+        octets that are undamaged."""
         parts: list[bytes] = []
         missing = size
         while missing and not (parts and self._at == len(self._packed)):
@@ -82,7 +82,7 @@ class Unzipped:
                 return octets
 
     def _begin_part(self) -> None:
-        """Begins the next part: a file may have several compressed parts, and zeros behind them."""
+        """Begins the next part: a file may have several compressed parts, and zeros after them."""
         while self._packed[self._at:self._at + 1] == b"\0":
             self._at += 1
         if self._at < len(self._packed):

@@ -17,7 +17,7 @@ class Readable(Protocol):
     """A source of octets: a file, or what unpacks one."""
 
     def read(self, size: int) -> bytes:
-        """Returns at most so many octets; none at the end."""
+        """Returns at most this many octets; none at the end."""
 
 
 class Window:

@@ -14,7 +14,7 @@ if TYPE_CHECKING:
 __all__ = ["Client", "neighbor_object", "since_of"]
 
 
-# modules that are loaded when they are first used: lldpa-live needs none of them
+# modules that are loaded when they are first used
 LATER = {"Client": ".connection", "neighbor_object": ".as_json", "since_of": ".live_lines"}
 
 

@@ -6,7 +6,6 @@ it, and `octets` beside it has the hexadecimal of each such text by its key.
 
 from __future__ import annotations
 
-from dataclasses import asdict
 from typing import Any, Mapping, Optional
 
 from .live_lines import Since
@@ -24,17 +23,17 @@ def show_object(show: Show, since: Since = NOBODY) -> dict[str, Any]:
     if show.ports:
         told["ports"] = [port_object(port, since) for port in show.ports]
     if show.counters:
-        told["counters"] = {port: asdict(counters) for port, counters in show.counters.items()}
+        told["counters"] = {port: counters._asdict() for port, counters in show.counters.items()}
     if show.chassis is not None:
         told["chassis"] = chassis_object(show.chassis)
     if show.configuration is not None:
-        told["configuration"] = asdict(show.configuration)
+        told["configuration"] = show.configuration._asdict()
     return told
 
 
 def chassis_object(chassis: LocalChassis) -> dict[str, Any]:
     """Returns what the agent says of itself."""
-    told: dict[str, Any] = asdict(chassis)
+    told: dict[str, Any] = chassis._asdict()
     return with_texts(told, {"name": chassis.name, "descr": chassis.descr})
 
 

@@ -1,4 +1,4 @@
-"""A neighbor for people: all that it says, in fewer lines than a terminal has."""
+"""Shows all that a neighbor sends, for people, in fewer lines than a terminal has."""
 
 from __future__ import annotations
 
@@ -26,7 +26,7 @@ def details(ports: Sequence[Port], since: Since, width: int) -> list[str]:
     lines: List[str] = []
     for neighbor in (one for port in ports for one in port.neighbors):
         lines += [""] if lines else []
-        lines += lines_of(neighbor, since.get((neighbor.port, neighbor.id)), width)
+        lines += detail_lines(neighbor, since.get((neighbor.port, neighbor.id)), width)
     return lines
 
 
@@ -37,7 +37,7 @@ def discarded(counters: Mapping[str, Counters]) -> list[str]:
             for port, of in counters.items() if of.tlvs_discarded]
 
 
-def lines_of(neighbor: Neighbor, since: Optional[str], width: int) -> list[str]:
+def detail_lines(neighbor: Neighbor, since: Optional[str], width: int) -> list[str]:
     """Returns the lines of one neighbor."""
     head = f"{readable(neighbor.port)}: {name_of(neighbor)} {port_of(neighbor)}"
     pairs = [pair for pair in pairs_of(neighbor, since) if pair[1]]
@@ -77,20 +77,20 @@ def pairs_of(neighbor: Neighbor, since: Optional[str]) -> Iterator[Pair]:
 
 
 def others_of(neighbor: Neighbor) -> Iterator[Pair]:
-    """Returns what else it says: TLVs of reserved types, and keys that are not known here."""
+    """Returns its other lines: TLVs of reserved types, and keys that are not known here."""
     for key, value in neighbor.said:
         if key not in SAID_KEYS and not key.startswith("org."):
             yield readable(key), readable(value)
 
 
 def heard(neighbor: Neighbor, since: Optional[str]) -> str:
-    """Returns since when it has been there, and how long it may be silent."""
+    """Returns when it came, and in how many seconds it will age out."""
     left = f"{neighbor.expires} s of {neighbor.ttl} s left"
     return left if since is None else f"since {local_time(since)}, {left}"
 
 
 def local_time(utc: str) -> str:
-    """Returns a time of an lldpa-live as people here write it."""
+    """Returns a time of an lldpa-live as local time."""
     try:
         seconds = seconds_of(utc)
     except ValueError:

@@ -8,7 +8,7 @@ Labels = Mapping[str, str]
 Sample = Tuple[Labels, int]
 
 
-def lines_of(name: str, kind: str, text: str, samples: Iterable[Sample]) -> Iterator[str]:
+def metric_lines(name: str, kind: str, text: str, samples: Iterable[Sample]) -> Iterator[str]:
     """Returns the lines of one metric, none if it has no samples."""
     lines = [f"{name}{label_list(labels)} {value}" for labels, value in samples]
     if lines:
@@ -18,7 +18,7 @@ def lines_of(name: str, kind: str, text: str, samples: Iterable[Sample]) -> Iter
 
 
 def label_list(labels: Labels) -> str:
-    """Returns labels as they are written behind a name, or nothing if there are none."""
+    """Returns labels as they are written after a name, or nothing if there are none."""
     listed = ",".join(f'{name}="{escaped(value)}"' for name, value in labels.items())
     return f"{{{listed}}}" if listed else ""
 

@@ -1,4 +1,4 @@
-"""What lldpa-live says of itself, in lines `live.KEY=VALUE` and `live.PORT.KEY=VALUE`."""
+"""Reads the state of lldpa-live from its lines `live.KEY=VALUE` and `live.PORT.KEY=VALUE`."""
 
 from __future__ import annotations
 
@@ -12,8 +12,8 @@ Since = Mapping[Tuple[str, str], str]
 
 
 class LiveLines:
-    """These lines by their keys, those of the ports apart; since when each neighbor has been there,
-    and the number of each chassis. A line of another form is skipped."""
+    """The values of these lines by key and by port, when each neighbor came, and the number of each
+    chassis. A line of another form is ignored."""
 
     def __init__(self, lines: Iterable[str]) -> None:
         self.own: Dict[str, str] = {}
@@ -33,10 +33,10 @@ class LiveLines:
 
     @property
     def is_up(self) -> bool:
-        """Returns whether the agent answers: it is not silent, and does not wait to be opened."""
+        """Returns whether the agent runs: it does not wait for an interface."""
         return self.own.get("agent", "running") == "running"
 
 
 def since_of(lines: Iterable[str]) -> Dict[Tuple[str, str], str]:
-    """Returns when each neighbor came, from the lines that lldpa-live writes of itself."""
+    """Returns when each neighbor came, from the lines of `live`."""
     return LiveLines(lines).since

@@ -7,18 +7,17 @@ import socket
 import sys
 from typing import Dict, List, Mapping, Sequence
 
-from ..organizational import said_by
 from ..agent.show import Identifier, Neighbor, Port, Show, counted
 from ..texts import cut, padded, printable, readable, width_of, wrapped
 from ..limits import MOST_NEIGHBORS
+from ..vlan import port_vlan_of
 
 VLAN, MANAGEMENT = "VLAN", "MANAGEMENT"
 HEADINGS = ("PORT", "NEIGHBOR", "ITS PORT", VLAN, MANAGEMENT, "LEFT")
 BETWEEN = "  "
-NOT_CUT = 1_000_000  # a width that cuts nothing
+NOT_CUT = 1_000_000  # a width at which nothing is cut
 LEAST_WIDTH_OF_TEXT = 20
-PORT_VLAN = ("0080c2", 1)  # OUI and subtype
-AWAITED, NO_LINK = "awaited", "down"  # what lldpa-live says of an interface and of a link
+AWAITED, NO_LINK = "awaited", "down"  # states of an interface and of a link
 # why a port has no neighbor, in words for one port and for several
 REASONS = {AWAITED: (": no such interface", ": no such interfaces"),
            "disabled": (" is disabled", " are disabled"), "tx-only": (" only sends", " only send"),
@@ -51,7 +50,7 @@ def table(ports: Sequence[Port], width: int) -> list[str]:
 
 def row_of(neighbor: Neighbor) -> Dict[str, str]:
     """Returns what the table says of a neighbor, by its headings."""
-    pvid = said_by(one for one in neighbor.org if one[0] == "%s.%d" % PORT_VLAN).pvid
+    pvid = port_vlan_of(neighbor.org)
     management = neighbor.management[0] if neighbor.management else ""
     return dict(zip(HEADINGS, (
         readable(neighbor.port), name_of(neighbor), port_of(neighbor),
@@ -102,7 +101,7 @@ def laid_out(headings: Sequence[str], rows: Sequence[Dict[str, str]], width: int
 
 
 def columns(rows: Sequence[Sequence[str]], width: int, numbers: int = 1) -> list[str]:
-    """Returns rows as lines of columns, of which so many at the end hold numbers. If the lines are
+    """Returns rows as lines of columns; the last `numbers` columns are numbers. If the lines are
     too wide, the widest columns are cut to the same width."""
     natural = [max(map(width_of, column)) for column in zip(*rows)]
     widths = fitted(natural, width - len(BETWEEN) * (len(natural) - 1))
@@ -136,8 +135,8 @@ def count_of(ports: Sequence[Port], width: int) -> list[str]:
 
 
 def reasons(show: Show, live: Mapping[str, Mapping[str, str]], width: int) -> list[str]:
-    """Returns which ports have no neighbor for a reason, or no link; `live` has what lldpa-live
-    says of each port."""
+    """Returns why ports have no neighbor, and which have no link; `live` has what lldpa-live
+    reports of each port."""
     statuses = show.configuration.statuses if show.configuration else {}
     found: Dict[str, List[str]] = {}
     for port in show.ports:

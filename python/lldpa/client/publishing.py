@@ -19,7 +19,7 @@ from .metrics import metrics
 from ..agent.show import Show, ShowFault, read_show
 from ..organizational.kinds import load
 
-SECONDS_TO_ANSWER = 10.0  # of each question, which is soon asked again
+SECONDS_TO_ANSWER = 10.0  # for each question; the timer asks again soon
 
 
 class NotWritten(LldpaFault):
@@ -29,8 +29,8 @@ class NotWritten(LldpaFault):
 def publish(path: str, file: Optional[str]) -> None:
     """Writes the metrics of lldpa-live at a control socket to a file, or to standard output.
 
-    After that it raises what `Client` raises if nobody answers, and Refused if lldpa-live answers
-    but its agent does not. Raises NotWritten if the file can't be written.
+    After that it raises what `Client` raises if nobody answers, and Refused if the agent waits for
+    an interface. Raises NotWritten if the file can't be written.
     """
     try:
         told, lines = asked(path, file is None)
@@ -47,7 +47,7 @@ def publish(path: str, file: Optional[str]) -> None:
 
 def asked(path: str, is_printed: bool) -> tuple[LiveLines, list[str]]:
     """Returns what lldpa-live at a control socket says of itself, and its metrics: without those of
-    the agent if that does not answer. Root is kept if a file is to be written."""
+    the agent if there is none yet. Root is kept if a file is to be written."""
     with Client(path, SECONDS_TO_ANSWER) as client:
         if is_printed:
             load()
@@ -59,7 +59,7 @@ def asked(path: str, is_printed: bool) -> tuple[LiveLines, list[str]]:
                 shown = read_show(client.ask("show neighbors") + client.ask("show statistics"))
             except Refused:
                 live = client.ask("live")
-                if LiveLines(live).is_up:  # it was not refused for the silence of the agent
+                if LiveLines(live).is_up:  # it was not refused because the agent waits
                     raise
         return LiveLines(live), metrics(shown, live)
 
@@ -78,7 +78,7 @@ def write(lines: Sequence[str], file: Optional[str]) -> None:
 
 def replace(file: str, text: str) -> None:
     """Replaces a file by that text, once the text is written whole."""
-    import tempfile  # which loads much
+    import tempfile  # slow to load
     folder, name = os.path.split(os.path.abspath(file))
     number, path = tempfile.mkstemp(prefix=f".{name}.", dir=folder)
     try:

@@ -1,31 +1,26 @@
-"""The commands for people: what each asks, and how its answers are shown.
+"""The commands for people: what each asks, and how the answers are shown. Modules that only one
+command needs are loaded with it."""
 
-`lldpa-ctl` and the console of `lldpa-live` have the same ones. What a command needs of its own is
-loaded with it.
-"""
-
-from __future__ import annotations
-
+# no `annotations` of __future__: see agent/shown.py
 from typing import Any, Callable, Dict, List, NamedTuple, Sequence, Tuple
 
 from .live_lines import LiveLines, since_of
 from ..agent.framing import Refused, command
-from .people import PORT_VLAN, count_of, reasons, table
+from .people import count_of, reasons, table
 from ..agent.show import Show, read_show
-from ..organizational.kinds import load, reader_of
 
 Lines = Sequence[str]
 Answers = Sequence[Lines]
 SHOWS = ("neighbors", "statistics", "chassis", "configuration", "interfaces")
 OF_PORTS = ("neighbors", "statistics")  # the shows that ports can follow
 SET_PORTS = ("configure", "ports")
-OF_LINES = ("up", "down", "rx", "tick")  # words of the agent's lines, which must be whole
+OF_LINES = ("up", "down", "rx", "tick")  # of the agent's trace; these cannot be shortened
 # lldpcli's other names
 OF_LLDPCLI = {("show", "interfaces"): ("interfaces",),
               ("show", "neighbors", "details"): ("details",),
               ("show", "neighbors", "summary"): ("neighbors",),
               ("show", "statistics", "summary"): ("statistics", "summary")}
-# why the agent refuses a word; other refusals are of a whole line
+# the reasons to refuse a word; the others are about a whole line
 OF_A_WORD = ("unknown command", "no such port", "not a number", "out of range", "bad text",
              "extra word")
 
@@ -58,7 +53,6 @@ def question(words: Sequence[str]) -> Question:
 
 def ask_neighbors(rest: Sequence[str]) -> Question:
     """Asks for the table."""
-    reader_of(*PORT_VLAN)
     ports = listed(rest)
 
     def text(answers: Answers, width: int) -> List[str]:
@@ -71,6 +65,7 @@ def ask_neighbors(rest: Sequence[str]) -> Question:
 def ask_details(rest: Sequence[str]) -> Question:
     """Asks for all that neighbors say."""
     from .details import details, discarded
+    from ..organizational.kinds import load
     load()
     ports = listed(rest)
 
@@ -111,7 +106,6 @@ def ask_interfaces(rest: Sequence[str]) -> Question:
 
 def ask_statistics(rest: Sequence[str]) -> Question:
     """Asks for the counters of ports, or for the sums of all."""
-    from dataclasses import asdict
     from .tallies import counter_lines, summed
     is_summary = list(rest) == ["summary"]
     ports = [] if is_summary else listed(rest)
@@ -123,7 +117,7 @@ def ask_statistics(rest: Sequence[str]) -> Question:
 
     def as_object(answers: Answers) -> Any:
         show = only(read_show(answers[0]), ports)
-        return {"summary": asdict(summed(show.counters.values()))} if is_summary else (
+        return {"summary": summed(show.counters.values())._asdict()} if is_summary else (
             shown_object(show))
     return Question(["show statistics"], text, as_object)
 

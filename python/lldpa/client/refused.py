@@ -16,7 +16,7 @@ THE_SAME = "the same"
 PORT, STATUS = "PORT", "STATUS"
 A_PORT = "a port of this agent"
 
-# forms of commands, word by word, and what is said of each; words in capitals stand for a value
+# forms of commands, word by word, and the description of each; words in capitals are values
 Forms = Dict[Tuple[str, ...], str]
 
 

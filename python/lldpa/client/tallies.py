@@ -2,7 +2,6 @@
 
 from __future__ import annotations
 
-from dataclasses import fields
 from typing import Any, Dict, Iterable, List, Mapping, Sequence
 
 from .live_lines import LiveLines
@@ -36,7 +35,7 @@ def interface_lines(ports: Sequence[Mapping[str, Any]], width: int) -> list[str]
 def summed(counters: Iterable[Counters]) -> Counters:
     """Returns the sums of counters of several ports."""
     some = list(counters)
-    return Counters(*(sum(getattr(one, field.name) for one in some) for field in fields(Counters)))
+    return Counters(*(sum(getattr(one, name) for one in some) for name in Counters._fields))
 
 
 def counter_lines(counters: Mapping[str, Counters], width: int) -> list[str]:
@@ -44,7 +43,6 @@ def counter_lines(counters: Mapping[str, Counters], width: int) -> list[str]:
     told = {readable(port): of for port, of in counters.items()}
     if len(told) > 1:
         told[ALL] = summed(counters.values())
-    names = [field.name for field in fields(Counters)]
-    rows = [["PORT", *(name.replace("_", "-").upper() for name in names)]]
-    rows += [[port, *(str(getattr(of, name)) for name in names)] for port, of in told.items()]
-    return columns(rows, width, len(names))
+    rows = [["PORT", *(name.replace("_", "-").upper() for name in Counters._fields)]]
+    rows += [[port, *map(str, of)] for port, of in told.items()]
+    return columns(rows, width, len(Counters._fields))

@@ -4,8 +4,7 @@ from __future__ import annotations
 
 import json
 import time
-from dataclasses import dataclass
-from typing import Dict, Iterable, Iterator, List, Sequence, Tuple
+from typing import Dict, Iterable, Iterator, List, NamedTuple, Sequence, Tuple
 
 from ..organizational import rows_of, said_by
 from .as_json import neighbor_object
@@ -23,8 +22,7 @@ Name = Tuple[str, Identifier, Identifier]
 CAME, CHANGED, GONE = "came", "changed", "gone"
 
 
-@dataclass(frozen=True)
-class NeighborNews:
+class NeighborNews(NamedTuple):
     """What happened to a neighbor: `came`, `changed` or `gone`; `changes` are texts such as
     `chassis.name: a -> b` or `pvid: 120 -> 121`."""
 
@@ -70,13 +68,13 @@ def changes(old: Neighbor, new: Neighbor) -> Iterator[str]:
         yield f"ttl: {old.ttl} -> {new.ttl}"
     if old.said == new.said:
         return
-    was, now = words_of(old), words_of(new)
+    was, now = content_of(old), content_of(new)
     for key in dict.fromkeys([*was, *now]):
         if was.get(key) != now.get(key):
             yield f"{key}: {was.get(key, 'nothing')} -> {now.get(key, 'nothing')}"
 
 
-def words_of(neighbor: Neighbor) -> Dict[str, str]:
+def content_of(neighbor: Neighbor) -> Dict[str, str]:
     """Returns all that a neighbor says, by keys: in words if its meaning is known."""
     said = said_by(neighbor.org)
     plain = [(key, value) for key, value in neighbor.said if not key.startswith("org.")]
@@ -90,7 +88,7 @@ def words_of(neighbor: Neighbor) -> Dict[str, str]:
 
 def looks(client: Client) -> Iterator[List[str]]:
     """Asks for the neighbors again and again, and returns the lines of each answer. There is none
-    while the agent is silent, until it answers again or another one replaces it."""
+    while the agent waits for an interface."""
     while True:
         time.sleep(SECONDS_BETWEEN_LOOKS)
         try:

@@ -17,11 +17,11 @@ NAME = "lldpa-capture"
 SUMMARY = "Writes the LLDP frames of captures as a trace for lldpa, with the seconds between them."
 FILE_HELP = """a capture of Ethernet, pcap or pcapng, or - for standard input; PORT=FILE names the
 port of all its frames"""
-PORT_HELP = """the port of all frames, or with INTERFACE=NAME of the frames of one interface; the
-default is the interface that a pcapng file names, or eth0"""
+PORT_HELP = """the port of all frames, or with INTERFACE=NAME of the frames of one interface
+(default: the interface that a pcapng file names, or eth0)"""
 EPILOG = """\
 example: lldpa-capture --show lab.pcap | lldpa --receive-only eth0
-lldpa-capture(1) lists what is skipped, and the exit statuses.
+lldpa-capture(1) describes which packets are skipped, and the exit statuses.
 """
 SHOWS = ("show neighbors", "show statistics")
 ANY_INTERFACE = ""
@@ -107,7 +107,7 @@ def report_unread(sources: Sequence[Source]) -> int:
 
 
 def fault_of(file: str) -> str:
-    """Returns why a capture cannot be read, or nothing. What can be read only once is not read."""
+    """Returns why a capture cannot be read, or nothing. A stream is not tried."""
     try:
         if file == STANDARD_INPUT or is_stream(os.stat(file).st_mode):
             return ""

@@ -1,13 +1,11 @@
 """lldpa-ctl: asks a running lldpa-live at its control socket, and prints what it answers."""
 
-from __future__ import annotations
-
-import argparse
-import socket
+# no `annotations` of __future__: see agent/shown.py
+import getopt
 import sys
-from typing import Callable, Optional, Sequence
+from typing import Callable, List, NamedTuple, Optional, Sequence
 
-from .. import output
+from .. import __version__, output
 from ..client.connection import DEFAULT_PATH, Client, give_up_root
 from ..client.people import terminal_width
 from ..client.questions import (COMMANDS, Question, check, completed, explanation, listed,
@@ -16,16 +14,27 @@ from ..agent.framing import Refused, command, words_of
 from ..agent.show import read_show
 from ..faults import LldpaFault
 from ..texts import printable
-from ..version import add_version
 
-# modules that only some questions need are loaded there, since a question must be quick
+# Modules that only some questions need are loaded there, so that a question is quick.
 NO_PORT, UNKNOWN = "no such port", "unknown command"
 ALONE = ("watch", "metrics", "help")  # the commands that only this program has
 
-EPILOG = """\
-commands, or none for a table of the neighbors:
+USAGE = "usage: lldpa-ctl [OPTION...] [COMMAND...]"
+HELP = f"""\
+{USAGE}
+
+Asks a running lldpa-live for its neighbors or its state, and prints the answer.
+
+options:
+  --control PATH  the control socket of lldpa-live (default {DEFAULT_PATH})
+  --json          print the answer as JSON
+  --output FILE   write the metrics to FILE, completely or not at all
+  -h, --help      print this help
+  -V, --version   print the version
+
+commands (without a command, a table of all neighbors is printed):
   neighbors [PORT..]       print the table, of all ports or of these
-  details [PORT..]         print all that neighbors say
+  details [PORT..]         print everything that the neighbors sent
   interfaces [PORT..]      print the state of the ports
   statistics [PORT..]      print the counters as a table
   statistics summary       print the sums of the counters
@@ -33,18 +42,31 @@ commands, or none for a table of the neighbors:
   show statistics [PORT..] print the counters in the agent's lines
   show chassis             print what this host announces
   show configuration       print the settings, and the status of each port
-  configure ...            change the agent, see lldpa(1)
-  update                   send the current state
+  configure ...            change a setting, see lldpa(1)
+  update                   announce the current state of this host at once
   live                     print the state of lldpa-live itself
   watch [PORT..]           print a line when a neighbor comes, changes or goes
   metrics                  print metrics for Prometheus
   help                     print this help
-Separate ports by spaces or commas, also in configure ports. A word may be
-shortened if no other word begins like it.
+Separate ports by spaces or commas, also in configure ports. You may shorten a
+word if no other word begins with the same letters.
 
 example: lldpa-ctl --json show neighbors eth0,eth1
 lldpa-ctl(8) lists the metrics, and describes JSON and the control socket.
 """
+OPTIONS = ["control=", "json", "output=", "help", "version"]
+
+
+class Given(NamedTuple):
+    """The words of the program."""
+    control: str
+    json: bool
+    output: Optional[str]
+    words: List[str]
+
+
+class WrongWords(LldpaFault):
+    """Words that the program does not accept, and why."""
 
 
 def print_answer(client: Client, asked: Question, as_json: bool) -> None:
@@ -75,40 +97,33 @@ def answer(client: Client, line: str) -> list[str]:
     raise Refused(explanation(words, text, (*COMMANDS, *ALONE)))
 
 
-def read_words(words: Optional[Sequence[str]]) -> argparse.Namespace:
-    """Reads the words of the program. Ends it with status 2 if they are wrong."""
-    parser = argparse.ArgumentParser(
-        prog="lldpa-ctl",
-        description="Asks a running lldpa-live who the neighbors are, and prints its answers.",
-        epilog=EPILOG,
-        formatter_class=output.plain_help,
-        allow_abbrev=False,
-    )
-    parser.add_argument("--control", metavar="PATH", default=DEFAULT_PATH,
-                        help=f"the control socket of lldpa-live (default {DEFAULT_PATH})")
-    parser.add_argument("--json", action="store_true", help="print answers as JSON")
-    parser.add_argument("--output", metavar="FILE",
-                        help="write metrics to FILE, completely or not at all")
-    add_version(parser)
-    parser.add_argument("words", nargs="*", metavar="COMMAND", help="one of the commands below")
-    given = parser.parse_intermixed_args(words)
-    if len(given.words) == 1:
-        given.words = words_of(given.words[0])
-    if given.words:
-        given.words[0] = completed(given.words[0], (*COMMANDS, *ALONE))
-    if given.words == ["help"]:
-        parser.print_help()
-        parser.exit()
-    if given.words[:1] == ["metrics"] and len(given.words) > 1:
-        parser.error("no word may follow metrics")
-    if given.words == ["metrics"] and given.json:
-        parser.error("metrics cannot be printed as JSON")
-    if given.words != ["metrics"] and given.output is not None:
-        parser.error("--output can be used only with metrics")
+def read_words(words: Sequence[str]) -> Given:
+    """Reads the words of the program. Raises WrongWords if they are wrong."""
+    try:
+        options, rest = getopt.gnu_getopt(list(words), "hV", OPTIONS)
+    except getopt.GetoptError as fault:
+        raise WrongWords(str(fault)) from None
+    told = dict(options)
+    for name in told:
+        if name.startswith("--") and name not in [word.partition("=")[0] for word in words]:
+            raise WrongWords(f"an option cannot be shortened: {name}")
+    if len(rest) == 1:
+        rest = words_of(rest[0])
+    if rest:
+        rest[0] = completed(rest[0], (*COMMANDS, *ALONE))
+    for name, short in (("help", "-h"), ("version", "-V")):
+        rest = [name] if short in told or f"--{name}" in told else rest
+    given = Given(told.get("--control", DEFAULT_PATH), "--json" in told, told.get("--output"), rest)
+    if rest[:1] == ["metrics"] and len(rest) > 1:
+        raise WrongWords("no word may follow metrics")
+    if rest == ["metrics"] and given.json:
+        raise WrongWords("metrics cannot be printed as JSON")
+    if rest != ["metrics"] and given.output is not None:
+        raise WrongWords("--output can be used only with metrics")
     return given
 
 
-def work_of(given: argparse.Namespace) -> Callable[[Client], None]:
+def work_of(given: Given) -> Callable[[Client], None]:
     """Returns what asks and prints what was asked for, with all loaded that it needs: root becomes
     nobody, which may not be able to read it."""
     words = given.words or ["neighbors"]
@@ -132,32 +147,30 @@ def said_of(fault: Exception, path: str) -> str:
         return f"nobody answers at {path}: is lldpa-live running?"
     if isinstance(fault, PermissionError):
         return f"{path}: permission denied (only root and the group of the socket may ask)"
-    if isinstance(fault, socket.timeout):
-        return f"no answer from {path}"
-    if isinstance(fault, OSError) and fault.strerror:
-        return f"{path}: {fault.strerror}"
+    if isinstance(fault, TimeoutError) or isinstance(fault, OSError) and fault.strerror:
+        return f"{path}: {fault.strerror or fault}"
     return printable(str(fault))
 
 
 def main(words: Optional[Sequence[str]] = None) -> int:
     """Runs the program: 0 if all was answered, 1 if not, 2 if the words are wrong."""
+    given = sys.argv[1:] if words is None else words
     # characters that the terminal does not have are written as a question mark
-    return output.run("lldpa-ctl", lambda: status_of(words), 1, errors="replace")
+    return output.run("lldpa-ctl", lambda: status_of(given), 1, errors="replace")
 
 
-def status_of(words: Optional[Sequence[str]]) -> int:
+def status_of(words: Sequence[str]) -> int:
     """Returns the status, if the output does not fail."""
-    given = read_words(words)
     try:
-        if given.words == ["metrics"]:
-            from ..client.publishing import publish
-            publish(given.control, given.output)
-        else:
-            work = work_of(given)
-            with Client(given.control) as client:
-                if given.words[:1] != ["configure"]:  # whose refusals `lldpa --help` explains
-                    give_up_root()
-                work(client)
+        given = read_words(words)
+    except WrongWords as fault:
+        print(f"{USAGE}\nlldpa-ctl: error: {printable(str(fault))}", file=sys.stderr)
+        return 2
+    if given.words in (["help"], ["version"]):
+        print(HELP if given.words == ["help"] else f"lldpa-ctl {__version__}\n", end="")
+        return 0
+    try:
+        answer_all(given)
     except KeyboardInterrupt:
         return 130
     except (LldpaFault, OSError) as fault:
@@ -167,6 +180,19 @@ def status_of(words: Optional[Sequence[str]]) -> int:
         output.complain("lldpa-ctl", printable(str(fault)))
         return 2
     return 0
+
+
+def answer_all(given: Given) -> None:
+    """Asks what the words say, and prints or writes the answers."""
+    if given.words == ["metrics"]:
+        from ..client.publishing import publish
+        publish(given.control, given.output)
+        return
+    work = work_of(given)
+    with Client(given.control) as client:
+        if given.words[:1] != ["configure"]:  # whose refusals `lldpa --help` explains
+            give_up_root()
+        work(client)
 
 
 if __name__ == "__main__":

@@ -23,29 +23,31 @@ from .ctl import answer as answer_of, said_of
 
 LLDPCTL, LLDPCLI = "lldpctl", "lldpcli"
 HELP = f"""\
-usage: NAME [-u PATH] [-f FORM] COMMAND
+usage: NAME [-u PATH] [-f FORM] [COMMAND]
 
-Asks a running lldpa-live, and prints its answer like lldpcli of lldpd.
+Asks a running lldpa-live, and prints the answer like lldpcli of lldpd.
 
-  -u PATH  the control socket of lldpa-live (default {DEFAULT_PATH})
-  -f FORM  {', '.join(FORMS)} (default plain)
-  -d, -s   accepted and ignored
-  -h, --help  print this help
+  -u PATH        the control socket of lldpa-live (default {DEFAULT_PATH})
+  -f FORM        {', '.join(FORMS)} (default plain)
+  -d, -s         accepted and ignored
+  -h, --help     print this help
   -v, --version  print the version
 
-lldpctl without a command prints all that neighbors say, of the ports that you name or of all.
-lldpcli without a command reads commands from standard input, up to exit. The commands are:
+Without a command, lldpctl prints the details of all neighbors, or of those of
+the ports that you name, and lldpcli reads commands from standard input until
+exit. The commands are:
   show neighbors [details | summary] [ports PORT,..]
   show interfaces [details | summary] [ports PORT,..]
   show chassis [details | summary]
   show statistics [summary] [ports PORT,..]
   show configuration
   watch [details | summary] [ports PORT,..] [limit N]
-  configure ...  the commands of lldpa(1)
+  configure ...  see lldpa(1)
   update
 
 example: lldpctl -f keyvalue eth0
-lldpctl(1) says how to put this program on the path, since lldpd has one of the same name.
+lldpd has a program of the same name: lldpctl(1) says how to put this one on the
+path.
 """
 # lldpcli's words for what happens to a neighbor
 HAPPENED = {"came": "added", "changed": "updated", "gone": "deleted"}

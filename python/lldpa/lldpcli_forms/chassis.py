@@ -6,10 +6,10 @@ import socket
 from typing import Iterable, Iterator, Mapping, Optional, Tuple
 
 from ..agent.show import Identifier, LocalChassis, Neighbor, unescaped
-from ..node import Node, said_text, text_of
+from ..node import Node, said_text, lldpcli_text
 
 CAPABILITIES = ("Other", "Repeater", "Bridge", "Router", "Wlan", "Tel", "Docsis", "Station")
-BY_INTERFACE = 2  # the numbering of an interface by ifIndex
+BY_INTERFACE = 2  # the interface number is an ifIndex
 # the subtypes of Chassis ID and Port ID that hold an address
 MAC_OF_CHASSIS, IP_OF_CHASSIS = 4, 5
 MAC_OF_PORT, IP_OF_PORT = 3, 4
@@ -65,7 +65,7 @@ def identifier_node(label: str, identifier: Identifier, known: Mapping[int, str]
         kind = known.get(octets[0], "unhandled")
         text = octets[1:].hex(":" if kind == "mac" else " ")
     elif kind != "mac":
-        text = text_of(unescaped(text))
+        text = lldpcli_text(unescaped(text))
     return Node("id", label, [("type", "", kind)], text)
 
 
@@ -75,7 +75,7 @@ def first(said: Iterable[Tuple[str, str]], key: str) -> Optional[str]:
 
 
 def managements(said: Iterable[Tuple[str, str]]) -> Iterator[Tuple[str, Optional[str]]]:
-    """Returns the IP management addresses, and the numbers of interfaces behind them."""
+    """Returns the IP management addresses, each with its interface number."""
     for key, text in said:
         if key == "chassis.mgmt" and not text.startswith("af"):
             address, numbering, number, *_ = text.split(",")

@@ -1,4 +1,4 @@
-"""The commands: what lldpcli's words, and the ports behind lldpctl, ask for."""
+"""Reads the commands: the words of lldpcli, and the ports after lldpctl."""
 from __future__ import annotations
 
 from typing import Callable, List, NamedTuple, Optional, Sequence, Union

@@ -12,7 +12,7 @@ LINE = "-" * 79
 WIDTH = 13  # columns before a value
 NAMING = ("name", "type")  # the attributes whose values replace their node's key
 FLAGS = {"yes": True, "on": True, "no": False, "off": False}
-ENDS = ("Zl", "Zp")  # what ends a line, or a paragraph
+ENDS = ("Zl", "Zp")  # separators of lines and of paragraphs
 
 
 def plain(root: Node) -> str:

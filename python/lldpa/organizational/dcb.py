@@ -15,7 +15,7 @@ SELECTORS = {1: "EtherType", 2: "TCP or SCTP port", 3: "UDP or DCCP port",
 
 
 def willing(is_willing: bool) -> str:
-    """Returns in words whether a port takes the settings of its peer."""
+    """Returns in words whether a port accepts the settings of its peer."""
     return "willing" if is_willing else "not willing"
 
 

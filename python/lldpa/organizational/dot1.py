@@ -4,18 +4,12 @@ from __future__ import annotations
 from dataclasses import dataclass
 from typing import Any, List, Optional
 
-from ..node import Node, text_of, yes
+from ..node import Node, lldpcli_text, yes
 from ..texts import readable_octets, with_text
-from .kinds import DOT1, GREATEST_VID, Said, Tlv, ability, number, of
+from ..vlan import vid_of
+from .kinds import DOT1, Said, Tlv, ability, number, of
 
 LONGEST_NAME = 32  # octets of a VLAN's name
-
-
-def vid_of(octets: bytes) -> Optional[int]:
-    """Returns a VLAN identifier in two octets, 1 to 4094, or 0 for none; None if it is neither."""
-    if len(octets) != 2 or number(octets) > GREATEST_VID:
-        return None
-    return number(octets)
 
 
 def vid_text(vid: int) -> str:
@@ -47,7 +41,7 @@ class PortVlan(Tlv):
         """Returns the nodes of the VLANs that have a name, and of the port's if it has none."""
         vlan, names = said.one(PortVlan), said.all(VlanName)
         pvid = vlan.pvid if vlan else 0
-        nodes = [vlan_node(one.vid, vlan is not None and one.vid == pvid, text_of(one.name))
+        nodes = [vlan_node(one.vid, vlan is not None and one.vid == pvid, lldpcli_text(one.name))
                  for one in names]
         if pvid and pvid not in [one.vid for one in names]:
             nodes.append(vlan_node(pvid, True, None))
@@ -125,7 +119,7 @@ class ProtocolIdentity(Tlv):
 
     @classmethod
     def read(cls, octets: bytes) -> Optional[ProtocolIdentity]:
-        """Reads a length, and so many octets."""
+        """Reads a length, and as many octets."""
         if not octets or octets[0] != len(octets) - 1:
             return None
         return cls(octets[1:])

@@ -9,7 +9,7 @@ from .kinds import DOT1, DOT3, Row, Said, Tlv, ability, number, of
 from .mau import Mau, advertised_names, mau_of
 from .mau_texts import MAU_TEXTS
 
-# lldpcli's names of what autonegotiation may advertise, with the bits of half and full duplex
+# lldpcli's names of the advertised modes, with the bits of half and full duplex
 ADVERTISED = (("10Base-T", 0x4000, 0x2000), ("100Base-T4", 0x1000, 0x1000),
               ("100Base-TX", 0x0800, 0x0400), ("100Base-T2", 0x0200, 0x0100),
               ("1000Base-X", 0x0008, 0x0004), ("1000Base-T", 0x0002, 0x0001))

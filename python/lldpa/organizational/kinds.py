@@ -14,10 +14,9 @@ from typing import (Any, Callable, ClassVar, Dict, List, NamedTuple, Optional, S
 from ..node import Node
 
 DOT1, DOT3, MED, IANA = "0080c2", "00120f", "0012bb", "00005e"
-# the modules in the order in which what they read is shown, with the organizations that need them
+# the modules in the order of their output, with the organizations whose TLVs they read
 MODULES = {"dot1": (DOT1,), "dot3": (DOT1, DOT3), "power": (DOT3,), "dcb": (DOT1,), "med": (MED,),
            "location": (MED,), "inventory": (MED, IANA)}
-GREATEST_VID = 4094
 
 Object = Dict[str, Any]
 Kind = TypeVar("Kind", bound="Type[Tlv]")
@@ -40,13 +39,13 @@ class Tlv:
     key: ClassVar[str] = ""
     heading: ClassVar[str] = ""
     group: ClassVar[str] = ""
-    between: ClassVar[str] = ", "  # the words of several
-    path: ClassVar[str] = ""  # of its value in JSON's object
+    between: ClassVar[str] = ", "  # separates the words of several
+    path: ClassVar[str] = ""  # the key of its value in JSON, with dots
     parent: ClassVar[str] = ""  # the key of the node that holds its nodes
 
     @classmethod
     def read(cls, octets: bytes) -> Optional[Tlv]:
-        """Returns what the octets behind the subtype say, None if they do not have this form.
+        """Returns what the octets after the subtype mean, None if they do not have this form.
         Reserved bits are ignored, as the standards say."""
         raise NotImplementedError
 
@@ -153,7 +152,7 @@ def number(octets: bytes) -> int:
 
 
 def name_in(names: Sequence[str], place: int, other: str) -> str:
-    """Returns the name at a place, or another text if there are not so many."""
+    """Returns the name at a place, or another text if there are fewer names."""
     return names[place] if place < len(names) else other
 
 

@@ -5,7 +5,7 @@ from dataclasses import dataclass
 from math import log10
 from typing import Any, List, Optional, Tuple
 
-from ..node import Node, capital, text_of
+from ..node import Node, capital, lldpcli_text
 from ..texts import readable_octets, with_text
 from .kinds import MED, Said, Tlv, number, of
 
@@ -22,7 +22,7 @@ ELEMENTS = {
 # lldpcli's names
 LLDPCLI_DATUMS = {1: "WGS84", 2: "NAD83", 3: "NAD83/MLLW"}
 LLDPCLI_UNITS = {1: "m", 2: "floor"}
-# bits before and behind the point
+# bits before and after the point
 DEGREES, ALTITUDE = (9, 25), (22, 8)
 
 
@@ -118,13 +118,13 @@ class Coordinates(Location):
 
 
 def signed(value: int, bits: int) -> int:
-    """Returns the number in two's complement in the last so many bits of a value."""
+    """Returns the number in two's complement in the last bits of a value."""
     value &= (1 << bits) - 1
     return value - (1 << bits) if value >> (bits - 1) else value
 
 
 def fixed(value: int, places: int, resolution: int, whole: int) -> str:
-    """Returns the amount of a number, whose last `places` bits are behind the point, as lldpd
+    """Returns the amount of a number, whose last `places` bits follow the point, as lldpd
     writes it.
 
     `resolution` counts the bits that are valid, and `whole` those of the part before the point.
@@ -173,11 +173,11 @@ class CivicAddress(Location):
 
     def node(self) -> Node:
         node = location_node("Civic address")
-        node.add("country", "Country", text_of(self.country))
+        node.add("country", "Country", lldpcli_text(self.country))
         for kind, text in self.elements:
             name = ELEMENTS.get(kind)
             key, label = (name.lower(), capital(name)) if name else ("unknown", "unknown")
-            node.add(key.replace(" ", "-"), label, text_of(text))
+            node.add(key.replace(" ", "-"), label, lldpcli_text(text))
         return node
 
 

@@ -7,7 +7,7 @@ from __future__ import annotations
 import re
 from typing import NamedTuple, Optional, Tuple
 
-# from 1 on; behind a slash the duplex mode, if the type has one of its own
+# types 1 and up; after a slash the duplex mode, if the type has one of its own
 MAU_NAMES = """
 AUI 10BASE5 FOIRL 10BASE2 10BASE-T 10BASE-FP 10BASE-FB 10BASE-FL 10BROAD36 10BASE-T/half
 10BASE-T/full 10BASE-FL/half 10BASE-FL/full 100BASE-T4 100BASE-TX/half 100BASE-TX/full
@@ -32,14 +32,14 @@ AUI 10BASE5 FOIRL 10BASE2 10BASE-T 10BASE-FP 10BASE-FB 10BASE-FL 10BROAD36 10BAS
 10BASE-T1S/half 10BASE-T1S-multidrop 10BASE-T1S/full
 """.split()
 
-# from the most significant bit of the two octets on
+# the bits of the two octets, the most significant first
 ADVERTISED_NAMES = (
     "other", "10BASE-T/half", "10BASE-T/full", "100BASE-T4", "100BASE-TX/half", "100BASE-TX/full",
     "100BASE-T2/half", "100BASE-T2/full", "pause", "asymmetric pause", "symmetric pause",
     "asymmetric and symmetric pause", "1000BASE-X/half", "1000BASE-X/full", "1000BASE-T/half",
     "1000BASE-T/full")
 
-# no speed if the two directions differ, as in 10/1GBASE-PRX
+# no speed if the directions differ, such as 10/1GBASE-PRX
 SPEED = re.compile(r"([0-9.]+)(G?)(?:BASE|PASS|BROAD)")
 
 

@@ -5,7 +5,8 @@ from dataclasses import dataclass
 from typing import Any, List, Optional, Tuple
 
 from ..node import Node, capital, yes
-from .kinds import GREATEST_VID, MED, Object, Said, Tlv, nodes_in, number, of
+from ..vlan import GREATEST_VID
+from .kinds import MED, Object, Said, Tlv, nodes_in, number, of
 
 CAPABILITIES = ("capabilities", "policy", "location", "MDI/PSE", "MDI/PD", "inventory")
 CLASSES = {1: "endpoint class I", 2: "endpoint class II", 3: "endpoint class III",

@@ -1,4 +1,4 @@
-"""All that a neighbor says in TLVs of organizations: as objects, as rows for people, as JSON."""
+"""What a neighbor sends in TLVs of organizations: as objects, as rows for people, as JSON."""
 from __future__ import annotations
 
 from dataclasses import dataclass
@@ -12,7 +12,7 @@ Org = Iterable[Tuple[str, str]]
 
 @dataclass(frozen=True)
 class Organizational(Said):
-    """What a neighbor says in organizationally specific TLVs.
+    """The content of the organizationally specific TLVs of a neighbor.
 
     `rest` has OUI and subtype, and the octets in hexadecimal, of all TLVs that are not in `tlvs`:
     those of other kinds, those without the form of their kind, and those that should be sent once
@@ -22,7 +22,7 @@ class Organizational(Said):
 
     @property
     def pvid(self) -> Optional[int]:
-        """Returns the Port VLAN ID, 0 if the port has none, or None if nothing is said of it."""
+        """Returns the Port VLAN ID, 0 if the port has none, or None if none was sent."""
         return self._number("vlan.pvid")
 
     @property
@@ -45,7 +45,7 @@ class Organizational(Said):
 def read_tlv(oui: str, subtype: int, octets: bytes) -> Optional[Tlv]:
     """Returns what a TLV says; None if its kind is not known or it does not have its kind's form.
 
-    The OUI is in lower case, as `0080c2`; the octets are those behind the subtype.
+    The OUI is in lower case, as `0080c2`; the octets are those after the subtype.
     """
     reader = kinds.reader_of(oui, subtype)
     return None if reader is None else reader(octets)
@@ -92,12 +92,12 @@ def known_to_lldpd(org: Org) -> Tuple[Organizational, List[Tuple[str, str]]]:
 
 
 def rows_of(said: Organizational) -> List[Row]:
-    """Returns what is said, one row for each thing."""
+    """Returns the content, one row for each thing."""
     return [row for kind in kinds.kinds() for row in kind.rows(said) if row.text]
 
 
 def organizational_object(said: Organizational) -> Object:
-    """Returns all that is said as an object for JSON; what is not said is null or empty."""
+    """Returns the content as an object for JSON; what was not sent is null or empty."""
     kinds.load()
     told: Object = {}
     for kind in kinds.kinds():

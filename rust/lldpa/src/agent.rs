@@ -29,7 +29,7 @@ pub struct Options<'a> {
     pub ports: &'a [&'a str],
     /// The hostname, at most 255 octets of printable ASCII.
     pub hostname: &'a str,
-    /// The source address of every frame.
+    /// The source address and the chassis ID of every frame.
     pub mac: [u8; 6],
     /// The IPv4 address under which the agent can be managed.
     pub management: Option<[u8; 4]>,
@@ -112,9 +112,8 @@ pub struct Commanded {
 
 /// An open agent. Only [`Agent::open`] takes its memory, and dropping it gives that back.
 ///
-/// It stays on the thread that opened it, and is neither `Send` nor `Sync`. By the rule of the toolchain that proves the
-/// library, a handle may go to another thread only if `Send` is proved of its type. It is not proved of this handle: the
-/// agent's memory is behind a raw pointer, and no proof says that another thread may use it and free it.
+/// It stays on the thread that opened it, and is neither `Send` nor `Sync`: its memory is behind a raw pointer, and no
+/// proof says that another thread may use it and free it.
 ///
 /// ```compile_fail,E0277
 /// fn crosses<T: Send>() {}
@@ -134,7 +133,7 @@ pub struct Commanded {
 #[derive(Debug)]
 pub struct Agent {
     // It has a place of its own: an open handle is not to be copied.
-    pub(crate) handle: Box<sys::Agent>,
+    pub(crate) handle: Box<sys::lldpa_agent>,
     /// How many ports it has.
     ports: u8,
 }
@@ -225,16 +224,16 @@ const SHOW_ROOM: usize = 1 << 16;
 const SHOW_ROOM_OF_NEIGHBOR: usize = 1 << 10;
 
 /// The marks that a call wrote.
-fn sent(marks: &sys::Marks) -> Vec<Sent> {
+fn sent(marks: &sys::lldpa_marks) -> Vec<Sent> {
     marks.items[..usize::from(marks.count)]
         .iter()
         .filter_map(|item| Some(Sent { port: item.port, mark: Mark::of(item.mark)? }))
         .collect()
 }
 
-/// No marks.
-fn no_marks() -> sys::Marks {
-    sys::Marks { items: [sys::Mark::default(); 64], count: 0 }
+/// A text that is lent for as long as the caller says.
+fn text_of(text: &str) -> sys::lldpa_text {
+    sys::lldpa_text { octets: text.as_ptr(), length: text.len() }
 }
 
 impl Agent {
@@ -247,12 +246,12 @@ impl Agent {
         if !crate::is_of_this_version() {
             return Err(OpenFault::Version);
         }
-        let ports: Vec<sys::Text> = options.ports.iter().map(|name| sys::Text::of(name)).collect();
-        let given = sys::Options {
-            size: size_of::<sys::Options>(),
+        let ports: Vec<sys::lldpa_text> = options.ports.iter().map(|name| text_of(name)).collect();
+        let given = sys::lldpa_options {
+            size: size_of::<sys::lldpa_options>(),
             ports: ports.as_ptr(),
             port_count: ports.len(),
-            hostname: sys::Text::of(options.hostname),
+            hostname: text_of(options.hostname),
             mac: options.mac,
             management: options.management.unwrap_or_default(),
             managed: options.management.is_some(),
@@ -263,7 +262,7 @@ impl Agent {
             fast_init: options.fast_init.into(),
             reinit: options.reinit.into(),
         };
-        let mut handle = Box::new(sys::Agent { held: ptr::null_mut(), open: false });
+        let mut handle = Box::<sys::lldpa_agent>::default();
         // SAFETY: the names live until the call returns, which keeps none of them; the handle is closed.
         let answer = unsafe { sys::lldpa_open(&given, &mut *handle) };
         OpenFault::check(answer)?;
@@ -271,33 +270,31 @@ impl Agent {
         Ok(Agent { handle, ports })
     }
 
-    /// One second has passed. Tells which ports send, by rising port.
+    /// One second has passed. Returns which ports send, in ascending order.
     #[must_use = "the frames that go"]
     pub fn tick(&mut self) -> Vec<Sent> {
-        let mut marks = no_marks();
-        // SAFETY: the handle is open, and the marks are a value of their own.
-        expect_ok(unsafe { sys::lldpa_tick(&mut *self.handle, &mut marks, ptr::null_mut()) });
-        sent(&marks)
+        self.ticks(1).sent
     }
 
-    /// Up to `count` seconds have passed: takes as many ticks, but stops behind the first at which a port sends or a
-    /// neighbor ages out. Call it again for the others.
+    /// Up to `count` seconds have passed: takes as many ticks, but stops after the first at which a port sends or a
+    /// neighbor ages out. Call it again for the others. `count` is no more than the seconds that passed.
     #[must_use = "the frames that go"]
     pub fn ticks(&mut self, count: u32) -> Ticks {
-        let (mut marks, mut told) = (no_marks(), sys::TicksTaken::default());
+        let (mut marks, mut told) = (sys::lldpa_marks::default(), sys::lldpa_ticks_taken::default());
         // SAFETY: the handle is open, and the others are values of their own.
         expect_ok(unsafe { sys::lldpa_ticks(&mut *self.handle, count, &mut marks, &mut told) });
         Ticks { taken: told.taken, aged_out: told.aged_out, sent: sent(&marks) }
     }
 
-    /// At which tick, from 1, a port sends or a neighbor ages out, if no other call comes before it; None if at none.
-    /// [`Agent::ticks`] stops behind just that one, so a caller may sleep so many seconds and then give them all.
+    /// At which tick, from 1, a port sends or a neighbor ages out, if no other call comes before it; None if at none. You
+    /// may sleep so many seconds and then give them all to [`Agent::ticks`]. If you wake for a frame, give the seconds
+    /// that passed first, and then the frame.
     #[must_use]
     pub fn due(&self) -> Option<u32> {
-        let mut seconds = sys::NEVER;
+        let mut seconds = sys::LLDPA_NEVER;
         // SAFETY: the handle is open, and the seconds are a value of their own.
         expect_ok(unsafe { sys::lldpa_due(&*self.handle, &mut seconds) });
-        (seconds != sys::NEVER).then_some(seconds)
+        (seconds != sys::LLDPA_NEVER).then_some(seconds)
     }
 
     /// What a port counted.
@@ -306,7 +303,7 @@ impl Agent {
     ///
     /// The agent has no such port.
     pub fn statistics(&self, port: u8) -> Result<Statistics, PortFault> {
-        let mut told = sys::Statistics::default();
+        let mut told = sys::lldpa_statistics_told::default();
         // SAFETY: the handle is open, and what is told is a value of its own.
         PortFault::check(unsafe { sys::lldpa_statistics(&*self.handle, port.into(), &mut told) })?;
         Ok(Statistics {
@@ -325,17 +322,7 @@ impl Agent {
     /// How the agent is configured.
     #[must_use]
     pub fn configuration(&self) -> Configuration {
-        let mut told = sys::Configuration {
-            interval: 0,
-            hold: 0,
-            ttl: 0,
-            reinit: 0,
-            fast_init: 0,
-            credit_max: 0,
-            max_neighbors: 0,
-            ports: 0,
-            status: [0; 64],
-        };
+        let mut told = sys::lldpa_configuration_told::default();
         // SAFETY: the handle is open, and what is told is a value of its own.
         expect_ok(unsafe { sys::lldpa_configuration(&*self.handle, &mut told) });
         let ports = &told.status[..usize::from(self.ports)];
@@ -358,7 +345,7 @@ impl Agent {
     ///
     /// The agent has no such port.
     pub fn frame(&mut self, port: u8, octets: &[u8]) -> Result<Vec<Sent>, PortFault> {
-        let mut marks = no_marks();
+        let mut marks = sys::lldpa_marks::default();
         // SAFETY: the handle is open, the octets are as many as are told, and the marks are a value of their own.
         let answer = unsafe {
             sys::lldpa_frame(
@@ -380,7 +367,7 @@ impl Agent {
     ///
     /// The agent has no such port.
     pub fn frame_news<'f>(&mut self, port: u8, octets: &'f [u8]) -> Result<(Vec<Sent>, News<'f>), PortFault> {
-        let (mut marks, mut news) = (no_marks(), sys::News::default());
+        let (mut marks, mut news) = (sys::lldpa_marks::default(), sys::lldpa_news::default());
         // SAFETY: the handle is open, the octets are as many as are told, and the others are values of their own.
         let answer = unsafe {
             sys::lldpa_frame(
@@ -414,7 +401,7 @@ impl Agent {
     ///
     /// The agent has no such port.
     pub fn link(&mut self, port: u8, up: bool) -> Result<Vec<Sent>, PortFault> {
-        let mut marks = no_marks();
+        let mut marks = sys::lldpa_marks::default();
         // SAFETY: the handle is open, and the marks are a value of their own.
         PortFault::check(unsafe { sys::lldpa_link(&mut *self.handle, port.into(), up, &mut marks) })?;
         Ok(sent(&marks))
@@ -428,13 +415,22 @@ impl Agent {
     /// The first fault of the command, and nothing is changed.
     pub fn command(&mut self, line: impl AsRef<[u8]>) -> Result<Commanded, CommandFault> {
         let line = line.as_ref();
-        let (mut marks, mut show) = (no_marks(), 0);
+        let (mut marks, mut show) = (sys::lldpa_marks::default(), 0);
         // SAFETY: the handle is open, the line has as many octets as are told, and the others are values of their own.
         let answer = unsafe {
             sys::lldpa_command(&mut *self.handle, line.as_ptr(), line.len(), &mut show, &mut marks)
         };
         CommandFault::check(answer)?;
         Ok(Commanded { show: Show::of(show), sent: sent(&marks) })
+    }
+
+    /// Disables every port. Each port that is active sends a shutdown frame, and no port sends anything else.
+    #[must_use = "the frames that go"]
+    pub fn leave(&mut self) -> Vec<Sent> {
+        let mut marks = sys::lldpa_marks::default();
+        // SAFETY: the handle is open, and the marks are a value of their own.
+        expect_ok(unsafe { sys::lldpa_leave(&mut *self.handle, &mut marks) });
+        sent(&marks)
     }
 
     /// A room for which a show mostly has not too many lines.
@@ -448,21 +444,9 @@ impl Agent {
     pub fn show(&self, show: Show) -> String {
         let mut text = String::new();
         let mut room = vec![0u8; self.room_of_show()];
-        let mut lines = sys::Lines::default();
+        let mut lines = sys::lldpa_lines::default();
         while !lines.done {
-            let from = lines.next;
-            // SAFETY: the handle is open, the room has as many octets as are told, and the lines are a value of their own.
-            let answer = unsafe {
-                sys::lldpa_show_lines(
-                    &*self.handle,
-                    show as u32,
-                    from,
-                    room.as_mut_ptr(),
-                    room.len(),
-                    &mut lines,
-                )
-            };
-            expect_ok(answer);
+            lines = self.show_lines(show, lines.next, &mut room);
             text.push_str(&String::from_utf8_lossy(&room[..lines.length]));
             // Each further call goes through the lines before again, so it gets twice the room.
             room.resize(2 * room.len(), 0);
@@ -473,17 +457,21 @@ impl Agent {
     /// One line of a show, from 0, without its line feed. None behind the last.
     #[must_use]
     pub fn show_line(&self, show: Show, line: u32) -> Option<String> {
-        let mut room = [0u8; sys::LINE_ROOM];
-        let mut length = 0;
-        // SAFETY: the handle is open, the room has as many octets as are told, and the length is a value of its own.
+        let mut room = [0u8; sys::LLDPA_LINE_ROOM as usize];
+        let lines = self.show_lines(show, line, &mut room);
+        let text = String::from_utf8_lossy(&room[..lines.length]).into_owned();
+        text.lines().next().map(String::from)
+    }
+
+    /// Writes lines of a show from one on into a room, as many as fit.
+    fn show_lines(&self, show: Show, from: u32, room: &mut [u8]) -> sys::lldpa_lines {
+        let mut lines = sys::lldpa_lines::default();
+        // SAFETY: the handle is open, the room has as many octets as are told, and the lines are a value of their own.
         let answer = unsafe {
-            sys::lldpa_show_line(&*self.handle, show as u32, line, room.as_mut_ptr(), room.len(), &mut length)
+            sys::lldpa_show_lines(&*self.handle, show as u32, from, room.as_mut_ptr(), room.len(), &mut lines)
         };
-        match answer {
-            sys::OK => Some(String::from_utf8_lossy(&room[..length]).into_owned()),
-            sys::OUT_OF_RANGE => None,
-            _ => unexpected(answer),
-        }
+        expect_ok(answer);
+        lines
     }
 
     /// The frame that a port sends, with the present configuration: at most 1514 octets.
@@ -492,7 +480,7 @@ impl Agent {
     ///
     /// The agent has no such port.
     pub fn frame_of(&self, port: u8, mark: Mark) -> Result<Vec<u8>, PortFault> {
-        let mut frame = vec![0u8; sys::FRAME_ROOM];
+        let mut frame = vec![0u8; sys::LLDPA_FRAME_ROOM as usize];
         let mut length = 0;
         // SAFETY: the handle is open, the room has as many octets as are told, and the length is a value of its own.
         let answer = unsafe {

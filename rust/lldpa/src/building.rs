@@ -44,13 +44,13 @@ impl<'a> Builder<'a> {
     ///
     /// An identifier has not 2 to 256 octets.
     pub fn finish(self) -> Result<Built, RangeFault> {
-        let tlvs: Vec<sys::Tlv> = self
+        let tlvs: Vec<sys::lldpa_tlv> = self
             .tlvs
             .iter()
-            .map(|tlv| sys::Tlv { body: tlv.body.as_ptr(), length: tlv.body.len(), kind: tlv.kind })
+            .map(|tlv| sys::lldpa_tlv { body: tlv.body.as_ptr(), length: tlv.body.len(), kind: tlv.kind })
             .collect();
         let mut faults = vec![0u8; tlvs.len()];
-        let mut octets = vec![0u8; sys::PDU_ROOM];
+        let mut octets = vec![0u8; sys::LLDPA_PDU_ROOM as usize];
         let mut length = 0;
         // SAFETY: each pointer is that of a slice whose length stands behind it; the bodies live as long as the builder.
         let answer = unsafe {

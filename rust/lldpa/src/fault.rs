@@ -20,7 +20,7 @@ macro_rules! faults {
             /// What an answer says: nothing is wrong, or this fault.
             pub(crate) fn check(answer: u8) -> Result<(), $name> {
                 match answer {
-                    sys::OK => Ok(()),
+                    sys::LLDPA_OK => Ok(()),
                     $($number => Err($name::$case),)*
                     _ => Err($name::Unexpected),
                 }
@@ -126,33 +126,23 @@ faults! {
 }
 
 impl CommandFault {
-    /// The line that the program writes of the fault, as `error: unknown command`; or one with the same beginning, if
-    /// the fault is [`CommandFault::Unexpected`].
+    /// The line that the program writes of the fault, as `error: unknown command`.
     #[must_use]
     pub fn line(self) -> String {
-        let mut room = [0u8; sys::TEXT_ROOM];
-        let mut length = 0;
-        // SAFETY: the room has as many octets as are told, and nothing else is lent.
-        let answer = unsafe {
-            sys::lldpa_command_text(self.number().into(), room.as_mut_ptr(), room.len(), &mut length)
-        };
-        match answer {
-            sys::OK => String::from_utf8_lossy(&room[..length]).into_owned(),
-            _ => format!("error: {self}"),
-        }
+        format!("error: {self}")
     }
 }
 
 /// What the fault or the misuse of that number in `lldpa.h` is, in words. None if none has that number.
 #[must_use]
 pub fn fault_text(number: u32) -> Option<String> {
-    let mut room = [0u8; sys::FAULT_ROOM];
+    let mut room = [0u8; sys::LLDPA_FAULT_ROOM as usize];
     let mut length = 0;
     // SAFETY: the room has as many octets as are told, and nothing else is lent.
     let answer = unsafe { sys::lldpa_fault_text(number, room.as_mut_ptr(), room.len(), &mut length) };
     match answer {
-        sys::OK => Some(String::from_utf8_lossy(&room[..length]).into_owned()),
-        sys::OUT_OF_RANGE => None,
+        sys::LLDPA_OK => Some(String::from_utf8_lossy(&room[..length]).into_owned()),
+        sys::LLDPA_OUT_OF_RANGE => None,
         _ => unexpected(answer),
     }
 }
@@ -187,7 +177,7 @@ pub(crate) fn unexpected(answer: impl fmt::Display) -> ! {
 
 /// Looks that the answer of a call that has no fault is 0.
 pub(crate) fn expect_ok(answer: u8) {
-    if answer != sys::OK {
+    if answer != sys::LLDPA_OK {
         unexpected(answer);
     }
 }

@@ -32,6 +32,8 @@ mod full;
 mod machine;
 mod neighbors;
 mod reading;
+#[allow(dead_code, missing_docs, non_camel_case_types, clippy::all)]
+#[rustfmt::skip]
 mod sys;
 
 pub use agent::{Agent, Commanded, Configuration, Options, Role, Sent, Show, Statistics, Status, Ticks};
@@ -40,20 +42,21 @@ pub use fault::{fault_text, BuildFault, CommandFault, OpenFault, PduFault, PortF
 pub use machine::{Cause, Machine, Mark};
 pub use neighbors::{Neighbor, Neighbors, News};
 pub use reading::{
-    caps, examine, frame_pdu, mgmt, Capabilities, Examined, Info, Kept, Management, Msap, Tlv,
+    caps, escape, examine, frame_pdu, mgmt, tlv_text, Capabilities, Examined, Info, Kept, Management, Msap,
+    Tlv,
 };
 
-/// The version of the archive: 10000 times the first number, 100 times the second and the third. [`Agent::open`] and
-/// [`Machine::new`] take only an archive of the version that this crate is of.
+/// The version of the archive: 10000 times the first number, 100 times the second and the third. The build,
+/// [`Agent::open`] and [`Machine::new`] accept only an archive whose first two numbers are those of this crate.
 #[must_use]
 pub fn version() -> u32 {
     // SAFETY: nothing is lent.
     unsafe { sys::lldpa_version() }
 }
 
-/// Whether the archive is of the version that this crate is of.
+/// Whether the archive is of a version that fits this crate.
 fn is_of_this_version() -> bool {
-    version() == sys::VERSION
+    version() / 100 == u32::from(sys::LLDPA_VERSION) / 100
 }
 
 #[cfg(doctest)]

@@ -56,7 +56,7 @@ impl Mark {
 /// ```
 #[derive(Clone, Debug)]
 pub struct Machine {
-    held: sys::Machine,
+    held: sys::lldpa_machine,
 }
 
 impl Machine {
@@ -67,7 +67,7 @@ impl Machine {
     ///
     /// A number is not in its range, or the archive is of another version.
     pub fn new(credit_max: u8, fast_init: u8, reinit: u8, allowed: bool) -> Result<Machine, RangeFault> {
-        let mut held = sys::Machine::default();
+        let mut held = sys::lldpa_machine::default();
         if !crate::is_of_this_version() {
             return Err(RangeFault::Version);
         }
@@ -96,7 +96,6 @@ impl Machine {
     /// How many ordinary frames may go before the next tick, 0 to 10.
     #[must_use]
     pub fn credit(&self) -> u8 {
-        // SAFETY: the struct is a value of its own.
-        unsafe { sys::lldpa_transmit_credit(&self.held) }
+        self.held.credit
     }
 }

@@ -34,8 +34,8 @@ pub enum News<'f> {
 
 impl<'f> News<'f> {
     /// The news that were told of a frame.
-    pub(crate) fn of(told: &sys::News, frame: &'f [u8]) -> News<'f> {
-        let at = |place: sys::Place| &frame[place.start..][..place.length];
+    pub(crate) fn of(told: &sys::lldpa_news, frame: &'f [u8]) -> News<'f> {
+        let at = |place: sys::lldpa_place| &frame[place.start..][..place.length];
         let msap = Msap { chassis: at(told.chassis), port: at(told.port) };
         match told.what {
             1 => News::NotLldp,
@@ -105,8 +105,8 @@ impl Iterator for Neighbors<'_> {
     type Item = Neighbor;
 
     fn next(&mut self) -> Option<Neighbor> {
-        let mut octets = vec![0u8; sys::NEIGHBOR_ROOM];
-        let mut told = sys::Held::default();
+        let mut octets = vec![0u8; sys::LLDPA_NEIGHBOR_ROOM as usize];
+        let mut told = sys::lldpa_held::default();
         // SAFETY: the handle is open, the room has as many octets as are told, and what is told is a value of its own.
         let answer = unsafe {
             sys::lldpa_neighbor(
@@ -119,8 +119,8 @@ impl Iterator for Neighbors<'_> {
             )
         };
         match answer {
-            sys::OK => (),
-            sys::OUT_OF_RANGE => return None,
+            sys::LLDPA_OK => (),
+            sys::LLDPA_OUT_OF_RANGE => return None,
             _ => unexpected(answer),
         }
         self.next += 1;

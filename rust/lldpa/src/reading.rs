@@ -1,10 +1,12 @@
 //! Frames, LLDPDUs and TLVs that are read. Nothing is copied: all that is told is part of what was given.
 
-use crate::fault::PduFault;
+use crate::fault::{unexpected, PduFault};
 use crate::sys;
+use alloc::string::String;
+use alloc::vec;
 
 /// The octets at a place.
-fn at(octets: &[u8], place: sys::Place) -> &[u8] {
+fn at(octets: &[u8], place: sys::lldpa_place) -> &[u8] {
     &octets[place.start..][..place.length]
 }
 
@@ -12,7 +14,7 @@ fn at(octets: &[u8], place: sys::Place) -> &[u8] {
 /// sequence. None if it is not an LLDP frame: 14 to 1514 octets, to 01-80-C2-00-00-0E, of EtherType 88-CC.
 #[must_use]
 pub fn frame_pdu(frame: &[u8]) -> Option<&[u8]> {
-    let mut place = sys::Place::default();
+    let mut place = sys::lldpa_place::default();
     // SAFETY: the frame has as many octets as are told; the place is a value of its own.
     let is_one = unsafe { sys::lldpa_frame_pdu(frame.as_ptr(), frame.len(), &mut place) };
     is_one.then(|| at(frame, place))
@@ -90,7 +92,7 @@ impl<'a> Info<'a> {
 
     /// The kept TLVs in their order: well formed, and the first of its type if that is 4 to 7.
     pub fn kept(&self) -> Kept<'a> {
-        Kept { extent: self.octets, walk: sys::Kept::default() }
+        Kept { extent: self.octets, walk: sys::lldpa_kept::default() }
     }
 }
 
@@ -102,13 +104,17 @@ impl<'a> Info<'a> {
 ///
 /// ```
 /// let pdu = b"\x02\x07\x04\x00\x11\x22\x33\x44\x55\x04\x05\x05eth0\x06\x02\x00\x78\x0a\x03sw1\0\0";
-/// let Ok(lldpa::Examined::Info(info)) = lldpa::examine(pdu) else { panic!() };
+/// let info = match lldpa::examine(pdu)? {
+///     lldpa::Examined::Info(info) => info,
+///     lldpa::Examined::Shutdown(_) => unreachable!("its time to live is 120 seconds"),
+/// };
 /// assert_eq!(info.ttl(), 120);
 /// let kept: Vec<_> = info.kept().map(|tlv| (tlv.kind, tlv.body)).collect();
 /// assert_eq!(kept, [(5, &b"sw1"[..])]);
+/// # Ok::<(), lldpa::PduFault>(())
 /// ```
 pub fn examine(pdu: &[u8]) -> Result<Examined<'_>, PduFault> {
-    let mut told = sys::Examined::default();
+    let mut told = sys::lldpa_examined::default();
     // SAFETY: the LLDPDU has as many octets as are told; the struct is a value of its own.
     let fault = unsafe { sys::lldpa_examine(pdu.as_ptr(), pdu.len(), &mut told) };
     PduFault::check(fault)?;
@@ -139,7 +145,7 @@ pub struct Tlv<'a> {
 #[must_use]
 pub struct Kept<'a> {
     extent: &'a [u8],
-    walk: sys::Kept,
+    walk: sys::lldpa_kept,
 }
 
 impl<'a> Iterator for Kept<'a> {
@@ -167,7 +173,7 @@ pub struct Capabilities {
 /// enabled that is not available.
 #[must_use]
 pub fn caps(body: &[u8]) -> Option<Capabilities> {
-    let mut told = sys::Capabilities::default();
+    let mut told = sys::lldpa_capabilities::default();
     // SAFETY: the body has as many octets as are told; the struct is a value of its own.
     let is_read = unsafe { sys::lldpa_caps(body.as_ptr(), body.len(), &mut told) };
     is_read.then_some(Capabilities { available: told.available, enabled: told.enabled })
@@ -191,7 +197,7 @@ pub struct Management<'a> {
 /// The fields of the body of a Management Address TLV. None if it is not well formed.
 #[must_use]
 pub fn mgmt(body: &[u8]) -> Option<Management<'_>> {
-    let mut told = sys::Management::default();
+    let mut told = sys::lldpa_management::default();
     // SAFETY: the body has as many octets as are told; the struct is a value of its own.
     let is_read = unsafe { sys::lldpa_mgmt(body.as_ptr(), body.len(), &mut told) };
     is_read.then(|| Management {
@@ -201,4 +207,52 @@ pub fn mgmt(body: &[u8]) -> Option<Management<'_>> {
         interface: told.interface,
         oid: at(body, told.oid),
     })
+}
+
+/// What `show neighbors` writes of a TLV behind `lldp.PORT.N.`, as `chassis.mac=00:11:22:33:44:55`: of a Chassis ID
+/// (type 1), a Port ID (2), or one of the types 4 to 127. None if the body is not well formed for the type.
+///
+/// ```
+/// assert_eq!(lldpa::tlv_text(2, b"\x05eth0").as_deref(), Some("port.ifname=eth0"));
+/// ```
+#[must_use]
+pub fn tlv_text(kind: u8, body: &[u8]) -> Option<String> {
+    let mut room = [0u8; sys::LLDPA_VALUE_ROOM as usize];
+    let mut length = 0;
+    // SAFETY: the body and the room have as many octets as are told; the length is a value of its own.
+    let answer = unsafe {
+        sys::lldpa_tlv_text(
+            kind.into(),
+            body.as_ptr(),
+            body.len(),
+            room.as_mut_ptr(),
+            room.len(),
+            &mut length,
+        )
+    };
+    match answer {
+        sys::LLDPA_OK => Some(String::from_utf8_lossy(&room[..length]).into_owned()),
+        sys::LLDPA_OUT_OF_RANGE => None,
+        _ => unexpected(answer),
+    }
+}
+
+/// A text that came from a neighbor, so that it can be printed: with each backslash doubled, and each octet that is not
+/// printable ASCII as `\x` and two digits. None if it has more than 511 octets.
+///
+/// ```
+/// assert_eq!(lldpa::escape(b"sw1\x1b").as_deref(), Some("sw1\\x1b"));
+/// ```
+#[must_use]
+pub fn escape(text: &[u8]) -> Option<String> {
+    let mut room = vec![0u8; 4 * text.len()];
+    let mut length = 0;
+    // SAFETY: the text and the room have as many octets as are told; the length is a value of its own.
+    let answer =
+        unsafe { sys::lldpa_escape(text.as_ptr(), text.len(), room.as_mut_ptr(), room.len(), &mut length) };
+    match answer {
+        sys::LLDPA_OK => Some(String::from_utf8_lossy(&room[..length]).into_owned()),
+        sys::LLDPA_OUT_OF_RANGE => None,
+        _ => unexpected(answer),
+    }
 }

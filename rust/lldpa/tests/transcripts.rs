@@ -80,7 +80,7 @@ fn heard(agent: &mut Agent, port: u8, frame: &[u8]) -> Vec<Sent> {
     let (more, fewer) = (matches!(news, News::New(_)), matches!(news, News::Gone(_)));
     assert_eq!(after.len() + usize::from(fewer), before + usize::from(more));
     if let News::New(msap) | News::Changed(msap) | News::Same(msap) = news {
-        let named = |one: &&Neighbor| one.info().is_some_and(|info| info.msap() == msap);
+        let named = |one: &&Neighbor| one.info().map_or(false, |info| info.msap() == msap);
         assert_eq!(after.iter().filter(named).count(), 1);
     }
     sent

@@ -1,176 +1,86 @@
-//! The vectors and rows of examples/vectors.rows, whose head tells their form.
+//! Ten rows of examples/vectors.rows, one or two of each kind, by hand. A program in C runs all.
 
 use lldpa::{
-    caps, examine, frame_pdu, mgmt, Agent, BuildFault, Builder, Cause, Examined, Machine, Mark, Options,
-    RangeFault,
+    caps, examine, frame_pdu, mgmt, Agent, BuildFault, Builder, Cause, Examined, Machine, Mark, OpenFault,
+    Options, PduFault, RangeFault,
 };
 
-const ROWS: &str = include_str!("../../../examples/vectors.rows");
+/// The mandatory TLVs of 00:11:22:33:44:55, port eth0, with a time to live of 120 seconds.
+const MANDATORY: &[u8] = b"\x02\x07\x04\x00\x11\x22\x33\x44\x55\x04\x05\x05eth0\x06\x02\x00\x78";
 
-const CAUSES: [Cause; 8] = [
-    Cause::Tick,
-    Cause::Change,
-    Cause::Neighbor,
-    Cause::Stop,
-    Cause::Allow,
-    Cause::Down,
-    Cause::Up,
-    Cause::Nothing,
-];
-
-/// The rows of a kind, each as its fields behind the kind.
-fn rows(kind: &str) -> Vec<Vec<&'static str>> {
-    let rows: Vec<Vec<&str>> = ROWS
-        .lines()
-        .map(|line| line.split('\t').collect::<Vec<_>>())
-        .filter(|fields| fields[0] == kind)
-        .map(|fields| fields[1..].to_vec())
-        .collect();
-    assert!(!rows.is_empty(), "no row of {kind}");
-    rows
-}
-
-/// The octets that hexadecimal digits spell; `-` spells none.
-fn octets(digits: &str) -> Vec<u8> {
-    let digits = if digits == "-" { "" } else { digits };
-    assert!(digits.len() % 2 == 0, "{digits}");
-    (0..digits.len())
-        .step_by(2)
-        .map(|at| u8::from_str_radix(&digits[at..at + 2], 16).expect("hexadecimal"))
-        .collect()
-}
-
-fn number<T: std::str::FromStr>(digits: &str) -> T {
-    digits.parse().ok().expect("a number")
+/// Those, and more octets.
+fn with(more: &[u8]) -> Vec<u8> {
+    [MANDATORY, more].concat()
 }
 
 #[test]
-fn examined() {
-    for row in rows("examine") {
-        let (name, pdu) = (row[0], octets(row[1]));
-        let found = examine(&pdu);
-        if row[2] == "fault" {
-            assert_eq!(found.err().map(|fault| fault.number()), Some(number(row[3])), "{name}");
-            continue;
-        }
-        let found = found.expect(name);
-        assert_eq!(found.msap().chassis, octets(row[4]), "{name}");
-        assert_eq!(found.msap().port, octets(row[5]), "{name}");
-        let Examined::Info(info) = found else {
-            assert_eq!(row[3], "0", "{name}");
-            continue;
-        };
-        assert_eq!(info.ttl(), number::<u16>(row[3]), "{name}");
-        assert_eq!(info.octets(), &pdu[..number(row[6])], "{name}");
-        assert_eq!((info.discarded(), info.unrecognized()), (number(row[7]), number(row[8])), "{name}");
-        let wanted: Vec<(u8, Vec<u8>)> = row[9..]
-            .iter()
-            .map(|field| field.split_once(':').expect("KIND:BODY"))
-            .map(|(kind, body)| (number(kind), octets(body)))
-            .collect();
-        let kept: Vec<(u8, Vec<u8>)> = info.kept().map(|tlv| (tlv.kind, tlv.body.to_vec())).collect();
-        assert_eq!(kept, wanted, "{name}");
-    }
-}
-
-/// A fault of a row, 0 or from 1 on, by the numbers of lldpa.h, of which this is the first.
-fn numbered(first: u8, fault: u8) -> u8 {
-    fault.checked_sub(1).map_or(0, |more| first + more)
+fn lldpdus_are_examined() {
+    assert_eq!(examine(b""), Err(PduFault::Truncated));
+    assert_eq!(examine(&with(b"\x02\x02\x07a")), Err(PduFault::Repeated));
+    // Of two System Names the first is kept, and a TLV that is not complete is discarded.
+    let pdu = with(b"\x0a\x03sw1\x0a\x03sw2\x12\x01\xff\x0a\x09s");
+    let info = match examine(&pdu) {
+        Ok(Examined::Info(info)) => info,
+        other => panic!("{other:?}"),
+    };
+    assert_eq!((info.msap().chassis, info.msap().port), (&pdu[2..9], &pdu[11..16]));
+    assert_eq!((info.ttl(), info.octets(), info.discarded(), info.unrecognized()), (120, &pdu[..33], 2, 1));
+    let kept: Vec<_> = info.kept().map(|tlv| (tlv.kind, tlv.body)).collect();
+    assert_eq!(kept, [(5, &b"sw1"[..]), (9, b"\xff")]);
 }
 
 #[test]
-fn frames() {
-    let header = octets("0180c200000e00112233445588cc");
-    for row in rows("examine") {
-        let pdu = octets(row[1]);
-        let mut frame = [header.clone(), pdu.clone()].concat();
-        assert_eq!(frame_pdu(&frame), Some(&pdu[..]), "{}", row[0]);
-        frame[12] ^= 1;
-        assert_eq!(frame_pdu(&frame), None, "{}", row[0]);
-    }
-    assert_eq!(frame_pdu(&header[..13]), None);
+fn shutdowns_and_frames_are_told() {
+    let pdu = b"\x02\x02\x07a\x04\x02\x07b\x06\x02\0\0";
+    let name = examine(pdu).expect("a shutdown LLDPDU");
+    assert!(matches!(name, Examined::Shutdown(name) if name.chassis == b"\x07a" && name.port == b"\x07b"));
+    let mut frame = [&b"\x01\x80\xc2\0\0\x0e\0\x11\x22\x33\x44\x55\x88\xcc"[..], pdu].concat();
+    assert_eq!(frame_pdu(&frame), Some(&pdu[..]));
+    frame[12] ^= 1;
+    assert_eq!(frame_pdu(&frame), None);
 }
 
 #[test]
-fn bodies() {
-    for row in rows("caps") {
-        let wanted = row.get(2..4).map(|told| (number(told[0]), number(told[1])));
-        let found = caps(&octets(row[1])).map(|found| (found.available, found.enabled));
-        assert_eq!(found, wanted, "{}", row[0]);
-    }
-    for row in rows("mgmt") {
-        let body = octets(row[1]);
-        let found = mgmt(&body);
-        assert_eq!(found.is_some(), row.len() > 2, "{}", row[0]);
-        if let Some(found) = found {
-            assert_eq!((found.family, found.numbering), (number(row[2]), number(row[4])), "{}", row[0]);
-            assert_eq!((found.address, found.oid), (&octets(row[3])[..], &octets(row[6])[..]), "{}", row[0]);
-            assert_eq!(found.interface, number::<u32>(row[5]), "{}", row[0]);
-        }
-    }
+fn bodies_are_read() {
+    let told = caps(b"\0\x14\0\x04").map(|told| (told.available, told.enabled));
+    assert_eq!((told, caps(b"\0\x04\0\x14")), (Some((0x14, 4)), None));
+    let told = mgmt(b"\x05\x01\xc0\0\x02\x01\x02\0\0\0\x03\x01\x2b").expect("an address");
+    assert_eq!((told.family, told.address, told.numbering), (1, &b"\xc0\0\x02\x01"[..], 2));
+    assert_eq!((told.interface, told.oid), (3, &b"\x2b"[..]));
+    assert_eq!(mgmt(b"\x05\x01\xc0\0\x02\x01\x02\0\0\0\x03"), None);
 }
 
 #[test]
-fn built() {
-    for row in rows("build") {
-        let (chassis, port) = (octets(row[2]), octets(row[3]));
-        let tlvs: Vec<(u8, Vec<u8>, u8)> = row[6..]
-            .iter()
-            .map(|field| field.split(':').collect::<Vec<_>>())
-            .map(|parts| (number(parts[0]), octets(parts[1]), number(parts[2])))
-            .collect();
-        let builder = Builder::new(&chassis, &port, number(row[1]));
-        let built = tlvs.iter().fold(builder, |builder, (kind, body, _)| builder.put(*kind, body));
-        let built = built.finish().expect(row[0]);
-        assert_eq!(built.octets().len(), number::<usize>(row[4]), "{}", row[0]);
-        assert!(row[5] == "-" || built.octets() == octets(row[5]), "{}", row[0]);
-        let faults: Vec<u8> =
-            built.faults().iter().map(|fault| fault.map_or(0, BuildFault::number)).collect();
-        let wanted: Vec<u8> = tlvs.iter().map(|(_, _, answer)| numbered(11, *answer)).collect();
-        assert_eq!(faults, wanted, "{}", row[0]);
-    }
+fn lldpdus_are_built() {
+    let built =
+        Builder::new(&MANDATORY[2..9], &MANDATORY[11..16], 120).put(5, b"sw1").put(5, b"sw2").finish();
+    let built = built.expect("identifiers of their lengths");
+    assert_eq!(built.octets(), with(b"\x0a\x03sw1\0\0"));
+    assert_eq!(built.faults(), [None, Some(BuildFault::Kind)]);
     for length in [0, 1, 257] {
-        let identifier = vec![4; length];
-        assert_eq!(Builder::new(&identifier, b"\x05eth0", 120).finish(), Err(RangeFault::OutOfRange));
-        assert_eq!(Builder::new(b"\x05eth0", &identifier, 120).finish(), Err(RangeFault::OutOfRange));
+        assert_eq!(Builder::new(&vec![4; length], b"\x05a", 120).finish(), Err(RangeFault::OutOfRange));
     }
 }
 
 #[test]
-fn machines() {
-    for row in rows("machine") {
-        let credit_max = number(row[1]);
-        let mut machine = Machine::new(credit_max, 4, 2, true).expect(row[0]);
-        assert_eq!(machine.credit(), credit_max);
-        for step in &row[2..] {
-            let numbers: Vec<usize> = step.split(':').map(number).collect();
-            let wanted = [None, Some(Mark::Ordinary), Some(Mark::Shutdown)][numbers[3]];
-            for _ in 0..numbers[1] {
-                let found = machine.event(CAUSES[numbers[0]], numbers[2] as u16);
-                assert_eq!(found, Ok(wanted), "{}, {step}", row[0]);
-            }
-        }
-        assert_eq!(machine.event(Cause::Tick, 0), Err(RangeFault::OutOfRange));
-        assert_eq!(machine.event(Cause::Tick, 3601), Err(RangeFault::OutOfRange));
-    }
-    for (credit_max, fast_init, reinit) in
-        [(0, 4, 2), (11, 4, 2), (5, 0, 2), (5, 9, 2), (5, 4, 0), (5, 4, 11)]
-    {
-        assert!(Machine::new(credit_max, fast_init, reinit, true).is_err());
-    }
+fn machines_send_while_their_credit_lasts() {
+    let mut machine = Machine::new(1, 4, 2, true).expect("numbers in their ranges");
+    assert_eq!(machine.event(Cause::Tick, 30), Ok(Some(Mark::Ordinary)));
+    assert_eq!((machine.event(Cause::Change, 30), machine.credit()), (Ok(None), 0));
+    assert_eq!(machine.event(Cause::Tick, 30), Ok(Some(Mark::Ordinary)));
+    assert_eq!(machine.event(Cause::Stop, 30), Ok(Some(Mark::Shutdown)));
+    assert_eq!(machine.event(Cause::Tick, 3601), Err(RangeFault::OutOfRange));
+    assert!(Machine::new(11, 4, 2, true).is_err());
 }
 
 #[test]
-fn openings() {
-    for row in rows("open") {
-        let hostname = String::from_utf8(octets(row[1])).expect("text");
-        let names: Vec<String> =
-            row[3..].iter().map(|name| String::from_utf8(octets(name)).expect("text")).collect();
-        let ports: Vec<&str> = names.iter().map(String::as_str).collect();
-        let options = Options { ports: &ports, hostname: &hostname, ..Options::default() };
-        let fault = Agent::open(&options).err().map_or(0, |fault| fault.number());
-        assert_eq!(fault, numbered(21, number(row[2])), "{}", row[0]);
-    }
-    let none = Options { ports: &["eth0"], max_neighbors: 129, ..Options::default() };
-    assert_eq!(Agent::open(&none).err().map(|fault| fault.number()), Some(100));
+fn openings_are_refused() {
+    let fault =
+        |ports: &[&str], hostname| Agent::open(&Options { ports, hostname, ..Options::default() }).err();
+    assert_eq!(fault(&["eth0"], "sw1"), None);
+    assert_eq!(fault(&[], "sw1"), Some(OpenFault::NoPorts));
+    assert_eq!(fault(&["eth0", "eth0"], "\n"), Some(OpenFault::SamePort));
+    assert_eq!(fault(&["eth0"], "\n"), Some(OpenFault::Text));
+    let many = Options { ports: &["eth0"], max_neighbors: 129, ..Options::default() };
+    assert_eq!(Agent::open(&many).err(), Some(OpenFault::OutOfRange));
 }

@@ -139,7 +139,6 @@ static void machine_nulls(void)
     ANSWERS(lldpa_transmit_new(NULL, 5, 4, 2, true), LLDPA_NULL);
     ANSWERS(lldpa_transmit_event(NULL, LLDPA_CAUSE_TICK, 30, &now.octet), LLDPA_NULL);
     ANSWERS(lldpa_transmit_event(&now.machine, LLDPA_CAUSE_TICK, 30, NULL), LLDPA_NULL);
-    ANSWERS(lldpa_transmit_credit(NULL), 0);
 }
 
 /* A handle that opening has refused is not open. */
@@ -180,8 +179,8 @@ static void open_nulls(void)
 static void step_nulls(void)
 {
     uint32_t *show = &now.number;
-    ANSWERS(lldpa_tick(NULL, &now.marks, &now.number), LLDPA_NULL);
-    ANSWERS(lldpa_tick(&agent, NULL, &now.number), LLDPA_NULL);
+    ANSWERS(lldpa_leave(NULL, &now.marks), LLDPA_NULL);
+    ANSWERS(lldpa_leave(&agent, NULL), LLDPA_NULL);
     ANSWERS(lldpa_ticks(NULL, 1, &now.marks, &now.ticks), LLDPA_NULL);
     ANSWERS(lldpa_ticks(&agent, 1, NULL, &now.ticks), LLDPA_NULL);
     ANSWERS(lldpa_ticks(&agent, 1, &now.marks, NULL), LLDPA_NULL);
@@ -212,9 +211,14 @@ static void step_nulls(void)
 static void show_nulls(void)
 {
     uint8_t *room = now.room;
-    ANSWERS(lldpa_command_text(LLDPA_UNKNOWN, NULL, 22, &now.length), LLDPA_NULL);
-    ANSWERS(lldpa_command_text(LLDPA_UNKNOWN, NULL, 0, &now.length), LLDPA_NO_ROOM);
-    ANSWERS(lldpa_command_text(LLDPA_UNKNOWN, room, 22, NULL), LLDPA_NULL);
+    ANSWERS(lldpa_tlv_text(5, NULL, 3, room, 1058, &now.length), LLDPA_NULL);
+    ANSWERS(lldpa_tlv_text(5, octets, 3, NULL, 1058, &now.length), LLDPA_NULL);
+    ANSWERS(lldpa_tlv_text(5, NULL, 0, NULL, 0, &now.length), LLDPA_NO_ROOM);
+    ANSWERS(lldpa_tlv_text(5, octets, 3, room, 1058, NULL), LLDPA_NULL);
+    ANSWERS(lldpa_escape(NULL, 3, room, 12, &now.length), LLDPA_NULL);
+    ANSWERS(lldpa_escape(octets, 3, NULL, 12, &now.length), LLDPA_NULL);
+    ANSWERS(lldpa_escape(NULL, 0, NULL, 0, &now.length), LLDPA_OK);
+    ANSWERS(lldpa_escape(octets, 3, room, 12, NULL), LLDPA_NULL);
     ANSWERS(lldpa_fault_text(LLDPA_MEMORY, NULL, 65, &now.length), LLDPA_NULL);
     ANSWERS(lldpa_fault_text(LLDPA_MEMORY, NULL, 0, &now.length), LLDPA_NO_ROOM);
     ANSWERS(lldpa_fault_text(LLDPA_MEMORY, room, 65, NULL), LLDPA_NULL);
@@ -222,10 +226,6 @@ static void show_nulls(void)
     ANSWERS(lldpa_show_lines(&agent, 3, 0, NULL, 1514, &now.lines), LLDPA_NULL);
     ANSWERS(lldpa_show_lines(&agent, 3, 0, NULL, 0, &now.lines), LLDPA_NO_ROOM);
     ANSWERS(lldpa_show_lines(&agent, 3, 0, room, 1514, NULL), LLDPA_NULL);
-    ANSWERS(lldpa_show_line(NULL, 3, 0, room, 1514, &now.length), LLDPA_NULL);
-    ANSWERS(lldpa_show_line(&agent, 3, 0, NULL, 1514, &now.length), LLDPA_NULL);
-    ANSWERS(lldpa_show_line(&agent, 3, 0, NULL, 0, &now.length), LLDPA_NO_ROOM);
-    ANSWERS(lldpa_show_line(&agent, 3, 0, room, 1514, NULL), LLDPA_NULL);
     ANSWERS(lldpa_frame_of(NULL, 0, LLDPA_ORDINARY, room, 1514, &now.length), LLDPA_NULL);
     ANSWERS(lldpa_frame_of(&agent, 0, LLDPA_ORDINARY, NULL, 1514, &now.length), LLDPA_NULL);
     ANSWERS(lldpa_frame_of(&agent, 0, LLDPA_ORDINARY, NULL, 0, &now.length), LLDPA_NO_ROOM);
@@ -243,7 +243,6 @@ static void handles_are_read(void)
     ANSWERS(lldpa_statistics(&none, 0, &now.statistics), LLDPA_NOT_OPEN);
     ANSWERS(lldpa_configuration(&none, &now.configuration), LLDPA_NOT_OPEN);
     ANSWERS(lldpa_show_lines(&none, 3, 0, room, 1514, &now.lines), LLDPA_NOT_OPEN);
-    ANSWERS(lldpa_show_line(&none, 3, 0, room, 1514, &now.length), LLDPA_NOT_OPEN);
     ANSWERS(lldpa_frame_of(&none, 0, LLDPA_ORDINARY, room, 1514, &now.length), LLDPA_NOT_OPEN);
 }
 
@@ -274,7 +273,6 @@ int main(void)
     holds(shown(last, sizeof last) == length && memcmp(first, last, length) == 0, "the agent is what it was");
     begin();
     holds(lldpa_frame(&agent, 0, NULL, 0, &now.marks, NULL) == LLDPA_OK && now.marks.count == 0, "no octets as a frame");
-    holds(lldpa_tick(&agent, &now.marks, NULL) == LLDPA_OK, "a tick that does not say who aged out");
     holds(lldpa_version() == LLDPA_VERSION, "another version");
     lldpa_close(NULL);
     lldpa_close(&agent);

@@ -97,7 +97,7 @@ static void use(lldpa_agent *agent)
     uint32_t count;
     size_t length;
     for (int tick = 0; tick < 200; tick++) {
-        holds(lldpa_tick(agent, &marks, NULL) == LLDPA_OK, "a tick");
+        holds(lldpa_ticks(agent, 1, &marks, &taken) == LLDPA_OK, "a tick");
         for (uint8_t at = 0; at < marks.count; at++) {
             holds(lldpa_frame_of(agent, marks.items[at].port, marks.items[at].mark, room, 1514, &length) == LLDPA_OK,
                   "a frame of a port");
@@ -115,13 +115,15 @@ static void use(lldpa_agent *agent)
     command(agent, "configure lldp max-neighbors 1", LLDPA_IN_USE);
     command(agent, "configure ports eth1 lldp status disabled", LLDPA_OK);
     command(agent, "show neighbors x", LLDPA_EXTRA);
+    holds(lldpa_tlv_text(5, room, 9, room + 9, sizeof room - 9, &length) == LLDPA_OK, "a TLV as it is shown");
+    holds(lldpa_escape(room, 9, room + 9, sizeof room - 9, &length) == LLDPA_OK, "a text");
     for (uint8_t show = LLDPA_SHOW_NEIGHBORS; show <= LLDPA_SHOW_CONFIGURATION; show++) {
-        holds(lldpa_show_line(agent, show, 0, room, sizeof room, &length) == LLDPA_OK, "a line");
         for (lines.next = 0, lines.done = false; !lines.done;) {
             uint32_t from = lines.next;
             holds(lldpa_show_lines(agent, show, from, room, sizeof room, &lines) == LLDPA_OK, "a show");
         }
     }
+    holds(lldpa_leave(agent, &marks) == LLDPA_OK, "leaving");
 }
 
 int main(void)

@@ -66,12 +66,11 @@ static void call_machine(void)
     uint8_t mark;
     lldpa_transmit_new(&machine, 5, 4, 2, true);
     lldpa_transmit_event(&machine, LLDPA_CAUSE_TICK, 30, &mark);
-    lldpa_transmit_credit(&machine);
 }
 
-static void call_tick(void)
+static void call_leave(void)
 {
-    lldpa_tick(&agent, &marks, NULL);
+    lldpa_leave(&agent, &marks);
 }
 
 static void call_ticks(void)
@@ -124,11 +123,11 @@ static void call_show_lines(void)
     }
 }
 
-static void call_show_line(void)
+static void call_texts(void)
 {
-    for (uint32_t show = LLDPA_SHOW_NEIGHBORS; show <= LLDPA_SHOW_CONFIGURATION; show++) {
-        lldpa_show_line(&agent, show, 3, room, sizeof room, &length);
-    }
+    lldpa_tlv_text(1, frame + 16, 7, room, sizeof room, &length);
+    lldpa_tlv_text(5, frame, 9, room, sizeof room, &length);
+    lldpa_escape(frame, 9, room, sizeof room, &length);
 }
 
 static void call_frame_of(void)
@@ -167,12 +166,13 @@ int main(void)
     } calls[] = {
         {"lldpa_open", call_open, 12288},           {"lldpa_examine", call_examine, 1024},
         {"lldpa_next_kept", call_next_kept, 1024},  {"lldpa_build", call_build, 12288},
-        {"lldpa_transmit_event", call_machine, 1024}, {"lldpa_tick", call_tick, 12288},
+        {"lldpa_transmit_event", call_machine, 1024},
         {"lldpa_ticks", call_ticks, 12288},         {"lldpa_frame", call_frame, 12288},
         {"lldpa_neighbor", call_neighbor, 12288},   {"lldpa_command", call_command, 12288},
-        {"lldpa_show_lines", call_show_lines, 12288}, {"lldpa_show_line", call_show_line, 12288},
+        {"lldpa_show_lines", call_show_lines, 12288}, {"lldpa_tlv_text", call_texts, 12288},
         {"lldpa_frame_of", call_frame_of, 12288},   {"lldpa_due", call_due, 1024},
-        {"lldpa_configuration", call_told, 1024},   {"lldpa_close", call_close, 12288},
+        {"lldpa_configuration", call_told, 1024},   {"lldpa_leave", call_leave, 12288},
+        {"lldpa_close", call_close, 12288},
     };
     unsigned passed = 0, failed = 0;
     size_t nothing = taken_by(call_nothing);

@@ -114,13 +114,12 @@ static void open_agent(agent_of_trace *told, char **words)
 
 static void write_refusal(uint8_t fault)
 {
-    uint8_t room[22];
+    uint8_t room[LLDPA_FAULT_ROOM];
     size_t length = 0;
-    if (lldpa_command_text(fault, room, sizeof room, &length) != LLDPA_OK) {
-        fail("a refusal without a text");
+    if (lldpa_fault_text(fault, room, sizeof room, &length) != LLDPA_OK) {
+        fail("a refusal without words");
     }
-    fwrite(room, 1, length, stdout);
-    putchar('\n');
+    printf("error: %.*s\n", (int)length, (const char *)room);
 }
 
 /* Writes which ports send, each with its frame. */
@@ -148,9 +147,10 @@ static void write_marks(agent_of_trace *told, uint8_t answer, const lldpa_marks 
 static void see_line(agent_of_trace *told, uint32_t show, uint32_t line, const char *wanted)
 {
     static uint8_t room[ROOM];
-    size_t length = 0;
-    if (lldpa_show_line(&told->agent, show, line, room, sizeof room, &length) != LLDPA_OK ||
-        length != strlen(wanted) || memcmp(room, wanted, length) != 0) {
+    size_t length = strlen(wanted);
+    lldpa_lines one;
+    if (lldpa_show_lines(&told->agent, show, line, room, length + 1, &one) != LLDPA_OK || one.length != length + 1 ||
+        memcmp(room, wanted, length) != 0 || room[length] != '\n') {
         fail("a show tells something else than a struct");
     }
 }
@@ -199,6 +199,11 @@ static void see_configuration(agent_of_trace *told)
                  words[configuration.status[port] & 3]);
         see_line(told, LLDPA_SHOW_CONFIGURATION, 8 + port, wanted);
     }
+    for (size_t port = told->count; port < 64; port++) {
+        if (configuration.status[port] != 0) {
+            fail("a status behind the last port");
+        }
+    }
 }
 
 /* Writes a show, by as many lines as fit into a room each time; and sees that each line alone is the same. */
@@ -215,12 +220,13 @@ static void write_show(agent_of_trace *told, uint32_t show)
         }
         fwrite(room, 1, lines.length, stdout);
         for (size_t at = 0; at < lines.length; line++) {
-            size_t length = 0;
-            if (lldpa_show_line(&told->agent, show, line, one, sizeof one, &length) != LLDPA_OK ||
-                length >= lines.length - at || memcmp(room + at, one, length) != 0 || room[at + length] != '\n') {
+            size_t length = (size_t)((uint8_t *)memchr(room + at, '\n', lines.length - at) - (room + at)) + 1;
+            lldpa_lines alone;
+            if (lldpa_show_lines(&told->agent, show, line, one, length, &alone) != LLDPA_OK || alone.length != length ||
+                alone.next != line + 1 || memcmp(room + at, one, length) != 0) {
                 fail("a line of a show is another one alone");
             }
-            at += length + 1;
+            at += length;
         }
         if (line != lines.next) {
             fail("a show goes on at another line");
@@ -315,12 +321,7 @@ static void run_ticks(agent_of_trace *told, word words[4], int count)
         if (lldpa_due(&told->agent, &due) != LLDPA_OK) {
             fail("it is not told when something is due");
         }
-        if (most == 1) {
-            done.taken = 1;
-            write_marks(told, lldpa_tick(&told->agent, &marks, &done.aged_out), &marks);
-        } else {
-            write_marks(told, lldpa_ticks(&told->agent, most, &marks, &done), &marks);
-        }
+        write_marks(told, lldpa_ticks(&told->agent, most, &marks, &done), &marks);
         see_due(due, most, done.taken, marks.count > 0 || done.aged_out > 0);
     }
 }

@@ -327,7 +327,7 @@ static void run_machine(void)
     memset(&machine, 0, sizeof machine);
     uint8_t credit_max = (uint8_t)number(2);
     holds(lldpa_transmit_new(&machine, credit_max, 4, 2, true) == LLDPA_OK, "no machine");
-    holds(lldpa_transmit_credit(&machine) == credit_max, "it does not begin with full credit");
+    holds(machine.credit == credit_max, "it does not begin with full credit");
     for (size_t field = 3; field < field_count; field++) {
         unsigned cause, times, interval, wanted;
         int is_read = sscanf(fields[field], "%u:%u:%u:%u", &cause, &times, &interval, &wanted) == 4;
@@ -337,7 +337,7 @@ static void run_machine(void)
                       mark == wanted;
         }
         holds(is_read, fields[field]);
-        holds(lldpa_transmit_credit(&machine) <= credit_max, "more credit than there is");
+        holds(machine.credit <= credit_max, "more credit than there is");
     }
     refuse_numbers(machine);
 }
@@ -356,7 +356,7 @@ static void use_closed(lldpa_agent *agent)
     uint32_t show;
     size_t length;
     const uint8_t *line = (const uint8_t *)"show chassis";
-    holds(lldpa_tick(agent, &marks, NULL) == LLDPA_NOT_OPEN, "a tick of none");
+    holds(lldpa_leave(agent, &marks) == LLDPA_NOT_OPEN, "leaving of none");
     holds(lldpa_ticks(agent, 9, &marks, &ticks) == LLDPA_NOT_OPEN, "ticks of none");
     holds(lldpa_due(agent, &show) == LLDPA_NOT_OPEN, "what is due of none");
     holds(lldpa_statistics(agent, 0, &statistics) == LLDPA_NOT_OPEN, "statistics of none");
@@ -368,7 +368,6 @@ static void use_closed(lldpa_agent *agent)
     holds(lldpa_link(agent, 0, true, &marks) == LLDPA_NOT_OPEN, "a link of none");
     holds(lldpa_command(agent, line, 12, &show, &marks) == LLDPA_NOT_OPEN, "a command of none");
     holds(lldpa_show_lines(agent, LLDPA_SHOW_CHASSIS, 0, room, sizeof room, &lines) == LLDPA_NOT_OPEN, "lines of none");
-    holds(lldpa_show_line(agent, LLDPA_SHOW_CHASSIS, 0, room, sizeof room, &length) == LLDPA_NOT_OPEN, "a line of none");
     holds(lldpa_frame_of(agent, 0, LLDPA_ORDINARY, room, sizeof room, &length) == LLDPA_NOT_OPEN, "a frame from none");
     lldpa_close(agent);
 }
@@ -398,15 +397,14 @@ static void use_badly(lldpa_agent *agent, uint32_t ports)
         holds(lldpa_frame_of(agent, 0, mark, room, sizeof room, &length) == LLDPA_OUT_OF_RANGE, "a mark");
         uint32_t show = mark > 4 ? mark : mark > 0 ? 5 : 0;
         holds(lldpa_show_lines(agent, show, 0, room, sizeof room, &lines) == LLDPA_OUT_OF_RANGE, "a show");
-        holds(lldpa_show_line(agent, show, 0, room, sizeof room, &length) == LLDPA_OUT_OF_RANGE, "a line of a show");
     }
     holds(lldpa_frame_of(agent, 0, LLDPA_ORDINARY, room, 65, &length) == LLDPA_NO_ROOM, "a room of 65 octets");
     holds(lldpa_frame_of(agent, 0, LLDPA_ORDINARY, room, 66, &length) == LLDPA_OK && length == 66, "one of 66");
-    holds(lldpa_show_line(agent, LLDPA_SHOW_CHASSIS, 4, room, sizeof room, &length) == LLDPA_OUT_OF_RANGE, "line 4");
-    holds(lldpa_show_line(agent, LLDPA_SHOW_CHASSIS, 3, room, 28, &length) == LLDPA_NO_ROOM, "a line of 29 in 28");
     holds(lldpa_show_lines(agent, LLDPA_SHOW_CHASSIS, 3, room, 29, &lines) == LLDPA_NO_ROOM, "30 octets in 29");
     holds(lldpa_show_lines(agent, LLDPA_SHOW_CHASSIS, 9, room, 0, &lines) == LLDPA_OK && lines.done &&
-              lines.length == 0, "lines behind the last");
+              lines.length == 0 && lines.next == 9, "lines behind the last");
+    holds(lldpa_show_lines(agent, LLDPA_SHOW_CHASSIS, 1, room, sizeof room, &lines) == LLDPA_OK && lines.done &&
+              lines.next == 4, "the end of a show");
 }
 
 /* Octets that are not a frame and lines that are not a command do no harm. */
@@ -509,21 +507,80 @@ static void run_words(void)
               memcmp(room, "the first TLV is not a Chassis ID", 33) == 0, "the words of a fault");
 }
 
-/* The texts of the refusals of commands have at most 22 octets. */
-static void run_texts(void)
+/* What is written of TLVs, and of texts (type 0), by hand; NULL if nothing is. */
+static void run_values(void)
 {
-    uint8_t room[22];
-    size_t length;
-    for (unsigned fault = 0; fault < 256; fault++) {
-        int is_one = fault >= LLDPA_UNKNOWN && fault <= LLDPA_IN_USE;
-        length = 0;
-        uint8_t answer = lldpa_command_text(fault, room, sizeof room, &length);
-        holds(answer == (is_one ? LLDPA_OK : LLDPA_OUT_OF_RANGE), "the text of a refusal");
-        if (is_one) {
-            holds(length <= 22 && memcmp(room, "error: ", 7) == 0, "the octets of a refusal");
-            holds(lldpa_command_text(fault, room, length - 1, &length) == LLDPA_NO_ROOM, "too small a room");
+    static const struct {
+        uint32_t kind;
+        const char *body;
+        size_t length;
+        const char *wanted;
+    } rows[] = {
+        {1, "\4\0\x11\x22\x33\x44\x55", 7, "chassis.mac=00:11:22:33:44:55"},
+        {1, "\4\0\x11", 3, "chassis.unhandled=040011"},
+        {1, "\5\1\xc0\0\2\1", 6, "chassis.ip=192.0.2.1"},
+        {1, "\7a\n\\", 4, "chassis.local=a\\x0a\\\\"},
+        {1, "\7", 1, NULL},
+        {2, "\5eth0", 5, "port.ifname=eth0"},
+        {2, "\3\0\x11\x22\x33\x44\x55", 7, "port.mac=00:11:22:33:44:55"},
+        {2, "", 0, NULL},
+        {3, "\0x", 2, NULL},
+        {4, "\x1b[2J", 4, "port.descr=\\x1b[2J"},
+        {5, "", 0, "chassis.name="},
+        {7, "\0\x14\0\4", 4, "chassis.caps=Bridge:on,Router:off"},
+        {7, "\0\4\0\x14", 4, NULL},
+        {8, "\5\1\xc0\0\2\1\2\0\0\0\3\0", 12, "chassis.mgmt=192.0.2.1,2,3,"},
+        {8, "\5\1\xc0\0\2\1\2\0\0\0\3", 11, NULL},
+        {127, "\0\x80\xc2\1\0\1", 6, "org.0080c2.1=0001"},
+        {126, "\1", 1, "unknown.126=01"},
+        {128, "", 0, NULL}, {257, "\4a", 2, NULL}, {UINT32_MAX, "", 0, NULL},
+        {0, "sw1\t\xff ~\\", 8, "sw1\\x09\\xff ~\\\\"},
+        {0, "", 0, ""},
+    };
+    uint8_t room[LLDPA_VALUE_ROOM];
+    for (size_t at = 0; at < sizeof rows / sizeof *rows; at++) {
+        const uint8_t *body = (const uint8_t *)rows[at].body;
+        size_t length = 77, least = rows[at].wanted != NULL ? strlen(rows[at].wanted) : 0;
+        uint8_t answer = rows[at].kind == 0 ? lldpa_escape(body, rows[at].length, room, sizeof room, &length)
+                                            : lldpa_tlv_text(rows[at].kind, body, rows[at].length, room, sizeof room, &length);
+        if (rows[at].wanted == NULL) {
+            holds(answer == LLDPA_OUT_OF_RANGE && length == 77, "a TLV that is not well formed");
+            continue;
         }
+        holds(answer == LLDPA_OK && length == least && memcmp(room, rows[at].wanted, least) == 0, rows[at].wanted);
+        answer = rows[at].kind == 0 ? lldpa_escape(body, rows[at].length, room, least - 1, &length)
+                                    : lldpa_tlv_text(rows[at].kind, body, rows[at].length, room, least - 1, &length);
+        holds(least == 0 || answer == LLDPA_NO_ROOM, "too small a room for a TLV");
     }
+}
+
+/* Leaving sends a shutdown frame on each active port: here on all but one, of 64. */
+static void run_leave(void)
+{
+    static uint8_t letters[64][2];
+    lldpa_text names[64];
+    lldpa_options options = LLDPA_OPTIONS_INIT;
+    lldpa_agent agent = {0};
+    lldpa_configuration_told told;
+    lldpa_ticks_taken taken;
+    lldpa_marks marks;
+    for (uint8_t at = 0; at < 64; at++) {
+        letters[at][0] = 'a' + at / 26;
+        letters[at][1] = 'a' + at % 26;
+        names[at] = (lldpa_text){letters[at], 2};
+    }
+    options.ports = names;
+    options.port_count = 64;
+    holds(lldpa_open(&options, &agent) == LLDPA_OK, "64 ports");
+    holds(lldpa_link(&agent, 40, false, &marks) == LLDPA_OK, "a link that is down");
+    holds(lldpa_ticks(&agent, 1, &marks, &taken) == LLDPA_OK && marks.count == 63, "the first frames");
+    holds(lldpa_leave(&agent, &marks) == LLDPA_OK && marks.count == 63, "shutdown frames");
+    for (uint8_t at = 0; at < 63; at++) {
+        holds(marks.items[at].port == at + (at >= 40) && marks.items[at].mark == LLDPA_SHUTDOWN, "a shutdown frame");
+    }
+    holds(lldpa_configuration(&agent, &told) == LLDPA_OK && told.status[63] == LLDPA_DISABLED, "a status after leaving");
+    holds(lldpa_leave(&agent, &marks) == LLDPA_OK && marks.count == 0, "leaving twice");
+    lldpa_close(&agent);
 }
 
 /* Runs the row of the fields. */
@@ -560,7 +617,7 @@ static int is_wanted(const char *kind, char **kinds)
 int main(int count, char **words)
 {
     static char line[MOST_OCTETS];
-    static char *texts[] = {"text", "faults of commands"};
+    static char *texts[] = {"text", "words and values"};
     FILE *file = count > 1 ? fopen(words[1], "r") : NULL;
     if (file == NULL) {
         fputs("usage: vectors FILE [KIND ..]\n", stderr);
@@ -578,8 +635,9 @@ int main(int count, char **words)
     fclose(file);
     memcpy(fields, texts, sizeof texts);
     if (is_wanted("text", words + 2)) {
-        run_texts();
         run_words();
+        run_values();
+        run_leave();
     }
     if (is_wanted("causes", words + 2)) {
         play_all_causes();

@@ -6,7 +6,7 @@ use Rattle.std.proofs.lemmas.List.{length-map}
 use Rattle.std.proofs.lemmas.Bool.{and_parts}
 use Rattle.std.proofs.lemmas.Bool.Decides.{nat_tests}
 use Rattle.lldp_pdu.specs.Msap.{MsapId}
-use Rattle.lldp_table.specs.Events.{Call, learn, forget, purge, tick as tick_call, set_limit}
+use Rattle.lldp_table.specs.Events.{Call, learn}
 use Rattle.lldp_table.specs.declared.learned.Learned.{Learned}
 use Rattle.lldp_table.specs.declared.learned.Learned.TheVariants.{New, Refreshed, Dropped}
 use Rattle.lldp_table.specs.Contents.{Contents, IsSound}
@@ -60,10 +60,7 @@ learned-room Dropped table msap ttl octets = refl
 
 called-room : (table : Contents) (call : Call) → (table_after table call).capacity ≡ table.capacity
 called-room table (learn msap ttl octets) = learned-room (learn_answer table msap) table msap ttl octets
-called-room table (forget msap) = refl
-called-room table purge = refl
-called-room table tick_call = refl
-called-room table (set_limit n) = refl
+called-room table call = refl
 
 with_call_room : (table : Contents) (call : Option Call) → (with_call table call).capacity ≡ table.capacity
 with_call_room table None = refl

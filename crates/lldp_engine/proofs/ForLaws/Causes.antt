@@ -3,6 +3,7 @@ use Rattle.std.proofs.Common.{◌≡◌, ◌≢◌, ℕ, ◌+◌, ◌≤◌, Boo
 use Rattle.std.specs.Prelude.{◌==◌, if◌then◌else◌, slice_get}
 use Rattle.std.specs.Option.{option_map}
 use Rattle.lldp_pdu.specs.Msap.{MsapId}
+use Rattle.lldp_pdu.specs.Lldpdu.{msap_of}
 use Rattle.lldp_transmit.specs.declared.event.Cause.{Cause}
 use Rattle.lldp_transmit.specs.declared.event.Cause.TheVariants.{Change, Neighbor, Nothing}
 use Rattle.lldp_transmit.specs.History.{History, event as caused}
@@ -14,7 +15,7 @@ use Rattle.lldp_engine.specs.Status.{transmits}
 use Rattle.lldp_engine.specs.Event.{Event, frame, link, set, status}
 use Rattle.lldp_engine.specs.Past.{Past, with_event, happened, past_of}
 use Rattle.lldp_engine.specs.Laws.PortAt.{neighbors_at}
-use Rattle.lldp_engine.specs.Heard.{Heard, refused, leaves, tells, heard_by}
+use Rattle.lldp_engine.specs.Heard.{Heard, tells, heard_by}
 use Rattle.lldp_engine.specs.Laws.CauseOf.{causes_at, IsFor}
 use Rattle.lldp_engine.specs.Port.Event as own
 use Rattle.lldp_engine.specs.Port.Event.{PortEvent}
@@ -79,10 +80,8 @@ answer_is_no_change Refreshed = tt
 answer_is_no_change Dropped = tt
 
 heard_is_no_change : (answers : MsapId → Learned) (h : Option Heard) → IsNoChange (cause_of_heard answers h)
-heard_is_no_change answers (Some (tells info)) = answer_is_no_change (answers info.msap)
-heard_is_no_change answers (Some refused) = tt
-heard_is_no_change answers (Some (leaves msap)) = tt
-heard_is_no_change answers None = tt
+heard_is_no_change answers (Some (tells pdu)) = answer_is_no_change (answers (msap_of pdu))
+heard_is_no_change answers other = tt
 
 -- an event that is no change for its port is none for any
 module _ (event : PortEvent) (n : (given : Status) (up : Bool) (answers : MsapId → Learned) → IsNoChange (cause_at event given up answers)) where

@@ -9,8 +9,7 @@ use Rattle.std.proofs.lemmas.List.{length-map, length-append}
 use Rattle.lldp_pdu.specs.Msap.{MsapId}
 use Rattle.lldp_pdu.specs.Frame.{lldpdu_of}
 use Rattle.lldp_pdu.specs.Fault.{fault_of}
-use Rattle.lldp_pdu.specs.Lldpdu.{ttl_of, msap_of}
-use Rattle.lldp_pdu.specs.Info.{LldpInfo, info_of}
+use Rattle.lldp_pdu.specs.Lldpdu.{extent, ttl_of, msap_of}
 use Rattle.lldp_pdu.specs.declared.fault.PduFault.{PduFault}
 use Rattle.lldp_table.specs.Msap.{same_msap}
 use Rattle.lldp_table.specs.Events.{Call, learn, forget, TableEvent, learned, Neighbor, events_of, answer, neighbors, live}
@@ -32,13 +31,13 @@ use Rattle.lldp_engine.specs.Port.Effects.{call_of, cause_of_answer, cause_of_he
 
 module _ (P : Heard → Type 0) (pdu : List ℕ) where
   heard_as : (f : Option PduFault) (b : Bool) → fault_of pdu ≡ f → (ttl_of pdu == 0) ≡ b
-      → ((fault : PduFault) → fault_of pdu ≡ Some fault → P refused) → (fault_of pdu ≡ None → ttl_of pdu ≡ 0 → P (leaves (msap_of pdu))) → (fault_of pdu ≡ None → 0 < ttl_of pdu → P (tells (info_of pdu)))
-      → P (if is_some f then refused else (if b then leaves (msap_of pdu) else tells (info_of pdu)))
+      → ((fault : PduFault) → fault_of pdu ≡ Some fault → P refused) → (fault_of pdu ≡ None → ttl_of pdu ≡ 0 → P (leaves (msap_of pdu))) → (fault_of pdu ≡ None → 0 < ttl_of pdu → P (tells pdu))
+      → P (if is_some f then refused else (if b then leaves (msap_of pdu) else tells pdu))
   heard_as (Some fault) b f t r l k = r fault f
   heard_as None true f t r l k = l f (grind (arith, nat_tests))
   heard_as None false f t r l k = k f (grind (arith, nat_tests))
 
-  pub heard_cases : ((fault : PduFault) → fault_of pdu ≡ Some fault → P refused) → (fault_of pdu ≡ None → ttl_of pdu ≡ 0 → P (leaves (msap_of pdu))) → (fault_of pdu ≡ None → 0 < ttl_of pdu → P (tells (info_of pdu))) → P (heard_of pdu)
+  pub heard_cases : ((fault : PduFault) → fault_of pdu ≡ Some fault → P refused) → (fault_of pdu ≡ None → ttl_of pdu ≡ 0 → P (leaves (msap_of pdu))) → (fault_of pdu ≡ None → 0 < ttl_of pdu → P (tells pdu)) → P (heard_of pdu)
   unfolding heard_of
   heard_cases r l k = heard_as (fault_of pdu) (ttl_of pdu == 0) refl refl r l k
 
@@ -99,8 +98,8 @@ module _ (opened : ℕ) (calls : List Call) where
   told_by name ttl octets Refreshed e t = neighbors-refreshed name ttl octets past t (by_refreshed (is_some (live name past)) _ e)
   told_by name ttl octets Dropped e t = neighbors-dropped name ttl octets past
 
-  after_tells : (info : LldpInfo) → 0 < info.ttl → held_after (Some (tells info)) ≡ told_as (answer opened info.msap past) info.msap info.ttl info.octets (neighbors past)
-  after_tells info t = ap neighbors (events-more opened (learn info.msap info.ttl info.octets) calls) ∙ told_by info.msap info.ttl info.octets (answer opened info.msap past) refl t
+  after_tells : (pdu : List ℕ) → 0 < ttl_of pdu → held_after (Some (tells pdu)) ≡ told_as (answer opened (msap_of pdu) past) (msap_of pdu) (ttl_of pdu) (extent pdu) (neighbors past)
+  after_tells pdu t = ap neighbors (events-more opened (learn (msap_of pdu) (ttl_of pdu) (extent pdu)) calls) ∙ told_by (msap_of pdu) (ttl_of pdu) (extent pdu) (answer opened (msap_of pdu) past) refl t
 
   pub after_leaves : (name : MsapId) → held_after (Some (leaves name)) ≡ others_than name (neighbors past)
   after_leaves name = ap neighbors (events-more opened (forget name) calls) ∙ neighbors-forgot name past
@@ -115,7 +114,7 @@ module _ (opened : ℕ) (calls : List Call) where
   others_stay pdu =
       heard_cases (λ h. others_than (msap_of pdu) (held_after (Some h)) ≡ others_than (msap_of pdu) (neighbors past)) pdu (λ fault f. refl)
       (λ f t. ap (others_than (msap_of pdu)) (after_leaves (msap_of pdu)) ∙ filter_twice (λ x. not (same_msap (msap_of pdu) x.msap)) (neighbors past))
-      (λ f t. ap (others_than (msap_of pdu)) (after_tells (info_of pdu) t) ∙ others_told (answer opened (msap_of pdu) past) (msap_of pdu) (ttl_of pdu) (info_of pdu).octets (neighbors past))
+      (λ f t. ap (others_than (msap_of pdu)) (after_tells pdu t) ∙ others_told (answer opened (msap_of pdu) past) (msap_of pdu) (ttl_of pdu) (extent pdu) (neighbors past))
 
   -- ## One neighbor more
 
@@ -135,7 +134,7 @@ module _ (opened : ℕ) (calls : List Call) where
   heard_gains pdu =
       heard_cases (λ h. IsGain (cause_of_heard answers (Some h)) (held_after (Some h))) pdu (λ fault f. inr (omega arith, refl))
       (λ f t. inr (rw (after_leaves (msap_of pdu)) (shorter (λ x. not (same_msap (msap_of pdu) x.msap)) (neighbors past)), refl))
-      (λ f t. rw (after_tells (info_of pdu) t) (told_gains (answers (msap_of pdu)) (msap_of pdu) (ttl_of pdu) (info_of pdu).octets))
+      (λ f t. rw (after_tells pdu t) (told_gains (answers (msap_of pdu)) (msap_of pdu) (ttl_of pdu) (extent pdu)))
 
   pub gains : (given : Status) (up : Bool) (octets : List ℕ) → IsGain (cause_of_heard answers (heard_by given up octets)) (held_after (heard_by given up octets))
   gains given up octets = by_heard (λ h. IsGain (cause_of_heard answers h) (held_after h)) given up octets (inr (omega arith, refl)) (λ pdu e. heard_gains pdu)

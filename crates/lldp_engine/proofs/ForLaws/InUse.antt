@@ -25,26 +25,13 @@ use Rattle.lldp_engine.specs.Laws.InUse.{HoldsMore, HoldAtMost, WouldLimitBelow}
 
 -- it is not told
 abbrev is_other : {A : Type 0} → Result A CommandFault → Bool
-is_other (Ok a) = true
-is_other (Err Unknown) = true
-is_other (Err NoSuchPort) = true
-is_other (Err Number) = true
-is_other (Err Range) = true
-is_other (Err Text) = true
-is_other (Err Extra) = true
-is_other (Err Quote) = true
 is_other (Err InUse) = false
+is_other r = true
 
 made_other : {A B : Type 0} (f : A → B) (r : Result A CommandFault) → is_other r ≡ true → is_other (on_ok f r) ≡ true
 made_other f (Ok a) h = refl
-made_other f (Err Unknown) h = refl
-made_other f (Err NoSuchPort) h = refl
-made_other f (Err Number) h = refl
-made_other f (Err Range) h = refl
-made_other f (Err Text) h = refl
-made_other f (Err Extra) h = refl
-made_other f (Err Quote) h = refl
 made_other f (Err InUse) h = h
+made_other f (Err fault) h = refl
 
 if_other : {A : Type 0} (b : Bool) (r s : Result A CommandFault) → is_other r ≡ true → is_other s ≡ true → is_other (if b then r else s) ≡ true
 if_other true r s h i = h
@@ -76,24 +63,13 @@ fault_other names (form ∷ others) w = first_other (after_word names form w) (f
     first_other : (one : Result Form CommandFault) (others : CommandFault) → is_other one ≡ true → is_other {A = Command} (Err others) ≡ true → is_other {A = Command} (Err (fault_or one others)) ≡ true
     first_other (Ok next) others h i = i
     first_other (Err Extra) others h i = i
-    first_other (Err Unknown) others h i = refl
-    first_other (Err NoSuchPort) others h i = refl
-    first_other (Err Number) others h i = refl
-    first_other (Err Range) others h i = refl
-    first_other (Err Text) others h i = refl
-    first_other (Err Quote) others h i = refl
     first_other (Err InUse) others h i = h
+    first_other (Err fault) others h i = refl
 
 any_other : (left : List Form) (fault : CommandFault) → is_other {A = Command} (Err fault) ≡ true → is_other (if_any left fault) ≡ true
 any_other (form ∷ others) fault h = refl
-any_other [] Unknown h = refl
-any_other [] NoSuchPort h = refl
-any_other [] Number h = refl
-any_other [] Range h = refl
-any_other [] Text h = refl
-any_other [] Extra h = refl
-any_other [] Quote h = refl
 any_other [] InUse h = h
+any_other [] fault h = refl
 
 forms_other : (names : List (List ℕ)) (left : List Form) (w : List ℕ) → is_other (going_on names left w) ≡ true
 forms_other names left w = any_other (forms_left names left w) (first_fault names left w) (fault_other names left w)
@@ -101,21 +77,11 @@ forms_other names left w = any_other (forms_left names left w) (first_fault name
 end_other : (left : List Form) → is_other (completed left) ≡ true
 end_other [] = refl
 end_other (complete command ∷ others) = refl
-end_other (word expected next ∷ others) = end_other others
-end_other (port next ∷ others) = end_other others
-end_other (number least greatest next ∷ others) = end_other others
-end_other (text next ∷ others) = end_other others
-end_other (status next ∷ others) = end_other others
+end_other (form ∷ others) = end_other others
 
 words_other : (names : List (List ℕ)) (left : Result (List Form) CommandFault) (words : List (List ℕ)) → is_other left ≡ true → is_other (read_forms names left words) ≡ true
-words_other names (Err Unknown) words h = refl
-words_other names (Err NoSuchPort) words h = refl
-words_other names (Err Number) words h = refl
-words_other names (Err Range) words h = refl
-words_other names (Err Text) words h = refl
-words_other names (Err Extra) words h = refl
-words_other names (Err Quote) words h = refl
 words_other names (Err InUse) words h = h
+words_other names (Err fault) words h = refl
 words_other names (Ok left) [] h = end_other left
 words_other names (Ok left) (w ∷ words) h = words_other names (going_on names left w) words (forms_other names left w)
 

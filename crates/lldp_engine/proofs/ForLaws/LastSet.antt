@@ -83,14 +83,11 @@ status_each o i (frame port octets) = inr (λ x e. cc, λ events. own_or_nothing
 status_each o i (link port up) = inr (λ x e. cc, λ events. own_or_nothing (LeavesStatus (status_at o i events)) (port == i) (own.link up) refl refl)
 status_each o i event = inr (λ x e. cc, λ events. refl)
 
-same_status : (i : ℕ) (x y : PortStatus) → set (status i x) ≡ set (status i y) → x ≡ y
-same_status i x y e = cc
-
 pub status_is_last : (o : Options) (i : ℕ) (events : List Event) → IsLastStatus o i events (status_at o i events)
-status_is_last o i events = last_is_set (λ s. set (status i s)) (status_at o i) (same_status i) (status_each o i) events
+status_is_last o i events = last_is_set (λ s. set (status i s)) (status_at o i) (λ x y e. cc) (status_each o i) events
 
 pub last_is_status : (o : Options) (i : ℕ) (events : List Event) (s : PortStatus) → IsLastStatus o i events s → s ≡ status_at o i events
-last_is_status o i events s h = set_is_last (λ s. set (status i s)) (status_at o i) (same_status i) (status_each o i) events s h
+last_is_status o i events s h = set_is_last (λ s. set (status i s)) (status_at o i) (λ x y e. cc) (status_each o i) events s h
 
 -- ## Its link
 
@@ -110,66 +107,33 @@ link_each o i (frame port octets) = inr (λ x e. cc, λ events. own_or_nothing (
 link_each o i (set (status port given)) = inr (λ x e. cc, λ events. own_or_nothing (LeavesLink (up_at o i events)) (port == i) (own.status given) refl refl)
 link_each o i event = inr (λ x e. cc, λ events. refl)
 
-same_link : (i : ℕ) (x y : Bool) → link i x ≡ link i y → x ≡ y
-same_link i x y e = cc
-
 pub link_is_last : (o : Options) (i : ℕ) (events : List Event) → IsLastLink i events (up_at o i events)
-link_is_last o i events = last_is_set (link i) (up_at o i) (same_link i) (link_each o i) events
+link_is_last o i events = last_is_set (link i) (up_at o i) (λ x y e. cc) (link_each o i) events
 
 pub last_is_link : (o : Options) (i : ℕ) (events : List Event) (up : Bool) → IsLastLink i events up → up ≡ up_at o i events
-last_is_link o i events up h = set_is_last (link i) (up_at o i) (same_link i) (link_each o i) events up h
+last_is_link o i events up h = set_is_last (link i) (up_at o i) (λ x y e. cc) (link_each o i) events up h
 
 -- ## The configuration
 
-abbrev hostname_after : Options → List Event → List ℕ
-hostname_after o events = (configuration_after o events).hostname
-
-hostname_each : (o : Options) (event : Event) → SetsOrLeaves (λ text. set (hostname text)) (hostname_after o) event
+hostname_each : (o : Options) (event : Event) → SetsOrLeaves (λ text. set (hostname text)) (λ events. (configuration_after o events).hostname) event
 hostname_each o (set (hostname text)) = inl (text, refl, λ events. refl)
 hostname_each o event = inr (λ x e. cc, λ events. refl)
 
-same_hostname : (x y : List ℕ) → set (hostname x) ≡ set (hostname y) → x ≡ y
-same_hostname x y e = cc
-
-abbrev description_after : Options → List Event → List ℕ
-description_after o events = (configuration_after o events).description
-
-description_each : (o : Options) (event : Event) → SetsOrLeaves (λ text. set (description text)) (description_after o) event
+description_each : (o : Options) (event : Event) → SetsOrLeaves (λ text. set (description text)) (λ events. (configuration_after o events).description) event
 description_each o (set (description text)) = inl (text, refl, λ events. refl)
 description_each o event = inr (λ x e. cc, λ events. refl)
 
-same_description : (x y : List ℕ) → set (description x) ≡ set (description y) → x ≡ y
-same_description x y e = cc
-
-abbrev interval_after : Options → List Event → ℕ
-interval_after o events = (configuration_after o events).interval
-
-interval_each : (o : Options) (event : Event) → SetsOrLeaves (λ seconds. set (interval seconds)) (interval_after o) event
+interval_each : (o : Options) (event : Event) → SetsOrLeaves (λ seconds. set (interval seconds)) (λ events. (configuration_after o events).interval) event
 interval_each o (set (interval seconds)) = inl (seconds, refl, λ events. refl)
 interval_each o event = inr (λ x e. cc, λ events. refl)
 
-same_interval : (x y : ℕ) → set (interval x) ≡ set (interval y) → x ≡ y
-same_interval x y e = cc
-
-abbrev hold_after : Options → List Event → ℕ
-hold_after o events = (configuration_after o events).hold
-
-hold_each : (o : Options) (event : Event) → SetsOrLeaves (λ times. set (hold times)) (hold_after o) event
+hold_each : (o : Options) (event : Event) → SetsOrLeaves (λ times. set (hold times)) (λ events. (configuration_after o events).hold) event
 hold_each o (set (hold times)) = inl (times, refl, λ events. refl)
 hold_each o event = inr (λ x e. cc, λ events. refl)
 
-same_hold : (x y : ℕ) → set (hold x) ≡ set (hold y) → x ≡ y
-same_hold x y e = cc
-
-abbrev limit_after : Options → List Event → ℕ
-limit_after o events = (configuration_after o events).limit
-
-limit_each : (o : Options) (event : Event) → SetsOrLeaves (λ neighbors. set (limit neighbors)) (limit_after o) event
+limit_each : (o : Options) (event : Event) → SetsOrLeaves (λ neighbors. set (limit neighbors)) (λ events. (configuration_after o events).limit) event
 limit_each o (set (limit neighbors)) = inl (neighbors, refl, λ events. refl)
 limit_each o event = inr (λ x e. cc, λ events. refl)
-
-same_limit : (x y : ℕ) → set (limit x) ≡ set (limit y) → x ≡ y
-same_limit x y e = cc
 
 others_stay : (o : Options) (event : Event) (c : Configuration) → without_commands o (configured event c) ≡ without_commands o c
 others_stay o (set (hostname text)) c = refl
@@ -181,10 +145,10 @@ others_are o (event ∷ events) = others_stay o event (configuration_after o eve
 
 pub configuration_is_last : (o : Options) (events : List Event) → IsLastConfiguration o events (configuration_after o events)
 configuration_is_last o events = record {
-  by_hostname = last_is_set (λ text. set (hostname text)) (hostname_after o) same_hostname (hostname_each o) events;
-  by_description = last_is_set (λ text. set (description text)) (description_after o) same_description (description_each o) events;
-  by_interval = last_is_set (λ seconds. set (interval seconds)) (interval_after o) same_interval (interval_each o) events;
-  by_hold = last_is_set (λ times. set (hold times)) (hold_after o) same_hold (hold_each o) events;
-  by_limit = last_is_set (λ neighbors. set (limit neighbors)) (limit_after o) same_limit (limit_each o) events;
+  by_hostname = last_is_set (λ text. set (hostname text)) (λ events. (configuration_after o events).hostname) (λ x y e. cc) (hostname_each o) events;
+  by_description = last_is_set (λ text. set (description text)) (λ events. (configuration_after o events).description) (λ x y e. cc) (description_each o) events;
+  by_interval = last_is_set (λ seconds. set (interval seconds)) (λ events. (configuration_after o events).interval) (λ x y e. cc) (interval_each o) events;
+  by_hold = last_is_set (λ times. set (hold times)) (λ events. (configuration_after o events).hold) (λ x y e. cc) (hold_each o) events;
+  by_limit = last_is_set (λ neighbors. set (limit neighbors)) (λ events. (configuration_after o events).limit) (λ x y e. cc) (limit_each o) events;
   others = others_are o events;
 }

@@ -6,8 +6,7 @@ use Rattle.std.specs.Option.{option_map}
 use Rattle.std.proofs.lemmas.Bool.{and_parts}
 use Rattle.std.proofs.lemmas.Bool.Decides.{nat_tests}
 use Rattle.lldp_pdu.specs.Frame.{lldpdu_of}
-use Rattle.lldp_pdu.specs.Lldpdu.{ttl_of, msap_of}
-use Rattle.lldp_pdu.specs.Info.{info_of}
+use Rattle.lldp_pdu.specs.Lldpdu.{extent, ttl_of, msap_of}
 use Rattle.lldp_pdu.specs.Msap.{MsapId}
 use Rattle.lldp_table.specs.Events.{Call, learn, forget, purge, tick as tick_call, set_limit, TableEvent, learned, ticked, events_of, answer, aged_out, live, neighbors, limit_after}
 use Rattle.lldp_table.specs.Contents.{Contents, is_named, holds_name}
@@ -78,7 +77,7 @@ module _ (opened : ℕ) (calls : List Call) where
   heard_ages_none None = refl
   heard_ages_none (Some refused) = refl
   heard_ages_none (Some (leaves name)) = forget_ages_none name
-  heard_ages_none (Some (tells info)) = learn_ages_none info.msap info.ttl info.octets
+  heard_ages_none (Some (tells pdu)) = learn_ages_none (msap_of pdu) (ttl_of pdu) (extent pdu)
 
   tick_drops_none : DropsNone (Some tick_call)
   tick_drops_none = ap (λ es. length (filter is_dropped es)) (events-more opened tick_call calls)
@@ -216,15 +215,14 @@ module _ (past : Past) (i : ℕ) where
   pub drop_is_counted : (octets : List ℕ) → HasNoRoom past i octets → Makes past (agent.frame i octets) i CountsDrop
   drop_is_counted octets full before after was now =
       let pdu = full.lldpdu in
-      let info = info_of pdu in
       let calls = calls_of past i in
-      let heard : heard_by given up octets ≡ Some (tells info) = hears_it past i octets pdu full.hears full.has ∙ ap Some (heard_tells pdu info (sym full.sound) full.lives refl) in
+      let heard : heard_by given up octets ≡ Some (tells pdu) = hears_it past i octets pdu full.hears full.has ∙ ap Some (heard_tells pdu (sym full.sound) full.lives) in
       let table = table_known past i full.port full.is in
       let other : list_any (is_named (msap_of pdu)) (neighbors (events_of mx calls)) ≡ false = subst (λ (t : Contents). holds_name t (msap_of pdu) ≡ false) table full.other in
       let most : limit_after mx (events_of mx calls) ≤ length (neighbors (events_of mx calls)) = subst (λ (t : Contents). t.limit ≤ length t.neighbors) table full.full in
-      let one = drop_is_one mx calls (msap_of pdu) (ttl_of pdu) info.octets (dropped_answer mx calls (msap_of pdu) other most) in
+      let one = drop_is_one mx calls (msap_of pdu) (ttl_of pdu) (extent pdu) (dropped_answer mx calls (msap_of pdu) other most) in
       drops_at (with_event past (agent.frame i octets)) i after now
-      ∙ ap (λ (c : Option Call). wrapped (length (filter is_dropped (with_call mx calls c)))) (called octets (Some (tells info)) heard)
+      ∙ ap (λ (c : Option Call). wrapped (length (filter is_dropped (with_call mx calls c)))) (called octets (Some (tells pdu)) heard)
       ∙ ap wrapped one
       ∙ one_rises (length (filter is_dropped (events_of mx calls)))
       ∙ ap (λ n. (n + 1) % 2 ^ 32) (sym (drops_at past i before was))
@@ -249,7 +247,7 @@ module _ (past : Past) (i : ℕ) where
       heard_cases (λ h. DropsNone mx (calls_of past i) (option_and_then call_of (Some h))) pdu
       (λ fault f. refl)
       (λ f t. forget_drops_none mx (calls_of past i) (msap_of pdu))
-      (λ f t. stored_drops_none mx (calls_of past i) (msap_of pdu) (ttl_of pdu) (info_of pdu).octets (answer mx (msap_of pdu) (events_of mx (calls_of past i))) refl
+      (λ f t. stored_drops_none mx (calls_of past i) (msap_of pdu) (ttl_of pdu) (extent pdu) (answer mx (msap_of pdu) (events_of mx (calls_of past i))) refl
       (λ e.
       let found = answer_dropped mx (calls_of past i) (msap_of pdu) e in
       let table = sym (table_known past i port is) in

@@ -1,11 +1,11 @@
 -- Only the words of a form say its command.
 use Rattle.std.proofs.Common.{◌≡◌, ℕ, Bool, true, false, ◌⊎◌, inl, inr, List, [], ◌∷◌, Option, Some, None, Result, Ok, Err, refl, ap, ◌∙◌, subst}
-use Rattle.std.specs.Prelude.{if◌then◌else◌}
+use Rattle.std.specs.Prelude.{if◌then◌else◌, codes}
 use Rattle.std.specs.Bool.{Decides}
 use Rattle.std.specs.Str.{bytes_eq}
 use Rattle.std.proofs.lemmas.Slice.Eq.{bytes_eq-Decides}
 use Rattle.lldp_text.specs.declared.fault.CommandFault.{CommandFault}
-use Rattle.lldp_text.specs.declared.fault.CommandFault.TheVariants.{Unknown, NoSuchPort, Text, Quote, InUse}
+use Rattle.lldp_text.specs.declared.fault.CommandFault.TheVariants.{Unknown, NoSuchPort, Text, Extra, Quote, InUse}
 use Rattle.lldp_text.specs.Answer.{or_fault, on_ok, ◌>>=◌}
 use Rattle.lldp_text.specs.Text.{is_text}
 use Rattle.lldp_text.specs.Number.{number_of}
@@ -16,13 +16,27 @@ use Rattle.lldp_engine.specs.Place.{place_of}
 use Rattle.lldp_engine.specs.Event.{hostname, description, interval, hold, limit, status as set_status, update}
 use Rattle.lldp_engine.specs.AgentState.{AgentState, names_of, fits}
 use Rattle.lldp_engine.specs.Command.{Command, show, set}
-use Rattle.lldp_engine.specs.Forms.{Form, complete, word, port, number, text, status, status_of, after_word, and_left, if_any, forms_left, first_fault, completed, read_forms, forms}
+use Rattle.lldp_engine.specs.Forms.{Form, complete, word, port, number, text, status, status_of, after_word, and_left, fault_or, if_any, forms_left, first_fault, completed, read_forms, forms}
 use Rattle.lldp_engine.specs.Given.{said_by, unless_in_use, command_said, command_given}
 use Rattle.lldp_text.specs.Words.{words_of}
-use Rattle.lldp_engine.specs.Laws.Sayings.{show_word, neighbors_word, statistics_word, chassis_word, configuration_word, configure_word, system_word, hostname_word, description_word, lldp_word, interval_word, hold_word, limit_word, ports_word, status_word, update_word, word_of}
-use Rattle.lldp_engine.specs.Laws.OnlyForms.{AreWordsOf, IsNotInUse, IsLineOf}
+use Rattle.lldp_engine.specs.Laws.OnlyForms.{AreWordsOf, IsNotInUse, IsLineOf, word_of}
 use Rattle.lldp_engine.proofs.ForLaws.InUse.{held_decided}
-use Rattle.lldp_engine.proofs.ForLaws.Sayings.{text_said, made_said, status_said}
+
+-- ## What is said if one form is left
+
+-- the one form that takes the word, or its fault
+abbrev pub one_left : Result Form CommandFault → Result (List Form) CommandFault
+one_left one = if_any (and_left one []) (fault_or one Extra)
+
+text_said : (names : List (List ℕ)) (b : Bool) (command : Command) → b ≡ true → read_forms names (one_left (if b then Ok (complete command) else Err Text)) [] ≡ Ok command
+text_said names b command e = ap (λ (c : Bool). read_forms names (one_left (if c then Ok (complete command) else Err Text)) []) e
+
+made_said : {A : Type 0} (names : List (List ℕ)) (r : Result A CommandFault) (command : A → Command) (a : A) → r ≡ Ok a → read_forms names (one_left (on_ok (λ a. complete (command a)) r)) [] ≡ Ok (command a)
+made_said names r command a e = ap (λ s. read_forms names (one_left (on_ok (λ a. complete (command a)) s)) []) e
+
+-- the form behind a port's name
+abbrev pub status_form : ℕ → Form
+status_form p = word (codes "lldp") (word (codes "status") (status (λ given. complete (set (set_status p given)))))
 
 -- ## Statuses
 
@@ -43,9 +57,7 @@ read_by_word w given e =
 
 pub own_word_read : (given : Status) → status_of (word_of given) ≡ Some given
 own_word_read RxAndTx = refl
-own_word_read RxOnly = refl
-own_word_read TxOnly = refl
-own_word_read Disabled = refl
+own_word_read given = refl
 
 pub word_is_read : (w : List ℕ) (given : Status) → w ≡ word_of given → status_of w ≡ Some given
 word_is_read w given e = ap status_of e ∙ own_word_read given
@@ -107,11 +119,7 @@ module _ (names : List (List ℕ)) (command : Command) where
   end_matches : (left : List Form) → completed left ≡ Ok command → AnyMatches left []
   end_matches [] e = cc
   end_matches (complete c ∷ others) e = inl (refl, cc)
-  end_matches (word expected next ∷ others) e = inr (end_matches others e)
-  end_matches (port next ∷ others) e = inr (end_matches others e)
-  end_matches (number least greatest next ∷ others) e = inr (end_matches others e)
-  end_matches (text next ∷ others) e = inr (end_matches others e)
-  end_matches (status next ∷ others) e = inr (end_matches others e)
+  end_matches (form ∷ others) e = inr (end_matches others e)
 
   and_more : (form : Form) (others left : List Form) (w : List ℕ) (ws : List (List ℕ)) (r : Result Form CommandFault) → after_word names form w ≡ r → (AnyMatches left ws → AnyMatches others (w ∷ ws))
       → AnyMatches (and_left r left) ws → AnyMatches (form ∷ others) (w ∷ ws)
@@ -141,27 +149,27 @@ module _ (agent : AgentState) (command : Command) (words : List (List ℕ)) wher
   of_command c e h = subst (λ (d : Command). AreWordsOf agent d words) e h
 
   abbrev configured : List (List ℕ) → List (List ℕ)
-  configured rest = configure_word ∷ rest
+  configured rest = codes "configure" ∷ rest
 
   form_words : AnyMatches (names_of agent) command (forms agent.configuration.capacity) words → AreWordsOf agent command words
-  form_words (inl (r, e, (s, f, (g, c)))) = of_command (show Neighbors) c (e ∙ ap (λ x. show_word ∷ x) (f ∙ ap (λ x. neighbors_word ∷ x) g))
-  form_words (inr (inl (r, e, (s, f, (g, c))))) = of_command (show Statistics) c (e ∙ ap (λ x. show_word ∷ x) (f ∙ ap (λ x. statistics_word ∷ x) g))
-  form_words (inr (inr (inl (r, e, (s, f, (g, c)))))) = of_command (show Chassis) c (e ∙ ap (λ x. show_word ∷ x) (f ∙ ap (λ x. chassis_word ∷ x) g))
-  form_words (inr (inr (inr (inl (r, e, (s, f, (g, c))))))) = of_command (show Configuration) c (e ∙ ap (λ x. show_word ∷ x) (f ∙ ap (λ x. configuration_word ∷ x) g))
+  form_words (inl (r, e, (s, f, (g, c)))) = of_command (show Neighbors) c (e ∙ ap (λ x. codes "show" ∷ x) (f ∙ ap (λ x. codes "neighbors" ∷ x) g))
+  form_words (inr (inl (r, e, (s, f, (g, c))))) = of_command (show Statistics) c (e ∙ ap (λ x. codes "show" ∷ x) (f ∙ ap (λ x. codes "statistics" ∷ x) g))
+  form_words (inr (inr (inl (r, e, (s, f, (g, c)))))) = of_command (show Chassis) c (e ∙ ap (λ x. codes "show" ∷ x) (f ∙ ap (λ x. codes "chassis" ∷ x) g))
+  form_words (inr (inr (inr (inl (r, e, (s, f, (g, c))))))) = of_command (show Configuration) c (e ∙ ap (λ x. codes "show" ∷ x) (f ∙ ap (λ x. codes "configuration" ∷ x) g))
   form_words (inr (inr (inr (inr (inl (r, e, (s, f, (t, g, (w, u, h, is, (i, c)))))))))) =
-      of_command (set (hostname w)) c (is, e ∙ ap configured (f ∙ ap (λ x. system_word ∷ x) (g ∙ ap (λ x. hostname_word ∷ x) (h ∙ ap (λ x. w ∷ x) i))))
+      of_command (set (hostname w)) c (is, e ∙ ap configured (f ∙ ap (λ x. codes "system" ∷ x) (g ∙ ap (λ x. codes "hostname" ∷ x) (h ∙ ap (λ x. w ∷ x) i))))
   form_words (inr (inr (inr (inr (inr (inl (r, e, (s, f, (t, g, (w, u, h, is, (i, c))))))))))) =
-      of_command (set (description w)) c (is, e ∙ ap configured (f ∙ ap (λ x. system_word ∷ x) (g ∙ ap (λ x. description_word ∷ x) (h ∙ ap (λ x. w ∷ x) i))))
+      of_command (set (description w)) c (is, e ∙ ap configured (f ∙ ap (λ x. codes "system" ∷ x) (g ∙ ap (λ x. codes "description" ∷ x) (h ∙ ap (λ x. w ∷ x) i))))
   form_words (inr (inr (inr (inr (inr (inr (inl (r, e, (s, f, (t, g, (w, u, n, h, is, (i, c)))))))))))) =
-      of_command (set (interval n)) c (w, is, e ∙ ap configured (f ∙ ap (λ x. lldp_word ∷ x) (g ∙ ap (λ x. interval_word ∷ x) (h ∙ ap (λ x. w ∷ x) i))))
+      of_command (set (interval n)) c (w, is, e ∙ ap configured (f ∙ ap (λ x. codes "lldp" ∷ x) (g ∙ ap (λ x. codes "tx-interval" ∷ x) (h ∙ ap (λ x. w ∷ x) i))))
   form_words (inr (inr (inr (inr (inr (inr (inr (inl (r, e, (s, f, (t, g, (w, u, n, h, is, (i, c))))))))))))) =
-      of_command (set (hold n)) c (w, is, e ∙ ap configured (f ∙ ap (λ x. lldp_word ∷ x) (g ∙ ap (λ x. hold_word ∷ x) (h ∙ ap (λ x. w ∷ x) i))))
+      of_command (set (hold n)) c (w, is, e ∙ ap configured (f ∙ ap (λ x. codes "lldp" ∷ x) (g ∙ ap (λ x. codes "tx-hold" ∷ x) (h ∙ ap (λ x. w ∷ x) i))))
   form_words (inr (inr (inr (inr (inr (inr (inr (inr (inl (r, e, (s, f, (t, g, (w, u, n, h, is, (i, c)))))))))))))) =
-      of_command (set (limit n)) c (w, is, e ∙ ap configured (f ∙ ap (λ x. lldp_word ∷ x) (g ∙ ap (λ x. limit_word ∷ x) (h ∙ ap (λ x. w ∷ x) i))))
+      of_command (set (limit n)) c (w, is, e ∙ ap configured (f ∙ ap (λ x. codes "lldp" ∷ x) (g ∙ ap (λ x. codes "max-neighbors" ∷ x) (h ∙ ap (λ x. w ∷ x) i))))
   form_words (inr (inr (inr (inr (inr (inr (inr (inr (inr (inl (r, e, (s, f, (w, u, p, g, at, (t, h, (v, i, (x, y, given, j, is, (k, c))))))))))))))))) =
       of_command (set (set_status p given)) c
-      (w, at, e ∙ ap configured (f ∙ ap (λ z. ports_word ∷ z) (g ∙ ap (λ z. w ∷ z) (h ∙ ap (λ z. lldp_word ∷ z) (i ∙ ap (λ z. status_word ∷ z) (j ∙ ap (λ z. x ∷ z) k ∙ ap (λ z. z ∷ []) (read_by_word x given is)))))))
-  form_words (inr (inr (inr (inr (inr (inr (inr (inr (inr (inr (inl (r, e, (g, c))))))))))))) = of_command (set update) c (e ∙ ap (λ x. update_word ∷ x) g)
+      (w, at, e ∙ ap configured (f ∙ ap (λ z. codes "ports" ∷ z) (g ∙ ap (λ z. w ∷ z) (h ∙ ap (λ z. codes "lldp" ∷ z) (i ∙ ap (λ z. codes "status" ∷ z) (j ∙ ap (λ z. x ∷ z) k ∙ ap (λ z. z ∷ []) (read_by_word x given is)))))))
+  form_words (inr (inr (inr (inr (inr (inr (inr (inr (inr (inr (inl (r, e, (g, c))))))))))))) = of_command (set update) c (e ∙ ap (λ x. codes "update" ∷ x) g)
   form_words (inr (inr (inr (inr (inr (inr (inr (inr (inr (inr (inr none))))))))))) = absurd none
 
   pub only_its_words : said_by agent words ≡ Ok command → AreWordsOf agent command words
@@ -170,37 +178,21 @@ module _ (agent : AgentState) (command : Command) (words : List (List ℕ)) wher
 -- ## Its words say it
 
 module _ (agent : AgentState) where
-  abbrev says : List (List ℕ) → Command → Type 0
-  says words command = said_by agent words ≡ Ok command
-
-  at_words : (ws words : List (List ℕ)) (command : Command) → words ≡ ws → says ws command → says words command
-  at_words ws words command e h = ap (said_by agent) e ∙ h
-
-  if_is : {A : Type 0} (b : Bool) (r : Result A CommandFault) (s : Result A CommandFault) → b ≡ true → (if b then r else s) ≡ r
-  if_is true r s e = refl
-  if_is false r s e = cc
+  abbrev names : List (List ℕ)
+  names = names_of agent
 
   pub its_words_say_it : (command : Command) (words : List (List ℕ)) → AreWordsOf agent command words → said_by agent words ≡ Ok command
-  its_words_say_it (show Neighbors) words e = at_words _ words (show Neighbors) e refl
-  its_words_say_it (show Statistics) words e = at_words _ words (show Statistics) e refl
-  its_words_say_it (show Chassis) words e = at_words _ words (show Chassis) e refl
-  its_words_say_it (show Configuration) words e = at_words _ words (show Configuration) e refl
-  its_words_say_it (set (hostname t)) words (is, e) =
-      at_words _ words (set (hostname t)) e (text_said (names_of agent) (is_text t) (set (hostname t)) ∙ if_is (is_text t) (Ok (set (hostname t))) (Err Text) is)
-  its_words_say_it (set (description t)) words (is, e) =
-      at_words _ words (set (description t)) e (text_said (names_of agent) (is_text t) (set (description t)) ∙ if_is (is_text t) (Ok (set (description t))) (Err Text) is)
-  its_words_say_it (set (interval n)) words (w, is, e) =
-      at_words _ words (set (interval n)) e (made_said (names_of agent) (number_of w 1 3600) (λ n. set (interval n)) ∙ ap (on_ok (λ n. set (interval n))) is)
-  its_words_say_it (set (hold n)) words (w, is, e) =
-      at_words _ words (set (hold n)) e (made_said (names_of agent) (number_of w 1 100) (λ n. set (hold n)) ∙ ap (on_ok (λ n. set (hold n))) is)
-  its_words_say_it (set (limit n)) words (w, is, e) =
-      at_words _ words (set (limit n)) e (made_said (names_of agent) (number_of w 1 agent.configuration.capacity) (λ n. set (limit n)) ∙ ap (on_ok (λ n. set (limit n))) is)
+  its_words_say_it (show Neighbors) words e = ap (said_by agent) e
+  its_words_say_it (set (hostname t)) words (is, e) = ap (said_by agent) e ∙ text_said names (is_text t) (set (hostname t)) is
+  its_words_say_it (set (description t)) words (is, e) = ap (said_by agent) e ∙ text_said names (is_text t) (set (description t)) is
+  its_words_say_it (set (interval n)) words (w, is, e) = ap (said_by agent) e ∙ made_said names (number_of w 1 3600) (λ n. set (interval n)) n is
+  its_words_say_it (set (hold n)) words (w, is, e) = ap (said_by agent) e ∙ made_said names (number_of w 1 100) (λ n. set (hold n)) n is
+  its_words_say_it (set (limit n)) words (w, is, e) = ap (said_by agent) e ∙ made_said names (number_of w 1 agent.configuration.capacity) (λ n. set (limit n)) n is
   its_words_say_it (set (set_status p given)) words (name, at, e) =
-      at_words _ words (set (set_status p given)) e
-      (status_said (names_of agent) (place_of (names_of agent) name) (word_of given)
-      ∙ ap (λ (o : Option ℕ). or_fault o NoSuchPort >>= (λ port. on_ok (λ given. set (set_status port given)) (or_fault (status_of (word_of given)) Unknown))) at
-      ∙ ap (λ (o : Option Status). on_ok (λ given. set (set_status p given)) (or_fault o Unknown)) (own_word_read given))
-  its_words_say_it (set update) words e = at_words _ words (set update) e refl
+      ap (said_by agent) e
+      ∙ ap (λ place. read_forms names (one_left (on_ok status_form (or_fault place NoSuchPort))) (codes "lldp" ∷ codes "status" ∷ word_of given ∷ [])) at
+      ∙ made_said names (or_fault (status_of (word_of given)) Unknown) (λ given. set (set_status p given)) given (ap (λ o. or_fault o Unknown) (own_word_read given))
+  its_words_say_it command words e = ap (said_by agent) e
 
 -- ## Limits that are in use
 

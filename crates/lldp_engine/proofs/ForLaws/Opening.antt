@@ -100,19 +100,11 @@ fault_at n =
 numbered : (f : OpenFault) → fault_at (number_of_refusal f) ≡ f
 unfolding fault_at
 numbered Memory = refl
-numbered NoPorts = refl
-numbered TooManyPorts = refl
-numbered PortName = refl
-numbered SamePort = refl
-numbered Text = refl
+numbered fault = refl
 
 at_most_6 : (f : OpenFault) → number_of_refusal f ≤ 6
 at_most_6 Memory = omega arith
-at_most_6 NoPorts = omega arith
-at_most_6 TooManyPorts = omega arith
-at_most_6 PortName = omega arith
-at_most_6 SamePort = omega arith
-at_most_6 Text = omega arith
+at_most_6 fault = omega arith
 
 -- ## The first fault, by tests
 
@@ -185,11 +177,7 @@ fault_tests o =
 -- the check of no number below 2 fails: it is want of memory
 none_below : (o : Options) → PassedBelow o 2
 none_below o Memory lt = tt
-none_below o NoPorts lt = absurd (omega arith)
-none_below o TooManyPorts lt = absurd (omega arith)
-none_below o PortName lt = absurd (omega arith)
-none_below o SamePort lt = absurd (omega arith)
-none_below o Text lt = absurd (omega arith)
+none_below o fault lt = absurd (omega arith)
 
 pub fault_is_first : (o : Options) (f : OpenFault) → fault_of o ≡ Some f → IsFirstFault o f
 fault_is_first o f h = told o 2 (checks o) (fault_tests o) (none_below o) f h

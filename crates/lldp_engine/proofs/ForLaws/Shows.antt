@@ -1,23 +1,24 @@
 -- Each show has these lines and no others.
 use Rattle.std.proofs.Common.{◌≡◌, ℕ, ◌+◌, List, [], ◌∷◌, ◌++◌, map, take, Option, Some, None, refl, sym, ap, ◌∙◌, append_assoc}
+use Rattle.std.specs.Prelude.{codes, decimal}
 use Rattle.std.specs.List.{flat_map, enumerate_from}
 use Rattle.std.proofs.lemmas.List.{take-append-drop}
+use Rattle.lldp_pdu.specs.Tlv.{TlvUnit}
 use Rattle.lldp_pdu.specs.Kept.{kept_of}
 use Rattle.lldp_table.specs.Events.{Neighbor}
+use Rattle.lldp_text.specs.KeptTlv.{tlv_text}
 use Rattle.lldp_engine.specs.declared.command.Show.{Show}
 use Rattle.lldp_engine.specs.declared.command.Show.TheVariants.{Neighbors, Statistics, Chassis, Configuration}
-use Rattle.lldp_engine.specs.Configuration.{Configuration as Configured}
+use Rattle.lldp_engine.specs.declared.port.status.Status.{Status}
+use Rattle.lldp_engine.specs.declared.port.status.Status.TheVariants.{RxAndTx}
 use Rattle.lldp_engine.specs.AgentState.{AgentState, PortState}
-use Rattle.lldp_engine.specs.ChassisLines.{management_lines, chassis_lines}
-use Rattle.lldp_engine.specs.ConfigurationLines.{status_line, configuration_lines}
-use Rattle.lldp_engine.specs.NeighborLines.{neighbor_lines, numbered_lines, count_lines, port_lines}
-use Rattle.lldp_engine.specs.StatisticsLines.{counter_lines}
+use Rattle.lldp_engine.specs.ChassisLines.{management_lines}
+use Rattle.lldp_engine.specs.ConfigurationLines.{status_text, status_line}
+use Rattle.lldp_engine.specs.Keys.{neighbor_key}
+use Rattle.lldp_engine.specs.NeighborLines.{kept_line, neighbor_lines, numbered_lines, port_lines}
 use Rattle.lldp_engine.specs.Lines.{lines_of}
-use Rattle.lldp_engine.specs.Laws.FixedKeys.{lines_of_management, lines_of_chassis, line_of_status, lines_of_configuration}
-use Rattle.lldp_engine.specs.Laws.FixedTexts.{lines_of_counters}
-use Rattle.lldp_engine.specs.Laws.Numbering.{first_lines}
-use Rattle.lldp_engine.specs.Laws.Shows.{lines_of_counts, lines_of_neighbor, lines_of_port, whole_of}
-use Rattle.lldp_engine.proofs.ForLaws.Numbering.{kept_alike}
+use Rattle.lldp_engine.specs.Laws.OnlyForms.{word_of}
+use Rattle.lldp_engine.specs.Laws.Shows.{line_of, lines_of_counts, first_lines, lines_of_neighbor, lines_of_port, lines_of_management, line_of_status, whole_of}
 
 -- ## The own lines
 
@@ -25,18 +26,16 @@ management_alike : (address : Option (List ℕ)) → management_lines address �
 management_alike None = refl
 management_alike (Some address) = refl
 
-pub chassis_alike : (c : Configured) → chassis_lines c ≡ lines_of_chassis c
-chassis_alike c = rw (management_alike c.management) refl
+word_alike : (status : Status) → status_text status ≡ word_of status
+word_alike RxAndTx = refl
+word_alike status = refl
 
 status_alike : (port : PortState) → status_line port ≡ line_of_status port
-status_alike port = simp append_assoc
+status_alike port = rw (word_alike port.status) refl
 
 statuses_alike : (ports : List PortState) → map status_line ports ≡ map line_of_status ports
 statuses_alike [] = refl
-statuses_alike (port ∷ ports) = ap (λ line. line ∷ map status_line ports) (status_alike port) ∙ ap (λ lines. line_of_status port ∷ lines) (statuses_alike ports)
-
-pub configuration_alike : (agent : AgentState) → configuration_lines agent ≡ lines_of_configuration agent
-configuration_alike agent = rw (statuses_alike agent.ports) refl
+statuses_alike (port ∷ ports) = rw (status_alike port, statuses_alike ports) refl
 
 -- ## The lines of ports
 
@@ -45,6 +44,13 @@ both_alike a b c d h k = rw (h, k) refl
 
 first_alike : (name : List ℕ) (number : ℕ) (neighbor : Neighbor) → take 4 (neighbor_lines name number neighbor) ≡ first_lines name number neighbor
 first_alike name number neighbor = simp append_assoc
+
+behind_number : (name : List ℕ) (number : ℕ) (text : List ℕ) → neighbor_key name number ++ text ≡ line_of name (decimal number ++ codes "." ++ text)
+behind_number name number text = simp append_assoc
+
+kept_alike : (name : List ℕ) (number : ℕ) (tlvs : List TlvUnit) → map (kept_line (neighbor_key name number)) tlvs ≡ map (λ tlv. line_of name (decimal number ++ codes "." ++ tlv_text tlv)) tlvs
+kept_alike name number [] = refl
+kept_alike name number (tlv ∷ tlvs) = rw (behind_number name number (tlv_text tlv), kept_alike name number tlvs) refl
 
 neighbor_alike : (name : List ℕ) (number : ℕ) (neighbor : Neighbor) → neighbor_lines name number neighbor ≡ lines_of_neighbor name (number, neighbor)
 neighbor_alike name number neighbor =
@@ -55,18 +61,15 @@ numbered_alike : (name : List ℕ) (number : ℕ) (neighbors : List Neighbor) �
 numbered_alike name number [] = refl
 numbered_alike name number (neighbor ∷ others) = both_alike _ _ _ _ (neighbor_alike name number neighbor) (numbered_alike name (number + 1) others)
 
-counts_alike : (port : PortState) → count_lines port ≡ lines_of_counts port
-counts_alike port = refl
-
 port_alike : (port : PortState) → port_lines port ≡ lines_of_port port
-port_alike port = both_alike _ _ _ _ (counts_alike port) (numbered_alike port.name 1 port.table.neighbors)
+port_alike port = ap (λ lines. lines_of_counts port ++ lines) (numbered_alike port.name 1 port.table.neighbors)
 
-ports_alike : (f g : PortState → List (List ℕ)) → ((port : PortState) → f port ≡ g port) → (ports : List PortState) → flat_map f ports ≡ flat_map g ports
-ports_alike f g h [] = refl
-ports_alike f g h (port ∷ ports) = both_alike _ _ _ _ (h port) (ports_alike f g h ports)
+ports_alike : (ports : List PortState) → flat_map port_lines ports ≡ flat_map lines_of_port ports
+ports_alike [] = refl
+ports_alike (port ∷ ports) = both_alike _ _ _ _ (port_alike port) (ports_alike ports)
 
 pub whole : (show : Show) (agent : AgentState) → lines_of show agent ≡ whole_of show agent
-whole Neighbors agent = ports_alike port_lines lines_of_port port_alike agent.ports
-whole Statistics agent = ports_alike counter_lines lines_of_counters (λ port. refl) agent.ports
-whole Chassis agent = chassis_alike agent.configuration
-whole Configuration agent = configuration_alike agent
+whole Neighbors agent = ports_alike agent.ports
+whole Statistics agent = refl
+whole Chassis agent = rw (management_alike agent.configuration.management) refl
+whole Configuration agent = rw (statuses_alike agent.ports) refl

@@ -10,7 +10,6 @@ use Rattle.lldp_pdu.specs.Frame.{lldpdu_of}
 use Rattle.lldp_pdu.specs.Fault.{fault_of}
 use Rattle.lldp_pdu.specs.Lldpdu.{ttl_of, msap_of}
 use Rattle.lldp_pdu.specs.Kept.{discarded_of}
-use Rattle.lldp_pdu.specs.Info.{info_of}
 use Rattle.lldp_table.specs.Events.{TableEvent}
 use Rattle.lldp_transmit.specs.declared.event.Mark.{Mark}
 use Rattle.lldp_transmit.specs.declared.event.Mark.TheVariants.{Quiet, Ordinary, Shutdown}
@@ -156,7 +155,7 @@ module _ (past : Past) (i : ℕ) (octets pdu : List ℕ) (hears : Hears past i) 
   leaves_adds f t = adds (leaves (msap_of pdu)) (heard_leaves pdu (msap_of pdu) (sym f) t refl)
 
   tells_adds : fault_of pdu ≡ None → 0 < ttl_of pdu → Adds past i octets 0 (one_if (nat_lt 0 (discarded_of pdu))) (discarded_of pdu) (unknown_tlvs pdu)
-  tells_adds f t = adds (tells (info_of pdu)) (heard_tells pdu (info_of pdu) (sym f) t refl)
+  tells_adds f t = adds (tells pdu) (heard_tells pdu (sym f) t)
 
   pub whole_adds : fault_of pdu ≡ None → 0 < ttl_of pdu → discarded_of pdu ≡ 0 → Adds past i octets 0 0 0 (unknown_tlvs pdu)
   whole_adds f t d = subst (λ n. Adds past i octets 0 (one_if (nat_lt 0 n)) n (unknown_tlvs pdu)) d (tells_adds f t)

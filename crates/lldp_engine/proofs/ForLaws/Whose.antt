@@ -5,7 +5,7 @@ use Rattle.std.specs.List.{AllByRecursion, cons_option, filter_map}
 use Rattle.std.specs.Option.{option_map}
 use Rattle.std.proofs.lemmas.Bool.Decides.{nat_tests}
 use Rattle.std.proofs.lemmas.List.Elements.{All-from_recursion}
-use Rattle.lldp_table.specs.Events.{Call, learn, forget, purge, tick as tick_call, set_limit, Neighbor, events_of, limit_after as table_limit, neighbors}
+use Rattle.lldp_table.specs.Events.{Call, purge, tick as tick_call, set_limit, Neighbor, events_of, limit_after as table_limit, neighbors}
 use Rattle.lldp_table.specs.Code.Steps.{aged}
 use Rattle.lldp_table.proofs.Live.Events.{neighbors-ticked, neighbors-limit_set}
 use Rattle.lldp_table.proofs.Standing.Calls.{events-more}
@@ -14,7 +14,7 @@ use Rattle.lldp_engine.specs.Options.{Options, InRange}
 use Rattle.lldp_engine.specs.Event.{Event, tick, frame, link, set, Setting, limit, status}
 use Rattle.lldp_engine.specs.Configuration.{Configuration, configured}
 use Rattle.lldp_engine.specs.Status.{receives}
-use Rattle.lldp_engine.specs.Heard.{Heard, refused, leaves, tells, heard_by}
+use Rattle.lldp_engine.specs.Heard.{Heard, refused, heard_by}
 use Rattle.lldp_engine.specs.Past.{Past, with_event, configuration_after, happened, past_of, port_past, ports_after, agent_of}
 use Rattle.lldp_engine.specs.Laws.PortAt.{neighbors_at, LeavesPort, LeavesTables}
 use Rattle.lldp_engine.specs.Laws.Neighbors.{one_tick_older}
@@ -96,18 +96,14 @@ limit_by call before = before
 limit-more : (opened : ℕ) (call : Option Call) (calls : List Call) → table_limit opened (events_of opened (cons_option call calls)) ≡ limit_by call (table_limit opened (events_of opened calls))
 unfolding events_of
 limit-more opened None calls = refl
-limit-more opened (Some (learn msap ttl octets)) calls = refl
-limit-more opened (Some (forget msap)) calls = refl
-limit-more opened (Some purge) calls = refl
-limit-more opened (Some tick_call) calls = refl
 limit-more opened (Some (set_limit n)) calls = refl
+limit-more opened (Some call) calls = refl
 
 -- what is heard sets no limit
 heard_sets_none : (h : Option Heard) (before : ℕ) → limit_by (option_and_then call_of h) before ≡ before
 heard_sets_none None before = refl
 heard_sets_none (Some refused) before = refl
-heard_sets_none (Some (leaves msap)) before = refl
-heard_sets_none (Some (tells info)) before = refl
+heard_sets_none (Some heard) before = refl
 
 purge_sets_none : (b : Bool) (before : ℕ) → limit_by (if b then Some purge else None) before ≡ before
 purge_sets_none true before = refl

@@ -38,12 +38,8 @@ router_fits = refl
 
 management_fits : (address : List ℕ) → length address ≡ 4 → is_well_formed (unit 8 (management_body address)) ≡ true
 unfolding is_well_formed
-management_fits [] h = absurd (omega arith)
-management_fits (a ∷ []) h = absurd (omega arith)
-management_fits (a ∷ b ∷ []) h = absurd (omega arith)
-management_fits (a ∷ b ∷ c ∷ []) h = absurd (omega arith)
 management_fits (a ∷ b ∷ c ∷ d ∷ []) h = refl
-management_fits (a ∷ b ∷ c ∷ d ∷ e ∷ rest) h = absurd (omega arith)
+management_fits other h = absurd (omega arith)
 
 role_fits : (role : Role) → is_well_formed (unit 7 (capabilities_of role)) ≡ true
 role_fits Station = station_fits

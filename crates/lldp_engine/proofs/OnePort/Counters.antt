@@ -4,7 +4,8 @@ use Rattle.std.specs.Prelude.{if◌then◌else◌}
 use Rattle.std.specs.Int.{from_bool}
 use Rattle.std.proofs.lemmas.List.Sums.{sum_by-cons}
 use Rattle.lldp_pdu.specs.Msap.{MsapId}
-use Rattle.lldp_pdu.specs.Info.{LldpInfo}
+use Rattle.lldp_pdu.specs.Lldpdu.{extent, ttl_of, msap_of}
+use Rattle.lldp_pdu.specs.Kept.{kept_of, discarded_of, count_unrecognized}
 use Rattle.lldp_table.specs.Events.{TableEvent, learned, forgot, purged, ticked, limit_set, aged_out}
 use Rattle.lldp_transmit.specs.declared.event.Mark.{Mark}
 use Rattle.lldp_transmit.specs.declared.event.Mark.TheVariants.{Quiet, Ordinary, Shutdown}
@@ -46,22 +47,22 @@ module _ (heard : List Heard) (events : List TableEvent) (marks : List Mark) whe
   counted_leaves msap = grind (arith, common_steps, sum_by-cons, counts_one, counts_none)
 
   -- one that was stored
-  counted_stored : (info : LldpInfo) (answer : Learned) → is_dropped (learned info.msap info.ttl info.octets answer) ≡ false
-      → with_tlvs (with_received (counters_of heard events marks)) info.discarded info.unrecognized ≡ counters_of (tells info ∷ heard) (learned info.msap info.ttl info.octets answer ∷ events) marks
+  counted_stored : (pdu : List ℕ) (answer : Learned) → is_dropped (learned (msap_of pdu) (ttl_of pdu) (extent pdu) answer) ≡ false
+      → with_tlvs (with_received (counters_of heard events marks)) (discarded_of pdu) (count_unrecognized (kept_of pdu)) ≡ counters_of (tells pdu ∷ heard) (learned (msap_of pdu) (ttl_of pdu) (extent pdu) answer ∷ events) marks
   unfolding counters_of
-  counted_stored info answer d = grind (arith, common_steps, sum_by-cons, counts_one, counts_if, filter, counts, counts_none)
+  counted_stored pdu answer d = grind (arith, common_steps, sum_by-cons, counts_one, counts_if, filter, counts, counts_none)
 
   -- one that was dropped
-  counted_dropped : (info : LldpInfo)
-      → with_answer (with_tlvs (with_received (counters_of heard events marks)) info.discarded info.unrecognized) Dropped ≡ counters_of (tells info ∷ heard) (learned info.msap info.ttl info.octets Dropped ∷ events) marks
+  counted_dropped : (pdu : List ℕ)
+      → with_answer (with_tlvs (with_received (counters_of heard events marks)) (discarded_of pdu) (count_unrecognized (kept_of pdu))) Dropped ≡ counters_of (tells pdu ∷ heard) (learned (msap_of pdu) (ttl_of pdu) (extent pdu) Dropped ∷ events) marks
   unfolding counters_of
-  counted_dropped info = grind (arith, common_steps, sum_by-cons, counts_one, filter, counts_if, counts, counts_none)
+  counted_dropped pdu = grind (arith, common_steps, sum_by-cons, counts_one, filter, counts_if, counts, counts_none)
 
-  pub counted_tells : (info : LldpInfo) (answer : Learned)
-      → with_answer (with_tlvs (with_received (counters_of heard events marks)) info.discarded info.unrecognized) answer ≡ counters_of (tells info ∷ heard) (learned info.msap info.ttl info.octets answer ∷ events) marks
-  counted_tells info New = counted_stored info New refl
-  counted_tells info Refreshed = counted_stored info Refreshed refl
-  counted_tells info Dropped = counted_dropped info
+  pub counted_tells : (pdu : List ℕ) (answer : Learned)
+      → with_answer (with_tlvs (with_received (counters_of heard events marks)) (discarded_of pdu) (count_unrecognized (kept_of pdu))) answer ≡ counters_of (tells pdu ∷ heard) (learned (msap_of pdu) (ttl_of pdu) (extent pdu) answer ∷ events) marks
+  counted_tells pdu New = counted_stored pdu New refl
+  counted_tells pdu Refreshed = counted_stored pdu Refreshed refl
+  counted_tells pdu Dropped = counted_dropped pdu
 
   pub counted_second : (n : ℕ) → n ≡ aged_out events → with_aged_out (counters_of heard events marks) n ≡ counters_of heard (ticked ∷ events) marks
   unfolding counters_of

@@ -9,7 +9,6 @@ use Rattle.lldp_pdu.specs.Frame.{is_lldp_frame, lldpdu_of}
 use Rattle.lldp_pdu.specs.Fault.{fault_of}
 use Rattle.lldp_pdu.specs.Lldpdu.{ttl_of, msap_of}
 use Rattle.lldp_pdu.specs.Msap.{MsapId}
-use Rattle.lldp_pdu.specs.Info.{LldpInfo, info_of}
 use Rattle.lldp_pdu.specs.declared.fault.PduFault.{PduFault}
 use Rattle.lldp_pdu.proofs.Cuts.{AreOctets-right}
 use Rattle.lldp_table.specs.Contents.{Contents}
@@ -35,7 +34,7 @@ octets_behind : (n : ℕ) (octets : List ℕ) → AreOctets octets → AreOctets
 octets_behind n octets h = AreOctets-right (take n octets) (drop n octets) (subst AreOctets (sym (take-append-drop n octets)) h)
 
 pdu_told_as : (table : Contents) (pdu : List ℕ) (f : Option PduFault) (b : Bool) → AreOctets pdu → length pdu ≤ 1500 → fault_of pdu ≡ f → (ttl_of pdu == 0) ≡ b
-    → IfSome (call_of (if is_some f then refused else (if b then leaves (msap_of pdu) else tells (info_of pdu)))) (IsPossible table)
+    → IfSome (call_of (if is_some f then refused else (if b then leaves (msap_of pdu) else tells pdu))) (IsPossible table)
 pdu_told_as table pdu (Some fault) b fits short e d = tt
 pdu_told_as table pdu None true fits short e d = tt
 pdu_told_as table pdu None false fits short e d = lldpdu_is_extent pdu fits e (grind (arith, nat_tests)) short
@@ -90,6 +89,6 @@ pub heard_leaves : (pdu : List ℕ) (msap : MsapId) → None ≡ fault_of pdu �
 unfolding heard_of
 heard_leaves pdu msap h t m = rw (← h, t, m) refl
 
-pub heard_tells : (pdu : List ℕ) (info : LldpInfo) → None ≡ fault_of pdu → 0 < ttl_of pdu → info ≡ info_of pdu → heard_of pdu ≡ tells info
+pub heard_tells : (pdu : List ℕ) → None ≡ fault_of pdu → 0 < ttl_of pdu → heard_of pdu ≡ tells pdu
 unfolding heard_of
-heard_tells pdu info h t m = let some : (ttl_of pdu == 0) ≡ false = grind (arith, nat_tests) in rw (← h, some, m) refl
+heard_tells pdu h t = let some : (ttl_of pdu == 0) ≡ false = grind (arith, nat_tests) in rw (← h, some) refl

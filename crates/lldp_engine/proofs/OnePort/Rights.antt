@@ -1,6 +1,7 @@
 -- The right to transmit and the link, by the causes, are those of the status and of the link events.
 use Rattle.std.proofs.Common.{◌≡◌, ℕ, Bool, true, false, List, [], ◌∷◌, Option, Some, refl, ap, ◌∙◌}
 use Rattle.lldp_pdu.specs.Msap.{MsapId}
+use Rattle.lldp_pdu.specs.Lldpdu.{msap_of}
 use Rattle.lldp_table.specs.Events.{answer}
 use Rattle.lldp_table.specs.declared.learned.Learned.{Learned}
 use Rattle.lldp_table.specs.declared.learned.Learned.TheVariants.{New}
@@ -23,7 +24,7 @@ answer_is P neighbor none New = neighbor
 answer_is P neighbor none a = none
 
 heard_is : (P : Cause → Type 0) → P Neighbor → P Nothing → (a : MsapId → Learned) (h : Option Heard) → P (cause_of_heard a h)
-heard_is P neighbor none a (Some (tells info)) = answer_is P neighbor none (a info.msap)
+heard_is P neighbor none a (Some (tells pdu)) = answer_is P neighbor none (a (msap_of pdu))
 heard_is P neighbor none a h = none
 
 -- ## The right to transmit

@@ -3,6 +3,7 @@ use Rattle.std.proofs.Common.{◌≡◌, ℕ, ◌+◌, ◌-◌, Bool, true, fals
 use Rattle.std.specs.Prelude.{if◌then◌else◌, option_and_then, IfSome}
 use Rattle.std.specs.List.{cons_option}
 use Rattle.lldp_pdu.specs.Msap.{MsapId}
+use Rattle.lldp_pdu.specs.Lldpdu.{extent, ttl_of, msap_of}
 use Rattle.lldp_table.specs.Events.{Call, learn, forget, purge, tick as tick_call, set_limit, learned, events_of, aged_out, answer}
 use Rattle.lldp_table.specs.Contents.{Contents}
 use Rattle.lldp_table.specs.Code.Steps.{table_after, after_tick, learn_answer}
@@ -61,11 +62,11 @@ module _ (opened : ℕ) (calls : List Call) (heard : List Heard) (marks : List M
   one_counted None = refl
   one_counted (Some refused) = counted_refused heard (events_of opened calls) marks
   one_counted (Some (leaves msap)) = counted_leaves heard (events_of opened calls) marks msap ∙ ap (λ es. counters_of (leaves msap ∷ heard) es marks) (sym (events-more opened (forget msap) calls))
-  one_counted (Some (tells info)) =
-      let call = learn info.msap info.ttl info.octets in
-      counted_tells heard (events_of opened calls) marks info (learn_answer (table_of opened calls) info.msap)
-      ∙ ap (λ (a : Learned). counters_of (tells info ∷ heard) (learned info.msap info.ttl info.octets a ∷ events_of opened calls) marks) (learn_answers (table_of opened calls) opened calls info.msap s)
-      ∙ ap (λ es. counters_of (tells info ∷ heard) es marks) (sym (events-more opened call calls))
+  one_counted (Some (tells pdu)) =
+      let call = learn (msap_of pdu) (ttl_of pdu) (extent pdu) in
+      counted_tells heard (events_of opened calls) marks pdu (learn_answer (table_of opened calls) (msap_of pdu))
+      ∙ ap (λ (a : Learned). counters_of (tells pdu ∷ heard) (learned (msap_of pdu) (ttl_of pdu) (extent pdu) a ∷ events_of opened calls) marks) (learn_answers (table_of opened calls) opened calls (msap_of pdu) s)
+      ∙ ap (λ es. counters_of (tells pdu ∷ heard) es marks) (sym (events-more opened call calls))
 
   second_counted : with_aged_out (counters_of heard (events_of opened calls) marks) (length (table_of opened calls).neighbors - length (after_tick (table_of opened calls)).neighbors)
       ≡ counters_of heard (events_of opened (tick_call ∷ calls)) marks
@@ -92,7 +93,7 @@ module _ (opened : ℕ) (calls : List Call) (heard : List Heard) (marks : List M
 
 -- what the table answers to a name is what the calls say
 heard_same : (a b : MsapId → Learned) (h : Option Heard) → ((name : MsapId) → a name ≡ b name) → cause_of_heard a h ≡ cause_of_heard b h
-heard_same a b (Some (tells info)) e = ap cause_of_answer (e info.msap)
+heard_same a b (Some (tells pdu)) e = ap cause_of_answer (e (msap_of pdu))
 heard_same a b h e = refl
 
 cause_same : (event : PortEvent) (given : Status) (up : Bool) (a b : MsapId → Learned) → ((name : MsapId) → a name ≡ b name) → cause_at event given up a ≡ cause_at event given up b

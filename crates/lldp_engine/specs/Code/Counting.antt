@@ -2,6 +2,8 @@
 use Rattle.std.specs.Prelude.{ℕ, ◌+◌, ◌-◌, Bool, nat_lt, length, Option, Some, None}
 use Rattle.std.specs.Int.{from_bool}
 use Rattle.lldp_pdu.specs.Msap.{MsapId}
+use Rattle.lldp_pdu.specs.Lldpdu.{msap_of}
+use Rattle.lldp_pdu.specs.Kept.{kept_of, discarded_of, count_unrecognized}
 use Rattle.lldp_table.specs.declared.learned.Learned.{Learned}
 use Rattle.lldp_table.specs.declared.learned.Learned.TheVariants.{Dropped}
 use Rattle.lldp_table.specs.Contents.{Contents}
@@ -66,8 +68,8 @@ abbrev pub with_heard : (MsapId → Learned) → Counters → Option Heard → C
 with_heard answer c None = c
 with_heard answer c (Some refused) = with_refused (with_received c)
 with_heard answer c (Some (leaves msap)) = with_received c
-with_heard answer c (Some (tells info)) =
-    with_answer (with_tlvs (with_received c) info.discarded info.unrecognized) (answer info.msap)
+with_heard answer c (Some (tells pdu)) =
+    with_answer (with_tlvs (with_received c) (discarded_of pdu) (count_unrecognized (kept_of pdu))) (answer (msap_of pdu))
 
 -- a second, or what was heard by another event, is counted
 abbrev pub with_event_counted : PortEvent → Status → Bool → Contents → Counters → Counters

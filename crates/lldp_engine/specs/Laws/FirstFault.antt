@@ -1,5 +1,5 @@
 -- The fault of words that say no command: that of the first word that no command has in its place.
-use Rattle.std.specs.Prelude.{◌≡◌, ℕ, false, List, [], ◌∷◌, ◌++◌, Some, None, Err}
+use Rattle.std.specs.Prelude.{◌≡◌, ℕ, false, List, [], ◌∷◌, ◌++◌, codes, Some, None, Err}
 use Rattle.std.specs.List.{AllByRecursion, Contains}
 use Rattle.lldp_text.specs.declared.fault.CommandFault.{CommandFault}
 use Rattle.lldp_text.specs.declared.fault.CommandFault.TheVariants.{Unknown, NoSuchPort, Text, Extra}
@@ -10,8 +10,7 @@ use Rattle.lldp_engine.specs.Place.{place_of}
 use Rattle.lldp_engine.specs.AgentState.{AgentState, names_of}
 use Rattle.lldp_engine.specs.Command.{Command}
 use Rattle.lldp_engine.specs.Given.{said_by}
-use Rattle.lldp_engine.specs.Laws.OnlyForms.{AreWordsOf}
-use Rattle.lldp_engine.specs.Laws.Sayings.{show_word, neighbors_word, statistics_word, chassis_word, configuration_word, configure_word, system_word, hostname_word, description_word, lldp_word, interval_word, hold_word, limit_word, ports_word, status_word, update_word, word_of}
+use Rattle.lldp_engine.specs.Laws.OnlyForms.{AreWordsOf, word_of}
 
 -- some first words of commands, and the fixed words one of which follows them
 abbrev pub Choice : Type 0
@@ -20,28 +19,28 @@ Choice = List (List ℕ) × List (List ℕ)
 -- A fixed word follows these.
 abbrev pub choices : List Choice
 choices =
-    ([], show_word ∷ configure_word ∷ update_word ∷ [])
-    ∷ (show_word ∷ [], neighbors_word ∷ statistics_word ∷ chassis_word ∷ configuration_word ∷ [])
-    ∷ (configure_word ∷ [], system_word ∷ lldp_word ∷ ports_word ∷ [])
-    ∷ (configure_word ∷ system_word ∷ [], hostname_word ∷ description_word ∷ [])
-    ∷ (configure_word ∷ lldp_word ∷ [], interval_word ∷ hold_word ∷ limit_word ∷ []) ∷ []
+    ([], codes "show" ∷ codes "configure" ∷ codes "update" ∷ [])
+    ∷ (codes "show" ∷ [], codes "neighbors" ∷ codes "statistics" ∷ codes "chassis" ∷ codes "configuration" ∷ [])
+    ∷ (codes "configure" ∷ [], codes "system" ∷ codes "lldp" ∷ codes "ports" ∷ [])
+    ∷ (codes "configure" ∷ codes "system" ∷ [], codes "hostname" ∷ codes "description" ∷ [])
+    ∷ (codes "configure" ∷ codes "lldp" ∷ [], codes "tx-interval" ∷ codes "tx-hold" ∷ codes "max-neighbors" ∷ []) ∷ []
 
 -- The same behind `configure ports` and the name of a port.
 abbrev pub choices_behind : List ℕ → List Choice
 choices_behind name =
-    (configure_word ∷ ports_word ∷ name ∷ [], lldp_word ∷ [])
-    ∷ (configure_word ∷ ports_word ∷ name ∷ lldp_word ∷ [], status_word ∷ [])
-    ∷ (configure_word ∷ ports_word ∷ name ∷ lldp_word ∷ status_word ∷ [], word_of RxAndTx ∷ word_of RxOnly ∷ word_of TxOnly ∷ word_of Disabled ∷ []) ∷ []
+    (codes "configure" ∷ codes "ports" ∷ name ∷ [], codes "lldp" ∷ [])
+    ∷ (codes "configure" ∷ codes "ports" ∷ name ∷ codes "lldp" ∷ [], codes "status" ∷ [])
+    ∷ (codes "configure" ∷ codes "ports" ∷ name ∷ codes "lldp" ∷ codes "status" ∷ [], word_of RxAndTx ∷ word_of RxOnly ∷ word_of TxOnly ∷ word_of Disabled ∷ []) ∷ []
 
 -- A text, a number or the name of a port follows these.
 abbrev pub before_arguments : List (List (List ℕ))
 before_arguments =
-    (configure_word ∷ system_word ∷ hostname_word ∷ [])
-    ∷ (configure_word ∷ system_word ∷ description_word ∷ [])
-    ∷ (configure_word ∷ lldp_word ∷ interval_word ∷ [])
-    ∷ (configure_word ∷ lldp_word ∷ hold_word ∷ [])
-    ∷ (configure_word ∷ lldp_word ∷ limit_word ∷ [])
-    ∷ (configure_word ∷ ports_word ∷ []) ∷ []
+    (codes "configure" ∷ codes "system" ∷ codes "hostname" ∷ [])
+    ∷ (codes "configure" ∷ codes "system" ∷ codes "description" ∷ [])
+    ∷ (codes "configure" ∷ codes "lldp" ∷ codes "tx-interval" ∷ [])
+    ∷ (codes "configure" ∷ codes "lldp" ∷ codes "tx-hold" ∷ [])
+    ∷ (codes "configure" ∷ codes "lldp" ∷ codes "max-neighbors" ∷ [])
+    ∷ (codes "configure" ∷ codes "ports" ∷ []) ∷ []
 
 -- The fault of the first words is Unknown if no word follows them.
 abbrev pub WantsMore : AgentState → List (List ℕ) → Type 0
@@ -60,17 +59,17 @@ pub record TellsFirstFault (agent : AgentState) (word : List ℕ) (behind : List
   pub fixed_behind : (name : List ℕ) (port : ℕ) → place_of (names_of agent) name ≡ Some port →
       AllByRecursion (TakesOnly agent word behind) (choices_behind name)
   pub hostname : is_text word ≡ false →
-      said_by agent (configure_word ∷ system_word ∷ hostname_word ∷ word ∷ behind) ≡ Err Text
+      said_by agent (codes "configure" ∷ codes "system" ∷ codes "hostname" ∷ word ∷ behind) ≡ Err Text
   pub description : is_text word ≡ false →
-      said_by agent (configure_word ∷ system_word ∷ description_word ∷ word ∷ behind) ≡ Err Text
+      said_by agent (codes "configure" ∷ codes "system" ∷ codes "description" ∷ word ∷ behind) ≡ Err Text
   pub interval : (fault : CommandFault) → number_of word 1 3600 ≡ Err fault →
-      said_by agent (configure_word ∷ lldp_word ∷ interval_word ∷ word ∷ behind) ≡ Err fault
+      said_by agent (codes "configure" ∷ codes "lldp" ∷ codes "tx-interval" ∷ word ∷ behind) ≡ Err fault
   pub hold : (fault : CommandFault) → number_of word 1 100 ≡ Err fault →
-      said_by agent (configure_word ∷ lldp_word ∷ hold_word ∷ word ∷ behind) ≡ Err fault
+      said_by agent (codes "configure" ∷ codes "lldp" ∷ codes "tx-hold" ∷ word ∷ behind) ≡ Err fault
   pub limit : (fault : CommandFault) → number_of word 1 agent.configuration.capacity ≡ Err fault →
-      said_by agent (configure_word ∷ lldp_word ∷ limit_word ∷ word ∷ behind) ≡ Err fault
+      said_by agent (codes "configure" ∷ codes "lldp" ∷ codes "max-neighbors" ∷ word ∷ behind) ≡ Err fault
   pub port : place_of (names_of agent) word ≡ None →
-      said_by agent (configure_word ∷ ports_word ∷ word ∷ behind) ≡ Err NoSuchPort
+      said_by agent (codes "configure" ∷ codes "ports" ∷ word ∷ behind) ≡ Err NoSuchPort
   pub extra : (command : Command) (words : List (List ℕ)) → AreWordsOf agent command words →
       said_by agent (words ++ word ∷ behind) ≡ Err Extra
   pub missing : AllByRecursion (λ choice. WantsMore agent choice.0) choices

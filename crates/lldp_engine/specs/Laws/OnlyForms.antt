@@ -1,6 +1,8 @@
--- Which words say which command: those of its form, octet by octet, and no others.
-use Rattle.std.specs.Prelude.{◌≡◌, ℕ, true, List, [], ◌∷◌, Some, Ok}
+-- Which words say which command: those of its form, and no others.
+use Rattle.std.specs.Prelude.{◌≡◌, ℕ, true, List, [], ◌∷◌, codes, Some, Ok}
 use Rattle.lldp_engine.specs.declared.command.Show.TheVariants.{Neighbors, Statistics, Chassis, Configuration}
+use Rattle.lldp_engine.specs.declared.port.status.Status.{Status}
+use Rattle.lldp_engine.specs.declared.port.status.Status.TheVariants.{RxAndTx, RxOnly, TxOnly, Disabled}
 use Rattle.lldp_text.specs.Text.{is_text}
 use Rattle.lldp_text.specs.Number.{number_of}
 use Rattle.lldp_engine.specs.Place.{place_of}
@@ -9,30 +11,36 @@ use Rattle.lldp_engine.specs.AgentState.{AgentState, names_of}
 use Rattle.lldp_engine.specs.Command.{Command, show, set}
 use Rattle.lldp_engine.specs.Laws.InUse.{HoldAtMost}
 use Rattle.lldp_text.specs.Words.{words_of}
-use Rattle.lldp_engine.specs.Laws.Sayings.{show_word, neighbors_word, statistics_word, chassis_word, configuration_word, configure_word, system_word, hostname_word, description_word, lldp_word, interval_word, hold_word, limit_word, ports_word, status_word, update_word, word_of}
+
+-- The word of a status.
+abbrev pub word_of : Status → List ℕ
+word_of RxAndTx = codes "rx-and-tx"
+word_of RxOnly = codes "rx-only"
+word_of TxOnly = codes "tx-only"
+word_of Disabled = codes "disabled"
 
 -- The words of a command. If its form takes a word it is the text, one that reads as the number within the range, the
 -- name of the port, or the word of the status.
 abbrev pub AreWordsOf : AgentState → Command → List (List ℕ) → Type 0
-AreWordsOf agent (show Neighbors) words = words ≡ show_word ∷ neighbors_word ∷ []
-AreWordsOf agent (show Statistics) words = words ≡ show_word ∷ statistics_word ∷ []
-AreWordsOf agent (show Chassis) words = words ≡ show_word ∷ chassis_word ∷ []
-AreWordsOf agent (show Configuration) words = words ≡ show_word ∷ configuration_word ∷ []
+AreWordsOf agent (show Neighbors) words = words ≡ codes "show" ∷ codes "neighbors" ∷ []
+AreWordsOf agent (show Statistics) words = words ≡ codes "show" ∷ codes "statistics" ∷ []
+AreWordsOf agent (show Chassis) words = words ≡ codes "show" ∷ codes "chassis" ∷ []
+AreWordsOf agent (show Configuration) words = words ≡ codes "show" ∷ codes "configuration" ∷ []
 AreWordsOf agent (set (hostname text)) words =
-    (is_text text ≡ true) × (words ≡ configure_word ∷ system_word ∷ hostname_word ∷ text ∷ [])
+    (is_text text ≡ true) × (words ≡ codes "configure" ∷ codes "system" ∷ codes "hostname" ∷ text ∷ [])
 AreWordsOf agent (set (description text)) words =
-    (is_text text ≡ true) × (words ≡ configure_word ∷ system_word ∷ description_word ∷ text ∷ [])
+    (is_text text ≡ true) × (words ≡ codes "configure" ∷ codes "system" ∷ codes "description" ∷ text ∷ [])
 AreWordsOf agent (set (interval n)) words =
-    (word : List ℕ) × (number_of word 1 3600 ≡ Ok n) × (words ≡ configure_word ∷ lldp_word ∷ interval_word ∷ word ∷ [])
+    (word : List ℕ) × (number_of word 1 3600 ≡ Ok n) × (words ≡ codes "configure" ∷ codes "lldp" ∷ codes "tx-interval" ∷ word ∷ [])
 AreWordsOf agent (set (hold n)) words =
-    (word : List ℕ) × (number_of word 1 100 ≡ Ok n) × (words ≡ configure_word ∷ lldp_word ∷ hold_word ∷ word ∷ [])
+    (word : List ℕ) × (number_of word 1 100 ≡ Ok n) × (words ≡ codes "configure" ∷ codes "lldp" ∷ codes "tx-hold" ∷ word ∷ [])
 AreWordsOf agent (set (limit n)) words =
     (word : List ℕ) × (number_of word 1 agent.configuration.capacity ≡ Ok n)
-    × (words ≡ configure_word ∷ lldp_word ∷ limit_word ∷ word ∷ [])
+    × (words ≡ codes "configure" ∷ codes "lldp" ∷ codes "max-neighbors" ∷ word ∷ [])
 AreWordsOf agent (set (status port given)) words =
     (name : List ℕ) × (place_of (names_of agent) name ≡ Some port)
-    × (words ≡ configure_word ∷ ports_word ∷ name ∷ lldp_word ∷ status_word ∷ word_of given ∷ [])
-AreWordsOf agent (set update) words = words ≡ update_word ∷ []
+    × (words ≡ codes "configure" ∷ codes "ports" ∷ name ∷ codes "lldp" ∷ codes "status" ∷ word_of given ∷ [])
+AreWordsOf agent (set update) words = words ≡ codes "update" ∷ []
 
 -- A limit that a command sets is not in use: every port holds at most so many.
 abbrev pub IsNotInUse : AgentState → Command → Type 0

@@ -1,9 +1,12 @@
--- When an agent opens, in terms of each check by itself and of every name.
-use Rattle.std.specs.Prelude.{◌≢◌, ℕ, ◌<◌, ◌≤◌, List, length}
-use Rattle.std.specs.List.{All, AllPass, AllPairs}
+-- When an agent opens, in terms of each check by itself and of every name, and as what it opens.
+use Rattle.std.specs.Prelude.{◌≡◌, ◌≢◌, ℕ, ◌<◌, ◌≤◌, true, false, List, length, codes}
+use Rattle.std.specs.List.{All, AllByRecursion, AllPass, AllPairs}
 use Rattle.lldp_engine.specs.declared.agent.open_fault.OpenFault.{OpenFault}
 use Rattle.lldp_engine.specs.declared.agent.open_fault.OpenFault.TheVariants.{Memory, NoPorts, TooManyPorts, PortName, SamePort, Text}
+use Rattle.lldp_engine.specs.declared.port.status.Status.TheVariants.{RxAndTx, RxOnly}
 use Rattle.lldp_engine.specs.Options.{Options, is_name_octet}
+use Rattle.lldp_engine.specs.Configuration.{Configuration}
+use Rattle.lldp_engine.specs.AgentState.{AgentState, PortState, names_of}
 use Rattle.lldp_engine.specs.FixedNumbers.{number_of_refusal}
 
 -- A port's name: 1 to 15 octets, each one that names may have.
@@ -31,3 +34,33 @@ Passes o Text = IsText o.hostname
 pub record IsFirstFault (o : Options) (fault : OpenFault) : Type 0 where
   pub fails : Passes o fault → ⊥
   pub first : (other : OpenFault) → number_of_refusal other < number_of_refusal fault → Passes o other
+
+-- Each part of the configuration is that of its option. No option gives the last four: `lldpa`, a tx-interval of 30, a
+-- tx-hold of 4, and the limit, which is the room.
+pub record IsConfiguredBy (o : Options) (c : Configuration) : Type 0 where
+  pub mac : c.mac ≡ o.mac
+  pub role : c.role ≡ o.role
+  pub management : c.management ≡ o.management
+  pub credit_max : c.credit_max ≡ o.credit_max
+  pub fast_init : c.fast_init ≡ o.fast_init
+  pub reinit : c.reinit ≡ o.reinit
+  pub capacity : c.capacity ≡ o.max_neighbors
+  pub hostname : c.hostname ≡ o.hostname
+  pub description : c.description ≡ codes "lldpa"
+  pub interval : c.interval ≡ 30
+  pub hold : c.hold ≡ 4
+  pub limit : c.limit ≡ o.max_neighbors
+
+-- A port receives and sends, unless the options ask that it only receives; its machine has their three numbers.
+pub record IsPortOf (o : Options) (port : PortState) : Type 0 where
+  pub both : o.receive_only ≡ false → port.status ≡ RxAndTx
+  pub receives : o.receive_only ≡ true → port.status ≡ RxOnly
+  pub credit_max : port.machine.credit_max ≡ o.credit_max
+  pub fast_init : port.machine.fast_init ≡ o.fast_init
+  pub reinit : port.machine.reinit ≡ o.reinit
+
+-- The agent is that of these options: its configuration, the names of its ports, and each port.
+pub record OpensWith (o : Options) (agent : AgentState) : Type 0 where
+  pub configuration : IsConfiguredBy o agent.configuration
+  pub names : names_of agent ≡ o.names
+  pub ports : AllByRecursion (IsPortOf o) agent.ports

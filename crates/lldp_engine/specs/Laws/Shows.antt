@@ -1,22 +1,42 @@
--- The whole of each show, octet by octet: these lines in this order, and no others.
-use Rattle.std.specs.Prelude.{ℕ, nat_lt, if◌then◌else◌, List, [], ◌∷◌, ◌++◌, length, decimal, sum_by}
+-- The whole of each show: these lines in this order, and no others.
+use Rattle.std.specs.Prelude.{ℕ, nat_lt, if◌then◌else◌, List, [], ◌∷◌, ◌++◌, Option, Some, None, codes, length, map, decimal, sum_by}
 use Rattle.std.specs.List.{flat_map, enumerate_from}
+use Rattle.lldp_pdu.specs.Kept.{kept_of}
 use Rattle.lldp_table.specs.Events.{Neighbor}
+use Rattle.lldp_text.specs.Text.{escaped}
+use Rattle.lldp_text.specs.Addresses.{mac_text, ipv4_text}
+use Rattle.lldp_text.specs.Identifier.{chassis_text, port_text}
+use Rattle.lldp_text.specs.KeptTlv.{tlv_text}
 use Rattle.lldp_engine.specs.declared.command.Show.{Show}
 use Rattle.lldp_engine.specs.declared.command.Show.TheVariants.{Neighbors, Statistics, Chassis, Configuration}
+use Rattle.lldp_engine.specs.Configuration.{Configuration as Configured, sent_ttl}
 use Rattle.lldp_engine.specs.AgentState.{AgentState, PortState}
-use Rattle.lldp_engine.specs.Laws.FixedTexts.{line_of, lines_of_counters}
-use Rattle.lldp_engine.specs.Laws.FixedKeys.{lines_of_chassis, lines_of_configuration, lines_of_kept}
-use Rattle.lldp_engine.specs.Laws.Numbering.{first_lines}
+use Rattle.lldp_engine.specs.ChassisLines.{role_text}
+use Rattle.lldp_engine.specs.StatisticsLines.{counter_lines}
+use Rattle.lldp_engine.specs.Laws.OnlyForms.{word_of}
 
--- The lines before the neighbors of a port: neighbors=, octets=, and too-many=yes or too-many=no.
+abbrev pub line_of : List ℕ → List ℕ → List ℕ
+line_of name rest = codes "lldp." ++ (name ++ codes ".") ++ rest
+
+-- The lines before the neighbors of a port.
 abbrev pub lines_of_counts : PortState → List (List ℕ)
 lines_of_counts port =
-    line_of port.name ((0x6e ∷ 0x65 ∷ 0x69 ∷ 0x67 ∷ 0x68 ∷ 0x62 ∷ 0x6f ∷ 0x72 ∷ 0x73 ∷ 0x3d ∷ []) ++ decimal (length port.table.neighbors))
-    ∷ line_of port.name ((0x6f ∷ 0x63 ∷ 0x74 ∷ 0x65 ∷ 0x74 ∷ 0x73 ∷ 0x3d ∷ []) ++ decimal (sum_by (λ neighbor. length neighbor.octets) port.table.neighbors))
-    ∷ line_of port.name ((0x74 ∷ 0x6f ∷ 0x6f ∷ 0x2d ∷ 0x6d ∷ 0x61 ∷ 0x6e ∷ 0x79 ∷ 0x3d ∷ []) ++ (if nat_lt 0 port.table.too_many_left then 0x79 ∷ 0x65 ∷ 0x73 ∷ [] else 0x6e ∷ 0x6f ∷ [])) ∷ []
+    line_of port.name (codes "neighbors=" ++ decimal (length port.table.neighbors))
+    ∷ line_of port.name (codes "octets=" ++ decimal (sum_by (λ neighbor. length neighbor.octets) port.table.neighbors))
+    ∷ line_of port.name (codes "too-many=" ++ (if nat_lt 0 port.table.too_many_left then codes "yes" else codes "no")) ∷ []
 
--- The lines of a neighbor with its number: the first four, then one for each kept TLV.
+-- The first four lines of a neighbor with its number.
+abbrev pub first_lines : List ℕ → ℕ → Neighbor → List (List ℕ)
+first_lines name number neighbor =
+    line_of name (decimal number ++ codes ".chassis." ++ chassis_text neighbor.msap.chassis)
+    ∷ line_of name (decimal number ++ codes ".port." ++ port_text neighbor.msap.port)
+    ∷ line_of name (decimal number ++ codes ".ttl=" ++ decimal neighbor.ttl)
+    ∷ line_of name (decimal number ++ codes ".expires=" ++ decimal neighbor.left) ∷ []
+
+-- Those of its kept TLVs, in their order.
+abbrev pub lines_of_kept : List ℕ → ℕ → Neighbor → List (List ℕ)
+lines_of_kept name number neighbor = map (λ tlv. line_of name (decimal number ++ codes "." ++ tlv_text tlv)) (kept_of neighbor.octets)
+
 abbrev pub lines_of_neighbor : List ℕ → ℕ × Neighbor → List (List ℕ)
 lines_of_neighbor name numbered = first_lines name numbered.0 numbered.1 ++ lines_of_kept name numbered.0 numbered.1
 
@@ -24,9 +44,36 @@ lines_of_neighbor name numbered = first_lines name numbered.0 numbered.1 ++ line
 abbrev pub lines_of_port : PortState → List (List ℕ)
 lines_of_port port = lines_of_counts port ++ flat_map (lines_of_neighbor port.name) (enumerate_from 1 port.table.neighbors)
 
+abbrev pub lines_of_management : Option (List ℕ) → List (List ℕ)
+lines_of_management None = []
+lines_of_management (Some address) = (codes "local-chassis.mgmt=" ++ ipv4_text address ++ codes ",1,0,") ∷ []
+
+abbrev pub lines_of_chassis : Configured → List (List ℕ)
+lines_of_chassis c =
+    (codes "local-chassis.mac=" ++ mac_text c.mac)
+    ∷ (codes "local-chassis.name=" ++ escaped c.hostname)
+    ∷ (codes "local-chassis.descr=" ++ escaped c.description)
+    ∷ (codes "local-chassis.caps=" ++ role_text c.role)
+    ∷ lines_of_management c.management
+
+abbrev pub line_of_status : PortState → List ℕ
+line_of_status port = codes "configuration." ++ port.name ++ codes "." ++ (codes "status=" ++ word_of port.status)
+
+abbrev pub lines_of_configuration : AgentState → List (List ℕ)
+lines_of_configuration agent =
+    (codes "configuration.tx-interval=" ++ decimal agent.configuration.interval)
+    ∷ (codes "configuration.tx-hold=" ++ decimal agent.configuration.hold)
+    ∷ (codes "configuration.ttl=" ++ decimal (sent_ttl agent.configuration))
+    ∷ (codes "configuration.reinit-delay=" ++ decimal agent.configuration.reinit)
+    ∷ (codes "configuration.tx-fast-init=" ++ decimal agent.configuration.fast_init)
+    ∷ (codes "configuration.tx-credit-max=" ++ decimal agent.configuration.credit_max)
+    ∷ (codes "configuration.max-neighbors=" ++ decimal agent.configuration.limit)
+    ∷ (codes "configuration.ports=" ++ decimal (length agent.ports))
+    ∷ map line_of_status agent.ports
+
 -- THE SHOWS: the neighbors and the counters of each port, all ports one after another; the own identity; how the agent is configured.
 abbrev pub whole_of : Show → AgentState → List (List ℕ)
 whole_of Neighbors agent = flat_map lines_of_port agent.ports
-whole_of Statistics agent = flat_map lines_of_counters agent.ports
+whole_of Statistics agent = flat_map counter_lines agent.ports
 whole_of Chassis agent = lines_of_chassis agent.configuration
 whole_of Configuration agent = lines_of_configuration agent

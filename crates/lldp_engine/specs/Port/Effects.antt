@@ -2,6 +2,7 @@
 -- the event is given.
 use Rattle.std.specs.Prelude.{◌&&◌, not, Bool, true, false, if◌then◌else◌, Option, Some, None, option_and_then}
 use Rattle.lldp_pdu.specs.Msap.{MsapId}
+use Rattle.lldp_pdu.specs.Lldpdu.{extent, ttl_of, msap_of}
 use Rattle.lldp_table.specs.Events.{Call, learn, forget, purge, tick as tick_call, set_limit}
 use Rattle.lldp_table.specs.declared.learned.Learned.{Learned}
 use Rattle.lldp_table.specs.declared.learned.Learned.TheVariants.{New}
@@ -35,7 +36,7 @@ heard_at event before up = None
 abbrev pub call_of : Heard → Option Call
 call_of refused = None
 call_of (leaves msap) = Some (forget msap)
-call_of (tells info) = Some (learn info.msap info.ttl info.octets)
+call_of (tells pdu) = Some (learn (msap_of pdu) (ttl_of pdu) (extent pdu))
 
 -- The call on its table. A status that takes receiving away purges it, whether the link is up or down.
 abbrev pub call_at : PortEvent → Status → Bool → Option Call
@@ -54,7 +55,7 @@ cause_of_answer answer = Nothing
 
 -- what was heard: a new neighbor, by what the table answers to its name, or nothing
 abbrev pub cause_of_heard : (MsapId → Learned) → Option Heard → Cause
-cause_of_heard answer (Some (tells info)) = cause_of_answer (answer info.msap)
+cause_of_heard answer (Some (tells pdu)) = cause_of_answer (answer (msap_of pdu))
 cause_of_heard answer heard = Nothing
 
 -- the right to transmit, before and after

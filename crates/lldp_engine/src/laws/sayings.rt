@@ -1,33 +1,17 @@
-//! What commands say, and how the lines of ports are numbered.
-ghost use Rattle.std.specs.Prelude.{◌≡◌, ◌↔◌, ℕ, List, take, drop, Some, None, Ok, Err};
+//! What commands say.
+ghost use Rattle.std.specs.Prelude.{◌≡◌, ◌↔◌, ℕ, List, Some, None, Ok, Err};
 ghost use Rattle.lldp_text.specs.declared.fault.CommandFault.{CommandFault};
 ghost use Rattle.lldp_text.specs.declared.fault.CommandFault.TheVariants.{Quote};
 ghost use Rattle.lldp_text.specs.Words.{words_of};
-ghost use Rattle.lldp_table.specs.Events.{Neighbor};
 ghost use Rattle.lldp_engine.specs.declared.port.status.Status.{Status};
-ghost use Rattle.lldp_engine.specs.AgentState.{AgentState, PortState};
+ghost use Rattle.lldp_engine.specs.AgentState.{AgentState};
 ghost use Rattle.lldp_engine.specs.Command.{Command};
 ghost use Rattle.lldp_engine.specs.Forms.{status_of};
 ghost use Rattle.lldp_engine.specs.Given.{said_by, command_said, command_given};
-ghost use Rattle.lldp_engine.specs.Options.{Options};
 ghost use Rattle.lldp_engine.specs.Place.{place_of};
 ghost use Rattle.lldp_engine.specs.Laws.FirstFault.{TellsFirstFault};
-ghost use Rattle.lldp_engine.specs.Laws.FixedKeys.{lines_of_kept};
-ghost use Rattle.lldp_engine.specs.NeighborLines.{neighbor_lines};
-ghost use Rattle.lldp_engine.specs.Laws.Numbering.{NumbersNeighbors, first_lines};
-ghost use Rattle.lldp_engine.specs.Laws.OnlyForms.{AreWordsOf, IsNotInUse, IsLineOf};
+ghost use Rattle.lldp_engine.specs.Laws.OnlyForms.{AreWordsOf, IsNotInUse, IsLineOf, word_of};
 ghost use Rattle.lldp_engine.specs.Laws.Places.{IsFirstPlace};
-ghost use Rattle.lldp_engine.specs.Laws.Sayings.{AreGreatest, AreSaid, MaySet, OpensWith, word_of};
-
-/// The words of each form say its command, with any word in the place that takes one. Each range
-/// ends at its number: that of the code, that of what commands may set, and that which an agent
-/// opens with.
-pub fn forms_say_their_commands()
-    ensures said { (agent : AgentState) (word other : List ℕ) → AreSaid agent word other }
-    ensures constants { AreGreatest }
-    ensures settings { (agent : AgentState) (n : ℕ) → MaySet agent n }
-    ensures defaults { (options : Options) → OpensWith options }
-{}
 
 /// A command is said by the words of its form and by no others. It is given by a line that has
 /// these words, and by no other, unless a limit that it sets is in use. A word is read as a status
@@ -62,14 +46,4 @@ pub fn first_faults_are_told()
 pub fn words_name_ports_in_full()
     ensures { (names : List (List ℕ)) (word : List ℕ) (i : ℕ) →
         (place_of names word ≡ Some i) ↔ IsFirstPlace names word i }
-{}
-
-/// The neighbors of a port are numbered from 1 on. Their lines follow the line that says whether
-/// there are too many, each with its key.
-pub fn neighbors_are_numbered_from_1()
-    ensures numbers { (port : PortState) → NumbersNeighbors port }
-    ensures first { (name : List ℕ) (number : ℕ) (neighbor : Neighbor) →
-        take 4 (neighbor_lines name number neighbor) ≡ first_lines name number neighbor }
-    ensures kept { (name : List ℕ) (number : ℕ) (neighbor : Neighbor) →
-        drop 4 (neighbor_lines name number neighbor) ≡ lines_of_kept name number neighbor }
 {}

@@ -44,9 +44,9 @@ impl<A: Allocator> Agent<A> {
         }
     }
 
-    /// Keeps line `i` of a show, from 0, if the show has it, in a sink of the caller's. Beyond its
+    /// Keeps line `i` of a show, from 0, if the show has it, in this sink. Beyond its
     /// clauses: it goes through the lines before that one too, so use `show_lines` for several.
-    pub fn keep_line(&self, show: &Show, i: u32, sink: &mut OneLine)
+    pub(crate) fn keep_line(&self, show: &Show, i: u32, sink: &mut OneLine)
         ensures line { line_kept sink.new ≡ slice_get (lines_of show.now self.now) i }
         ensures short { length sink.new.line ≤ 2049 }
         ensures few { length (lines_of show.now self.now) ≤ MOST_LINES }

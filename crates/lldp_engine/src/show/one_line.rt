@@ -7,9 +7,9 @@ use crate::show::line::LineSink;
 use lldp_text::Writer;
 
 /// How many lines come before the wanted one, whether that one came, and what it is, with its line
-/// feed. It is large, so the caller lends it.
+/// feed.
 #[derive(Drop)]
-pub struct OneLine {
+pub(crate) struct OneLine {
     before: u32,
     came: bool,
     line: Writer,
@@ -17,7 +17,7 @@ pub struct OneLine {
 
 impl OneLine {
     /// Returns one that keeps nothing.
-    pub fn new() -> OneLine {
+    pub(crate) fn new() -> OneLine {
         OneLine {
             before: 0,
             came: false,
@@ -35,7 +35,7 @@ impl OneLine {
     }
 
     /// Returns the wanted line without its line feed, if it came.
-    pub fn line(&self) -> Option<&[u8]>
+    pub(crate) fn line(&self) -> Option<&[u8]>
         ensures { option_map (λ line. line.now) result ≡ line_kept self.now }
     {
         if !self.came {

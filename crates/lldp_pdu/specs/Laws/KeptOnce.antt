@@ -1,9 +1,10 @@
 -- Which later TLVs are kept, one by one (IEEE 802.1AB-2009, 9.2.7.7.2).
-use Rattle.std.specs.Prelude.{◌≡◌, ℕ, ◌+◌, ◌≤◌, true, List, [], ◌∷◌, length, if◌then◌else◌}
+use Rattle.std.specs.Prelude.{◌≡◌, ◌≢◌, ℕ, ◌+◌, ◌<◌, ◌≤◌, true, List, [], ◌∷◌, length}
 use Rattle.std.specs.List.{AllByRecursion}
 use Rattle.lldp_pdu.specs.Tlv.{TlvUnit}
 use Rattle.lldp_pdu.specs.WellFormed.{is_well_formed}
-use Rattle.lldp_pdu.specs.Lldpdu.{later_tlvs, ended_incomplete}
+use Rattle.lldp_pdu.specs.Cut.{cut}
+use Rattle.lldp_pdu.specs.Lldpdu.{later_tlvs}
 use Rattle.lldp_pdu.specs.Kept.{kept_after, kept_of, discarded_of}
 
 -- It is well formed, and if its type is 4 to 7 no earlier TLV is well formed and of its type.
@@ -18,8 +19,13 @@ pub record AreKeptOnce (earlier : List TlvUnit) (u : TlvUnit) (us : List TlvUnit
   pub kept : IsFirst earlier u → kept_after earlier (u ∷ us) ≡ u ∷ kept_after (u ∷ earlier) us
   pub left : ¬ (IsFirst earlier u) → kept_after earlier (u ∷ us) ≡ kept_after (u ∷ earlier) us
 
--- Each later TLV is kept or discarded, and one that is not complete is discarded.
+-- No TLV of the cut is an End Of LLDPDU, and the cut leaves a rest.
+pub record EndIncomplete (octets : List ℕ) : Type 0 where
+  pub no_end : AllByRecursion (λ (u : TlvUnit). u.kind ≢ 0) (cut octets).tlvs
+  pub rest : 0 < length (cut octets).rest
+
+-- Each later TLV is kept or discarded, and one more is discarded exactly if the octets end with one that is not complete.
 pub record AreCounted (octets : List ℕ) : Type 0 where
   pub kept : kept_of octets ≡ kept_after [] (later_tlvs octets)
-  pub discarded : discarded_of octets + length (kept_of octets)
-      ≡ length (later_tlvs octets) + (if ended_incomplete octets then 1 else 0)
+  pub incomplete : EndIncomplete octets → discarded_of octets + length (kept_of octets) ≡ length (later_tlvs octets) + 1
+  pub complete : ¬ (EndIncomplete octets) → discarded_of octets + length (kept_of octets) ≡ length (later_tlvs octets)

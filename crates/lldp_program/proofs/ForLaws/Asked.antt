@@ -6,12 +6,14 @@ use Rattle.lldp_engine.specs.Configuration.{Configuration}
 use Rattle.lldp_engine.specs.Command.{show, set}
 use Rattle.lldp_engine.specs.Event.{tick}
 use Rattle.lldp_engine.specs.Frames.{frame_of}
+use Rattle.lldp_engine.specs.Lines.{lines_of as show_lines}
 use Rattle.lldp_engine.specs.Past.{Past, Sending, agent_of, configuration_after, marks_of}
-use Rattle.lldp_program.specs.Trace.Items.{happens, items_of_work}
+use Rattle.lldp_program.specs.Trace.Items.{Item, happens, shows, refused, items_of_work}
 use Rattle.lldp_program.specs.Trace.Lines.{ended}
 use Rattle.lldp_program.specs.Trace.Sent.{mark_line}
 use Rattle.lldp_program.specs.Trace.Work.{Work, skip, ticks, frame, link, command}
-use Rattle.lldp_program.specs.Laws.Asked.{AreItemsOf, AsksItsItems, AreLinesOf, TellsEachPort}
+use Rattle.lldp_program.specs.Laws.Asked.{AreItemsOf, AsksItsItems, AreLinesOf, TellsEachPort, TellsItem}
+use Rattle.lldp_program.specs.Laws.Lines.{joined}
 use Rattle.lldp_program.proofs.ForLaws.OnlyLines.{says_work}
 
 as_many : (n : ℕ) → length (replicate n (happens tick)) ≡ n
@@ -50,3 +52,12 @@ lines_are names configuration (mark ∷ marks) =
 
 pub tells_each_port : (past : Past) → TellsEachPort past
 tells_each_port past = lines_are past.options.names (configuration_after past.options past.events) (marks_of past)
+
+ended_in_order : (lines : List (List ℕ)) → flat_map ended lines ≡ joined lines
+ended_in_order [] = refl
+ended_in_order (line ∷ lines) = append_assoc line (0x0a ∷ []) (flat_map ended lines) ∙ ap (λ (t : List ℕ). line ++ 0x0a ∷ t) (ended_in_order lines)
+
+pub tells_item : (past : Past) (item : Item) → TellsItem past item
+tells_item past (happens event) = refl
+tells_item past (shows what) = ended_in_order (show_lines what (agent_of past))
+tells_item past (refused fault) = refl

@@ -1,11 +1,14 @@
 -- The options, the roles and the ranges of the command line.
-use Rattle.std.proofs.Common.{◌≡◌, ℕ, ◌≤◌, List, refl, Bor}
-use Rattle.clap.specs.Walk.{Text}
+use Rattle.std.proofs.Common.{◌≡◌, ◌∙◌, ℕ, ◌<◌, ◌≤◌, List, [], Option, Some, Ok, refl, sym, ap, Bor, option_map}
+use Rattle.std.specs.Prelude.{unwrap_or}
+use Rattle.clap.specs.Walk.{Row, Text, byte_or_zero, one_of}
+use Rattle.clap.proofs.WalkLemmas.{byte_read}
 use Rattle.lldp_engine.specs.declared.agent.options.Role.{Role}
 use Rattle.lldp_engine.specs.declared.agent.options.Role.TheVariants.{Station, Bridge, Router}
 use Rattle.lldp_engine.specs.Options.{Options}
-use Rattle.lldp_program.specs.CommandLine.Usage.{role_named}
-use Rattle.lldp_program.specs.Laws.CommandLine.{number_to, HasOptions, HasRoles, TakesRange, word_of_role}
+use Rattle.lldp_program.specs.CommandLine.Usage.{Asks, AsksManagement, role_named}
+use Rattle.lldp_program.specs.Laws.CommandLine.{number_to, AreAsked, HasOptions, HasRoles, SaysAddress, SaysNumber, TakesRange, word_of_role}
+use Rattle.lldp_program.specs.Laws.Listening.{IsNumberIn}
 
 pub has_options : (roles : Bor (List (Bor Text))) → HasOptions roles
 has_options roles =
@@ -43,3 +46,34 @@ takes_range roles o = (
     wait = taken_to o.reinit 10 t.3.0 t.3.1 t.3.2 t.3.3;
   },
 )
+
+-- a number is the one that the text writes
+byte_said : (text : Text) (m : ℕ) → IsNumberIn text m → m < 256 → m ≡ byte_or_zero text
+byte_said text m w small = byte_read {E = Unit {0}} text (Ok m) ((w.digits, rw (← w.value) small), w.value)
+
+says_number : (name : Text) (rows : List Row) (n : ℕ) → option_map byte_or_zero (one_of name rows) ≡ Some n → SaysNumber name rows n
+says_number name rows n asked text m given w small =
+    let same : Some (byte_or_zero text) ≡ Some n = rw given at asked in
+    ap (λ o. unwrap_or o 0) (sym same) ∙ sym (byte_said text m w small)
+
+says_address : (text : Text) (given : Option (List ℕ)) → AsksManagement (Some text) given → SaysAddress text given
+says_address text given (octets, is, dotted) =
+    (dotted.a, dotted.b, dotted.c, dotted.d, dotted.fit.0, dotted.fit.1, dotted.fit.2, dotted.fit.3, dotted.spelled, is ∙ ap (λ (t : List ℕ). Some t) dotted.value)
+
+pub are_asked : (rows : List Row) (o : Options) → Asks rows o → AreAsked rows o
+are_asked rows o asks =
+    record {
+      ports = λ names e. asks.names ∙ ap (λ r. unwrap_or r []) e;
+      no_port = λ e. asks.names ∙ ap (λ r. unwrap_or r []) e;
+      mac = λ text e. rw e at asks.mac;
+      hostname = λ text e. let same : Some text ≡ Some o.hostname = sym e ∙ asks.hostname in ap (λ r. unwrap_or r []) (sym same);
+      address = λ text e. says_address text o.management (rw e at asks.management);
+      no_address = λ e. rw e at asks.management;
+      role = λ role e. let same : Some (role_named (word_of_role role)) ≡ Some o.role = rw e at asks.role in ap (λ r. unwrap_or r role) (sym same) ∙ role_read role;
+      max_neighbors = says_number _ rows o.max_neighbors asks.max_neighbors;
+      credit_max = says_number _ rows o.credit_max asks.credit_max;
+      fast_init = says_number _ rows o.fast_init asks.fast_init;
+      reinit = says_number _ rows o.reinit asks.reinit;
+      receives = asks.receives;
+      sends = asks.sends;
+    }

@@ -1,4 +1,4 @@
--- What lines ask for, item by item, and the lines that report what ports sent, one for each.
+-- What lines ask for, item by item, and the text of each: one line for each port that sends, the lines of a show, a fault.
 use Rattle.std.specs.Prelude.{◌≡◌, ℕ, List, [], ◌∷◌, ◌++◌, length, get_or, Err}
 use Rattle.std.specs.List.{AllByRecursion}
 use Rattle.hex.specs.Hex.{encode_lower}
@@ -7,11 +7,13 @@ use Rattle.lldp_engine.specs.Event.{tick}
 use Rattle.lldp_engine.specs.Event as event
 use Rattle.lldp_engine.specs.Command.{show, set}
 use Rattle.lldp_engine.specs.Frames.{frame_of}
-use Rattle.lldp_engine.specs.Past.{Past, Sending, agent_of, configuration_after, marks_of}
+use Rattle.lldp_engine.specs.Lines.{lines_of as show_lines}
+use Rattle.lldp_engine.specs.Past.{Past, Sending, agent_of, configuration_after, marks_of, with_event}
 use Rattle.lldp_program.specs.declared.line.LineFault.{LineFault}
+use Rattle.lldp_program.specs.Laws.Lines.{joined}
 use Rattle.lldp_program.specs.Laws.OnlyLines.{IsLineOfWork}
-use Rattle.lldp_program.specs.Trace.Forms.{work_given}
-use Rattle.lldp_program.specs.Trace.Items.{Item, happens, shows, refused, items_of}
+use Rattle.lldp_program.specs.Trace.Forms.{fault_text, work_given}
+use Rattle.lldp_program.specs.Trace.Items.{Item, happens, shows, refused, items_of, text_of}
 use Rattle.lldp_program.specs.Trace.Sent.{sent_text}
 use Rattle.lldp_program.specs.Trace.Work.{Work, skip, ticks, frame, link, command}
 
@@ -43,3 +45,10 @@ AreLinesOf names configuration (mark ∷ marks) text =
 abbrev pub TellsEachPort : Past → Type 0
 TellsEachPort past =
     AreLinesOf past.options.names (configuration_after past.options past.events) (marks_of past) (sent_text past)
+
+-- The text of an event is what was sent at it, of a show its lines, of a refused line its fault, each line with LF; and
+-- nothing else.
+abbrev pub TellsItem : Past → Item → Type 0
+TellsItem past (happens event) = text_of past (happens event) ≡ sent_text (with_event past event)
+TellsItem past (shows what) = text_of past (shows what) ≡ joined (show_lines what (agent_of past))
+TellsItem past (refused fault) = text_of past (refused fault) ≡ fault_text fault ++ 0x0a ∷ []

@@ -1,14 +1,18 @@
--- The numbers of statuses, bounds and faults, and the address that connections come to.
-use Rattle.std.specs.Prelude.{◌≡◌, [], ◌∷◌, map}
+-- The numbers of statuses, bounds and faults, how each fault ends the program, and the address that connections come to.
+use Rattle.std.specs.Prelude.{codes, ◌≡◌, [], ◌∷◌, map, Result, Ok, Err}
+use Rattle.lldp_engine.specs.declared.agent.open_fault.OpenFault.TheVariants as opening
 use Rattle.lldp_text.specs.declared.fault.CommandFault.{CommandFault}
+use Rattle.lldp_program.specs.declared.arguments.AddressFault.TheVariants as address
+use Rattle.lldp_program.specs.declared.device.DeviceFault.{DeviceFault}
 use Rattle.lldp_program.specs.declared.line.LineFault.TheVariants.{TooLong, Hex, Command}
 use Rattle.lldp_program.specs.declared.line.TheConstants.{LONGEST}
 use Rattle.lldp_program.specs.declared.program.TheConstants.{DONE, REFUSED}
 use Rattle.lldp_program.specs.declared.serve.ServeFault.TheVariants.{Accept}
+use Rattle.lldp_program.specs.declared.trace.RunFault.{RunFault}
 use Rattle.lldp_program.specs.declared.trace.RunFault.TheVariants.{Read, Write, InputTooLong}
 use Rattle.lldp_program.specs.declared.trace.TheConstants.{MOST_READS}
 use Rattle.lldp_program.specs.declared.fault.ProgramFault.TheVariants as program
-use Rattle.lldp_program.specs.Faults.ProgramFault.{status_of}
+use Rattle.lldp_program.specs.Faults.ProgramFault.{ended_by, fault_of_address, fault_of_opening, fault_of_run, line_of, status_of}
 use Rattle.lldp_program.specs.Serving.{this_host}
 use Rattle.lldp_program.specs.Faults.FaultNumber.{number_of_run_fault, number_of_serve_fault, number_of_line_fault}
 
@@ -27,3 +31,24 @@ pub record AreNumbers : Type 0 where
       ∷ program.Mac ∷ program.Management ∷ [])
       ≡ 1 ∷ 1 ∷ 1 ∷ 1 ∷ 2 ∷ 2 ∷ 2 ∷ 2 ∷ 2 ∷ 2 ∷ 2 ∷ 2 ∷ []
   pub host : this_host ≡ 127 ∷ 0 ∷ 0 ∷ 1 ∷ []
+
+-- How the program ends, case by case: the line of each fault, and the faults of a run, of an opening and of an address.
+-- The fault of a run counts before that of the flush behind it.
+pub record AreEnds : Type 0 where
+  pub lines : map line_of
+      (program.Read ∷ program.Write ∷ program.InputTooLong ∷ program.Socket
+      ∷ program.Memory ∷ program.NoPorts ∷ program.TooManyPorts ∷ program.PortName ∷ program.SamePort ∷ program.Text
+      ∷ program.Mac ∷ program.Management ∷ [])
+      ≡ codes "lldpa: read failed\n" ∷ codes "lldpa: write failed\n" ∷ codes "lldpa: input too long\n"
+      ∷ codes "lldpa: socket failed\n" ∷ codes "lldpa: no memory\n" ∷ codes "lldpa: no ports\n"
+      ∷ codes "lldpa: too many ports\n" ∷ codes "lldpa: bad port name\n" ∷ codes "lldpa: same port twice\n"
+      ∷ codes "lldpa: bad text\n" ∷ codes "lldpa: bad --mac\n" ∷ codes "lldpa: bad --management\n" ∷ []
+  pub runs : map fault_of_run (Read ∷ Write ∷ InputTooLong ∷ []) ≡ program.Read ∷ program.Write ∷ program.InputTooLong ∷ []
+  pub openings : map fault_of_opening
+      (opening.Memory ∷ opening.NoPorts ∷ opening.TooManyPorts ∷ opening.PortName ∷ opening.SamePort ∷ opening.Text ∷ [])
+      ≡ program.Memory ∷ program.NoPorts ∷ program.TooManyPorts ∷ program.PortName ∷ program.SamePort ∷ program.Text ∷ []
+  pub addresses : map fault_of_address (address.Mac ∷ address.Management ∷ []) ≡ program.Mac ∷ program.Management ∷ []
+  pub done : ended_by (Ok tt) (Ok tt) ≡ Ok tt
+  pub flush : (fault : DeviceFault) → ended_by (Ok tt) (Err fault) ≡ Err program.Write
+  pub run : (fault : RunFault) (flushed : Result (Unit {0}) DeviceFault) →
+      ended_by (Err fault) flushed ≡ Err (fault_of_run fault)

@@ -1,5 +1,5 @@
 -- What the lines of a trace say, by the octets of their words.
-use Rattle.std.specs.Prelude.{◌≡◌, ◌≢◌, ◌≤◌, ◌⊎◌, ◌↔◌, ℕ, true, false, List, [], ◌∷◌, ◌++◌, length, Ok, Err}
+use Rattle.std.specs.Prelude.{codes, ◌≡◌, ◌≢◌, ◌≤◌, ◌⊎◌, ◌↔◌, ℕ, true, false, List, [], ◌∷◌, ◌++◌, length, Ok, Err}
 use Rattle.std.specs.List.{AllByRecursion}
 use Rattle.lldp_text.specs.declared.fault.CommandFault.TheVariants.{Unknown, Range}
 use Rattle.lldp_text.specs.Answer.{on_ok}
@@ -10,21 +10,17 @@ use Rattle.lldp_program.specs.declared.line.LineFault.TheVariants.{Command}
 use Rattle.lldp_program.specs.Trace.Forms.{of_command, tick_form, frame_form, link_form, form_of, work_given}
 use Rattle.lldp_program.specs.Trace.Work.{command, skip, ticks}
 
--- tick
 abbrev pub tick_word : List ℕ
-tick_word = 0x74 ∷ 0x69 ∷ 0x63 ∷ 0x6b ∷ []
+tick_word = codes "tick"
 
--- rx
 abbrev pub rx_word : List ℕ
-rx_word = 0x72 ∷ 0x78 ∷ []
+rx_word = codes "rx"
 
--- up
 abbrev pub up_word : List ℕ
-up_word = 0x75 ∷ 0x70 ∷ []
+up_word = codes "up"
 
--- down
 abbrev pub down_word : List ℕ
-down_word = 0x64 ∷ 0x6f ∷ 0x77 ∷ 0x6e ∷ []
+down_word = codes "down"
 
 -- These four words begin the forms of a trace. Behind every other first word all words are those of a command.
 pub record BeginForms (agent : AgentState) (words : List (List ℕ)) : Type 0 where
@@ -42,9 +38,9 @@ pub record CountTicks : Type 0 where
   pub numbered : (word : List ℕ) → tick_form (word ∷ []) ≡ on_ok ticks (of_command (number_of word 1 65535))
   -- 1, 60001, 65535, 65536 and 0
   pub least : tick_form ((0x31 ∷ []) ∷ []) ≡ Ok (ticks 1)
-  pub many : tick_form ((0x36 ∷ 0x30 ∷ 0x30 ∷ 0x30 ∷ 0x31 ∷ []) ∷ []) ≡ Ok (ticks 60001)
-  pub greatest : tick_form ((0x36 ∷ 0x35 ∷ 0x35 ∷ 0x33 ∷ 0x35 ∷ []) ∷ []) ≡ Ok (ticks 65535)
-  pub above : tick_form ((0x36 ∷ 0x35 ∷ 0x35 ∷ 0x33 ∷ 0x36 ∷ []) ∷ []) ≡ Err (Command Range)
+  pub many : tick_form ((codes "60001") ∷ []) ≡ Ok (ticks 60001)
+  pub greatest : tick_form ((codes "65535") ∷ []) ≡ Ok (ticks 65535)
+  pub above : tick_form ((codes "65536") ∷ []) ≡ Err (Command Range)
   pub below : tick_form ((0x30 ∷ []) ∷ []) ≡ Err (Command Range)
 
 -- spaces and tabs

@@ -2,9 +2,10 @@
 ghost use Rattle.std.specs.Prelude.{◌≡◌, List, Option, Result, length, is_err};
 ghost use Rattle.std.specs.List.{filter};
 ghost use Rattle.std.specs.Borrow.{Bor};
-ghost use Rattle.clap.specs.Walk.{Text};
+ghost use Rattle.clap.specs.Walk.{Row, Text};
 ghost use Rattle.lldp_engine.specs.Options.{Options};
-ghost use Rattle.lldp_program.specs.Laws.CommandLine.{HasOptions, HasRoles, TakesRange};
+ghost use Rattle.lldp_program.specs.Laws.CommandLine.{AreAsked, HasOptions, HasRoles, TakesRange};
+ghost use Rattle.lldp_program.specs.CommandLine.Usage.{Asks};
 ghost use Rattle.lldp_program.specs.Laws.Listening.{AskByTexts, AskByWords};
 ghost use Rattle.lldp_program.specs.Serving.{faults_of};
 ghost use Rattle.lldp_program.specs.declared.arguments.Listening.{Listening};
@@ -17,6 +18,11 @@ pub fn options_are_these_alone()
     ensures roles { (roles : Bor (List (Bor Text))) → HasRoles roles }
     ensures ranges { (roles : Bor (List (Bor Text))) (options : Options) →
         TakesRange roles options }
+{}
+
+/// Options that the words ask for are, one by one, what the word of each says.
+pub fn options_are_what_their_words_say()
+    ensures { (rows : List Row) (options : Options) → Asks rows options → AreAsked rows options }
 {}
 
 /// The texts of `--listen` and `--connections`, whatever they are, ask to listen at the port that

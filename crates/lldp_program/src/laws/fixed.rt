@@ -1,16 +1,9 @@
-//! What is fixed: numbers and lines, octet by octet.
-ghost use Rattle.std.specs.Prelude.{ℕ, List};
-ghost use Rattle.lldp_program.specs.Laws.FixedNumbers.{AreNumbers};
-ghost use Rattle.lldp_program.specs.Laws.FixedTexts.{TellEnds, TellFaults, TellsSent};
+//! What is fixed: numbers, and how the program ends.
+ghost use Rattle.lldp_program.specs.Laws.FixedNumbers.{AreEnds, AreNumbers};
 
-/// Statuses, bounds and faults have these numbers.
+/// Statuses, bounds and faults have these numbers, and each fault of a run, an opening and an
+/// address ends the program with its own line.
 pub fn statuses_and_faults_have_fixed_numbers()
-    ensures { AreNumbers }
-{}
-
-/// The lines that report faults and sent frames have these octets.
-pub fn lines_have_fixed_octets()
-    ensures faults { TellFaults }
-    ensures ends { TellEnds }
-    ensures sent { (name frame : List ℕ) → TellsSent name frame }
+    ensures numbers { AreNumbers }
+    ensures ends { AreEnds }
 {}

@@ -1,8 +1,9 @@
 //! How a trace is cut into lines, what each asks for, and the lines of what ports send.
 ghost use Rattle.std.specs.Prelude.{ℕ, List};
 ghost use Rattle.lldp_engine.specs.Past.{Past};
-ghost use Rattle.lldp_program.specs.Laws.Asked.{AsksItsItems, TellsEachPort};
+ghost use Rattle.lldp_program.specs.Laws.Asked.{AsksItsItems, TellsEachPort, TellsItem};
 ghost use Rattle.lldp_program.specs.Laws.Lines.{CutsLines};
+ghost use Rattle.lldp_program.specs.Trace.Items.{Item};
 
 /// An input is cut at each LF and at no other octet; a last line without LF is a line, if it is not
 /// empty.
@@ -20,4 +21,10 @@ pub fn lines_ask_for_their_items()
 /// and all octets of its frame, and by nothing else.
 pub fn each_port_that_sends_is_told()
     ensures { (past : Past) → TellsEachPort past }
+{}
+
+/// The text of a show is its lines, that of a refused line its fault, and that of an event what was
+/// sent at it: whole lines, and nothing else.
+pub fn items_are_told_by_their_lines()
+    ensures { (past : Past) (item : Item) → TellsItem past item }
 {}

@@ -1,5 +1,6 @@
 //! That opening works if there is memory, and the numbers of faults.
-use super::{NAMES, open};
+use super::{NAMES, open, open_as};
+use crate::row::{octets, rows_of};
 use lldp_engine::{CommandFault, Mark, OpenFault};
 use std::test::Fail;
 
@@ -30,6 +31,27 @@ fn numbers_of_faults(rt: HostRuntime) {
         assert_eq!(rt; fault as u8, number);
         assert_eq!(rt; fault.number(), number);
     }
+}
+
+/// Opens an agent by each row of examples/vectors.rows, and compares the number of the fault, or 0.
+#[test]
+fn openings(rt: HostRuntime) -> Result<(), Fail> {
+    let rows = rows_of(rt.alloc(), "open")?;
+    assert_eq!(rt; rows.len(), 6);
+    for row in rows.iter() {
+        let hostname = String::from_utf8(octets(rt.alloc(), row.given)?)?;
+        let mut fields = row.told.split('\t');
+        let fault = fields.next().unwrap_or("").parse::<u8>()?;
+        let mut names = Vec::new(rt.alloc());
+        for name in fields {
+            names.push(String::from_utf8(octets(rt.alloc(), name)?)?)?;
+        }
+        let ports: Vec<&str> = names.iter().map(|name| name.as_str()).collect(rt.alloc())?;
+        let opened = open_as(&rt, rt.alloc(), &ports, hostname.as_str(), 32);
+        let found = opened.err().map_or(0, |fault| fault.number());
+        assert_eq!(rt; found, fault, "{}", row.name);
+    }
+    Ok(())
 }
 
 #[test]

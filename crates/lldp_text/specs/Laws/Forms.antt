@@ -1,5 +1,5 @@
 -- How each value is written, whatever its octets.
-use Rattle.std.specs.Prelude.{◌≡◌, ℕ, ◌+◌, ◌<◌, ◌≤◌, ◌==◌, ◌⊎◌, if◌then◌else◌, List, [], ◌∷◌, ◌++◌, length, decimal, Some}
+use Rattle.std.specs.Prelude.{codes, ◌≡◌, ℕ, ◌+◌, ◌<◌, ◌≤◌, ◌==◌, ◌⊎◌, if◌then◌else◌, List, [], ◌∷◌, ◌++◌, length, decimal, Some}
 use Rattle.std.specs.List.{AllByRecursion}
 use Rattle.std.specs.Int.{bit_at}
 use Rattle.hex.specs.Hex.{encode_lower}
@@ -52,7 +52,7 @@ pub record IsManaged (a : Address) : Type 0 where
   pub ipv4 : IsIpv4 a.family a.address → management_text a ≡ with_interface (ipv4_text a.address) a
   pub ipv6 : IsIpv6 a.family a.address → management_text a ≡ with_interface (ipv6_text a.address) a
   pub other : ¬ (IsIpv4 a.family a.address) → ¬ (IsIpv6 a.family a.address) →
-      management_text a ≡ with_interface ((0x61 ∷ 0x66 ∷ []) ++ decimal a.family ++ (0x3a ∷ []) ++ encode_lower a.address) a
+      management_text a ≡ with_interface ((codes "af") ++ decimal a.family ++ (0x3a ∷ []) ++ encode_lower a.address) a
 
 -- `unhandled=` and the whole body
 abbrev pub unhandled : List ℕ → List ℕ
@@ -74,27 +74,22 @@ abbrev pub shown_from : Caps → ℕ → List (List ℕ) → List (List ℕ)
 shown_from caps bit [] = []
 shown_from caps bit (name ∷ names) =
     (if bit_at caps.available bit == 1
-    then (name ++ 0x3a ∷ (if bit_at caps.enabled bit == 1 then 0x6f ∷ 0x6e ∷ [] else 0x6f ∷ 0x66 ∷ 0x66 ∷ [])) ∷ []
+    then (name ++ 0x3a ∷ (if bit_at caps.enabled bit == 1 then codes "on" else codes "off")) ∷ []
     else [])
     ++ shown_from caps (bit + 1) names
 
 -- The keys of kept TLVs, and what follows each.
 pub record HasKeys (body : List ℕ) : Type 0 where
-  -- port.descr=
-  pub port : tlv_text (record { kind = 4; body = body }) ≡ (0x70 ∷ 0x6f ∷ 0x72 ∷ 0x74 ∷ 0x2e ∷ 0x64 ∷ 0x65 ∷ 0x73 ∷ 0x63 ∷ 0x72 ∷ 0x3d ∷ []) ++ escaped body
-  -- chassis.name=
-  pub name : tlv_text (record { kind = 5; body = body }) ≡ (0x63 ∷ 0x68 ∷ 0x61 ∷ 0x73 ∷ 0x73 ∷ 0x69 ∷ 0x73 ∷ 0x2e ∷ 0x6e ∷ 0x61 ∷ 0x6d ∷ 0x65 ∷ 0x3d ∷ []) ++ escaped body
-  -- chassis.descr=
-  pub description : tlv_text (record { kind = 6; body = body }) ≡ (0x63 ∷ 0x68 ∷ 0x61 ∷ 0x73 ∷ 0x73 ∷ 0x69 ∷ 0x73 ∷ 0x2e ∷ 0x64 ∷ 0x65 ∷ 0x73 ∷ 0x63 ∷ 0x72 ∷ 0x3d ∷ []) ++ escaped body
-  -- chassis.caps=
+  pub port : tlv_text (record { kind = 4; body = body }) ≡ (codes "port.descr=") ++ escaped body
+  pub name : tlv_text (record { kind = 5; body = body }) ≡ (codes "chassis.name=") ++ escaped body
+  pub description : tlv_text (record { kind = 6; body = body }) ≡ (codes "chassis.descr=") ++ escaped body
   pub capabilities : (caps : Caps) → caps_of body ≡ Some caps →
-      tlv_text (record { kind = 7; body = body }) ≡ (0x63 ∷ 0x68 ∷ 0x61 ∷ 0x73 ∷ 0x73 ∷ 0x69 ∷ 0x73 ∷ 0x2e ∷ 0x63 ∷ 0x61 ∷ 0x70 ∷ 0x73 ∷ 0x3d ∷ []) ++ capabilities_text caps
-  -- chassis.mgmt=
+      tlv_text (record { kind = 7; body = body }) ≡ (codes "chassis.caps=") ++ capabilities_text caps
   pub address : (address : Address) → address_of body ≡ Some address →
-      tlv_text (record { kind = 8; body = body }) ≡ (0x63 ∷ 0x68 ∷ 0x61 ∷ 0x73 ∷ 0x73 ∷ 0x69 ∷ 0x73 ∷ 0x2e ∷ 0x6d ∷ 0x67 ∷ 0x6d ∷ 0x74 ∷ 0x3d ∷ []) ++ management_text address
+      tlv_text (record { kind = 8; body = body }) ≡ (codes "chassis.mgmt=") ++ management_text address
   -- unknown.KIND=
   pub reserved : (kind : ℕ) → 9 ≤ kind → kind ≤ 126 →
-      tlv_text (record { kind = kind; body = body }) ≡ (0x75 ∷ 0x6e ∷ 0x6b ∷ 0x6e ∷ 0x6f ∷ 0x77 ∷ 0x6e ∷ 0x2e ∷ []) ++ decimal kind ++ (0x3d ∷ []) ++ encode_lower body
+      tlv_text (record { kind = kind; body = body }) ≡ (codes "unknown.") ++ decimal kind ++ (0x3d ∷ []) ++ encode_lower body
   -- org.OUI.SUBTYPE=, with what follows these four octets as the body
   pub specific : (a b c subtype : ℕ) →
-      tlv_text (record { kind = 127; body = a ∷ b ∷ c ∷ subtype ∷ body }) ≡ (0x6f ∷ 0x72 ∷ 0x67 ∷ 0x2e ∷ []) ++ encode_lower (a ∷ b ∷ c ∷ []) ++ (0x2e ∷ []) ++ decimal subtype ++ (0x3d ∷ []) ++ encode_lower body
+      tlv_text (record { kind = 127; body = a ∷ b ∷ c ∷ subtype ∷ body }) ≡ (codes "org.") ++ encode_lower (a ∷ b ∷ c ∷ []) ++ (0x2e ∷ []) ++ decimal subtype ++ (0x3d ∷ []) ++ encode_lower body

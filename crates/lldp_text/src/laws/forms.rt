@@ -4,9 +4,8 @@ ghost use Rattle.std.specs.List.{join_with_byte};
 ghost use Rattle.lldp_pdu.specs.declared.fields.Caps.{Caps};
 ghost use Rattle.lldp_pdu.specs.ManagementAddress.{Address};
 ghost use Rattle.lldp_text.specs.Text.{is_text};
-ghost use Rattle.lldp_text.specs.Capabilities.{capabilities_text};
+ghost use Rattle.lldp_text.specs.Capabilities.{capability_names, capabilities_text};
 ghost use Rattle.lldp_text.specs.Identifier.{chassis_text, port_text};
-ghost use Rattle.lldp_text.specs.Laws.FixedTexts.{names_of_capabilities};
 ghost use Rattle.lldp_text.specs.Laws.Forms.{IsText, IsEscaped, IsJoined, IsManaged, IsIdentified, shown_from, HasKeys};
 
 /// A text has at most 255 octets, each from the space to the tilde, and anything else is not a
@@ -21,7 +20,7 @@ pub fn values_have_their_forms()
     ensures texts { (octet : ℕ) (text : List ℕ) → IsEscaped octet text }
     ensures addresses { (a b c d : ℕ) (octets : List ℕ) → IsJoined a b c d octets }
     ensures capabilities { (caps : Caps) → capabilities_text caps
-        ≡ join_with_byte 0x2c (shown_from caps 0 names_of_capabilities) }
+        ≡ join_with_byte 0x2c (shown_from caps 0 capability_names) }
     ensures management { (address : Address) → IsManaged address }
     ensures chassis { (subtype family : ℕ) (octets : List ℕ) →
         IsIdentified 4 5 chassis_text subtype family octets }

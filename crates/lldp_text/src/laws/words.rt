@@ -1,16 +1,20 @@
-//! Laws of words and of numbers among them.
-ghost use Rattle.std.specs.Prelude.{◌≡◌, ℕ, ◌<◌, ◌≤◌, List, [], ◌∷◌, ◌++◌, false, ◌↔◌, Some, Ok, Err};
-ghost use Rattle.lldp_text.specs.Words.{words_of, AreWords};
+//! Laws of words, of numbers among them, and of the numbers of faults.
+ghost use Rattle.std.specs.Prelude.{◌≡◌, ℕ, ◌<◌, ◌≤◌, List, [], ◌∷◌, ◌++◌, false, ◌↔◌, map, Some, Ok, Err};
+ghost use Rattle.std.specs.List.{filter, range_with_len};
+ghost use Rattle.lldp_text.specs.Words.{words_of, AreWords, is_separator, is_quote};
 ghost use Rattle.std.specs.Char.{is_ascii_digit};
 ghost use Rattle.std.specs.Str.Parse.{digits_value};
 ghost use Rattle.lldp_text.specs.Number.{number_of, IsOfDigits};
-ghost use Rattle.lldp_text.specs.declared.fault.CommandFault.TheVariants.{Number, Range};
+ghost use Rattle.lldp_text.specs.declared.fault.CommandFault.TheVariants.{Unknown, NoSuchPort, Number, Range, Text, Extra, Quote, InUse};
+ghost use Rattle.lldp_text.specs.Fault.{number_of_fault};
 
 /// The words of a line are those that the grammar gives it, both ways, and it has none if a quote
-/// is misplaced.
+/// is misplaced. Of the 256 octets a tab and a space separate words, and `"` alone is a quote.
 pub fn words_are_spelled()
-    ensures { (line : List ℕ) (words : List (List ℕ)) →
+    ensures words { (line : List ℕ) (words : List (List ℕ)) →
         (words_of line ≡ Some words) ↔ AreWords line words }
+    ensures separators { filter is_separator (range_with_len 0 256) ≡ 0x09 ∷ 0x20 ∷ [] }
+    ensures quotes { filter is_quote (range_with_len 0 256) ≡ 0x22 ∷ [] }
 {}
 
 /// A word of digits alone writes its value, however many digits it has, and is out of the range
@@ -26,4 +30,11 @@ pub fn words_of_digits_alone_are_numbers()
     ensures none { (least greatest : ℕ) → number_of [] least greatest ≡ Err Number }
     ensures others { (front back : List ℕ) (c least greatest : ℕ) → is_ascii_digit c ≡ false →
         number_of (front ++ c ∷ back) least greatest ≡ Err Number }
+{}
+
+/// The faults of commands have these numbers.
+pub fn faults_have_fixed_numbers()
+    ensures { map number_of_fault
+        (Unknown ∷ NoSuchPort ∷ Number ∷ Range ∷ Text ∷ Extra ∷ Quote ∷ InUse ∷ [])
+        ≡ 1 ∷ 2 ∷ 3 ∷ 4 ∷ 5 ∷ 6 ∷ 7 ∷ 8 ∷ [] }
 {}

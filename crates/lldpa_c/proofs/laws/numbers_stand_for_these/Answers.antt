@@ -1,6 +1,5 @@
 use Rattle.std.proofs.Common.{◌≡◌, ℕ, zero, suc, [], ◌∷◌, refl, arith}
 use Rattle.std.proofs.lemmas.Bool.{ne_eqb}
-use Rattle.lldp_text.specs.declared.fault.CommandFault.TheVariants as command
 use Rattle.lldp_transmit.specs.declared.event.Cause.TheVariants as cause
 use Rattle.lldp_transmit.specs.declared.event.Mark.TheVariants as mark
 use Rattle.lldp_engine.specs.declared.agent.options.Role.TheVariants as role
@@ -9,7 +8,6 @@ use Rattle.lldpa_c.specs.Machine.{cause_numbered}
 use Rattle.lldpa_c.specs.Frame.{mark_numbered}
 use Rattle.lldpa_c.specs.Command.{show_numbered}
 use Rattle.lldpa_c.specs.Opening.{role_numbered}
-use Rattle.lldpa_c.specs.Texts.{fault_numbered}
 use Rattle.lldpa_c.specs.Numbers.{item_numbered}
 use Rattle.lldpa_c.proofs.laws.numbers_stand_for_these.Goals as goal
 
@@ -44,50 +42,8 @@ roles (suc zero) = refl
 roles (suc (suc zero)) = refl
 roles (suc (suc (suc n))) = let m : ℕ = (suc (suc (suc n))) in rw (ne_eqb m 0 (λ h. absurd (omega (arith, h))), ne_eqb m 1 (λ h. absurd (omega (arith, h))), ne_eqb m 2 (λ h. absurd (omega (arith, h)))) refl
 
-faults : (n : ℕ) → fault_numbered n ≡ item_numbered 31 (command.Unknown ∷ command.NoSuchPort ∷ command.Number ∷ command.Range ∷ command.Text ∷ command.Extra ∷ command.Quote ∷ command.InUse ∷ []) n
-faults zero = refl
-faults (suc zero) = refl
-faults (suc (suc zero)) = refl
-faults (suc (suc (suc zero))) = refl
-faults (suc (suc (suc (suc zero)))) = refl
-faults (suc (suc (suc (suc (suc zero))))) = refl
-faults (suc (suc (suc (suc (suc (suc zero)))))) = refl
-faults (suc (suc (suc (suc (suc (suc (suc zero))))))) = refl
-faults (suc (suc (suc (suc (suc (suc (suc (suc zero)))))))) = refl
-faults (suc (suc (suc (suc (suc (suc (suc (suc (suc zero))))))))) = refl
-faults (suc (suc (suc (suc (suc (suc (suc (suc (suc (suc zero)))))))))) = refl
-faults (suc (suc (suc (suc (suc (suc (suc (suc (suc (suc (suc zero))))))))))) = refl
-faults (suc (suc (suc (suc (suc (suc (suc (suc (suc (suc (suc (suc zero)))))))))))) = refl
-faults (suc (suc (suc (suc (suc (suc (suc (suc (suc (suc (suc (suc (suc zero))))))))))))) = refl
-faults (suc (suc (suc (suc (suc (suc (suc (suc (suc (suc (suc (suc (suc (suc zero)))))))))))))) = refl
-faults (suc (suc (suc (suc (suc (suc (suc (suc (suc (suc (suc (suc (suc (suc (suc zero))))))))))))))) = refl
-faults (suc (suc (suc (suc (suc (suc (suc (suc (suc (suc (suc (suc (suc (suc (suc (suc zero)))))))))))))))) = refl
-faults (suc (suc (suc (suc (suc (suc (suc (suc (suc (suc (suc (suc (suc (suc (suc (suc (suc zero))))))))))))))))) = refl
-faults (suc (suc (suc (suc (suc (suc (suc (suc (suc (suc (suc (suc (suc (suc (suc (suc (suc (suc zero)))))))))))))))))) = refl
-faults (suc (suc (suc (suc (suc (suc (suc (suc (suc (suc (suc (suc (suc (suc (suc (suc (suc (suc (suc zero))))))))))))))))))) = refl
-faults (suc (suc (suc (suc (suc (suc (suc (suc (suc (suc (suc (suc (suc (suc (suc (suc (suc (suc (suc (suc zero)))))))))))))))))))) = refl
-faults (suc (suc (suc (suc (suc (suc (suc (suc (suc (suc (suc (suc (suc (suc (suc (suc (suc (suc (suc (suc (suc zero))))))))))))))))))))) = refl
-faults (suc (suc (suc (suc (suc (suc (suc (suc (suc (suc (suc (suc (suc (suc (suc (suc (suc (suc (suc (suc (suc (suc zero)))))))))))))))))))))) = refl
-faults (suc (suc (suc (suc (suc (suc (suc (suc (suc (suc (suc (suc (suc (suc (suc (suc (suc (suc (suc (suc (suc (suc (suc zero))))))))))))))))))))))) = refl
-faults (suc (suc (suc (suc (suc (suc (suc (suc (suc (suc (suc (suc (suc (suc (suc (suc (suc (suc (suc (suc (suc (suc (suc (suc zero)))))))))))))))))))))))) = refl
-faults (suc (suc (suc (suc (suc (suc (suc (suc (suc (suc (suc (suc (suc (suc (suc (suc (suc (suc (suc (suc (suc (suc (suc (suc (suc zero))))))))))))))))))))))))) = refl
-faults (suc (suc (suc (suc (suc (suc (suc (suc (suc (suc (suc (suc (suc (suc (suc (suc (suc (suc (suc (suc (suc (suc (suc (suc (suc (suc zero)))))))))))))))))))))))))) = refl
-faults (suc (suc (suc (suc (suc (suc (suc (suc (suc (suc (suc (suc (suc (suc (suc (suc (suc (suc (suc (suc (suc (suc (suc (suc (suc (suc (suc zero))))))))))))))))))))))))))) = refl
-faults (suc (suc (suc (suc (suc (suc (suc (suc (suc (suc (suc (suc (suc (suc (suc (suc (suc (suc (suc (suc (suc (suc (suc (suc (suc (suc (suc (suc zero)))))))))))))))))))))))))))) = refl
-faults (suc (suc (suc (suc (suc (suc (suc (suc (suc (suc (suc (suc (suc (suc (suc (suc (suc (suc (suc (suc (suc (suc (suc (suc (suc (suc (suc (suc (suc zero))))))))))))))))))))))))))))) = refl
-faults (suc (suc (suc (suc (suc (suc (suc (suc (suc (suc (suc (suc (suc (suc (suc (suc (suc (suc (suc (suc (suc (suc (suc (suc (suc (suc (suc (suc (suc (suc zero)))))))))))))))))))))))))))))) = refl
-faults (suc (suc (suc (suc (suc (suc (suc (suc (suc (suc (suc (suc (suc (suc (suc (suc (suc (suc (suc (suc (suc (suc (suc (suc (suc (suc (suc (suc (suc (suc (suc zero))))))))))))))))))))))))))))))) = refl
-faults (suc (suc (suc (suc (suc (suc (suc (suc (suc (suc (suc (suc (suc (suc (suc (suc (suc (suc (suc (suc (suc (suc (suc (suc (suc (suc (suc (suc (suc (suc (suc (suc zero)))))))))))))))))))))))))))))))) = refl
-faults (suc (suc (suc (suc (suc (suc (suc (suc (suc (suc (suc (suc (suc (suc (suc (suc (suc (suc (suc (suc (suc (suc (suc (suc (suc (suc (suc (suc (suc (suc (suc (suc (suc zero))))))))))))))))))))))))))))))))) = refl
-faults (suc (suc (suc (suc (suc (suc (suc (suc (suc (suc (suc (suc (suc (suc (suc (suc (suc (suc (suc (suc (suc (suc (suc (suc (suc (suc (suc (suc (suc (suc (suc (suc (suc (suc zero)))))))))))))))))))))))))))))))))) = refl
-faults (suc (suc (suc (suc (suc (suc (suc (suc (suc (suc (suc (suc (suc (suc (suc (suc (suc (suc (suc (suc (suc (suc (suc (suc (suc (suc (suc (suc (suc (suc (suc (suc (suc (suc (suc zero))))))))))))))))))))))))))))))))))) = refl
-faults (suc (suc (suc (suc (suc (suc (suc (suc (suc (suc (suc (suc (suc (suc (suc (suc (suc (suc (suc (suc (suc (suc (suc (suc (suc (suc (suc (suc (suc (suc (suc (suc (suc (suc (suc (suc zero)))))))))))))))))))))))))))))))))))) = refl
-faults (suc (suc (suc (suc (suc (suc (suc (suc (suc (suc (suc (suc (suc (suc (suc (suc (suc (suc (suc (suc (suc (suc (suc (suc (suc (suc (suc (suc (suc (suc (suc (suc (suc (suc (suc (suc (suc zero))))))))))))))))))))))))))))))))))))) = refl
-faults (suc (suc (suc (suc (suc (suc (suc (suc (suc (suc (suc (suc (suc (suc (suc (suc (suc (suc (suc (suc (suc (suc (suc (suc (suc (suc (suc (suc (suc (suc (suc (suc (suc (suc (suc (suc (suc (suc zero)))))))))))))))))))))))))))))))))))))) = refl
-faults (suc (suc (suc (suc (suc (suc (suc (suc (suc (suc (suc (suc (suc (suc (suc (suc (suc (suc (suc (suc (suc (suc (suc (suc (suc (suc (suc (suc (suc (suc (suc (suc (suc (suc (suc (suc (suc (suc (suc n))))))))))))))))))))))))))))))))))))))) = let m : ℕ = (suc (suc (suc (suc (suc (suc (suc (suc (suc (suc (suc (suc (suc (suc (suc (suc (suc (suc (suc (suc (suc (suc (suc (suc (suc (suc (suc (suc (suc (suc (suc (suc (suc (suc (suc (suc (suc (suc (suc n))))))))))))))))))))))))))))))))))))))) in rw (ne_eqb m 31 (λ h. absurd (omega (arith, h))), ne_eqb m 32 (λ h. absurd (omega (arith, h))), ne_eqb m 33 (λ h. absurd (omega (arith, h))), ne_eqb m 34 (λ h. absurd (omega (arith, h))), ne_eqb m 35 (λ h. absurd (omega (arith, h))), ne_eqb m 36 (λ h. absurd (omega (arith, h))), ne_eqb m 37 (λ h. absurd (omega (arith, h))), ne_eqb m 38 (λ h. absurd (omega (arith, h)))) refl
-
 pub returns-clause-given : goal.returns-clause-given
-returns-clause-given c = record { causes = causes; marks = marks; shows = shows; roles = roles; faults = faults }
+returns-clause-given c = record { causes = causes; marks = marks; shows = shows; roles = roles }
 
 pub returns-clause-told : goal.returns-clause-told
 returns-clause-told c = record { marks = refl; shows = refl; pdu_faults = refl; build_faults = refl; refusals = refl; command_faults = refl; answers = refl; news = refl; statuses = refl; never = refl }

@@ -1,7 +1,7 @@
 use Rattle.std.proofs.Common.{◌≤◌, ℕ, List, take, drop, length, ap, sym, subst, ◌∙◌}
 use Rattle.lldp_engine.specs.Lines.{lines_of}
 use Rattle.lldpa_c.specs.Filled.{Fills, IsFull}
-use Rattle.lldpa_c.proofs.Coming.{all_come, fills, no_more, is_full, is_open, is_not_open}
+use Rattle.lldpa_c.proofs.Coming.{all_come, fills, ends, is_full, is_open, is_not_open}
 use Rattle.lldpa_c.proofs.lines.fill.Goals as goal
 
 -- what is lent to the sink comes back as the sink left it
@@ -19,7 +19,7 @@ returns-clause-octets c =
 pub returns-clause-done : goal.returns-clause-done
 returns-clause-done c h =
     let come = all_come _ _ _ _ _ _ (ap length c.new-filling.ensures.room) c.new-filling.ensures.view c.take.ensures.lines c.ranges.from.fits c.take.ensures.few in
-    no_more _ _ _ _ come (is_open _ h)
+    ends _ _ _ _ come (is_open _ h)
 
 pub returns-clause-rest : goal.returns-clause-rest
 returns-clause-rest c =

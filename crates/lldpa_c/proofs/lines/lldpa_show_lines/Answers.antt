@@ -1,4 +1,4 @@
-use Rattle.std.proofs.Common.{◌≡◌, ℕ, Bool, true, false, not, [], ◌∷◌, length, take, Some, refl, sym, ap, ◌∙◌, arith}
+use Rattle.std.proofs.Common.{◌≡◌, ℕ, Bool, true, false, not, [], ◌∷◌, length, take, Some, refl, sym, ◌∙◌, arith}
 use Rattle.std.specs.Prelude.{Option, is_none, slice_get, option_and_then}
 use Rattle.std.specs.Option.{option_map}
 use Rattle.std.proofs.lemmas.Bool.{not-false}
@@ -8,7 +8,7 @@ use Rattle.lldp_engine.specs.declared.command.Show.{Show}
 use Rattle.lldp_engine.specs.AgentState.{AgentState}
 use Rattle.lldp_engine.specs.Lines.{lines_of}
 use Rattle.lldpa_c.specs.Answer.{answer_of, is_over}
-use Rattle.lldpa_c.proofs.Coming.{none_over, some_within}
+use Rattle.lldpa_c.proofs.Coming.{no_more, none_over, some_within}
 use Rattle.lldpa_c.proofs.lines.lldpa_show_lines.Goals as goal
 use Rattle.lldpa_c.proofs.lines.lldpa_show_lines.Goals.{else-lines-from-via-then-lines-from+else-not-lines, else-lines-from-via-else-lines-from}
 
@@ -24,7 +24,7 @@ returns-clause-answer c =
     let same : c.deref.result.now ≡ agent = c.deref.ensures ∙ c.in-Some-take.ensures.some.1 in
     let f = rw same at c.fill-lines.ensures in
     let fits : is_over room (option_map ended (slice_get lines c.args.from)) ≡ false = elim c.else-lines-from.branch [
-      | else-lines-from-via-then-lines-from+else-not-lines w ↦ none_over lines c.args.from room (ap (slice_get lines) (sym w.if-lines-from.true) ∙ f.done (not-false _ w.if-not-lines.false))
+      | else-lines-from-via-then-lines-from+else-not-lines w ↦ none_over lines c.args.from room (no_more lines c.args.from (sym w.if-lines-from.true ∙ f.done (not-false _ w.if-not-lines.false)))
       | else-lines-from-via-else-lines-from w ↦ some_within lines c.args.from c.fill-lines.result.next room (take c.fill-lines.result.length c.fill-lines.new.room) f.octets (omega (arith, f.octets.order, w.if-lines-from.false)) (omega (arith, length-take c.fill-lines.result.length c.fill-lines.new.room, c.fill-lines.auto.room))
     ] in
     all_pass _ _ c.in-Some.show agent c.args.from room (sym c.show_numbered.ensures ∙ c.in-Some.is) c.in-Some-take.ensures.some.0 fits

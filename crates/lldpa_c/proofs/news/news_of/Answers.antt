@@ -1,10 +1,11 @@
 use Rattle.std.proofs.Common.{◌≡◌, ℕ, Bool, true, List, Some, refl, sym, ap, subst, ◌∙◌}
 use Rattle.std.specs.Prelude.{◌&&◌, slice_get}
 use Rattle.std.specs.Option.{option_map}
-use Rattle.lldp_table.specs.Contents.{Contents}
+use Rattle.lldp_pdu.specs.Fault.{fault_of}
+use Rattle.lldp_table.specs.Contents.{Contents, IsSound}
 use Rattle.lldp_engine.specs.AgentState.{PortState}
 use Rattle.lldp_engine.specs.Status.{receives}
-use Rattle.lldpa_c.proofs.Newly.{TellsPdu, reports}
+use Rattle.lldpa_c.proofs.Newly.{TellsPdu, hears_it, reports}
 use Rattle.lldpa_c.proofs.news.news_of.Goals as goal
 
 -- what is read of a port is its own
@@ -16,8 +17,8 @@ own f ports i port a e h =
 both_true : (a b : Bool) → a ≡ true → b ≡ true → (a && b) ≡ true
 both_true a b e h = rw (e, h) refl
 
-pub returns-in-Some : goal.returns-in-Some
-returns-in-Some c port there =
+pub returns-in-Some-clause-news : goal.returns-in-Some-clause-news
+returns-in-Some-clause-news c port there =
     let ports = c.args.agent.now.ports in
     let i = c.args.port in
     let status = own (λ (p : PortState). p.status) ports i port _ there c.status.ensures.value in
@@ -29,3 +30,14 @@ returns-in-Some c port there =
     let told : TellsPdu c.table.result.now.shown c.in-Some.pdu.now c.pdu_news.result = record { what = n.what; refused = n.refused; fault = n.fault; chassis = n.chassis; port = n.port } in
     reports port c.args.octets.now c.in-Some.pdu.now c.pdu_news.result (both_true _ _ receives_it is_up) c.in-Some.ensures.value
     (subst (λ (t : Contents). TellsPdu t c.in-Some.pdu.now c.pdu_news.result) (sym table) told)
+
+pub returns-in-Some-clause-sound : goal.returns-in-Some-clause-sound
+returns-in-Some-clause-sound c port pdu there heard sound =
+    let ports = c.args.agent.now.ports in
+    let i = c.args.port in
+    let status = own (λ (p : PortState). p.status) ports i port _ there c.status.ensures.value in
+    let up = own (λ (p : PortState). p.machine.up) ports i port _ there c.is_up.ensures.value in
+    let table = own (λ (p : PortState). p.table) ports i port _ there c.table.ensures.value in
+    let hears = both_true _ _ (ap receives status ∙ sym c.receives.ensures ∙ c.if-not-receives.false) (up ∙ c.if-not-is_up.false) in
+    let same = hears_it port c.args.octets.now c.in-Some.pdu.now pdu hears c.in-Some.ensures.value heard in
+    subst IsSound (sym table) (c.pdu_news.ensures.sound (ap fault_of (sym same) ∙ sound))

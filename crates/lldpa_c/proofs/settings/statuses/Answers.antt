@@ -1,8 +1,8 @@
-use Rattle.std.proofs.Common.{◌≡◌, ℕ, zero, suc, ◌+◌, ◌<◌, List, [], ◌∷◌, ◌++◌, length, map, take, set, refl, sym, ap, ◌∙◌, arith, Some}
+use Rattle.std.proofs.Common.{◌≡◌, ℕ, zero, suc, ◌+◌, ◌<◌, List, [], ◌∷◌, ◌++◌, length, map, take, drop, replicate, set, refl, sym, ap, ◌∙◌, arith, Some}
 use Rattle.std.specs.Prelude.{slice_get}
 use Rattle.std.specs.Option.{option_map}
 use Rattle.std.proofs.lemmas.Grind.{take-set_at}
-use Rattle.std.proofs.lemmas.List.{length-set}
+use Rattle.std.proofs.lemmas.List.{length-set, drop-set-lt, drop-drop}
 use Rattle.lldp_engine.specs.declared.port.status.Status.{Status}
 use Rattle.lldp_engine.specs.AgentState.{PortState}
 use Rattle.lldpa_c.specs.Settings.{status_number}
@@ -26,10 +26,16 @@ one_more items ports i n s lt e h told =
     take-set_at items i (i + 1) n refl lt ∙ ap (λ (xs : List ℕ). xs ++ n ∷ []) told ∙ ap (λ (m : ℕ). numbers (take i ports) ++ m ∷ []) e ∙ sym (next_told ports i s h)
     ∙ ap (λ (m : ℕ). numbers (take m ports)) (sym more)
 
+-- what is behind stays
+others_stay : (items : List ℕ) (i n : ℕ) → drop i items ≡ drop i (replicate 64 0) → drop (i + 1) (set items i n) ≡ drop (i + 1) (replicate 64 0)
+others_stay items i n behind =
+    drop-set-lt (i + 1) items i n (omega arith) ∙ sym (drop-drop 1 i items) ∙ ap (drop 1) behind ∙ drop-drop 1 i (replicate 64 0)
+
 pub loop-port-preserved : goal.loop-port-preserved
 loop-port-preserved c =
     let l = c.loop-port in
     record {
       told = one_more l.statuses c.args.agent.now.ports l.port c.status_number.result c.status.result (omega (arith, l.invariant.room, c.loop-port-test.true, c.ports-port-end.ensures.few)) c.status_number.ensures c.status.ensures.value l.invariant.told;
+      others = others_stay l.statuses l.port _ l.invariant.others;
       room = length-set l.statuses l.port _ ∙ l.invariant.room;
     }

@@ -23,9 +23,10 @@ returns-in-Ok-Shutdown-clause-cause g c =
 pub returns-in-Ok-Info-clause-after : goal.returns-in-Ok-Info-clause-after
 returns-in-Ok-Info-clause-after g c =
     let told = rw c.in-Ok-Info.field-0-is at c.in-Ok-Info.ensures.answer in
-    rw (heard_tells c.args.pdu.now c.in-Ok-Info.info c.in-Ok-Info.ensures.fault told.0 told.1, ← c.self.view_is, c.learn.ensures.after, c.count_received.ensures) refl
+    let learned = rw told.1 at c.learn.ensures.after in
+    rw (heard_tells c.args.pdu.now c.in-Ok-Info.ensures.fault told.0, ← c.self.view_is, learned, c.count_received.ensures) refl
 
 pub returns-in-Ok-Info-clause-cause : goal.returns-in-Ok-Info-clause-cause
 returns-in-Ok-Info-clause-cause g c =
     let told = rw c.in-Ok-Info.field-0-is at c.in-Ok-Info.ensures.answer in
-    rw (heard_tells c.args.pdu.now c.in-Ok-Info.info c.in-Ok-Info.ensures.fault told.0 told.1, ← c.self.view_is) c.learn.ensures.cause
+    rw (heard_tells c.args.pdu.now c.in-Ok-Info.ensures.fault told.0, ← c.self.view_is) (rw told.1 at c.learn.ensures.cause)

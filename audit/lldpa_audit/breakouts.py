@@ -1,0 +1,95 @@
+"""Breakout cables of NetBox: one port at one side, and the ends of its lanes at the other."""
+from __future__ import annotations
+
+import re
+from typing import Iterator, Optional, Sequence
+
+from .names import End, Names
+from .plan import Link, Plan
+from .seen.tables import KnownPort, Tables
+
+LANE = re.compile(r"[s:/.][0-9]")
+
+
+def join_lanes(plan: Plan, tables: Tables) -> None:
+    """Plans a link for each lane of a breakout cable: with the end that the lane hears if that is
+    one of the cable's, each once, and otherwise with one that is left."""
+    of_hosts: dict[str, list[End]] = {whole.host: [] for whole in plan.breakouts}
+    for key in tables.ends if plan.breakouts else ():
+        if key.host in of_hosts:
+            of_hosts[key.host].append(key)
+    for whole, links in plan.breakouts.items():
+        lanes = [key for key in of_hosts[whole.host] if is_lane(key.port, whole.port)]
+        if lanes == [whole]:
+            lanes = split(tables, whole)
+        elif len(lanes) > len(links) and whole in lanes and not tables.ends[whole].neighbors:
+            lanes.remove(whole)
+        for lane, link in joined(lanes, links, whole, tables):
+            is_whole = lane_heard(tables, link.other, whole) == whole
+            plan.add_lane(lane, link, tables.names, whole if is_whole else None)
+    if plan.breakouts:
+        tables.complete(plan)
+
+
+def is_lane(port: str, whole: str) -> bool:
+    """Returns whether a port is a lane of another, or that one itself: swp1s0 of swp1, et-0/0/0:0
+    of et-0/0/0, Ethernet1/2 of Ethernet1, and of Ethernet1/1."""
+    if port.startswith(whole):
+        rest = port[len(whole):]
+        return not rest or LANE.fullmatch(rest) is not None
+    return whole.endswith("/1") and port[:-1] == whole[:-1] and port[-1:].isdecimal()
+
+
+def split(tables: Tables, whole: End) -> list[End]:
+    """Makes a lane of each neighbor of a port, if it has several. Returns the lanes."""
+    known = tables.ends[whole]
+    if len(known.neighbors) < 2:
+        return [whole]
+    del tables.ends[whole]
+    lanes = [numbered(known.end, number) for number in range(1, len(known.neighbors) + 1)]
+    for lane, neighbor in zip(lanes, known.neighbors):
+        tables.ends[tables.names.end(lane)] = KnownPort(lane, [neighbor])
+    return [tables.names.end(lane) for lane in lanes]
+
+
+def joined(lanes: Sequence[End], links: Sequence[Link], whole: End, tables: Tables
+           ) -> Iterator[tuple[End, Link]]:
+    """Yields each lane with its link. Lanes of which nothing is known are numbered."""
+    left = list(links)
+    unheard: list[End] = []
+    for lane in lanes:
+        link = next((one for one in left if hears(tables, lane, one.other)), None)
+        if link is None:
+            unheard.append(lane)
+        else:
+            left.remove(link)
+            yield tables.ends[lane].end, link
+    for link in list(left):
+        heard = lane_heard(tables, link.other, whole)
+        if heard is not None and heard not in lanes:
+            lanes = [*lanes, heard]
+            left.remove(link)
+            yield heard, link
+    ends = [tables.ends[lane].end for lane in unheard]
+    numbers = range(len(links) - len(left) + len(ends) + 1, len(links) + 1)
+    ends += [numbered(links[0].one, number) for number in numbers]
+    yield from zip(ends, left)
+
+
+def hears(tables: Tables, lane: End, end: End) -> bool:
+    """Returns whether a neighbor of a lane answers to an end."""
+    key = tables.names.end(end)
+    return any(tables.names.answers(one, key) for one in tables.ends[lane].neighbors)
+
+
+def lane_heard(tables: Tables, end: End, whole: End) -> Optional[End]:
+    """Returns the lane of a port that an end hears, as it is compared."""
+    known = tables.ends.get(tables.names.end(end))
+    heard = [key for one in (known.neighbors if known else ()) for key in tables.names.ends(one)]
+    return next((key for key in heard if key.host == whole.host
+                 and is_lane(key.port, whole.port)), None)
+
+
+def numbered(whole: End, number: int) -> End:
+    """Returns a lane whose name is not known."""
+    return End(whole.host, f"{whole.port}:{number}")

@@ -1,0 +1,52 @@
+"""The limits of a run: memory for all of it, and time of the processor for each file."""
+from __future__ import annotations
+
+import resource
+import signal
+from contextlib import contextmanager, suppress
+from typing import Iterator
+
+from lldpa.faults import LldpaFault
+
+MEGABYTES = 450
+SECONDS = 20
+
+
+class TooLong(Exception):
+    """A file needs too much time."""
+
+
+class LimitFault(LldpaFault, ValueError):
+    """Why a file is not read to its end."""
+
+
+def limit_memory() -> None:
+    """Limits the memory of this process and of those that it starts."""
+    most = MEGABYTES << 20
+    hard = resource.getrlimit(resource.RLIMIT_DATA)[1]
+    with suppress(OSError, ValueError):  # a lower limit stays
+        resource.setrlimit(resource.RLIMIT_DATA, (most, hard))
+
+
+@contextmanager
+def limited(file: str, seconds: float = SECONDS) -> Iterator[None]:
+    """Ends what is done with a file if it needs too much time or memory. Raises LimitFault."""
+    before = signal.signal(signal.SIGPROF, stop)
+    signal.setitimer(signal.ITIMER_PROF, seconds)
+    why = ""
+    try:
+        yield
+    except MemoryError:
+        why = f"it needs more than {MEGABYTES} MB of memory"
+    except TooLong:
+        why = f"it needs more than {seconds:.0f} seconds of the processor"
+    finally:
+        signal.setitimer(signal.ITIMER_PROF, 0)
+        signal.signal(signal.SIGPROF, before)
+    if why:
+        raise LimitFault(f"{file}: {why}")
+
+
+def stop(*_: object) -> None:
+    """Ends what is being done."""
+    raise TooLong

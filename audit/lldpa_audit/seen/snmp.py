@@ -1,0 +1,112 @@
+"""LLDP-MIB as `snmpwalk` prints it, with names or with numbers, which are below 1.0.8802.1.1.2."""
+from __future__ import annotations
+
+import re
+from ipaddress import ip_address
+
+from ..names import Seen
+from .fields import kind_of
+from .listing import Listing, SeenFault
+from .neighbor import neighbor
+
+IS_WALK = re.compile(r"LLDP-MIB::lldp|(?:iso|\.?1)\.0\.8802\.1\.1\.2\.")
+# a text in quotes may have line feeds, and hexadecimal continues in further lines
+LINE = re.compile(
+    r"^(?:LLDP-MIB::(lldp[A-Za-z]+)|(?:iso|\.?1)\.0\.8802\.1\.1\.2\.(1(?:\.[0-9]+){4}))\.([0-9.]+)"
+    r' = (?:(Hex-STRING|STRING|INTEGER): )?("[^"\\]*(?:\\(?s:.)[^"\\]*)*"$'
+    r"|.*(?:\n(?:[0-9A-F]{2} ?)+$)*)", re.M)
+LOCAL = ("lldpLocPortIdSubtype", "lldpLocPortId", "lldpLocPortDesc")
+REMOTE = ("lldpRemChassisIdSubtype", "lldpRemChassisId", "lldpRemPortIdSubtype", "lldpRemPortId",
+          "lldpRemPortDesc", "lldpRemSysName")
+NAMES = {**{f"1.3.7.1.{number}": name for number, name in enumerate(LOCAL, 2)},
+         **{f"1.4.1.1.{number}": name for number, name in enumerate(REMOTE, 4)}}
+ORDER = {name: place for place, name in enumerate(NAMES.values())}
+COMMAND = "use `snmpwalk -v2c -c COMMUNITY HOST 1.0.8802.1.1.2.1`"
+# the subtypes of chassis IDs and of port IDs that are a MAC address, and a network address
+OF_CHASSIS, OF_PORT = ("4", "5"), ("3", "4")
+
+# the octets of each column of a row
+Row = dict[str, bytes]
+
+
+def read_walk(text: str) -> Listing:
+    """Returns the neighbors of each port. Raises SeenFault."""
+    if not text.endswith("\n"):
+        raise SeenFault("its last line has no end: it was cut short")
+    local, remote = rows_of(text)
+    names = {number: port_name(row) for number, row in local.items() if LOCAL[1] in row}
+    ports: dict[str, list[Seen]] = {name: [] for name in names.values()}
+    if len(ports) < len(names):
+        raise SeenFault("two of its ports have the same lldpLocPortId")
+    for index, row in remote.items():
+        _, _, further = index.partition(".")
+        number = further.partition(".")[0]
+        if number not in names:
+            raise SeenFault(f"it has no lldpLocPortId.{number}: {COMMAND}")
+        ports[names[number]].append(seen(row, names[number]))
+    if not ports:
+        raise SeenFault(f"it has no lldpLocPortId: {COMMAND}")
+    return Listing(dict(ports), True)
+
+
+def rows_of(text: str) -> tuple[dict[str, Row], dict[str, Row]]:
+    """Returns the rows of local ports and those of neighbors, by their indexes. Raises SeenFault.
+
+    A walk goes from column to column, and up in each: a line that a neighbor's text has cannot.
+    """
+    tables: tuple[dict[str, Row], dict[str, Row]] = {}, {}
+    last: tuple[int, ...] = ()
+    for name, number, index, kind, value in LINE.findall(text):
+        name = name or NAMES.get(number, "")
+        if name not in ORDER:
+            continue
+        try:
+            place = (ORDER[name], *map(int, index.split(".")))
+        except ValueError:  # it may have thousands of digits, or two dots
+            raise SeenFault(f"{name}.{index[:40]} is not an index") from None
+        if place <= last:
+            raise SeenFault(f"{name}.{index} is out of order: {COMMAND}, once")
+        last = place
+        tables[name in REMOTE].setdefault(index, {})[name] = octets_of(kind, value)
+    return tables
+
+
+def octets_of(kind: str, value: str) -> bytes:
+    """Returns the octets of a value. Those of an enumeration are its number."""
+    if kind == "INTEGER":
+        return value.rpartition("(")[2].rstrip(")").encode()
+    if kind == "Hex-STRING":
+        try:
+            return bytes.fromhex(value)
+        except ValueError:
+            raise SeenFault(f"{value[:40]!r} is not hexadecimal") from None
+    if len(value) > 1 and value[0] == value[-1] == '"':
+        value = re.sub(r"\\(.)", r"\1", value[1:-1], flags=re.S)
+    return value.encode(errors="surrogateescape")
+
+
+def port_name(row: Row) -> str:
+    """Returns the name of a local port: its ID if that is an interface's, else its description."""
+    texts = [row.get(name, b"").decode(errors="surrogateescape") for name in LOCAL]
+    is_named = kind_of(texts[0]) != "local"
+    return texts[1] if is_named else texts[2] or texts[1]
+
+
+def seen(row: Row, port: str) -> Seen:
+    """Returns a neighbor. Raises SeenFault if it has no chassis ID or port ID."""
+    chassis_kind, chassis, kind, port_id, descr, name = (row.get(name, b"") for name in REMOTE)
+    if not chassis or not port_id or not kind:
+        raise SeenFault(f"{port!r} has a neighbor without chassis ID, port ID or its subtype: "
+                        f"{COMMAND}")
+    return neighbor(identifier(chassis, chassis_kind.decode(), *OF_CHASSIS), kind_of(kind.decode()),
+                    identifier(port_id, kind.decode(), *OF_PORT),
+                    name.decode(errors="surrogateescape"), descr.decode(errors="surrogateescape"))
+
+
+def identifier(octets: bytes, subtype: str, of_mac: str, of_network: str) -> str:
+    """Returns a chassis ID or port ID as people write it."""
+    if subtype == of_mac and len(octets) == 6:
+        return octets.hex(":")
+    if subtype == of_network and len(octets) in (5, 17):
+        return str(ip_address(octets[1:]))
+    return octets.decode(errors="surrogateescape")

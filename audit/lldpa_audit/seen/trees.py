@@ -1,0 +1,128 @@
+"""Which form JSON has, and what programs put around it: answers of APIs, lists of many hosts."""
+from __future__ import annotations
+
+from typing import Any, Optional
+
+from lldpa.texts import printable
+
+from .fields import FORMS, NAPALM, leads, read_form, text
+from .listing import Listing, SeenFault
+from .lldpcli import is_lldpcli, read_lldpcli
+from .neighbor import clean
+from .prometheus import is_prometheus, read_prometheus
+
+# the names below which programs put a list: NAPALM's getters, salt, Ansible, eAPI, NX-API, Junos,
+# and the tools of gNMI
+GETTERS = [f"{front}lldp_neighbors{detail}" for front in ("", "get_", "napalm_")
+           for detail in ("_detail", "")]
+WRAPPERS = (*GETTERS, "out", "ansible_facts", "result", "ins_api", "outputs", "output", "body",
+            "rpc-reply", "multi-routing-engine-results", "multi-routing-engine-item", "stdout",
+            "parsed", "notification", "update", "updates", "values", "val",
+            "openconfig-lldp:lldp", "lldp", "openconfig-lldp:interfaces", "interfaces")
+# why a tree is not a list of neighbors, by a way that leads to something in it
+CAUSES = (
+    ("lldpNeighbors neighborDevice", "EOS' short list, without chassis IDs: use `show lldp "
+                                     "neighbors detail | json`"),
+    ("TABLE_nbor", "NX-OS' short list, without chassis IDs: use `show lldp neighbors detail | "
+                   "json`"),
+    ("local-chassis", "what lldpcli says of its own host: use `lldpcli -f json show neighbors "
+                      "details`"),
+    ("message, msg, error, errors", "an error message"),
+)
+LONGEST_SHOWN = 200
+MOST_ANSWERS = 100
+
+
+def listing_of(tree: Any) -> Listing:
+    """Returns the neighbors in JSON of any form, or of many hosts. Raises SeenFault."""
+    found = listing_of_host(tree)
+    if found is not None:
+        return found
+    hosts = {host: listing_or_fault(one) for host, one in tree.items()
+             } if isinstance(tree, dict) else {}
+    if any(not one.fault or is_failed(tree[host]) for host, one in hosts.items()):
+        return Listing({}, True, hosts)
+    raise unknown(tree)
+
+
+def listing_of_host(tree: Any) -> Optional[Listing]:
+    """Returns the neighbors in JSON of one host, None if it has no form. Raises SeenFault."""
+    if is_failed(tree):
+        raise SeenFault(f"the command failed: {last_line(text(tree, 'comment, msg'))}")
+    for is_form, read in ((is_lldpcli, read_lldpcli), (is_prometheus, read_prometheus)):
+        if is_form(tree):
+            return read(tree)
+    cause = next((cause for way, cause in CAUSES[:3] if leads(tree, way)), "")
+    if cause:
+        raise SeenFault(f"it is {cause}")
+    tree = lowered(tree)
+    form = next((form for form in FORMS if leads(tree, form.sign)), None)
+    if form is not None:
+        return read_form(tree, form)
+    if isinstance(tree, list):
+        return listing_of_one(tree)
+    wrapper = wrapper_of(tree)
+    if wrapper is not None:
+        return listing_of_host(tree[wrapper])
+    is_napalm = isinstance(tree, dict) and all(isinstance(one, list) for one in tree.values())
+    is_of_rows = is_napalm and any(leads(lowered(one), FORMS[-1].sign) for one in tree.values())
+    return read_form(tree, NAPALM) if is_napalm and not is_of_rows else None
+
+
+def wrapper_of(tree: Any) -> Optional[str]:
+    """Returns the name below which a list is, None if there is none."""
+    names = {name.rpartition("/")[2]: name for name in tree} if isinstance(tree, dict) else {}
+    return next((names[name] for name in WRAPPERS if name in names), None)
+
+
+def listing_of_one(answers: list[Any]) -> Optional[Listing]:
+    """Returns the neighbors in the only answer of several that is a list of them, None if none is.
+    Raises SeenFault."""
+    if len(answers) == 1 or len(answers) > MOST_ANSWERS:
+        return listing_of_host(answers[0]) if len(answers) == 1 else None
+    found = [one for one in map(listing_or_fault, filter(None, answers)) if not one.fault]
+    if len(found) > 1:
+        raise SeenFault(f"it has {len(found)} lists: give one")
+    return found[0] if found else None
+
+
+def listing_or_fault(tree: Any) -> Listing:
+    """Returns the neighbors of one host of many, or why there are none."""
+    try:
+        found = listing_of_host(tree)
+        if found is not None and not found.hosts:
+            return found
+        raise unknown(tree)
+    except SeenFault as fault:
+        return Listing({}, True, fault=str(fault))
+
+
+def is_failed(tree: Any) -> bool:
+    """Returns whether JSON is the answer of salt or Ansible to a command that failed."""
+    return isinstance(tree, dict) and (tree.get("result") is False or tree.get("failed") is True)
+
+
+def lowered(tree: Any) -> Any:
+    """Returns rows with the names of their columns in small letters, and anything else as it is."""
+    if isinstance(tree, list) and all(isinstance(row, dict) for row in tree):
+        return [{name.lower(): value for name, value in row.items()}
+                if "LOCAL_INTERFACE" in row or "LOCAL_PORT" in row else row for row in tree]
+    return tree
+
+
+def unknown(tree: Any) -> SeenFault:
+    """Returns the fault of JSON that is not a list of neighbors, by its likely cause."""
+    if tree is None or isinstance(tree, str):
+        return SeenFault(f"it has no list, but {last_line(tree)}")
+    if tree == []:
+        return SeenFault("it is an empty list: ntc-templates returns one if nobody is heard, and "
+                         "if it does not know the text")
+    cause = next((f"it is {cause}, and no list of neighbors" for way, cause in CAUSES
+                  if leads(tree, way)), "it is JSON, but no list of neighbors that is known")
+    return SeenFault(f"{cause}: see lldpa-audit(1)")
+
+
+def last_line(words: Optional[str]) -> str:
+    """Returns the last line of a text, such as that of a traceback."""
+    lines = (words or "").strip().splitlines()
+    return printable(clean(lines[-1][:LONGEST_SHOWN])) if lines else "nothing"

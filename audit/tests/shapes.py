@@ -1,0 +1,110 @@
+"""For tests: files that once took more than 30 seconds or 500 MB, and a run that is measured."""
+from __future__ import annotations
+
+import gzip
+import json
+import os
+import subprocess
+import sys
+from pathlib import Path
+from typing import Callable, Iterator, List, Mapping, NamedTuple, Sequence
+
+import rack
+from auditing import AUDIT, WITH_AGENT
+
+SECONDS, MEGABYTES = 30, 500
+HEADER = "host,port,peer,peer_port"
+PLAN = f"{HEADER}\nleaf1,swp1,host01,eth0\n"
+SECTION = rack.pcapng({"": []})[:28]
+INTERFACE = rack.block(1, b"\1\0\0\0\0\0\0\0")
+
+
+class Ran(NamedTuple):
+    """What became of an audit: what was wrong with it, its output, its seconds and megabytes."""
+
+    faults: Sequence[str]
+    output: str
+    seconds: float
+    megabytes: int
+
+
+def measured(words: Sequence[str]) -> Ran:
+    """Returns what an audit took, which must end by itself with what it says of a bad file."""
+    child = subprocess.Popen(
+        ["prlimit", f"--cpu={2 * SECONDS}", sys.executable, AUDIT, *words],
+        stdin=subprocess.DEVNULL, stdout=subprocess.PIPE, stderr=subprocess.STDOUT, env=WITH_AGENT)
+    assert child.stdout is not None
+    with child.stdout:
+        output = child.stdout.read().decode(errors="replace")
+    _, status, usage = os.wait4(child.pid, 0)
+    child.returncode = os.waitstatus_to_exitcode(status)
+    used, megabytes = usage.ru_utime + usage.ru_stime, usage.ru_maxrss >> 10
+    faults = [f"status {child.returncode}"] if child.returncode not in (0, 1, 2) else []
+    faults += [f"{used:.0f} s"] if used > SECONDS else []
+    faults += [f"{megabytes} MB"] if megabytes > MEGABYTES else []
+    faults += ["a traceback"] if "Traceback" in output else []
+    return Ran(faults, output, used, megabytes)
+
+
+def napalm(*neighbors: Sequence[str]) -> str:
+    """Returns NAPALM's list of neighbors: the port, the host and its port."""
+    return json.dumps({port: [{"hostname": host, "port": at}] for port, host, at in neighbors})
+
+
+def cable(number: int) -> str:
+    """Returns a cable as NetBox's API lists it."""
+    ends = [[{"object_type": "dcim.interface", "object_id": number, "object": {
+        "name": port, "device": {"name": host}}}] for host, port in (
+            (f"leaf{number // 48}", f"swp{number % 48}"), (f"srv{number}", "eth0"))]
+    return json.dumps({"id": number, "type": "cat6", "label": f"L{number}", "status": {
+        "value": "connected"}, "a_terminations": ends[0], "b_terminations": ends[1]})
+
+
+def audit(folder: Path, plan: str, seen: str, *words: str) -> List[str]:
+    """Writes a plan and a list of leaf1, and returns the words of their audit."""
+    (folder / "plan").write_text(plan)
+    (folder / "leaf1").write_text(seen)
+    return ["--host", "leaf1", *words, str(folder / "plan"), str(folder / "leaf1")]
+
+
+def page(folder: Path) -> Sequence[str]:
+    """Returns the words for a page."""
+    return ("--html", str(folder / "page.html"))
+
+
+def with_aliases(folder: Path, rows: Iterator[str]) -> List[str]:
+    """Returns the words of an audit with aliases."""
+    with (folder / "aliases").open("w") as file:
+        file.write("host,port,alias\n")
+        file.writelines(rows)
+    return audit(folder, PLAN, napalm(("swp1", "x", "eth0")), "--aliases",
+                 str(folder / "aliases"))
+
+
+def with_blocks(folder: Path) -> List[str]:
+    """Returns the words of an audit of a capture with very many interfaces."""
+    (folder / "blocks.pcapng").write_bytes(gzip.compress(SECTION + INTERFACE * 6_000_000, 1))
+    return [*audit(folder, PLAN, "{}")[:-1], f"leaf1:{folder / 'blocks.pcapng'}"]
+
+
+# each shape writes its files into a folder, and returns the words of the audit
+SMALL: Mapping[str, Callable[[Path], List[str]]] = {
+    "a label of 32,000 letters": lambda folder: audit(
+        folder, f"{HEADER},label\nleaf1,swp1,host01,eth0,{'a' * 32_000}\n",
+        napalm(("swp1", "x", "eth0")), *page(folder)),
+    "names of 500 colons": lambda folder: audit(
+        folder, PLAN, napalm(*((f"swp{at}", ":" * 500 + f"x{at}", "1" + ":" * 500 + f"x{at}")
+                               for at in range(15_000))), "--vendor-names"),
+    "1,000 aliases of one name": lambda folder: with_aliases(
+        folder, (f"host01,eth{at},bond0\n" for at in range(1000))),
+    "NetBox of 30 MB": lambda folder: audit(
+        folder, f'{{"next": null, "results": [{",".join(map(cable, range(75_000)))}]}}', "{}"),
+}
+LARGE: Mapping[str, Callable[[Path], List[str]]] = {
+    "1,000,000 aliases": lambda folder: with_aliases(
+        folder, (f"h{at},e,a{at}\n" for at in range(1_000_000))),
+    "6,000,000 interface blocks": with_blocks,
+    "370,000 unplanned ports": lambda folder: audit(
+        folder, PLAN, napalm(*((f"p{at}", f"h{at}", f"e{at}") for at in range(370_000))),
+        *page(folder)),
+}

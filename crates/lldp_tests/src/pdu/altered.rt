@@ -1,0 +1,84 @@
+//! Cut and altered frames: all that `examine` tells of each is what the slow reader tells.
+use super::slow_reader::read;
+use super::told::Told;
+use crate::engine::open;
+use crate::row::octets;
+use lldp_engine::Event;
+use lldp_pdu::frame_pdu;
+use std::alloc::{AllocError, Global};
+use std::process::Abort;
+use std::test::Fail;
+
+/// The frame A, and its Ethernet header.
+const FRAME: &str = "0180c200000e00112233445588cc02070400112233445504050565746830060200780000";
+
+/// The LLDPDUs of the frames A, A5, A8, A9, A10 and Z2, and that of A11 without its TLV of 511 octets.
+const LLDPDUS: &[&str] = &[
+    "02070400112233445504050565746830060200780000",
+    "02070400112233445504050565746830060200780a037377320000",
+    "02070400112233445504050565746830060200780a146162630000",
+    "02070400112233445504050565746830060200780207040011223344550000",
+    "02070400112233445504050565746830060200780e0500040004000e04000400140e04001400040000",
+    "02070400112233445504050565746830060200000207040011223344550000",
+    "02070400112233445504050565746830060200781018110220010db8000000000000000000000001020000000700fe0400120f0112000c04615c00620000",
+];
+
+/// Reads an LLDPDU both ways.
+fn compare(rt: &impl Abort, alloc: Global, pdu: &[u8]) -> Result<(), Fail> {
+    assert_eq!(rt; Told::of(alloc, pdu)?, read(alloc, pdu)?);
+    Ok(())
+}
+
+/// Returns the octets with these bits turned at one place.
+fn altered(alloc: Global, octets: &[u8], place: usize, bits: u8) -> Result<Vec<u8>, AllocError> {
+    let mut altered = octets.to_vec(alloc)?;
+    if let Some(octet) = altered.get_mut(place) {
+        *octet ^= bits;
+    }
+    Ok(altered)
+}
+
+/// Compares each front of these LLDPDUs, and each of them with any one octet changed to any other.
+#[test]
+fn cut_and_altered(rt: HostRuntime) -> Result<(), Fail> {
+    for digits in LLDPDUS {
+        let pdu = octets(rt.alloc(), digits)?;
+        for place in 0..pdu.len() {
+            compare(&rt, rt.alloc(), &pdu[..place])?;
+            for bits in 0..=255 {
+                compare(&rt, rt.alloc(), &altered(rt.alloc(), &pdu, place, bits)?)?;
+            }
+        }
+    }
+    Ok(())
+}
+
+/// Returns how many frames an agent of its own receives of this one.
+fn received(rt: &(impl Abort + AllocGlobal), octets: &[u8]) -> Result<u32, Fail> {
+    let mut agent = open(rt, rt.alloc(), &["eth0"], 1)?;
+    let event = Event::Frame { port: 0, octets };
+    assert!(rt; agent.allows(&event));
+    assert!(rt; agent.step(event).is_empty());
+    assert!(rt; 0 < agent.ports());
+    Ok(agent.counters(0).received)
+}
+
+/// Gives each change of one octet of A to an agent of its own. A frame is not an LLDP frame exactly if
+/// its destination (6 octets) or its EtherType (2) is changed.
+#[test]
+fn one_octet_changed(rt: HostRuntime) -> Result<(), Fail> {
+    let frame = octets(rt.alloc(), FRAME)?;
+    let mut counts: [u32; 2] = [0, 0];
+    for place in 0..frame.len() {
+        for bits in 1..=255 {
+            let changed = altered(rt.alloc(), &frame, place, bits)?;
+            let pdu = frame_pdu(&changed);
+            let heard = usize::from(pdu.is_some());
+            assert_eq!(rt; received(&rt, &changed)?, heard as u32, "{bits} at {place}");
+            counts[heard] = counts[heard].saturating_add(1);
+            compare(&rt, rt.alloc(), pdu.unwrap_or(&[]))?;
+        }
+    }
+    assert_eq!(rt; counts, [2040, 7140]);
+    Ok(())
+}

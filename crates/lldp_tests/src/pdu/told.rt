@@ -1,0 +1,94 @@
+//! What `examine` answers, all of it in one value.
+use crate::row::field;
+use lldp_pdu::{Examined, Info, Msap, examine};
+use std::alloc::{AllocError, Global};
+use std::test::Fail;
+
+/// What is told of an LLDPDU: the number of its fault, or its TTL and name; and for a TTL above 0
+/// the octets of its extent, its kept TLVs, and how many are discarded and unrecognized.
+#[derive(Debug, PartialEq, Drop)]
+pub struct Told<'a> {
+    pub fault: u8,
+    pub ttl: usize,
+    pub chassis: &'a [u8],
+    pub port: &'a [u8],
+    pub extent: Vec<u8>,
+    pub discarded: usize,
+    pub unrecognized: usize,
+    pub kept: Vec<(u8, &'a [u8])>,
+}
+
+impl<'a> Told<'a> {
+    /// Returns what is told of an LLDPDU with this fault, if it is not 0.
+    pub fn only(alloc: Global, fault: u8) -> Self {
+        Told {
+            fault,
+            ttl: 0,
+            chassis: &[],
+            port: &[],
+            extent: Vec::new(alloc),
+            discarded: 0,
+            unrecognized: 0,
+            kept: Vec::new(alloc),
+        }
+    }
+
+    /// Returns what is told of a neighbor that is gone.
+    fn gone(alloc: Global, name: &Msap<'a>) -> Self {
+        Told {
+            fault: 0,
+            ttl: 0,
+            chassis: name.chassis,
+            port: name.port,
+            extent: Vec::new(alloc),
+            discarded: 0,
+            unrecognized: 0,
+            kept: Vec::new(alloc),
+        }
+    }
+
+    /// Returns what is told of a neighbor that lives.
+    fn alive(alloc: Global, info: &Info<'a>) -> Result<Self, AllocError> {
+        let mut kept = Vec::new(alloc);
+        for tlv in info.kept() {
+            kept.push((tlv.kind, tlv.body))?;
+        }
+        Ok(Told {
+            fault: 0,
+            ttl: usize::from(info.ttl()),
+            chassis: info.msap().chassis,
+            port: info.msap().port,
+            extent: info.octets().to_vec(alloc)?,
+            discarded: info.discarded(),
+            unrecognized: info.unrecognized(),
+            kept,
+        })
+    }
+
+    /// Returns what `examine` tells.
+    pub fn of(alloc: Global, pdu: &'a [u8]) -> Result<Self, AllocError> {
+        match examine(pdu) {
+            Err(fault) => Ok(Told::only(alloc, fault.number())),
+            Ok(Examined::Shutdown(name)) => Ok(Told::gone(alloc, &name)),
+            Ok(Examined::Info(info)) => Told::alive(alloc, &info),
+        }
+    }
+
+    /// Writes it as the last fields of a row.
+    pub fn fields(&self, alloc: Global) -> Result<String, Fail> {
+        if self.fault != 0 {
+            return Ok(format!(in alloc; "fault\t{}", self.fault)?);
+        }
+        let (chassis, port) = (field(alloc, self.chassis)?, field(alloc, self.port)?);
+        let (ttl, extent) = (self.ttl, self.extent.len());
+        let (discarded, unrecognized) = (self.discarded, self.unrecognized);
+        let mut fields = format!(in alloc;
+            "told\t{ttl}\t{chassis}\t{port}\t{extent}\t{discarded}\t{unrecognized}"
+        )?;
+        for (kind, body) in self.kept.iter() {
+            let body = field(alloc, body)?;
+            write!(fields, "\t{kind}:{body}")?;
+        }
+        Ok(fields)
+    }
+}

@@ -1,0 +1,93 @@
+//! The rows of examples/vectors.rows that are about LLDPDUs, bodies and builders.
+use super::told::Told;
+use crate::row::{field, octets, rows_of};
+use lldp_pdu::{Builder, caps, mgmt};
+use std::alloc::Global;
+use std::process::Abort;
+use std::test::Fail;
+
+#[test]
+fn examined(rt: HostRuntime) -> Result<(), Fail> {
+    let rows = rows_of(rt.alloc(), "examine")?;
+    assert_eq!(rt; rows.len(), 44);
+    for row in rows.iter() {
+        let pdu = octets(rt.alloc(), row.given)?;
+        let told = Told::of(rt.alloc(), &pdu)?.fields(rt.alloc())?;
+        assert_eq!(rt; told.as_str(), row.told, "{}", row.name);
+    }
+    Ok(())
+}
+
+#[test]
+fn capabilities(rt: HostRuntime) -> Result<(), Fail> {
+    let rows = rows_of(rt.alloc(), "caps")?;
+    assert_eq!(rt; rows.len(), 6);
+    for row in rows.iter() {
+        let told = match caps(&octets(rt.alloc(), row.given)?) {
+            Some(read) => format!(in rt.alloc(); "{}\t{}", read.available, read.enabled)?,
+            None => String::new(rt.alloc()),
+        };
+        assert_eq!(rt; told.as_str(), row.told, "{}", row.name);
+    }
+    Ok(())
+}
+
+/// Writes what is read of the body of a Management Address as the last fields of a row.
+fn address(alloc: Global, body: &[u8]) -> Result<String, Fail> {
+    let Some(read) = mgmt(body) else {
+        return Ok(String::new(alloc));
+    };
+    let (family, numbering, interface) = (read.family, read.numbering, read.interface);
+    let (address, oid) = (field(alloc, read.address)?, field(alloc, read.oid)?);
+    Ok(format!(in alloc; "{family}\t{address}\t{numbering}\t{interface}\t{oid}")?)
+}
+
+#[test]
+fn management_addresses(rt: HostRuntime) -> Result<(), Fail> {
+    let rows = rows_of(rt.alloc(), "mgmt")?;
+    assert_eq!(rt; rows.len(), 10);
+    for row in rows.iter() {
+        let told = address(rt.alloc(), &octets(rt.alloc(), row.given)?)?;
+        assert_eq!(rt; told.as_str(), row.told, "{}", row.name);
+    }
+    Ok(())
+}
+
+/// Puts a TLV of a row, `KIND:BODY:ANSWER`, and compares the answer: 0, or the number of the fault.
+fn put(rt: &impl Abort, alloc: Global, builder: &mut Builder, given: &str) -> Result<(), Fail> {
+    let mut parts = given.split(':');
+    let kind = parts.next().unwrap_or("").parse::<u8>()?;
+    let body = octets(alloc, parts.next().unwrap_or(""))?;
+    let answer = builder
+        .put(kind, &body)
+        .map_or_else(|fault| fault.number(), |()| 0);
+    assert_eq!(rt;
+        answer,
+        parts.next().unwrap_or("").parse::<u8>()?,
+        "{given}"
+    );
+    Ok(())
+}
+
+#[test]
+fn built(rt: HostRuntime) -> Result<(), Fail> {
+    let rows = rows_of(rt.alloc(), "build")?;
+    assert_eq!(rt; rows.len(), 22);
+    for row in rows.iter() {
+        let mut fields = row.told.split('\t');
+        let chassis = octets(rt.alloc(), fields.next().unwrap_or(""))?;
+        let port = octets(rt.alloc(), fields.next().unwrap_or(""))?;
+        assert!(rt; (2..=256).contains(&chassis.len()) && (2..=256).contains(&port.len()));
+        let mut builder = Builder::begin(&chassis, &port, row.given.parse::<u16>()?);
+        let length = fields.next().unwrap_or("").parse::<usize>()?;
+        let lldpdu = fields.next().unwrap_or("");
+        for given in fields {
+            put(&rt, rt.alloc(), &mut builder, given)?;
+        }
+        let octets = builder.finish();
+        assert_eq!(rt; octets.len(), length, "{}", row.name);
+        let told = field(rt.alloc(), &octets)?;
+        assert!(rt; lldpdu == "-" || told.as_str() == lldpdu, "{}", row.name);
+    }
+    Ok(())
+}

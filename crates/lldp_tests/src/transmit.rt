@@ -1,0 +1,49 @@
+//! The worked examples of causes and their marks, by the rows of examples/vectors.rows.
+use crate::row::rows_of;
+use lldp_transmit::{Cause, Mark, Transmit};
+use std::test::Fail;
+
+/// Causes and marks by the numbers of the rows.
+const CAUSES: &[Cause] = &[
+    Cause::Tick,
+    Cause::Change,
+    Cause::Neighbor,
+    Cause::Stop,
+    Cause::Allow,
+];
+
+const MARKS: &[Mark] = &[Mark::Quiet, Mark::Ordinary, Mark::Shutdown];
+
+#[test]
+fn machine(rt: HostRuntime) -> Result<(), Fail> {
+    let rows = rows_of(rt.alloc(), "machine")?;
+    assert_eq!(rt; rows.len(), 7);
+    for row in rows.iter() {
+        let credit_max = row.given.parse::<u8>()?;
+        assert!(rt; 0 < credit_max && credit_max <= 10);
+        let mut machine = Transmit::new(credit_max, 4, 2, true);
+        for step in row.told.split('\t') {
+            let mut numbers = [0; 4];
+            for (number, digits) in numbers.iter_mut().zip(step.split(':')) {
+                *number = digits.parse::<u16>()?;
+            }
+            let [cause, times, interval, mark] = numbers;
+            let (Some(cause), Some(mark)) = (
+                CAUSES.get(usize::from(cause)),
+                MARKS.get(usize::from(mark)),
+            ) else {
+                panic!(rt; "{step} is no step");
+            };
+            assert!(rt; 0 < interval && interval <= 3600);
+            for _ in 0..times {
+                assert_eq!(rt;
+                    machine.event(*cause, interval),
+                    *mark,
+                    "{}: {step}",
+                    row.name
+                );
+            }
+        }
+    }
+    Ok(())
+}

@@ -1,0 +1,77 @@
+-- What C is told, by the lines of shows, and by the places of bodies.
+use Rattle.std.specs.Prelude.{◌≡◌, ℕ, ◌+◌, ◌*◌, ◌↔◌, false, List, [], ◌∷◌, ◌++◌, map, codes, decimal, Some, slice_get, slice_index}
+use Rattle.std.specs.Option.{option_map}
+use Rattle.lldp_pdu.specs.Tlv.{TlvUnit}
+use Rattle.lldp_pdu.specs.Msap.{IsIdentifier}
+use Rattle.lldp_pdu.specs.Kept.{IsKeptTlv}
+use Rattle.lldp_pdu.specs.Capabilities.{caps_of}
+use Rattle.lldp_pdu.specs.ManagementAddress.{address_of}
+use Rattle.lldp_table.specs.Events.{Neighbor}
+use Rattle.lldp_engine.specs.AgentState.{AgentState, PortState, IsPort}
+use Rattle.lldp_engine.specs.Keys.{port_key, neighbor_key, number_lines}
+use Rattle.lldp_engine.specs.NeighborLines.{neighbor_lines, kept_line}
+use Rattle.lldp_engine.specs.StatisticsLines.{counter_lines}
+use Rattle.lldp_engine.specs.ConfigurationLines.{configuration_lines, status_line}
+use Rattle.lldpa_c.specs.declared.bodies.LldpaCapabilities.{LldpaCapabilities}
+use Rattle.lldpa_c.specs.declared.bodies.LldpaManagement.{LldpaManagement}
+use Rattle.lldpa_c.specs.declared.held.LldpaHeld.{LldpaHeld}
+use Rattle.lldpa_c.specs.declared.settings.LldpaStatistics.{LldpaStatistics}
+use Rattle.lldpa_c.specs.declared.settings.LldpaConfiguration.{LldpaConfiguration}
+use Rattle.lldpa_c.specs.Bodies.{caps_told, address_told}
+use Rattle.lldpa_c.specs.Frame.{has_no_port}
+use Rattle.lldpa_c.specs.Held.{TellsNeighbor}
+use Rattle.lldpa_c.specs.Settings.{statistics_of, TellsConfiguration}
+use Rattle.lldpa_c.specs.Values.{tlv_value}
+
+-- each number behind the key of its line
+abbrev pub counters_told : LldpaStatistics → List (List ℕ × ℕ)
+counters_told told =
+    (codes "sent=", told.sent)
+    ∷ (codes "shutdowns=", told.shutdowns)
+    ∷ (codes "received=", told.received)
+    ∷ (codes "discarded=", told.discarded)
+    ∷ (codes "errors=", told.errors)
+    ∷ (codes "tlvs-discarded=", told.tlvs_discarded)
+    ∷ (codes "unrecognized=", told.unrecognized)
+    ∷ (codes "ageouts=", told.ageouts)
+    ∷ (codes "drops=", told.drops) ∷ []
+
+abbrev pub settings_told : LldpaConfiguration → List (List ℕ × ℕ)
+settings_told told =
+    (codes "tx-interval=", told.interval)
+    ∷ (codes "tx-hold=", told.hold)
+    ∷ (codes "ttl=", told.ttl)
+    ∷ (codes "reinit-delay=", told.reinit)
+    ∷ (codes "tx-fast-init=", told.fast_init)
+    ∷ (codes "tx-credit-max=", told.credit_max)
+    ∷ (codes "max-neighbors=", told.max_neighbors)
+    ∷ (codes "ports=", told.ports) ∷ []
+
+-- The numbers of structs are those of the lines of shows: all of `show statistics` of a port, all of `show
+-- configuration`, and that of `expires=` of a neighbor. Readers refuse exactly what is no port.
+pub record AreShown : Type 0 where
+  pub counters : (port : PortState) →
+      counter_lines port ≡ number_lines (port_key port.name) (counters_told (statistics_of port.counters))
+  pub settings : (agent : AgentState) (told : LldpaConfiguration) → TellsConfiguration agent told →
+      configuration_lines agent ≡ number_lines (codes "configuration.") (settings_told told) ++ map status_line agent.ports
+  pub left : (name room : List ℕ) (number : ℕ) (neighbor : Neighbor) (told : LldpaHeld) → TellsNeighbor neighbor room told →
+      slice_get (neighbor_lines name number neighbor) 3 ≡ Some (neighbor_key name number ++ (codes "expires=" ++ decimal told.left))
+  pub ports : (agent : AgentState) (port : ℕ) → (has_no_port agent port ≡ false) ↔ IsPort agent port
+
+-- What is written of TLVs are the lines of `show neighbors` behind `lldp.PORT.N.`: the first of a neighbor of its
+-- Chassis ID, the second of its Port ID, and those of its kept TLVs.
+pub record AreLines : Type 0 where
+  pub chassis : (name : List ℕ) (number : ℕ) (neighbor : Neighbor) → IsIdentifier neighbor.msap.chassis →
+      option_map (λ text. neighbor_key name number ++ text) (tlv_value 1 neighbor.msap.chassis) ≡ slice_get (neighbor_lines name number neighbor) 0
+  pub port : (name : List ℕ) (number : ℕ) (neighbor : Neighbor) → IsIdentifier neighbor.msap.port →
+      option_map (λ text. neighbor_key name number ++ text) (tlv_value 2 neighbor.msap.port) ≡ slice_get (neighbor_lines name number neighbor) 1
+  pub kept : (key : List ℕ) (tlv : TlvUnit) → IsKeptTlv tlv → option_map (λ text. key ++ text) (tlv_value tlv.kind tlv.body) ≡ Some (kept_line key tlv)
+
+-- The fields of the two bodies are the octets at these places: two pairs of octets; the octets behind the first one, and
+-- behind the address.
+pub record AreRead : Type 0 where
+  pub capabilities : (body : List ℕ) (told : LldpaCapabilities) → caps_of body ≡ Some (caps_told told) →
+      (told.available ≡ 256 * slice_index body 0 + slice_index body 1)
+      × (told.enabled ≡ 256 * slice_index body 2 + slice_index body 3)
+  pub management : (body : List ℕ) (told : LldpaManagement) → address_of body ≡ Some (address_told body told) →
+      (told.family ≡ slice_index body 1) × (told.numbering ≡ slice_index body (slice_index body 0 + 1))

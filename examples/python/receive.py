@@ -1,0 +1,125 @@
+#!/usr/bin/env python3
+"""Hears LLDP on an interface of Linux, and prints every neighbor that comes, changes, leaves or ages out.
+
+    LLDPA_LIB_DIR=FOLDER receive.py INTERFACE
+
+FOLDER has liblldpa.so.1; without it the linker's folders are searched. It needs the right to open packet sockets, and
+runs until it gets SIGTERM.
+"""
+from __future__ import annotations
+
+import select
+import signal
+import socket
+import struct
+import sys
+import time
+from ctypes import (CDLL, POINTER, Structure, byref, c_bool, c_char_p, c_size_t, c_uint8, c_uint32, c_void_p,
+                    create_string_buffer, pointer, sizeof)
+
+from who import Examined, Place, library
+
+ETHERTYPE_LLDP = 0x88cc
+REPORTS = {4: "new", 5: "changed", 7: "no room for", 8: "gone"}
+
+
+class Text(Structure):
+    """Octets, with no 0 behind them."""
+    _fields_ = [("octets", c_char_p), ("length", c_size_t)]
+
+
+class Options(Structure):
+    """What an agent is opened with."""
+    _fields_ = [("size", c_size_t), ("ports", POINTER(Text)), ("port_count", c_size_t), ("hostname", Text),
+                ("mac", c_uint8 * 6), ("management", c_uint8 * 4), ("managed", c_bool), ("receive_only", c_bool),
+                ("role", c_uint32), ("max_neighbors", c_uint32), ("credit_max", c_uint32),
+                ("fast_init", c_uint32), ("reinit", c_uint32)]
+
+
+class Handle(Structure):
+    """A handle of an agent."""
+    _fields_ = [("held", c_void_p), ("open", c_bool)]
+
+
+class News(Structure):
+    """What a frame did."""
+    _fields_ = [("chassis", Place), ("port", Place), ("what", c_uint32), ("fault", c_uint32)]
+
+
+class Held(Structure):
+    """A neighbor that a port holds."""
+    _fields_ = [("pdu", Examined), ("left", c_uint32)]
+
+
+class Ticks(Structure):
+    """What several ticks did."""
+    _fields_ = [("taken", c_uint32), ("aged_out", c_uint32)]
+
+
+def text_of(lldpa: CDLL, kind: int, body: bytes) -> str:
+    """Returns an identifier as `show neighbors` writes it."""
+    room, length = create_string_buffer(1058), c_size_t()
+    lldpa.lldpa_tlv_text(c_uint32(kind), body, c_size_t(len(body)), room, c_size_t(1058), byref(length))
+    return room.raw[:length.value].decode()
+
+
+def report(lldpa: CDLL, what: str, octets: bytes, chassis: Place, port: Place) -> None:
+    """Prints what happened to a neighbor."""
+    print(what, text_of(lldpa, 1, chassis.of(octets)), text_of(lldpa, 2, port.of(octets)), flush=True)
+
+
+def give_seconds(lldpa: CDLL, agent: Handle, passed: int) -> None:
+    """Gives the agent the seconds that passed, and prints the neighbors that age out."""
+    room, held, count = create_string_buffer(1500), Held(), c_uint32()
+    lldpa.lldpa_neighbor_count(byref(agent), c_uint32(0), byref(count))
+    for index in range(count.value):
+        lldpa.lldpa_neighbor(byref(agent), c_uint32(0), c_uint32(index), room, c_size_t(1500), byref(held))
+        if held.left <= passed:
+            report(lldpa, "aged out", room.raw, held.pdu.chassis, held.pdu.port)
+    while passed > 0:
+        done, marks = Ticks(), create_string_buffer(129)  # a port that only receives sends nothing
+        lldpa.lldpa_ticks(byref(agent), c_uint32(passed), marks, byref(done))
+        passed -= done.taken
+
+
+def give_frame(lldpa: CDLL, agent: Handle, frame: bytes) -> None:
+    """Gives the agent a frame, and prints what it did."""
+    marks, news = create_string_buffer(129), News()
+    lldpa.lldpa_frame(byref(agent), c_uint32(0), frame, c_size_t(len(frame)), marks, byref(news))
+    if news.what in REPORTS:
+        report(lldpa, REPORTS[news.what], frame, news.chassis, news.port)
+
+
+def opened(lldpa: CDLL, interface: str) -> Handle:
+    """Returns an agent with one port, which only receives."""
+    name, handle = Text(interface.encode(), len(interface.encode())), Handle()
+    options = Options(sizeof(Options), pointer(name), 1, receive_only=True, max_neighbors=32, credit_max=5,
+                      fast_init=4, reinit=2)
+    fault = lldpa.lldpa_open(byref(options), byref(handle))
+    if fault != 0:
+        sys.exit(f"receive.py: fault {fault}")
+    return handle
+
+
+def main() -> None:
+    """Reports what is heard."""
+    signal.signal(signal.SIGTERM, lambda *_: sys.exit(0))
+    interface, lldpa = sys.argv[1], library()
+    agent, due = opened(lldpa, interface), c_uint32()
+    heard = socket.socket(socket.AF_PACKET, socket.SOCK_RAW, socket.htons(ETHERTYPE_LLDP))
+    heard.bind((interface, ETHERTYPE_LLDP))
+    group = struct.pack("iHH8s", socket.if_nametoindex(interface), 0, 6, bytes.fromhex("0180c200000e"))
+    heard.setsockopt(263, 1, group)  # SOL_PACKET, PACKET_ADD_MEMBERSHIP
+    now = int(time.monotonic())
+    while True:
+        lldpa.lldpa_due(byref(agent), byref(due))
+        came = select.select([heard], [], [], min(due.value, 3600))[0]
+        # First the seconds that passed, and then the frame.
+        before, now = now, int(time.monotonic())
+        give_seconds(lldpa, agent, now - before)
+        if came:
+            give_frame(lldpa, agent, heard.recv(2048))
+
+
+if __name__ == "__main__":
+    main()

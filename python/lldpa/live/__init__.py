@@ -1,1 +1,0 @@
-"""lldpa-live: gives an agent interfaces, their frames and the clock."""

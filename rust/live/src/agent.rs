@@ -1,0 +1,225 @@
+//! The agent, and each one that replaces it if it must have other ports or another management address: the new one
+//! is opened beside the old one and brought to its state, and only then the old one is closed. The lines that do so
+//! have the settings in force, and each neighbor's last LLDPDU with the seconds between them. Each later file of the
+//! log begins with them, and the state of one lldpa-live has those of the tables for the next.
+
+use crate::links::Mac;
+use crate::options::AgentOptions;
+use crate::said::Hex;
+use lldpa::{Agent, Msap, OpenFault, Options, Sent, Show, Status};
+use std::cmp::Reverse;
+use std::fmt;
+use std::net::Ipv4Addr;
+
+const MOST_TTL: u32 = 65535;
+const FRONT: [u8; 14] = [0x01, 0x80, 0xc2, 0, 0, 0x0e, 0, 0, 0, 0, 0, 0, 0x88, 0xcc];
+const END: [u8; 2] = [0, 0];
+const LONGEST_FRAME: usize = 1514;
+
+#[derive(Clone, Debug, PartialEq)]
+pub enum Line {
+    Command(String),
+    Frame(String, Vec<u8>),
+    Ticks(u32),
+    Link(String, bool),
+}
+
+impl fmt::Display for Line {
+    fn fmt(&self, out: &mut fmt::Formatter<'_>) -> fmt::Result {
+        match self {
+            Line::Command(line) => out.write_str(line),
+            Line::Frame(port, octets) => write!(out, "rx {port} {}", Hex(octets)),
+            Line::Ticks(1) => out.write_str("tick"),
+            Line::Ticks(count) => write!(out, "tick {count}"),
+            Line::Link(port, is_up) => write!(out, "{} {port}", if *is_up { "up" } else { "down" }),
+        }
+    }
+}
+
+pub fn lines_text(lines: &[Line]) -> String {
+    lines.iter().map(|line| format!("{line}\n")).collect()
+}
+
+pub fn set_status(port: &str, status: Status) -> Line {
+    let status = match status {
+        Status::RxAndTx => "rx-and-tx",
+        Status::RxOnly => "rx-only",
+        Status::TxOnly => "tx-only",
+        Status::Disabled => "disabled",
+    };
+    Line::Command(format!("configure ports {port} lldp status {status}"))
+}
+
+/// The status with which a port does the same, but sends nothing.
+pub fn without_sending(status: Status) -> Status {
+    match status {
+        Status::RxAndTx => Status::RxOnly,
+        Status::TxOnly => Status::Disabled,
+        other => other,
+    }
+}
+
+/// The line that sets the name or the description of the system, which have no double quote.
+pub fn set_text(what: &str, text: &str) -> Line {
+    Line::Command(format!("configure system {what} \"{text}\""))
+}
+
+/// The line of a neighbor's LLDPDU.
+fn frame(port: &str, octets: &[u8]) -> Line {
+    let mut frame = [&FRONT[..], octets].concat();
+    if frame.len() + END.len() <= LONGEST_FRAME {
+        frame.extend_from_slice(&END);
+    }
+    Line::Frame(port.into(), frame)
+}
+
+/// The line of an LLDPDU with the two identifiers and a time to live alone.
+fn made(port: &str, msap: &Msap<'_>, ttl: u32) -> Line {
+    let mut octets = Vec::new();
+    for (kind, body) in [(1u16, msap.chassis), (2, msap.port), (3, &(ttl as u16).to_be_bytes()[..])] {
+        octets.extend_from_slice(&(kind << 9 | body.len() as u16).to_be_bytes());
+        octets.extend_from_slice(body);
+    }
+    frame(port, &octets)
+}
+
+/// An open agent, and what it was opened with.
+pub struct Running {
+    pub agent: Agent,
+    pub names: Vec<String>,
+    mac: Mac,
+    hostname: String,
+    management: Option<Ipv4Addr>,
+}
+
+impl Running {
+    pub fn open(
+        options: &AgentOptions,
+        names: Vec<String>,
+        mac: Mac,
+        hostname: String,
+        management: Option<Ipv4Addr>,
+    ) -> Result<Running, OpenFault> {
+        let ports: Vec<&str> = names.iter().map(String::as_str).collect();
+        let agent = Agent::open(&Options {
+            ports: &ports,
+            hostname: &hostname,
+            mac,
+            management: management.map(|address| address.octets()),
+            ..options.numbers
+        })?;
+        Ok(Running { agent, names, mac, hostname, management })
+    }
+
+    /// Opens the agent that replaces this one, and gives it these lines. What its ports send in them is not sent.
+    pub fn replacement(
+        &self,
+        options: &AgentOptions,
+        names: Vec<String>,
+        management: Option<Ipv4Addr>,
+        head: &[Line],
+    ) -> Result<Running, OpenFault> {
+        let mut next = Running::open(options, names, self.mac, self.hostname.clone(), management)?;
+        for line in head {
+            next.take(line);
+        }
+        Ok(next)
+    }
+
+    pub fn words(&self, options: &AgentOptions) -> String {
+        options.words(self.mac, &self.hostname, self.management, &self.names)
+    }
+
+    pub fn number(&self, name: &str) -> Option<u8> {
+        self.names.iter().position(|port| port == name).map(|place| place as u8)
+    }
+
+    /// Takes a line. What it refuses changes nothing. Returns which ports send.
+    pub fn take(&mut self, line: &Line) -> Vec<Sent> {
+        let mut sent = Vec::new();
+        match line {
+            Line::Command(line) => {
+                sent.extend(self.agent.command(line).into_iter().flat_map(|done| done.sent))
+            }
+            Line::Frame(name, octets) => {
+                let number = self.number(name);
+                sent.extend(
+                    number.and_then(|port| self.agent.frame(port, octets).ok()).into_iter().flatten(),
+                );
+            }
+            Line::Link(name, is_up) => {
+                let number = self.number(name);
+                sent.extend(number.and_then(|port| self.agent.link(port, *is_up).ok()).into_iter().flatten());
+            }
+            Line::Ticks(count) => {
+                let mut left = *count;
+                while left > 0 {
+                    let ticks = self.agent.ticks(left);
+                    left -= ticks.taken;
+                    sent.extend(ticks.sent);
+                }
+            }
+        }
+        sent
+    }
+
+    /// The value of the line of `show chassis` with that key, as it was set.
+    pub fn chassis(&self, key: &str) -> String {
+        let show = self.agent.show(Show::Chassis);
+        let front = format!("local-chassis.{key}=");
+        let value = show.lines().find_map(|line| line.strip_prefix(&front)).unwrap_or("");
+        value.replace("\\\\", "\\")
+    }
+
+    /// The lines that lead to the tables of these ports, and how many seconds pass in them. First comes a short LLDPDU of
+    /// each neighbor, in the order of the tables; then the last ones, in the order in which they came.
+    pub fn tables(&self, names: &[String]) -> (Vec<Line>, u32) {
+        let (mut lines, mut last) = (Vec::new(), Vec::new());
+        for (port, name) in self.names.iter().enumerate().filter(|one| names.contains(one.1)) {
+            for one in self.agent.neighbors(port as u8).into_iter().flatten() {
+                if let Some(info) = one.info() {
+                    lines.push(made(name, &info.msap(), MOST_TTL));
+                    last.push((u32::from(info.ttl()).saturating_sub(one.left()), frame(name, one.octets())));
+                }
+            }
+        }
+        last.sort_by_key(|one| Reverse(one.0));
+        let oldest = last.first().map_or(0, |one| one.0);
+        let mut age = oldest;
+        for (next, line) in last {
+            lines.extend((age > next).then(|| Line::Ticks(age - next)));
+            lines.push(line);
+            age = next;
+        }
+        lines.extend((age > 0).then_some(Line::Ticks(age)));
+        (lines, oldest)
+    }
+
+    /// The lines that bring an agent of these ports, which sends nothing meanwhile, to the state of this one. `full` has
+    /// the ports that had no room for a neighbor, and how long it would have stayed; `downs` those without a link.
+    pub fn head(&self, names: &[String], new: Status, full: &[(String, u32)], downs: &[String]) -> Vec<Line> {
+        let told = self.agent.configuration();
+        let status = |name: &String| self.number(name).map_or(new, |place| told.status[usize::from(place)]);
+        let limit = |number: u32| Line::Command(format!("configure lldp max-neighbors {number}"));
+        let (tables, oldest) = self.tables(names);
+        let mut lines: Vec<Line> =
+            names.iter().map(|name| set_status(name, without_sending(status(name)))).collect();
+        let name = Some(self.chassis("name")).filter(|name| !name.contains('"')); // no command could set such a one
+        lines.extend(name.map(|name| set_text("hostname", &name)));
+        lines.push(set_text("description", &self.chassis("descr")));
+        lines.push(Line::Command(format!("configure lldp tx-interval {}", told.interval)));
+        lines.push(Line::Command(format!("configure lldp tx-hold {}", told.hold)));
+        for (port, left) in full {
+            // Two neighbors of which the port drops one, while its table is empty.
+            let named = |name: &'static [u8], ttl| made(port, &Msap { chassis: name, port: name }, ttl);
+            let dropped = named(b"\x07dropped", MOST_TTL.min(left + oldest));
+            lines.extend([limit(1), named(b"\x07held", MOST_TTL), dropped, named(b"\x07held", 0)]);
+        }
+        lines.push(limit(told.max_neighbors));
+        lines.extend(tables);
+        let sends = |name: &&String| without_sending(status(name)) != status(name);
+        lines.extend(names.iter().filter(sends).map(|name| set_status(name, status(name))));
+        lines.extend(downs.iter().map(|port| Line::Link(port.clone(), false)));
+        lines
+    }
+}

@@ -1,0 +1,136 @@
+//! What is answered to questions, and the settings: lines that are refused do not keep the agent down.
+
+use crate::clock::{self, SECOND};
+use crate::live::Live;
+use crate::patterns;
+use crate::reports::{counted, notice, warn};
+use crate::settings::{self, explained, first_word, Setting, LONGEST_LINE};
+use crate::since;
+
+/// How long clients are answered before all else has its turn.
+const MOST_AT_ONCE: i64 = SECOND / 10;
+const OF_THE_BRIDGE: [&str; 4] = ["tick", "rx", "up", "down"];
+const CHANGING: [&str; 2] = ["configure", "update"];
+
+impl Live {
+    /// Answers what clients have asked, each one question, and follows the host's name.
+    pub fn serve(&mut self, is_asked: bool) {
+        self.next_look = clock::now() + SECOND;
+        self.follow_name();
+        if let Some(control) = &mut self.control {
+            control.turn(clock::now(), is_asked);
+        }
+        let (mut from, begin) = (std::mem::take(&mut self.next_client), clock::now());
+        while let Some(question) = self.control.as_mut().and_then(|control| control.question(from)) {
+            let answer = self.answer(&question.line, question.may_change);
+            if let Some(control) = &mut self.control {
+                from = control.reply(&question, &answer, clock::now());
+            }
+            if clock::now() - begin > MOST_AT_ONCE {
+                self.next_client = from;
+                return;
+            }
+        }
+    }
+
+    fn answer(&mut self, line: &[u8], may_change: bool) -> String {
+        if let Some(refusal) = refusal(line, may_change) {
+            return refusal.into();
+        }
+        self.catch_up();
+        if first_word(line) == "live" {
+            return self.about();
+        }
+        if self.running.is_none() {
+            return format!("error: waiting for an interface: {}\n", self.awaited());
+        }
+        self.command(line).unwrap_or_else(|refusal| refusal + "\n")
+    }
+
+    fn about(&mut self) -> String {
+        self.ports.count_drops();
+        let own = [
+            ("began", clock::written(self.began.div_euclid(SECOND))),
+            ("agent", if self.running.is_some() { "running" } else { "waiting" }.into()),
+            ("seconds", self.clock.given.to_string()),
+            ("settings-refused", self.not_taken.to_string()),
+            ("ports-refused", self.ports.refused.len().to_string()),
+            ("log", self.log.state().into()),
+            ("log-lines-lost", self.log.lost.to_string()),
+        ];
+        let mut text: String = own.iter().map(|(key, value)| format!("live.{key}={value}\n")).collect();
+        text.extend(self.ports.all.iter().map(|port| port.about()));
+        text.extend(self.ports.all.iter().map(|port| since::lines(&port.name, &port.held)));
+        text + &since::chassis_lines(self.held().map(|(_, held)| held))
+    }
+
+    /// Gives the agent the settings of all files, and reports what was not applied.
+    pub fn settle(&mut self, is_first: bool) {
+        let (read, unread) = settings::read(&self.given.config);
+        unread.iter().for_each(|line| warn(line));
+        self.not_taken = unread.len();
+        self.settings = read.iter().filter(|setting| setting.port().is_some()).cloned().collect();
+        self.apply(&read);
+        match self.not_taken {
+            0 if is_first => (),
+            0 => notice("the settings were read again"),
+            1 => warn("1 setting was not applied"),
+            count => warn(&format!("{} were not applied", counted(count, "setting"))),
+        }
+    }
+
+    pub fn settle_later(&mut self, names: &[String]) {
+        let is_theirs = |setting: &&Setting| setting.port().map_or(false, |port| names.contains(&port));
+        let settings: Vec<Setting> = self.settings.iter().filter(is_theirs).cloned().collect();
+        self.apply(&settings);
+    }
+
+    pub fn reload(&mut self) {
+        if self.running.is_some() {
+            self.manager.reloading();
+            self.catch_up();
+            self.settle(false);
+            self.manager.ready();
+        }
+    }
+
+    /// Gives the agent settings, and reports those that are refused.
+    fn apply(&mut self, settings: &[Setting]) {
+        for setting in settings {
+            if let Some(why) = self.why_refused(setting) {
+                warn(&setting.refused(&why));
+                self.not_taken += 1;
+            }
+        }
+    }
+
+    /// Gives the agent a setting. Returns why it is refused. One of a port that a pattern may give waits for it.
+    fn why_refused(&mut self, setting: &Setting) -> Option<String> {
+        let word = first_word(&setting.line);
+        if setting.line.len() > LONGEST_LINE {
+            return Some("line too long".into());
+        }
+        if word != "configure" {
+            return Some(format!("{word} is not `configure`"));
+        }
+        let refusal = self.command(&setting.line).err()?;
+        let text = refusal.trim_start_matches("error: ");
+        let waits = |port: String| text == "no such port" && patterns::may_give(&self.given.parts, &port);
+        (!setting.port().map_or(false, waits)).then(|| explained(&setting.line, text))
+    }
+}
+
+/// The answer to a line that goes to no agent: one that is too long, says nothing, is only for lldpa-live to say,
+/// changes the agent and may not, or is not a question.
+pub fn refusal(line: &[u8], may_change: bool) -> Option<&'static str> {
+    let word = first_word(line);
+    let first = line.iter().find(|octet| !b" \t".contains(octet));
+    match &word[..] {
+        _ if line.len() > LONGEST_LINE => Some("error: line too long\n"),
+        _ if OF_THE_BRIDGE.contains(&&word[..]) => Some("error: for lldpa-live alone\n"),
+        _ if matches!(first, None | Some(b'#')) => Some(""),
+        _ if CHANGING.contains(&&word[..]) && !may_change => Some("error: no permission\n"),
+        "live" | "show" | "configure" | "update" => None,
+        _ => Some("error: unknown command\n"),
+    }
+}

@@ -1,0 +1,103 @@
+//! The seconds that the agent was given, by the clock that also counts while the machine sleeps, and the wall clock.
+
+use crate::sys;
+
+pub const SECOND: i64 = 1_000_000_000;
+pub const MILLISECOND: i64 = 1_000_000;
+/// The least change between the two clocks that counts: less may be due to reading them.
+const LEAST_CHANGE: i64 = MILLISECOND;
+/// What two stamps may differ in their order from two moments.
+pub const INEXACT: i64 = LEAST_CHANGE;
+
+pub fn now() -> i64 {
+    sys::clock(7)
+}
+
+/// The present time by the wall clock, in nanoseconds since 1970.
+pub fn wall() -> i64 {
+    sys::clock(0)
+}
+
+/// Counts whole seconds from its beginning on. Each is given once and none is lost, however late it is asked for,
+/// and whatever is done to the wall clock.
+pub struct Clock {
+    begin: i64,
+    /// How many seconds were given.
+    pub given: i64,
+    ahead: i64,
+}
+
+impl Clock {
+    pub fn new() -> Clock {
+        Clock { begin: now(), given: 0, ahead: wall_clock_ahead() }
+    }
+
+    /// Notes how far the clocks are apart if that has changed, and otherwise keeps it, so that the moments of
+    /// stamps have the order of the stamps.
+    pub fn note_wall_clock(&mut self) {
+        let ahead = wall_clock_ahead();
+        if (ahead - self.ahead).abs() > LEAST_CHANGE {
+            self.ahead = ahead;
+        }
+    }
+
+    /// The moment of a stamp by the wall clock. It is never later than now.
+    pub fn moment(&self, stamp: Option<i64>) -> i64 {
+        stamp.map_or(i64::MAX, |stamp| stamp - self.ahead).min(now())
+    }
+
+    /// How many seconds end up to a moment and were not given.
+    pub fn missing(&self, moment: i64) -> u32 {
+        ((moment - self.begin).div_euclid(SECOND) - self.given).clamp(0, i64::from(u32::MAX)) as u32
+    }
+
+    /// The moment at which a second ends, counted from the last one that was given.
+    pub fn end_of(&self, seconds: u32) -> i64 {
+        self.begin + (self.given + i64::from(seconds)) * SECOND
+    }
+}
+
+/// How far the wall clock is ahead. Of three readings the one counts that was interrupted least.
+fn wall_clock_ahead() -> i64 {
+    let readings = [(); 3].map(|()| {
+        let before = now();
+        let wall = wall();
+        (now() - before, wall - before)
+    });
+    readings.iter().min().map_or(0, |reading| reading.1)
+}
+
+/// A time of the wall clock, in seconds since 1970: year, month, day, hour, minute, second.
+fn civil(seconds: i64) -> [i64; 6] {
+    let (days, rest) = (seconds.div_euclid(86_400) + 719_468, seconds.rem_euclid(86_400));
+    let (era, day) = (days.div_euclid(146_097), days.rem_euclid(146_097));
+    let year = (day - day / 1460 + day / 36_524 - day / 146_096) / 365;
+    let day = day - (365 * year + year / 4 - year / 100);
+    let month = (5 * day + 2) / 153;
+    let date = day - (153 * month + 2) / 5 + 1;
+    let month = if month < 10 { month + 3 } else { month - 9 };
+    [year + era * 400 + i64::from(month <= 2), month, date, rest / 3600, rest / 60 % 60, rest % 60]
+}
+
+/// As `2026-11-23T19:40:00Z`.
+pub fn written(seconds: i64) -> String {
+    let [year, month, day, hour, minute, second] = civil(seconds);
+    format!("{year:04}-{month:02}-{day:02}T{hour:02}:{minute:02}:{second:02}Z")
+}
+
+/// As `20261123T194000Z`, in names of files.
+pub fn short(seconds: i64) -> String {
+    written(seconds).replace(&['-', ':'][..], "")
+}
+
+#[cfg(test)]
+mod tests {
+    use super::*;
+
+    #[test]
+    fn times_are_those_of_the_calendar() {
+        assert_eq!(written(951_782_400), "2000-02-29T00:00:00Z");
+        assert_eq!(written(4_107_542_399), "2100-02-28T23:59:59Z");
+        assert_eq!(short(4_107_542_400), "21000301T000000Z");
+    }
+}

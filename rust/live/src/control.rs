@@ -1,0 +1,243 @@
+//! The control socket: a question is a line, its answer `=N` and N lines. Its mode says who may connect: 0600, or
+//! 0660 for the members of a group. They may do everything. If the mode is widened to 0666, everybody may ask, and
+//! `configure` and `update` stay with root, the owner and the group.
+
+use crate::clock::SECOND;
+use crate::listening::{Listening, Peer};
+use crate::reports::warn;
+use crate::rights::text_of;
+use crate::settings::LONGEST_LINE;
+use crate::sys::Polled;
+use std::io::{ErrorKind, Read, Result, Write};
+use std::os::unix::net::UnixStream;
+
+const MOST_CLIENTS: usize = 64;
+const KEPT: usize = 8; // further places, for root and the owner of the socket alone
+const TO_READ: i64 = 10 * SECOND;
+const IDLENESS: i64 = 60 * SECOND;
+const MOST_READS: usize = 64; // of a client at a turn
+const MOST_UNREAD: usize = 64 << 20; // octets of all answers together that wait for their readers
+
+/// A line of a client, and whether it may change the agent.
+pub struct Question {
+    place: usize,
+    pub line: Vec<u8>,
+    pub may_change: bool,
+}
+
+struct Client {
+    stream: UnixStream,
+    peer: Peer,
+    asked: Vec<u8>,
+    is_at_end: bool,
+    answer: Vec<u8>,
+    sent: usize,
+    /// Since when its answer is not read whole, or nothing was asked.
+    since: i64,
+    is_served: bool,
+    is_over: bool,
+}
+
+impl Client {
+    /// The next line. Of one that is too long, a part that is too long as well.
+    fn next_line(&mut self) -> Option<Vec<u8>> {
+        if !self.answer.is_empty() {
+            return None;
+        }
+        if let Some(end) = self.asked.iter().position(|octet| *octet == b'\n') {
+            let mut line: Vec<u8> = self.asked.drain(..=end).collect();
+            line.pop();
+            return Some(line);
+        }
+        let is_last = self.is_at_end && !self.asked.is_empty();
+        is_last.then(|| std::mem::take(&mut self.asked))
+    }
+
+    /// Reads what has come, unless a whole line or an answer waits.
+    fn read(&mut self) {
+        let mut room = [0u8; LONGEST_LINE];
+        for _ in 0..MOST_READS {
+            if !self.answer.is_empty() || self.is_at_end || self.asked.contains(&b'\n') {
+                return;
+            }
+            match self.stream.read(&mut room) {
+                Ok(0) => self.is_at_end = true,
+                Ok(length) => self.take(&room[..length]),
+                Err(fault) if fault.kind() == ErrorKind::WouldBlock => return,
+                Err(_) => {
+                    self.is_over = true;
+                    return;
+                }
+            }
+        }
+    }
+
+    /// Takes octets; of a line that is too long it keeps no more than shows that.
+    fn take(&mut self, octets: &[u8]) {
+        let end = octets.iter().position(|octet| *octet == b'\n').unwrap_or(octets.len());
+        let room = (LONGEST_LINE + 1).saturating_sub(self.asked.len());
+        self.asked.extend_from_slice(&octets[..end.min(room)]);
+        self.asked.extend_from_slice(&octets[end..]);
+    }
+
+    fn send(&mut self) {
+        while self.sent < self.answer.len() {
+            match self.stream.write(&self.answer[self.sent..]) {
+                Ok(length) => self.sent += length,
+                Err(fault) if fault.kind() == ErrorKind::WouldBlock => return,
+                Err(fault) if fault.kind() == ErrorKind::Interrupted => (),
+                Err(_) => {
+                    self.is_over = true;
+                    return;
+                }
+            }
+        }
+        self.answer = Vec::new();
+        self.sent = 0;
+        self.is_over |= !self.is_served;
+    }
+}
+
+pub struct Control {
+    path: String,
+    listening: Listening,
+    clients: Vec<Client>,
+    /// Until when no client is accepted.
+    pause: i64,
+    /// Whether the socket was removed, and could not be made again.
+    is_lost: bool,
+}
+
+impl Control {
+    /// Takes the path, while lldpa-live still has the right to.
+    pub fn open(path: &str, group: Option<u32>) -> Result<Control> {
+        let listening = Listening::open(path, group)?;
+        Ok(Control { path: path.into(), listening, clients: Vec::new(), pause: 0, is_lost: false })
+    }
+
+    pub fn polled(&self, now: i64) -> Vec<Polled> {
+        let mut set = Vec::new();
+        if now >= self.pause {
+            set.push(Polled::new(&self.listening.socket, Polled::IN));
+        }
+        set.extend(self.listening.watch.as_ref().map(|watch| Polled::new(watch, Polled::IN)));
+        let wanted = |client: &Client| if client.answer.is_empty() { Polled::IN } else { Polled::OUT };
+        set.extend(self.clients.iter().map(|client| Polled::new(&client.stream, wanted(client))));
+        set
+    }
+
+    pub fn deadline(&self, now: i64) -> Option<i64> {
+        let unread = self.clients.iter().filter(|client| !client.answer.is_empty());
+        let pause = Some(self.pause).filter(|pause| *pause > now);
+        unread.map(|client| client.since + TO_READ).chain(pause).min()
+    }
+
+    /// Accepts, reads and sends what can be; makes the socket again if it was removed.
+    pub fn turn(&mut self, now: i64, is_asked: bool) {
+        let _ = self.listening.watch.as_mut().map(|watch| watch.read(&mut [0u8; 256]));
+        if !self.listening.is_there() {
+            let renewed = self.listening.renew();
+            let was_lost = std::mem::replace(&mut self.is_lost, renewed.is_err());
+            if let (Err(fault), false) = (renewed, was_lost) {
+                let what = "the control socket was removed, and cannot be made again";
+                warn(&format!("{}: {what}: {}", self.path, text_of(&fault)));
+            }
+        }
+        for client in &mut self.clients {
+            client.send();
+            client.read();
+            let is_late = !client.answer.is_empty() && now - client.since >= TO_READ;
+            let is_left = client.is_at_end && client.asked.is_empty() && client.answer.is_empty();
+            client.is_over |= is_late || is_left;
+        }
+        self.clients.retain(|client| !client.is_over);
+        if is_asked && now >= self.pause {
+            self.accept(now);
+        }
+    }
+
+    fn accept(&mut self, now: i64) {
+        for _ in 0..MOST_CLIENTS {
+            match self.listening.socket.accept() {
+                Ok((stream, _)) => {
+                    if stream.set_nonblocking(true).is_ok() {
+                        self.admit(stream, now);
+                    }
+                }
+                Err(fault) if fault.kind() == ErrorKind::WouldBlock => return,
+                Err(_) => {
+                    self.pause = now + SECOND;
+                    return;
+                }
+            }
+        }
+    }
+
+    /// Gives a client its place, or answers that there is none. One that has been idle for a minute gives way.
+    fn admit(&mut self, stream: UnixStream, now: i64) {
+        let peer = Peer::of(&stream);
+        let most = if peer.is_preferred(&self.path) { MOST_CLIENTS + KEPT } else { MOST_CLIENTS };
+        let served = || self.clients.iter().filter(|client| client.is_served).count();
+        let mut is_served = served() < most;
+        if !is_served {
+            let is_idle = |client: &Client| client.answer.is_empty() && now - client.since >= IDLENESS;
+            let idle = (0..self.clients.len()).filter(|place| is_idle(&self.clients[*place]));
+            if let Some(longest) = idle.min_by_key(|place| self.clients[*place].since) {
+                self.clients.remove(longest);
+                is_served = true;
+            }
+        }
+        let answer = if is_served { Vec::new() } else { b"=1\nerror: too many clients\n".to_vec() };
+        let (asked, is_at_end, sent, since, is_over) = (Vec::new(), false, 0, now, false);
+        let mut client = Client { stream, peer, asked, is_at_end, answer, sent, since, is_served, is_over };
+        client.send();
+        client.read();
+        let is_left = client.is_at_end && client.asked.is_empty() && client.answer.is_empty();
+        self.clients.extend(Some(client).filter(|_| !is_left));
+    }
+
+    /// The next question of each client, from that place on.
+    pub fn question(&mut self, from: usize) -> Option<Question> {
+        let mut places = from..self.clients.len();
+        places.find_map(|place| {
+            let client = &mut self.clients[place];
+            let line = client.next_line()?;
+            Some(Question { place, line, may_change: client.peer.may_change(&self.path) })
+        })
+    }
+
+    pub fn reply(&mut self, question: &Question, text: &str, now: i64) -> usize {
+        let count = text.bytes().filter(|octet| *octet == b'\n').count();
+        let client = &mut self.clients[question.place];
+        client.answer = format!("={count}\n{text}").into_bytes();
+        client.since = now;
+        client.send();
+        self.end_slowest();
+        question.place + 1
+    }
+
+    pub fn has_more(&self) -> bool {
+        let is_whole = |client: &Client| client.asked.contains(&b'\n') || client.is_at_end;
+        self.clients.iter().any(|client| client.answer.is_empty() && is_whole(client))
+    }
+
+    /// Ends the connections that have waited longest, while too much waits to be read.
+    fn end_slowest(&mut self) {
+        let left = |client: &Client| client.answer.len() - client.sent;
+        while self.clients.iter().map(left).sum::<usize>() > MOST_UNREAD {
+            let waiting = self.clients.iter_mut().filter(|client| !client.answer.is_empty());
+            match waiting.min_by_key(|client| client.since) {
+                Some(slowest) => {
+                    slowest.is_over = true;
+                    slowest.answer = Vec::new();
+                    slowest.sent = 0;
+                }
+                None => return,
+            }
+        }
+    }
+
+    pub fn close(&self) {
+        self.listening.close();
+    }
+}

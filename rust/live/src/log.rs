@@ -1,0 +1,238 @@
+//! The log of a session: the trace that the agent is given, with the wall clock as comments, in files that a thread
+//! writes. lldpa-live never waits for it. What the disk does not take in time waits, within bounds; what finds no
+//! room is lost and counted, and then a new file has to begin, since a trace with a gap replays to something else.
+//! The thread also writes the state.
+
+use crate::clock::{self, SECOND};
+use crate::files::{self, Files};
+use crate::reports::warn;
+use crate::rights::text_of;
+use crate::state;
+use std::fmt::{Display, Write};
+use std::io::{Error, Result};
+use std::sync::mpsc::{channel, Receiver, Sender};
+use std::thread;
+use std::time::Duration;
+
+const MOST_WAITING: usize = 4_000_000; // octets
+const TO_STALL: i64 = 5 * SECOND;
+const BETWEEN_TRIES: i64 = 10 * SECOND;
+const MEGABYTE: u64 = 1_000_000;
+
+/// Writes something, and returns the path of the file.
+type Work = Box<dyn FnOnce(&mut Files) -> Result<String> + Send>;
+
+/// What the thread is to do with so many octets and lines of the log, none for a state.
+struct Job(usize, u64, Work);
+
+/// What has become of it.
+struct Done(usize, u64, Result<String>);
+
+#[derive(Default)]
+pub struct Log {
+    /// The folder, if there is a log.
+    path: Option<String>,
+    most: u64,
+    keep: u64,
+    thread: Option<(Sender<Job>, Receiver<Done>)>,
+    unanswered: usize,
+    waiting_octets: usize,
+    waiting_lines: u64,
+    /// How long the next answer was waited for, and when that was last looked at.
+    waited: i64,
+    looked: i64,
+    /// `stalled` or `full`, or nothing.
+    trouble: &'static str,
+    pub lost: u64,
+    lost_told: u64,
+    /// Whether nothing was lost since a file began, and whether it has stalled since.
+    is_whole: bool,
+    has_stalled: bool,
+    next_try: i64,
+    /// The octets of the file, and with how many the next may follow; 0 before the first.
+    size: u64,
+    least: u64,
+    /// The second of the last comment.
+    second: Option<i64>,
+    /// Lines that were not handed over yet.
+    kept: String,
+    kept_lines: u64,
+}
+
+impl Log {
+    pub fn new(path: Option<String>, most: u64, keep: u64) -> Log {
+        Log { path, most: most * MEGABYTE, keep: keep * MEGABYTE, ..Log::default() }
+    }
+
+    /// Begins a file with the words of the agent, and the lines that it was given in advance.
+    pub fn begin(&mut self, words: &str, lines: &str) {
+        self.hand_over();
+        self.second = None;
+        if self.path.is_some() {
+            let octets = format!("# lldpa {words}\n{lines}").into_bytes();
+            let is_late = !self.trouble.is_empty() || self.waiting_octets + octets.len() > MOST_WAITING;
+            if self.waiting_octets > 0 && is_late {
+                self.is_whole = false; // the file begins later
+                return;
+            }
+            self.size = octets.len() as u64;
+            self.least = self.most.max(self.size + self.most / 2);
+            self.is_whole = true;
+            self.has_stalled = false;
+            self.send(Job(octets.len(), 0, Box::new(move |files| files.begin(&octets))));
+        }
+    }
+
+    /// Notes a line with its moment, and before the first of each second the wall clock.
+    pub fn write(&mut self, moment: i64, line: &dyn Display) {
+        if self.path.is_none() {
+            return;
+        }
+        let second = (moment + clock::wall() - clock::now()).div_euclid(SECOND);
+        if self.second.replace(second) != Some(second) {
+            let _ = writeln!(self.kept, "# {}", clock::written(second));
+        }
+        let _ = writeln!(self.kept, "{line}");
+        self.kept_lines += 1;
+    }
+
+    /// Hands over the lines that are kept. If they have no room they are lost.
+    fn hand_over(&mut self) {
+        let (octets, lines) =
+            (std::mem::take(&mut self.kept).into_bytes(), std::mem::take(&mut self.kept_lines));
+        self.is_whole &= self.waiting_octets + octets.len() <= MOST_WAITING;
+        if !self.is_whole && lines > 0 {
+            self.lost += lines;
+            self.stall("is behind, and lines are lost; lldpa-live continues");
+        } else if lines > 0 {
+            self.size += octets.len() as u64;
+            self.send(Job(octets.len(), lines, Box::new(move |files| files.write(&octets))));
+        }
+    }
+
+    /// Hands over a state, unless the disk is late already.
+    pub fn write_state(&mut self, path: &str, octets: Vec<u8>) {
+        if self.waited < TO_STALL {
+            let path = path.to_string();
+            self.send(Job(0, 0, Box::new(move |_| state::write(&path, &octets).map(|()| path))));
+        }
+    }
+
+    fn send(&mut self, job: Job) {
+        let files = Files::new(self.path.clone().unwrap_or_default(), self.keep);
+        let (jobs, _) = self.thread.get_or_insert_with(|| start(files));
+        self.looked = if self.unanswered == 0 { clock::now() } else { self.looked };
+        self.unanswered += 1;
+        self.waiting_octets += job.0;
+        self.waiting_lines += job.1;
+        let _ = jobs.send(job);
+    }
+
+    /// Hands over what is kept, takes the answers that have come in, and notes that they are overdue. If this
+    /// process itself stood still, that counts as a second.
+    pub fn turn(&mut self) {
+        self.hand_over();
+        while let Some(done) = self.thread.as_ref().and_then(|thread| thread.1.try_recv().ok()) {
+            self.take(done);
+        }
+        let now = clock::now();
+        self.waited = if self.unanswered > 0 { self.waited + (now - self.looked).min(SECOND) } else { 0 };
+        self.looked = now;
+        if self.waiting_octets > 0 && self.waited >= TO_STALL {
+            self.stall("has made no progress for 5 seconds; lldpa-live continues");
+        }
+    }
+
+    fn stall(&mut self, what: &str) {
+        if self.trouble.is_empty() {
+            self.trouble = "stalled";
+            self.tell(what);
+        }
+    }
+
+    fn tell(&self, what: &str) {
+        warn(&format!("the log in {} {what}", self.path.as_deref().unwrap_or("")));
+    }
+
+    fn take(&mut self, Done(octets, lines, result): Done) {
+        self.unanswered -= 1;
+        self.waiting_octets -= octets;
+        self.waiting_lines -= lines;
+        self.waited = 0;
+        match result {
+            Err(fault) if octets == 0 => warn(&format!("the state was not written: {}", text_of(&fault))),
+            Err(fault) => {
+                self.lost += lines;
+                self.fail(&fault);
+            }
+            Ok(path) if octets > 0 && !self.trouble.is_empty() => {
+                let lost = self.lost - self.lost_told;
+                warn(&format!("the log continues in {path}; {lost} lines were not written"));
+                self.has_stalled = self.is_whole && self.trouble == "stalled" && lines > 0;
+                self.lost_told = self.lost;
+                self.trouble = "";
+            }
+            Ok(_) => (),
+        }
+    }
+
+    fn fail(&mut self, fault: &Error) {
+        self.is_whole = false;
+        self.next_try = clock::now() + BETWEEN_TRIES;
+        if self.trouble.is_empty() {
+            self.tell(&format!("stops, lldpa-live continues: {}", text_of(fault)));
+        }
+        if !files::has_ended_before(fault) {
+            self.trouble = if files::is_of_a_full_disk(fault) { "full" } else { "stalled" };
+        }
+    }
+
+    /// Whether a new file should begin now: the file has its size, or its disk is back.
+    pub fn wants_beginning(&self) -> bool {
+        match self.least {
+            0 => false,
+            least if self.is_whole => self.trouble.is_empty() && (self.has_stalled || self.size >= least),
+            _ => self.waiting_octets == 0 && clock::now() >= self.next_try,
+        }
+    }
+
+    pub fn deadline(&self, now: i64) -> Option<i64> {
+        let is_awaiting = self.unanswered > 0 || !self.trouble.is_empty() || self.least > 0 && !self.is_whole;
+        is_awaiting.then(|| now + SECOND)
+    }
+
+    pub fn state(&self) -> &'static str {
+        match self.trouble {
+            _ if self.path.is_none() => "off",
+            "" => "on",
+            trouble => trouble,
+        }
+    }
+
+    /// Waits until all is written, at most so long.
+    pub fn close(&mut self, patience: i64) {
+        self.turn();
+        let last = clock::now() + patience;
+        while self.unanswered > 0 && clock::now() < last {
+            thread::sleep(Duration::from_millis(5));
+            self.turn();
+        }
+        if self.waiting_lines > 0 {
+            self.tell(&format!("lacks its last {} lines", self.waiting_lines));
+        }
+    }
+}
+
+/// Starts a thread that does what it is given, until nothing more can come.
+fn start(mut files: Files) -> (Sender<Job>, Receiver<Done>) {
+    let (jobs, theirs) = channel::<Job>();
+    let (ours, answers) = channel();
+    let work = move || {
+        theirs
+            .iter()
+            .try_for_each(|Job(octets, lines, work)| ours.send(Done(octets, lines, work(&mut files))))
+    };
+    // Without a thread all counts as waiting.
+    let _ = thread::Builder::new().name("log".into()).stack_size(1 << 17).spawn(work);
+    (jobs, answers)
+}

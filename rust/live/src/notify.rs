@@ -1,0 +1,95 @@
+//! Reports the state of a service to systemd: datagrams to the socket that NOTIFY_SOCKET names, see sd_notify(3).
+//! One that is not taken at once is lost, so that reporting never waits.
+
+use crate::clock::SECOND;
+use crate::sys;
+use std::fs::File;
+use std::io::Write;
+
+const AF_UNIX: u16 = 1;
+const SIGNS_A_SPAN: i64 = 4; // within the time after which systemd gives a service up
+
+/// The service manager that started this service, if there is one.
+pub struct Manager {
+    /// A socket, and the address to report to.
+    socket: Option<(File, Vec<u8>)>,
+    span: Option<i64>,
+    next_sign: i64,
+    status: String,
+}
+
+fn variable(name: &str) -> Option<String> {
+    std::env::var(name).ok()
+}
+
+/// The nanoseconds after which this process is given up without a sign of life.
+fn watchdog_span() -> Option<i64> {
+    let is_other = |pid: String| pid != std::process::id().to_string();
+    if variable("WATCHDOG_PID").map_or(false, is_other) {
+        return None;
+    }
+    variable("WATCHDOG_USEC")?
+        .parse()
+        .ok()
+        .filter(|span| (1..i64::MAX / 1000).contains(span))
+        .map(|span: i64| span * 1000)
+}
+
+/// The address of a socket by its name: a path, or `@` and an abstract name.
+fn address_of(name: &str) -> Option<Vec<u8>> {
+    let rest = name.strip_prefix(&['/', '@'][..]).filter(|rest| rest.len() < 107)?;
+    let mut address = AF_UNIX.to_ne_bytes().to_vec();
+    address.push(if name.starts_with('/') { b'/' } else { 0 });
+    address.extend_from_slice(rest.as_bytes());
+    Some(address)
+}
+
+impl Manager {
+    pub fn new() -> Manager {
+        let address = variable("NOTIFY_SOCKET").and_then(|name| address_of(&name));
+        let socket = address.and_then(|address| Some((sys::raw_socket(AF_UNIX.into()).ok()?, address)));
+        Manager { socket, span: watchdog_span(), next_sign: 0, status: String::new() }
+    }
+
+    pub fn is_there(&self) -> bool {
+        self.socket.is_some()
+    }
+
+    fn tell(&self, lines: &str) {
+        if let Some((mut socket, address)) = self.socket.as_ref().map(|(socket, address)| (socket, address)) {
+            let _ = sys::name_socket(socket, address, true).and_then(|()| socket.write(lines.as_bytes()));
+        }
+    }
+
+    pub fn ready(&self) {
+        self.tell("READY=1");
+    }
+
+    /// The service reads its settings again; `ready` follows.
+    pub fn reloading(&self) {
+        self.tell(&format!("RELOADING=1\nMONOTONIC_USEC={}", sys::clock(1) / 1000));
+    }
+
+    pub fn stopping(&self) {
+        self.tell("STOPPING=1");
+    }
+
+    /// What `systemctl status` shows, if it differs from before.
+    pub fn show(&mut self, status: String) {
+        if status != self.status {
+            self.tell(&format!("STATUS={status}"));
+            self.status = status;
+        }
+    }
+
+    pub fn turned(&mut self, now: i64) {
+        if let Some(span) = self.span.filter(|_| now >= self.next_sign) {
+            self.next_sign = now + (span / SIGNS_A_SPAN).max(SECOND / 100);
+            self.tell("WATCHDOG=1");
+        }
+    }
+
+    pub fn deadline(&self) -> Option<i64> {
+        self.span.filter(|_| self.socket.is_some()).map(|_| self.next_sign)
+    }
+}

@@ -1,0 +1,239 @@
+//! One port: it finds, keeps and loses the interface of its name, reads its frames and sends.
+
+use crate::clock::{Clock, SECOND};
+use crate::links::{Link, Mac};
+use crate::packet::{self, LONGEST_FRAME};
+use crate::reports::notice;
+use crate::rights::text_of;
+use crate::since::{digest, Held};
+use crate::sys;
+use std::collections::hash_map::RandomState;
+use std::fs::File;
+use std::io::{ErrorKind, Write};
+
+const LEAST_FRAME: usize = 14;
+const A_SECOND: i64 = 64; // frames that a port may receive
+const AT_ONCE: i64 = 1024; // 128 neighbors in fast start send 128 a second for four seconds, and are accepted
+
+/// A frame that a port received.
+pub struct Frame {
+    pub moment: i64,
+    pub port: usize,
+    pub digest: u64,
+    pub octets: Vec<u8>,
+}
+
+#[derive(Default)]
+pub struct Port {
+    pub name: String,
+    /// Whether it was named, and not only given by a pattern.
+    pub is_named: bool,
+    /// The interface that it receives from, and its present address.
+    pub index: Option<i32>,
+    address: Option<Mac>,
+    /// Why it receives from none of its name.
+    fault: String,
+    /// Whether it was reported that its interface is missing.
+    pub is_awaited: bool,
+    /// As the agent knows.
+    pub is_up: Option<bool>,
+    /// When its interface was gone, if it is.
+    pub gone_since: Option<i64>,
+    /// The moment since when what it may receive has grown from nothing.
+    allowed_since: i64,
+    /// Whether frames were left in its socket, and the moment of the last that was read.
+    pub has_more: bool,
+    pub read_to: i64,
+    /// Until when it is not read, since it receives more than it may.
+    pub rests_until: i64,
+    pub kernel_drops: u64,
+    pub limit_drops: u64,
+    pub other_frames: u64,
+    pub unsent: u64,
+    pub left_out: u64,
+    is_failing: bool,
+    /// The neighbors that the agent holds.
+    pub held: Vec<Held>,
+    /// The second up to which a neighbor would have stayed for which there was no room.
+    pub full_until: i64,
+}
+
+impl Port {
+    pub fn new(name: &str, is_named: bool) -> Port {
+        Port { name: name.into(), is_named, ..Port::default() }
+    }
+
+    /// Takes the news of an interface. Returns whether the port is up then, each time that the agent does not know it.
+    pub fn take_link(&mut self, socket: &File, news: &Link, now: i64) -> Vec<bool> {
+        let mut told = Vec::new();
+        if news.is_there && news.name == self.name {
+            if self.index.map_or(false, |index| index != news.index) {
+                told.extend(self.lose(socket, "gone", now));
+            }
+            if self.index.is_none() {
+                self.find(socket, news);
+            }
+            if self.index.is_some() {
+                self.gone_since = None;
+                self.address = news.address;
+                told.extend(self.told_link(news.is_running));
+            }
+        } else if self.index == Some(news.index) {
+            let what = if news.is_there { format!("now {}", news.name) } else { "gone".into() };
+            told.extend(self.lose(socket, &what, now));
+        }
+        told
+    }
+
+    fn find(&mut self, socket: &File, news: &Link) {
+        let fault = match packet::take(socket, news.index) {
+            _ if !news.is_ethernet => "not an Ethernet interface, so it is not used".into(),
+            Err(fault) => format!("the interface cannot be used: {}", text_of(&fault)),
+            Ok(()) => String::new(),
+        };
+        if fault.is_empty() {
+            self.index = Some(news.index);
+            if self.is_up.is_some() || self.is_awaited {
+                notice(&format!("{}: the interface is there, and in use", self.name));
+            }
+        } else {
+            packet::release(socket);
+            if fault != self.fault {
+                notice(&format!("{}: {fault}", self.name));
+            }
+        }
+        self.fault = fault;
+    }
+
+    /// Lets go of an interface that is gone.
+    fn lose(&mut self, socket: &File, what: &str, now: i64) -> Option<bool> {
+        packet::release(socket);
+        self.index = None;
+        self.gone_since = Some(now);
+        let further = if self.is_named { "; waiting for the next of that name" } else { "" };
+        notice(&format!("{}: the interface is {what}{further}", self.name));
+        self.told_link(false)
+    }
+
+    fn told_link(&mut self, is_up: bool) -> Option<bool> {
+        let before = self.is_up.replace(is_up);
+        (before != Some(is_up)).then_some(is_up)
+    }
+
+    /// Notes at the start that its interface does not exist.
+    pub fn await_missing(&mut self) -> Option<bool> {
+        if self.index.is_some() {
+            return None;
+        }
+        if !self.is_awaited {
+            notice(&format!("{}: no such interface yet; waiting for it", self.name));
+        }
+        self.told_link(false)
+    }
+
+    /// Whether it should be tried again to take an interface that exists.
+    pub fn is_refused(&self) -> bool {
+        self.index.is_none() && !self.fault.is_empty()
+    }
+
+    /// Reads at most so many frames. Those over the limit, and those that are not kept, are counted.
+    pub fn read(&mut self, socket: &File, most: usize, clock: &Clock, state: &RandomState) -> Vec<Frame> {
+        let (mut room, mut frames) = ([0u8; LONGEST_FRAME], Vec::new());
+        self.has_more = false;
+        for _ in 0..most {
+            let (length, stamp) = match sys::receive(socket, &mut room) {
+                Err(fault) if fault.kind() == ErrorKind::WouldBlock => return frames,
+                Err(_) => continue, // of an interface that went down, once; frames may follow
+                Ok(_) if self.index.is_none() => continue,
+                Ok(read) => read,
+            };
+            if length < LEAST_FRAME {
+                self.note_other();
+                continue;
+            }
+            let (octets, moment) = (&room[..length], clock.moment(stamp));
+            let digest = digest(state, octets);
+            self.read_to = moment;
+            if self.accepts(digest, moment) {
+                frames.push(Frame { moment, port: 0, digest, octets: octets.to_vec() });
+            } else {
+                self.limit_drops += 1;
+            }
+        }
+        self.has_more = true;
+        frames
+    }
+
+    /// Whether a frame is within the limit: what says of a neighbor what it said last is so once a second. Each other
+    /// frame takes one of those that are allowed; each second gives 64, up to 1,024.
+    fn accepts(&mut self, digest: u64, moment: i64) -> bool {
+        let second = moment.div_euclid(SECOND);
+        let repeated =
+            self.held.iter_mut().find(|held| held.last_said == digest && held.repeated_in != second);
+        if let Some(held) = repeated {
+            held.repeated_in = second;
+            return true;
+        }
+        let since = self.allowed_since.max(moment - AT_ONCE * SECOND / A_SECOND) + SECOND / A_SECOND;
+        if since <= moment {
+            self.allowed_since = since;
+        }
+        since <= moment
+    }
+
+    fn note_other(&mut self) {
+        self.other_frames += 1;
+        if self.other_frames == 1 {
+            let what = "tagged, to another address or longer than 1,514 octets; they are not read";
+            notice(&format!("{}: it hears LLDP frames that are {what}", self.name));
+        }
+    }
+
+    /// Sends a frame, from the address of the interface. A failure is counted, and reported once until a frame is
+    /// sent again.
+    pub fn send(&mut self, mut socket: &File, mut frame: Vec<u8>) {
+        if let (Some(address), Some(source)) = (self.address, frame.get_mut(6..12)) {
+            source.copy_from_slice(&address);
+        }
+        let sent = match self.index {
+            Some(_) => socket.write(&frame).map_err(|fault| text_of(&fault)),
+            None => Err("there is no such interface now".into()),
+        };
+        self.unsent += u64::from(sent.is_err());
+        let was_failing = std::mem::replace(&mut self.is_failing, sent.is_err());
+        if let (Err(why), false) = (sent, was_failing) {
+            notice(&format!("{}: a frame was not sent: {why}", self.name));
+        }
+    }
+
+    pub fn about(&self) -> String {
+        let interface = if self.index.is_some() { "present" } else { "awaited" };
+        let link = if self.is_up == Some(true) { "up" } else { "down" };
+        let lines = [
+            ("interface", interface.to_string()),
+            ("link", link.to_string()),
+            ("kernel-drops", self.kernel_drops.to_string()),
+            ("limit-drops", self.limit_drops.to_string()),
+            ("other-frames", self.other_frames.to_string()),
+            ("unsent", self.unsent.to_string()),
+            ("left-out", self.left_out.to_string()),
+        ];
+        lines.iter().map(|(key, value)| format!("live.{}.{key}={value}\n", self.name)).collect()
+    }
+}
+
+#[cfg(test)]
+mod tests {
+    use super::*;
+
+    #[test]
+    fn so_many_at_once_and_64_a_second() {
+        let mut port = Port::default();
+        for (moment, count) in
+            [(100_000, 1024), (101_000, 64), (101_500, 32), (100_900, 0), (3_700_000, 1024)]
+        {
+            let taken = (0..2000).filter(|_| port.accepts(1, moment * (SECOND / 1000))).count();
+            assert_eq!(taken, count, "{moment}");
+        }
+    }
+}

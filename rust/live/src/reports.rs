@@ -1,0 +1,124 @@
+//! What lldpa-live reports to people on standard error: a line each, with its level if the journal reads it.
+//! A line is lost if nobody takes it.
+
+use crate::clock::{self, SECOND};
+use crate::sys::{wait, Polled};
+use std::collections::BTreeMap;
+use std::fs::File;
+use std::io::Write;
+use std::os::unix::fs::MetadataExt;
+use std::os::unix::io::AsFd;
+
+const MOST_AT_ONCE: usize = 4095; // octets that a pipe takes whole, but for the line feed
+pub const ERROR: u8 = 3;
+pub const WARNING: u8 = 4;
+pub const NOTICE: u8 = 5;
+const INFORMATION: u8 = 6;
+const MOST_A_MINUTE: usize = 100; // lines of a port about its neighbors
+const MINUTE: i64 = 60 * SECOND;
+const LONGEST: usize = 1000; // characters of such a line, whatever a neighbor says
+
+pub fn report(level: u8, text: &str) {
+    let front = if is_journal() { format!("<{level}>") } else { "lldpa-live: ".into() };
+    let text = text.replace(|letter: char| letter != ' ' && !is_shown(letter), "?");
+    let mut line = (front + &text).into_bytes();
+    line.truncate(MOST_AT_ONCE);
+    line.push(b'\n');
+    let mut errors = [Polled::new(&std::io::stderr(), Polled::OUT)];
+    wait(&mut errors, 0);
+    if errors[0].2 != 0 {
+        let _ = std::io::stderr().write(&line);
+    }
+}
+
+pub fn warn(text: &str) {
+    report(WARNING, text);
+}
+
+pub fn notice(text: &str) {
+    report(NOTICE, text);
+}
+
+/// Whether standard error goes to systemd's journal, which reads a level before a line.
+fn is_journal() -> bool {
+    let told = std::env::var("JOURNAL_STREAM").unwrap_or_default();
+    let number = std::io::stderr().as_fd().try_clone_to_owned().map(File::from);
+    number
+        .and_then(|file| file.metadata())
+        .map_or(false, |file| told == format!("{}:{}", file.dev(), file.ino()))
+}
+
+/// Letters that a terminal shows as nothing.
+const HIDDEN: [char; 5] = ['\u{115f}', '\u{1160}', '\u{3164}', '\u{ffa0}', '\u{2800}'];
+
+/// Whether a terminal shows a letter, and does nothing else.
+fn is_shown(letter: char) -> bool {
+    letter.is_ascii_graphic() || (!letter.is_ascii() && letter.is_alphanumeric() && !HIDDEN.contains(&letter))
+}
+
+/// A text of a stranger for people: letters and signs as they are, all else as `\x` and its octets.
+pub fn readable(octets: &[u8]) -> String {
+    let escaped = |octets: &[u8]| octets.iter().map(|octet| format!("\\x{octet:02x}")).collect::<String>();
+    let one = |letter: char| match letter {
+        _ if letter == ' ' || is_shown(letter) => letter.to_string(),
+        _ => escaped(letter.to_string().as_bytes()),
+    };
+    let octet = |octet: &u8| if octet.is_ascii() { one(char::from(*octet)) } else { escaped(&[*octet]) };
+    std::str::from_utf8(octets)
+        .map_or_else(|_| octets.iter().map(octet).collect(), |text| text.chars().map(one).collect())
+}
+
+pub fn counted(count: usize, what: &str) -> String {
+    match count {
+        0 => format!("no {what}s"),
+        1 => format!("1 {what}"),
+        _ => format!("{count} {what}s"),
+    }
+}
+
+/// Neighbors that come, change and leave, as lines on standard error: a service's history.
+#[derive(Default)]
+pub struct Events {
+    /// Whether somebody wants to know.
+    pub are_wanted: bool,
+    /// Of each port, what was new in this minute.
+    counts: BTreeMap<String, usize>,
+    next_minute: i64,
+}
+
+impl Events {
+    /// Reports something of a port, unless it had its lines of this minute.
+    pub fn tell(&mut self, port: &str, text: &str) {
+        if !self.are_wanted {
+            return;
+        }
+        self.take_time();
+        let count = self.counts.entry(port.into()).or_insert(0);
+        *count += 1;
+        match text.char_indices().nth(LONGEST - 4) {
+            _ if *count > MOST_A_MINUTE => (),
+            Some((end, _)) if text.chars().count() > LONGEST => {
+                report(INFORMATION, &format!("{} ...", &text[..end]));
+            }
+            _ => report(INFORMATION, text),
+        }
+    }
+
+    /// Reports at the end of a minute how much was left out.
+    pub fn take_time(&mut self) {
+        let now = clock::now();
+        if now < self.next_minute {
+            return;
+        }
+        for (port, count) in std::mem::take(&mut self.counts) {
+            if let Some(left) = count.checked_sub(MOST_A_MINUTE).filter(|left| *left > 0) {
+                report(INFORMATION, &format!("{port}: {left} more came, changed or went within a minute"));
+            }
+        }
+        self.next_minute = now + MINUTE;
+    }
+
+    pub fn deadline(&self) -> Option<i64> {
+        self.counts.values().any(|count| *count > MOST_A_MINUTE).then_some(self.next_minute)
+    }
+}

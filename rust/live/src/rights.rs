@@ -1,0 +1,78 @@
+//! Giving up rights: a process that reads strangers' frames needs none of those that opened the sockets.
+
+use crate::sys;
+use std::io::{Error, Result};
+
+const NOBODY: &str = "nobody";
+const NUMBER_OF_NOBODY: u32 = 65534;
+/// The number of keyctl, or of no call.
+const KEYCTL: std::os::raw::c_long = if cfg!(target_arch = "x86_64") {
+    250
+} else if cfg!(target_arch = "aarch64") {
+    219
+} else {
+    -1
+};
+
+/// A user, and its first group.
+#[derive(Clone, Copy)]
+pub struct User {
+    pub user: u32,
+    pub group: u32,
+}
+
+pub fn own_user() -> u32 {
+    sys::user().map_or(u32::MAX, |user| user as u32)
+}
+
+fn entry(path: &str, name: &str) -> Option<Vec<String>> {
+    let text = std::fs::read(path).ok()?;
+    let text = String::from_utf8_lossy(&text);
+    let fields = |line: &str| line.split(':').map(String::from).collect::<Vec<_>>();
+    text.lines().map(fields).find(|fields| fields[0] == name)
+}
+
+/// A number of a user or a group, but the one that stands for none.
+fn number_of(name: &str) -> Option<u32> {
+    name.parse().ok().filter(|number| *number != u32::MAX)
+}
+
+/// The user of that name in /etc/passwd, or of that number.
+pub fn user_of(name: &str) -> std::result::Result<User, String> {
+    let field = |fields: &[String], place: usize| fields.get(place).and_then(|text| text.parse().ok());
+    let fields = entry("/etc/passwd", name);
+    let found = fields.and_then(|fields| Some(User { user: field(&fields, 2)?, group: field(&fields, 3)? }));
+    let of_number = || number_of(name).map(|number| User { user: number, group: number });
+    found.or_else(of_number).ok_or(format!("user {name} does not exist"))
+}
+
+/// The group of that name in /etc/group, or of that number.
+pub fn group_of(name: &str) -> std::result::Result<u32, String> {
+    let found = entry("/etc/group", name).and_then(|fields| fields.get(2)?.parse().ok());
+    found.or_else(|| number_of(name)).ok_or(format!("group {name} does not exist"))
+}
+
+/// The user that `give_up` becomes: as root the one of that name, `nobody` unless given. None if it becomes none.
+pub fn user_to_be(name: Option<&str>) -> std::result::Result<Option<User>, String> {
+    if own_user() != 0 {
+        return name.map_or(Ok(None), |_| Err("--user: only root can become another user".into()));
+    }
+    let nobody = User { user: NUMBER_OF_NOBODY, group: NUMBER_OF_NOBODY };
+    name.map_or(Ok(user_of(NOBODY).unwrap_or(nobody)), user_of).map(Some)
+}
+
+/// Keeps no right, for good; becomes that user, if one is given.
+pub fn give_up(user: Option<User>) -> Result<()> {
+    sys::keep_no_right(user.map(|user| (user.user, user.group)), KEYCTL)
+}
+
+/// A fault with its path in front.
+pub fn at(path: &str) -> impl Fn(Error) -> Error + '_ {
+    move |fault| Error::new(fault.kind(), format!("{path}: {}", text_of(&fault)))
+}
+
+/// A fault in the words of the system, without its number.
+pub fn text_of(fault: &Error) -> String {
+    let text = fault.to_string();
+    text.split(" (os error").next().unwrap_or(&text).into()
+}

@@ -1,0 +1,114 @@
+//! What a neighbor says, as texts: its identifiers as the agent shows them, and what has changed for people.
+
+use crate::reports::readable;
+use lldpa::{tlv_text, Info, Msap, Tlv};
+use std::net::Ipv6Addr;
+
+const PORT_VLAN: &[u8] = &[0x00, 0x80, 0xc2, 1];
+/// Types of TLVs.
+const CHASSIS_ID: u8 = 1;
+const PORT_ID: u8 = 2;
+const PORT_DESCRIPTION: u8 = 4;
+const SYSTEM_NAME: u8 = 5;
+const SYSTEM_DESCRIPTION: u8 = 6;
+const MANAGEMENT: u8 = 8;
+const ORGANIZATIONAL: u8 = 127;
+
+/// Octets in hexadecimal.
+pub struct Hex<'a>(pub &'a [u8]);
+
+impl std::fmt::Display for Hex<'_> {
+    fn fmt(&self, out: &mut std::fmt::Formatter<'_>) -> std::fmt::Result {
+        self.0.iter().try_for_each(|octet| write!(out, "{octet:02x}"))
+    }
+}
+
+pub fn octets_of(digits: &str) -> Option<Vec<u8>> {
+    let pair = |pair: &[u8]| u8::from_str_radix(std::str::from_utf8(pair).ok()?, 16).ok();
+    let are_digits = digits.len() % 2 == 0 && digits.bytes().all(|octet| octet.is_ascii_hexdigit());
+    are_digits.then(|| digits.as_bytes().chunks(2).map(pair).collect())?
+}
+
+/// The key and the value of a TLV as they are shown, such as `chassis.mac` and `00:11:22:33:44:55`.
+fn shown(kind: u8, body: &[u8]) -> (String, String) {
+    let text = tlv_text(kind, body).unwrap_or_default();
+    let (key, value) = text.split_once('=').unwrap_or((&text, ""));
+    (key.into(), value.into())
+}
+
+/// A Chassis ID as in an MSAP identifier.
+pub fn chassis_id(body: &[u8]) -> String {
+    identifier(CHASSIS_ID, body)
+}
+
+fn identifier(kind: u8, body: &[u8]) -> String {
+    let (key, value) = shown(kind, body);
+    format!("{}={}", key.rsplit('.').next().unwrap_or(&key), value.replace(' ', "\\x20"))
+}
+
+/// The MSAP identifier: Chassis ID and Port ID.
+pub fn id(msap: &Msap<'_>) -> String {
+    format!("{} {}", chassis_id(msap.chassis), identifier(PORT_ID, msap.port))
+}
+
+/// An identifier or an address for people, and its kind.
+fn name_of(kind: u8, body: &[u8]) -> (String, String) {
+    let (key, value) = shown(kind, body);
+    let name = match key.rsplit('.').next() {
+        Some("mac" | "unhandled") => value,
+        Some("ip" | "mgmt") => {
+            let address = value.split(',').next().unwrap_or("");
+            address.parse::<Ipv6Addr>().map_or(address.into(), |address| address.to_string())
+        }
+        _ => readable(body.get(1..).unwrap_or(&[])),
+    };
+    (name, key)
+}
+
+/// A neighbor, its port and its management address in one line for people.
+pub fn summary(info: &Info<'_>) -> String {
+    let first = |kind| info.kept().find(|tlv| tlv.kind == kind && !tlv.body.is_empty()).map(|tlv| tlv.body);
+    let msap = info.msap();
+    let name = first(SYSTEM_NAME).map_or_else(|| name_of(CHASSIS_ID, msap.chassis).0, readable);
+    let (port, kind) = name_of(PORT_ID, msap.port);
+    let described = first(PORT_DESCRIPTION).filter(|_| kind == "port.mac" || kind == "port.unhandled");
+    let management = first(MANAGEMENT).map_or(String::new(), |body| name_of(MANAGEMENT, body).0);
+    format!("{name} {} {management}", described.map_or(port, readable)).trim_end().into()
+}
+
+/// What a TLV says, behind its key.
+fn row(tlv: &Tlv<'_>) -> (String, String) {
+    let (key, value) = shown(tlv.kind, tlv.body);
+    match tlv.kind {
+        PORT_DESCRIPTION | SYSTEM_NAME | SYSTEM_DESCRIPTION => (key, readable(tlv.body)),
+        ORGANIZATIONAL => match tlv.body.strip_prefix(PORT_VLAN) {
+            Some([high, low]) => ("pvid".into(), u16::from_be_bytes([*high, *low]).to_string()),
+            _ => (key, value),
+        },
+        _ => (key, value),
+    }
+}
+
+fn rows(info: &Info<'_>) -> Vec<(String, String)> {
+    let mut rows: Vec<(String, String)> = vec![("ttl".into(), info.ttl().to_string())];
+    for (key, text) in info.kept().map(|tlv| row(&tlv)) {
+        let text = if text.is_empty() { "empty".into() } else { text };
+        match rows.iter_mut().find(|row| row.0 == key) {
+            Some(row) => row.1 += &format!(" {text}"),
+            None => rows.push((key, text)),
+        }
+    }
+    rows
+}
+
+/// What a neighbor says now and did not before, and the other way round.
+pub fn changes(old: &Info<'_>, new: &Info<'_>) -> Vec<String> {
+    let (was, now) = (rows(old), rows(new));
+    let text = |rows: &[(String, String)], key: &str| {
+        rows.iter().find(|row| row.0 == key).map_or("nothing".to_string(), |row| row.1.clone())
+    };
+    let is_new = |row: &&(String, String)| !was.iter().any(|other| other.0 == row.0);
+    let keys = was.iter().chain(now.iter().filter(is_new)).map(|row| &row.0);
+    let differing = keys.filter(|key| text(&was, key) != text(&now, key));
+    differing.map(|key| format!("{key}: {} -> {}", text(&was, key), text(&now, key))).collect()
+}

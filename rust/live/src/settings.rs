@@ -1,0 +1,201 @@
+//! Settings that outlive a restart: lines `configure ..` in files.
+
+use crate::reports::readable;
+use crate::rights::{at, text_of};
+use std::fs::{self, OpenOptions};
+use std::io::{Error, ErrorKind, Read, Result};
+use std::os::unix::fs::OpenOptionsExt;
+
+const O_NONBLOCK: i32 = 0o4_000;
+const MOST_OCTETS: u64 = 1_000_000; // of a file
+const MOST_SHOWN: usize = 200; // characters of a refused line
+pub const LONGEST_LINE: usize = 4096;
+
+/// A line that sets something, and its place.
+#[derive(Clone, Debug)]
+pub struct Setting {
+    path: String,
+    number: usize,
+    pub line: Vec<u8>,
+}
+
+impl Setting {
+    pub fn refused(&self, why: &str) -> String {
+        let shown = |text: &str| text.trim().chars().take(MOST_SHOWN).collect::<String>();
+        format!("{}:{}: {}: {}", self.path, self.number, shown(&readable(&self.line)), shown(why))
+    }
+
+    pub fn port(&self) -> Option<String> {
+        let words = words_of(&self.line);
+        let is_one = words.first().map_or(false, |word| word == "configure") && words.get(1)? == "ports";
+        words.into_iter().nth(2).filter(|_| is_one)
+    }
+}
+
+/// The settings of the files at these paths, and which could not be read, and why. A folder has those that end with
+/// `.conf` and are not hidden, in the order of their names; a path at which nothing exists has none.
+pub fn read(paths: &[String]) -> (Vec<Setting>, Vec<String>) {
+    let (mut settings, mut unread) = (Vec::new(), Vec::new());
+    for path in paths {
+        match files_of(path) {
+            Err(fault) => unread.push(text_of(&fault)),
+            Ok(files) => {
+                for file in files {
+                    match lines_of(&file) {
+                        Ok(lines) => settings.extend(lines),
+                        Err(fault) => unread.push(text_of(&fault)),
+                    }
+                }
+            }
+        }
+    }
+    (settings, unread)
+}
+
+fn files_of(path: &str) -> Result<Vec<String>> {
+    if !fs::metadata(path).map_or(false, |told| told.is_dir()) {
+        return Ok(fs::symlink_metadata(path).map_or(Vec::new(), |_| vec![path.into()]));
+    }
+    let mut names = Vec::new();
+    for entry in fs::read_dir(path).map_err(at(path))? {
+        let name = entry.map_err(at(path))?.file_name().to_string_lossy().into_owned();
+        if name.ends_with(".conf") && !name.starts_with('.') {
+            names.push(name);
+        }
+    }
+    names.sort();
+    Ok(names.into_iter().map(|name| format!("{}/{name}", path.trim_end_matches('/'))).collect())
+}
+
+/// The lines of a file without blank ones and comments. A pipe or a device is not waited for.
+fn lines_of(path: &str) -> Result<Vec<Setting>> {
+    let wrong = |what: String| at(path)(Error::new(ErrorKind::Other, what));
+    if !fs::metadata(path).map_err(at(path))?.is_file() {
+        return Err(wrong("not a file".into()));
+    }
+    let file = OpenOptions::new().read(true).custom_flags(O_NONBLOCK).open(path).map_err(at(path))?;
+    let mut octets = Vec::new();
+    file.take(MOST_OCTETS + 1).read_to_end(&mut octets).map_err(at(path))?;
+    if octets.len() as u64 > MOST_OCTETS {
+        return Err(wrong("over 1,000,000 octets".into()));
+    }
+    Ok(settings_in(path, &octets))
+}
+
+/// The settings of a file's octets.
+pub fn settings_in(path: &str, octets: &[u8]) -> Vec<Setting> {
+    let octets = octets.strip_prefix(b"\xef\xbb\xbf").unwrap_or(octets);
+    let mut settings = Vec::new();
+    for (place, line) in octets.split(|octet| *octet == b'\n').enumerate() {
+        let line: &[u8] = line.strip_suffix(b"\r").unwrap_or(line);
+        let first = line.iter().find(|octet| !octet.is_ascii_whitespace());
+        if first.map_or(false, |octet| *octet != b'#') {
+            settings.push(Setting { path: path.into(), number: place + 1, line: line.to_vec() });
+        }
+    }
+    settings
+}
+
+pub fn first_word(line: &[u8]) -> String {
+    words_of(line).into_iter().next().unwrap_or_default()
+}
+
+/// The words of a line, with the text in quotes as one.
+fn words_of(line: &[u8]) -> Vec<String> {
+    let text = readable(line).replace("\\x09", " ");
+    let mut words = Vec::new();
+    let mut rest = text.trim_matches(' ');
+    while !rest.is_empty() {
+        let (word, further) = match rest.strip_prefix('"') {
+            Some(quoted) => quoted.split_once('"').unwrap_or((quoted, "")),
+            None => rest.split_once(' ').unwrap_or((rest, "")),
+        };
+        words.push(word.to_string());
+        rest = further.trim_start_matches(' ');
+    }
+    words
+}
+
+const A_TEXT: &str = "up to 255 printable characters, in quotes if it has spaces";
+const STATUSES: &str = "rx-and-tx, rx-only, tx-only, disabled";
+/// The forms of settings, and what is allowed at their ends. Words in capitals stand for a value.
+const FORMS: [(&[&str], &str); 6] = [
+    (&["configure", "system", "hostname", "TEXT"], A_TEXT),
+    (&["configure", "system", "description", "TEXT"], A_TEXT),
+    (&["configure", "lldp", "tx-interval", "N"], "seconds between frames, 1 to 3600"),
+    (&["configure", "lldp", "tx-hold", "N"], "intervals that peers keep a frame, 1 to 100"),
+    (&["configure", "lldp", "max-neighbors", "N"], "1 to the number of --max-neighbors"),
+    (&["configure", "ports", "PORT", "lldp", "status", "STATUS"], STATUSES),
+];
+
+fn is_value(word: &str) -> bool {
+    word.bytes().all(|octet| octet.is_ascii_uppercase())
+}
+
+/// How many words at the beginning are as a form has them.
+fn fitting(form: &[&str], words: &[String]) -> usize {
+    let fits = |(wanted, word): &(&&str, &String)| match **wanted {
+        "STATUS" => STATUSES.split(", ").any(|status| status == *word),
+        wanted => is_value(wanted) || wanted == *word,
+    };
+    form.iter().zip(words).take_while(fits).count()
+}
+
+/// What the agent said of a line that it refused, such as `out of range`, with the word that it is about and what is
+/// allowed there: `out of range: 0 (seconds between frames, 1 to 3600)`.
+pub fn explained(line: &[u8], text: &str) -> String {
+    let words = words_of(line);
+    let most = FORMS.iter().map(|form| fitting(form.0, &words)).max().unwrap_or(0);
+    let forms: Vec<_> = FORMS.iter().filter(|form| fitting(form.0, &words) == most).collect();
+    if text == "bad quote" {
+        return text.into();
+    }
+    if words.len() > most && forms.len() == 1 && forms[0].0.len() == most {
+        return format!("{text}: {} (nothing follows)", words[most]);
+    }
+    let of_value = || forms[0].0.iter().position(|word| is_value(word)).unwrap_or(most);
+    let is_value_wrong = !["unknown command", "extra word"].contains(&text);
+    let wrong = if is_value_wrong { of_value() } else { most.min(words.len()) };
+    let mut wanted: Vec<&str> = Vec::new();
+    for (form, said) in forms {
+        let word = form.get(wrong).map(|word| match *word {
+            "PORT" => "a port of this agent",
+            word if is_value(word) => *said,
+            word => word,
+        });
+        match word {
+            Some(word) if !wanted.contains(&word) => wanted.push(word),
+            _ => (),
+        }
+    }
+    let said =
+        words.get(wrong).map_or("nothing follows", |word| if word.is_empty() { "nothing" } else { word });
+    format!("{text}: {said} ({})", wanted.join(" or "))
+}
+
+#[cfg(test)]
+mod tests {
+    use super::*;
+
+    #[test]
+    fn a_refusal_says_which_word_is_wrong_and_what_is_allowed() {
+        let text = "nothing follows (up to 255 printable characters, in quotes if it has spaces)";
+        for (line, fault, wanted) in [
+            ("configure lldp max-neighbors 99", "out of range", "99 (1 to the number of --max-neighbors)"),
+            (
+                "configure ports eth0 lldp status on",
+                "unknown command",
+                "on (rx-and-tx, rx-only, tx-only, disabled)",
+            ),
+            (
+                "configure lldp",
+                "unknown command",
+                "nothing follows (tx-interval or tx-hold or max-neighbors)",
+            ),
+            ("configure lldp tx-hold 4 5", "extra word", "5 (nothing follows)"),
+            ("configure system description \t", "bad text", text),
+        ] {
+            assert_eq!(explained(line.as_bytes(), fault), format!("{fault}: {wanted}"));
+        }
+    }
+}

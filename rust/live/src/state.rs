@@ -1,0 +1,148 @@
+//! The state that one lldpa-live leaves to the next: the tables, in a file. It is a trace of the neighbors' last
+//! frames with the seconds between them, between two comments; further comments say when each neighbor came. It is
+//! written each minute and at the end, beside the file and then put in its place.
+
+use crate::agent::{lines_text, Line};
+use crate::clock::{self, MILLISECOND};
+use crate::files::O_NOFOLLOW;
+use crate::rights::{own_user, text_of, User};
+use crate::said;
+use crate::since::Held;
+use lldpa::Examined;
+use std::collections::HashMap;
+use std::fs::{self, OpenOptions};
+use std::io::{ErrorKind, Read, Write};
+use std::os::unix::fs::{MetadataExt, OpenOptionsExt};
+
+const FRONT: &str = "# lldpa-live state 1 ";
+const END: &str = "# end\n";
+const INCOMPLETE: &str = "it is not complete";
+const O_NONBLOCK: i32 = 0o4_000;
+const MOST_APART: i64 = 5_000; // milliseconds by the two clocks, within one boot
+const MOST_LINES: usize = 64 * 128 * 4; // of each neighbor two, one of since when, and one of seconds
+const MOST_OCTETS: u64 = 64 * 128 * 2 * 4096;
+const LONGEST_FRAME: usize = 1514;
+const MOST_SECONDS: u32 = 65535;
+
+/// What a state says.
+#[derive(Debug, Default)]
+pub struct Past {
+    /// The lines that lead to the tables.
+    pub lines: Vec<Line>,
+    /// When each neighbor came, in milliseconds since 1970, by its port and its identifier.
+    pub came: HashMap<(String, String), i64>,
+    /// How many seconds pass in the lines, and have passed since.
+    passed: u32,
+    pub seconds: u32,
+}
+
+/// Reads the state at a path, which that user wrote, or this one. Says why it is not used.
+pub fn read(path: &str, user: Option<User>) -> Result<Past, String> {
+    let file = match OpenOptions::new().read(true).custom_flags(O_NOFOLLOW | O_NONBLOCK).open(path) {
+        Err(fault) if fault.kind() == ErrorKind::NotFound => return Ok(Past::default()),
+        opened => opened.map_err(|fault| text_of(&fault))?,
+    };
+    let told = file.metadata().map_err(|fault| text_of(&fault))?;
+    let is_ours = told.uid() == own_user() || user.map_or(false, |user| told.uid() == user.user);
+    if !(told.is_file() && told.nlink() == 1 && is_ours && told.mode() & 0o077 == 0) {
+        return Err("it does not belong to its user alone".into());
+    }
+    let mut octets = Vec::new();
+    file.take(MOST_OCTETS + 1).read_to_end(&mut octets).map_err(|fault| text_of(&fault))?;
+    past(&octets, clock::wall() / MILLISECOND, clock::now() / MILLISECOND)
+}
+
+/// Reads the octets of a state, at a moment by the two clocks, in milliseconds.
+pub fn past(octets: &[u8], wall: i64, now: i64) -> Result<Past, String> {
+    if octets.is_empty() {
+        return Ok(Past::default());
+    }
+    let text = std::str::from_utf8(octets).map_err(|_| INCOMPLETE)?;
+    let text = text.strip_suffix(END).filter(|text| text.ends_with('\n')).ok_or(INCOMPLETE)?;
+    let (first, rest) = text.split_once('\n').ok_or(INCOMPLETE)?;
+    let (then_wall, then) =
+        first.strip_prefix(FRONT).and_then(|times| times.split_once(' ')).ok_or(INCOMPLETE)?;
+    let (then_wall, then) =
+        (milliseconds(then_wall).ok_or(INCOMPLETE)?, milliseconds(then).ok_or(INCOMPLETE)?);
+    if now < then || (wall - then_wall - (now - then)).abs() > MOST_APART {
+        return Err("this host was booted since, or its clock was set".into());
+    }
+    let mut past =
+        Past { seconds: u32::try_from((now - then) / 1000).unwrap_or(u32::MAX), ..Past::default() };
+    let mut ttls = HashMap::new();
+    if rest.lines().count() > MOST_LINES {
+        return Err("it has too many neighbors".into());
+    }
+    for line in rest.lines() {
+        let malformed = || format!("it has a malformed line: {}", line.chars().take(100).collect::<String>());
+        past.take(line, &mut ttls).ok_or_else(malformed)?;
+    }
+    if ttls.len() != past.came.len() || !past.came.keys().all(|name| ttls.contains_key(name)) {
+        return Err("its neighbors are not those that it names".into());
+    }
+    if past.seconds > ttls.values().copied().max().unwrap_or(0) {
+        return Err("it is too old".into());
+    }
+    Ok(past)
+}
+
+impl Past {
+    /// Lets seconds pass: of all together no more than the longest time to live.
+    fn pass(&mut self, seconds: u32) -> Option<()> {
+        self.passed = self.passed.checked_add(seconds).filter(|passed| *passed <= MOST_SECONDS)?;
+        self.lines.push(Line::Ticks(seconds));
+        Some(())
+    }
+
+    /// Takes a line, and notes the time to live of a neighbor. Returns None if it is malformed.
+    fn take(&mut self, line: &str, ttls: &mut HashMap<(String, String), u32>) -> Option<()> {
+        let words: Vec<&str> = line.split(' ').collect();
+        match words[..] {
+            ["#", "since", port, came, chassis, id] => {
+                self.came.insert((port.into(), format!("{chassis} {id}")), milliseconds(came)?);
+            }
+            ["tick"] => self.pass(1)?,
+            ["tick", count] if count.len() <= 5 => self.pass(count.parse().ok()?)?,
+            ["rx", port, digits] if digits.len() <= 2 * LONGEST_FRAME => {
+                let frame = said::octets_of(digits)?;
+                match lldpa::examine(lldpa::frame_pdu(&frame)?).ok()? {
+                    Examined::Info(info) => {
+                        ttls.insert((port.into(), said::id(&info.msap())), info.ttl().into())
+                    }
+                    Examined::Shutdown(_) => return None,
+                };
+                self.lines.push(Line::Frame(port.into(), frame));
+            }
+            _ => return None,
+        }
+        Some(())
+    }
+}
+
+/// Seconds with three digits behind the point, as milliseconds.
+fn milliseconds(text: &str) -> Option<i64> {
+    let (seconds, part) =
+        text.split_once('.').filter(|(seconds, part)| seconds.len() <= 12 && part.len() == 3)?;
+    let digits = seconds.to_string() + part;
+    digits.bytes().all(|octet| octet.is_ascii_digit()).then(|| digits.parse().ok())?
+}
+
+/// The text of a state: lines that lead to the tables, and the neighbors of each port.
+pub fn text<'a>(lines: &[Line], held: impl Iterator<Item = (&'a str, &'a Held)>) -> Vec<u8> {
+    let seconds = |milliseconds: i64| format!("{}.{:03}", milliseconds / 1000, milliseconds % 1000);
+    let (wall, now) = (seconds(clock::wall() / MILLISECOND), seconds(clock::now() / MILLISECOND));
+    let since = |(port, one): (&str, &Held)| {
+        format!("# since {port} {} {}\n", seconds(one.came), said::id(&one.msap()))
+    };
+    let since: String = held.map(since).collect();
+    format!("{FRONT}{wall} {now}\n{since}{}{END}", lines_text(lines)).into_bytes()
+}
+
+/// Puts a state in the place of the one before. A link there is replaced, and not followed.
+pub fn write(path: &str, octets: &[u8]) -> std::io::Result<()> {
+    let beside = format!("{path}.new");
+    let _ = fs::remove_file(&beside);
+    let mut options = OpenOptions::new();
+    let mut file = options.write(true).create_new(true).mode(0o600).custom_flags(O_NOFOLLOW).open(&beside)?;
+    file.write_all(octets).and_then(|()| fs::rename(&beside, path))
+}

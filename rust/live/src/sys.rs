@@ -1,0 +1,200 @@
+//! What `std` lacks: packet, netlink and signal sockets, poll, clocks, locks, who asks, and giving up rights.
+//! All `unsafe` of the program is here, over functions of the C library. Reading and writing go through `File`.
+
+use std::ffi::{c_void, CString};
+use std::fs::File;
+use std::io::{Error, IoSliceMut, Result};
+use std::os::raw::{c_char, c_int, c_long, c_short, c_uint, c_ulong};
+use std::os::unix::io::{AsRawFd, FromRawFd, RawFd};
+use std::ptr::{null, null_mut};
+
+extern "C" {
+    fn bind(fd: c_int, address: *const c_void, length: u32) -> c_int;
+    fn connect(fd: c_int, address: *const c_void, length: u32) -> c_int;
+    fn setsockopt(fd: c_int, level: c_int, name: c_int, value: *const c_void, length: u32) -> c_int;
+    fn getsockopt(fd: c_int, level: c_int, name: c_int, value: *mut c_void, length: *mut u32) -> c_int;
+    fn recvmsg(fd: c_int, message: *mut Message, flags: c_int) -> isize;
+    fn poll(fds: *mut Polled, count: c_ulong, milliseconds: c_int) -> c_int;
+    fn sigaction(number: c_int, new: *const c_void, old: *mut [u64; 19]) -> c_int;
+    fn sigprocmask(how: c_int, set: *const [u64; 16], old: *mut [u64; 16]) -> c_int;
+    fn signalfd(fd: c_int, set: *const [u64; 16], flags: c_int) -> c_int;
+    fn clock_gettime(clock: c_int, to: *mut [i64; 2]) -> c_int;
+    fn inotify_add_watch(fd: c_int, path: *const c_char, mask: c_uint) -> c_int;
+    fn access(path: *const c_char, mode: c_int) -> c_int;
+    fn chown(path: *const c_char, user: c_uint, group: c_uint) -> c_int;
+    fn gethostname(name: *mut u8, length: usize) -> c_int;
+    fn setgroups(count: usize, groups: *const c_uint) -> c_int;
+    fn prctl(option: c_int, ...) -> c_int;
+    fn capset(header: *const [u32; 2], data: *const [u32; 6]) -> c_int;
+    fn syscall(number: c_long, ...) -> c_long;
+}
+
+const CLOEXEC_NONBLOCK: c_int = 0o2_004_000;
+const SOL_SOCKET: c_int = 1;
+const SO_ATTACH_FILTER: c_int = 26;
+pub const SO_TIMESTAMPNS: c_int = 35;
+
+fn checked(answer: c_int) -> Result<c_int> {
+    Some(answer).filter(|answer| *answer >= 0).ok_or_else(Error::last_os_error)
+}
+
+fn opened(fd: c_int) -> Result<File> {
+    // SAFETY: a descriptor that was just made belongs to nobody else.
+    checked(fd).map(|fd| unsafe { File::from_raw_fd(fd) })
+}
+
+/// Declares functions of the C library that are given numbers alone.
+macro_rules! plain {
+    ($($name:ident = $call:ident($($word:ident: $kind:ty),*);)*) => {
+        extern "C" { $(fn $call($($word: $kind),*) -> c_int;)* }
+        $(pub fn $name($($word: $kind),*) -> Result<c_int> {
+            // SAFETY: no memory is lent.
+            checked(unsafe { $call($($word),*) })
+        })*
+    };
+}
+
+plain! {
+    new_watch = inotify_init1(flags: c_int);
+    new_socket = socket(domain: c_int, kind: c_int, protocol: c_int);
+    lock = flock(fd: RawFd, how: c_int);
+    change_folder = fchdir(fd: RawFd);
+    set_umask = umask(mask: c_uint);
+    user = geteuid();
+    set_group = setresgid(real: c_uint, effective: c_uint, saved: c_uint);
+    set_user = setresuid(real: c_uint, effective: c_uint, saved: c_uint);
+}
+
+pub fn raw_socket(domain: c_int) -> Result<File> {
+    opened(new_socket(domain, 3 | CLOEXEC_NONBLOCK, 0)?)
+}
+
+/// Binds a socket to an address in the kernel's form, or connects it to one.
+pub fn name_socket(file: &File, address: &[u8], is_peer: bool) -> Result<()> {
+    let call = if is_peer { connect } else { bind };
+    // SAFETY: the address is as long as is told.
+    checked(unsafe { call(file.as_raw_fd(), address.as_ptr().cast(), address.len() as u32) }).map(drop)
+}
+
+pub fn set(file: &File, level: c_int, name: c_int, value: &[u8]) -> Result<()> {
+    assert!(name != SO_ATTACH_FILTER, "its value has a pointer");
+    // SAFETY: the value is as long as is told, and the kernel follows no pointer in it.
+    let set = unsafe { setsockopt(file.as_raw_fd(), level, name, value.as_ptr().cast(), value.len() as u32) };
+    checked(set).map(drop)
+}
+
+/// A step of a filter: what is done, how many steps are skipped if so and if not, and a number.
+#[repr(C)]
+pub struct Step(pub u16, pub u8, pub u8, pub u32);
+#[repr(C)]
+struct Program(u16, *const Step);
+
+pub fn set_filter(file: &File, steps: &[Step]) -> Result<()> {
+    let program = Program(steps.len() as u16, steps.as_ptr());
+    let start = (&program as *const Program).cast();
+    // SAFETY: the program has 16 octets, and as many steps as it tells; the kernel copies them.
+    checked(unsafe { setsockopt(file.as_raw_fd(), SOL_SOCKET, SO_ATTACH_FILTER, start, 16) }).map(drop)
+}
+
+/// The numbers of an option, and how many.
+pub fn get<const N: usize>(file: &impl AsRawFd, level: c_int, name: c_int) -> Result<([u32; N], usize)> {
+    let (mut told, mut length) = ([0u32; N], 4 * N as u32);
+    // SAFETY: the kernel writes at most as many octets as are told.
+    checked(unsafe { getsockopt(file.as_raw_fd(), level, name, told.as_mut_ptr().cast(), &mut length) })?;
+    Ok((told, length as usize / 4))
+}
+
+#[repr(C)]
+struct Message<'a>(*mut c_void, u32, *mut IoSliceMut<'a>, usize, *mut [u64; 4], usize, c_int);
+
+/// Reads a frame, and when it came by the wall clock in nanoseconds, if the kernel tells.
+pub fn receive(file: &File, room: &mut [u8]) -> Result<(usize, Option<i64>)> {
+    let (mut piece, mut note) = (IoSliceMut::new(room), [0u64; 4]);
+    let mut message = Message(null_mut(), 0, &mut piece, 1, &mut note, 32, 0);
+    // SAFETY: the room and the note are there for the call, and as long as is told.
+    let length = unsafe { recvmsg(file.as_raw_fd(), (&mut message as *mut Message).cast(), 0) };
+    checked(length as c_int)?;
+    let is_stamp = note[1] == (SO_TIMESTAMPNS as u64) << 32 | SOL_SOCKET as u64;
+    Ok((length as usize, is_stamp.then(|| note[2] as i64 * 1_000_000_000 + note[3] as i64)))
+}
+
+/// A descriptor that is waited for: for what, and what is so.
+#[repr(C)]
+pub struct Polled(pub RawFd, pub c_short, pub c_short);
+
+pub fn wait(set: &mut [Polled], milliseconds: i32) {
+    // SAFETY: the set is as long as is told.
+    unsafe { poll(set.as_mut_ptr(), set.len() as c_ulong, milliseconds) };
+}
+
+/// Blocks SIGHUP, SIGINT and SIGTERM by 0, and unblocks the last two by 1, but for those that are ignored.
+pub fn block_signals(how: c_int) -> [u64; 16] {
+    let (mut set, mut told) = ([0; 16], [0u64; 19]);
+    // SAFETY: what is told of a signal has 152 octets, the handler first; a set has 128.
+    unsafe {
+        for number in [1, 2, 15].into_iter().skip(how as usize) {
+            let is_wanted = sigaction(number, null(), &mut told) == 0 && told[0] != 1;
+            set[0] |= u64::from(is_wanted) << (number - 1);
+        }
+        sigprocmask(how, &set, null_mut());
+    }
+    set
+}
+
+/// A file that tells of these signals, 128 octets each, in place of their effect.
+pub fn signals() -> Result<File> {
+    // SAFETY: a set has 128 octets.
+    opened(unsafe { signalfd(-1, &block_signals(0), CLOEXEC_NONBLOCK) })
+}
+
+/// Nanoseconds of a clock: 0 the wall, 1 since boot but for sleep, 7 since boot.
+pub fn clock(number: c_int) -> i64 {
+    let mut time = [0i64; 2];
+    // SAFETY: a time has two numbers of 64 bits on the machines of this program.
+    unsafe { clock_gettime(number, &mut time) };
+    time[0] * 1_000_000_000 + time[1]
+}
+
+/// A file that tells when the file at a path is removed, renamed, or gets other rights.
+pub fn watch(path: &str) -> Result<File> {
+    let file = opened(new_watch(CLOEXEC_NONBLOCK)?)?;
+    // SAFETY: the path ends with a zero.
+    checked(unsafe { inotify_add_watch(file.as_raw_fd(), CString::new(path)?.as_ptr(), 0x804) }).map(|_| file)
+}
+
+/// Gives a file to a user or a group; `u32::MAX` leaves one as it is.
+pub fn give(path: &str, user: u32, group: u32) -> Result<()> {
+    // SAFETY: the path ends with a zero.
+    checked(unsafe { chown(CString::new(path)?.as_ptr(), user, group) }).map(drop)
+}
+
+/// Says if this process may not make files in a folder.
+pub fn may_write(path: &str) -> Result<()> {
+    // SAFETY: the path ends with a zero.
+    checked(unsafe { access(CString::new(path)?.as_ptr(), 3) }).map(drop)
+}
+
+pub fn host_name() -> String {
+    let mut room = [0u8; 256];
+    // SAFETY: the room is as long as is told, and its last octet stays 0.
+    unsafe { gethostname(room.as_mut_ptr(), 255) };
+    String::from_utf8_lossy(room.split(|octet| *octet == 0).next().unwrap_or(&[])).into_owned()
+}
+
+/// Keeps no capability, no group and no key of the session, for good; becomes a user with its group, if one is given.
+/// No other process of the user may look into this one. (Without the right to drop groups these stay.)
+pub fn keep_no_right(user: Option<(c_uint, c_uint)>, keyctl: c_long) -> Result<()> {
+    // SAFETY: the options have numbers alone; of no groups nothing is read; the sets have the form of version 3.
+    unsafe {
+        (0..64u64).for_each(|one| drop(checked(prctl(24, one))));
+        syscall(keyctl, 1u64, null::<u8>());
+        let groups = checked(setgroups(0, null()));
+        if let Some((user, group)) = user {
+            groups.and(set_group(group, group, group)).and(set_user(user, user, user))?;
+        }
+        checked(prctl(38, 1u64, 0u64, 0u64, 0u64))?;
+        checked(prctl(47, 4u64, 0u64, 0u64, 0u64))?;
+        checked(capset(&[0x2008_0522, 0], &[0; 6]))?;
+        checked(prctl(4, 0u64)).map(drop)
+    }
+}

@@ -1,0 +1,157 @@
+//! The command line of lldpa-live.
+
+use crate::options::AgentOptions;
+use crate::patterns;
+use crate::ports::MOST_PORTS;
+
+/// Options of earlier versions that say what is always so now.
+const ALWAYS_SO: [&str; 2] = ["--stay", "--own-source"];
+const HELP: &str = "\
+usage: lldpa-live [OPTION...] PORT... [-- OPTIONS OF LLDPA]
+       lldpa-live [--control PATH] --ask LINE
+
+Runs lldpa on Ethernet interfaces, until it is ended.
+
+  PORT                   an Ethernet interface, or a pattern: 'swp*', '!swp3'
+
+options:
+  -h, --help             print this help
+  -V, --version          print the version
+  --ask LINE             print the answer of a running lldpa-live, such as to
+                         'show neighbors'
+  --config PATH          read settings from a file or a folder of *.conf; may
+                         be repeated
+  --control PATH         the control socket (default /run/lldpa/control)
+  --control-group GROUP  let members of this group use the control socket
+  --events               report on standard error when a neighbor comes,
+                         changes or goes
+  --forget-on-down       empty the table of a port when its link goes down
+  --log FOLDER           log the session there, in files that are traces for
+                         lldpa
+  --log-keep N           keep N megabytes of logs in the folder (default 1024)
+  --log-most N           begin another file of the log at N megabytes (default
+                         64)
+  --no-description       do not announce the operating system of this host
+  --no-management        do not announce an address of this host
+  --once N               print the neighbors when each port has one, or after
+                         N seconds
+  --only-existing        refuse to start if an interface does not exist
+  --state FILE           save the tables there each minute and at the end, and
+                         restore them at the start
+  --user NAME            as root, become this user once the sockets are open
+                         (default nobody)
+
+example: lldpa-live --log /var/lib/lldpa eth0 eth1 -- --role router
+lldpa-live(8) describes the options, lldpa(1) those after --.
+";
+
+/// What was given on the command line.
+#[derive(Clone, Debug, Default)]
+pub struct Given {
+    /// Names of ports, and patterns.
+    pub parts: Vec<String>,
+    pub config: Vec<String>,
+    pub control: String,
+    pub control_group: Option<String>,
+    pub user: Option<String>,
+    pub state: Option<String>,
+    pub log: Option<String>,
+    pub log_most: u64,
+    pub log_keep: u64,
+    pub once: Option<u64>,
+    pub ask: Option<String>,
+    pub events: bool,
+    pub forget_on_down: bool,
+    pub no_description: bool,
+    pub no_management: bool,
+    pub only_existing: bool,
+    pub agent: AgentOptions,
+}
+
+/// What is to be done.
+pub enum Wanted {
+    Run(Box<Given>),
+    Print(String),
+}
+
+/// Reads the words, or says what is wrong with them.
+pub fn read(words: &[String]) -> Result<Wanted, String> {
+    let cut = words.iter().position(|word| word == "--").unwrap_or(words.len());
+    let control = "/run/lldpa/control".into();
+    let mut given = Given { control, log_most: 64, log_keep: 1024, ..Given::default() };
+    let mut rest = words[..cut].iter();
+    while let Some(word) = rest.next() {
+        match word.as_str() {
+            "-h" | "--help" => return Ok(Wanted::Print(HELP.into())),
+            "-V" | "--version" => return Ok(Wanted::Print("lldpa-live 1.0.0\n".into())),
+            _ if word.starts_with('-') => given.take(word, &mut rest)?,
+            _ => given.parts.extend(word.split(',').filter(|part| !part.is_empty()).map(String::from)),
+        }
+    }
+    given.agent = AgentOptions::read(words.get(cut + 1..).unwrap_or(&[]))?;
+    if given.ask.is_none() {
+        check_ports(&given.parts)?;
+    }
+    Ok(Wanted::Run(Box::new(given)))
+}
+
+impl Given {
+    fn take(&mut self, word: &str, rest: &mut std::slice::Iter<'_, String>) -> Result<(), String> {
+        match word {
+            "--events" => self.events = true,
+            "--forget-on-down" => self.forget_on_down = true,
+            "--no-description" => self.no_description = true,
+            "--no-management" => self.no_management = true,
+            "--only-existing" => self.only_existing = true,
+            _ if ALWAYS_SO.contains(&word) => (),
+            _ => return self.take_value(word, rest),
+        }
+        Ok(())
+    }
+
+    fn take_value(&mut self, word: &str, rest: &mut std::slice::Iter<'_, String>) -> Result<(), String> {
+        let (name, value) =
+            word.split_once('=').map_or((word, None), |(name, value)| (name, Some(value.into())));
+        let value = || value.or_else(|| rest.next().cloned()).ok_or(format!("{name}: a value is required"));
+        let number = |text: String, last: u64| {
+            number(&text, last).ok_or(format!("{name}: {text} is not a number from 1 to {last}"))
+        };
+        match name {
+            "--ask" => self.ask = Some(value()?),
+            "--config" => self.config.push(value()?),
+            "--control" => self.control = value()?,
+            "--control-group" => self.control_group = Some(value()?),
+            "--user" => self.user = Some(value()?),
+            "--state" => self.state = Some(value()?),
+            "--log" => self.log = Some(value()?),
+            "--log-most" => self.log_most = number(value()?, 1_000_000)?,
+            "--log-keep" => self.log_keep = number(value()?, 1_000_000)?,
+            "--once" => self.once = Some(number(value()?, 86_400)?),
+            _ => return Err(format!("unknown option: {word}")),
+        }
+        Ok(())
+    }
+}
+
+pub fn number(text: &str, last: u64) -> Option<u64> {
+    let number = text.parse().ok().filter(|number| (1..=last).contains(number));
+    number.filter(|_| text.bytes().all(|octet| octet.is_ascii_digit()))
+}
+
+/// Says if a name cannot be a port's, or two are the same.
+fn check_ports(parts: &[String]) -> Result<(), String> {
+    if let Some(part) = parts.iter().find(|part| !patterns::is_able(part)) {
+        let form = "a port's name has 1 to 15 letters, digits, -, _, / and :";
+        return Err(format!("{part}: {form} (a VLAN interface cannot be a port)"));
+    }
+    let names: Vec<&String> = parts.iter().filter(|part| !patterns::is_pattern(part)).collect();
+    let is_again = |(place, name): (usize, &&String)| names[..place].contains(name);
+    match names.len() {
+        _ if parts.is_empty() => Err("no PORT".into()),
+        _ if names.iter().enumerate().any(is_again) => Err("the same port twice".into()),
+        count if count > MOST_PORTS => Err(format!(
+            "{count} ports, and an agent has at most {MOST_PORTS}: run a second service for the others"
+        )),
+        _ => Ok(()),
+    }
+}

@@ -1,0 +1,73 @@
+//! Reads received frames from standard input, each as a line of hexadecimal digits, and prints every neighbor that
+//! comes, changes, leaves or ages out.
+
+use lldpa::{tlv_text, Agent, Msap, News, Options};
+use std::error::Error;
+use std::io::{stdin, BufRead};
+use std::sync::mpsc::{channel, Receiver, RecvTimeoutError};
+use std::thread;
+use std::time::{Duration, Instant};
+
+/// Returns the octets that digits spell, if they do.
+fn octets_of(digits: &str) -> Option<Vec<u8>> {
+    (0..digits.len()).step_by(2).map(|at| u8::from_str_radix(digits.get(at..at + 2)?, 16).ok()).collect()
+}
+
+/// Prints what happened to a neighbor.
+fn print(what: &str, name: Msap<'_>) {
+    let text = |kind, body| tlv_text(kind, body).unwrap_or_default();
+    println!("{what} {} {}", text(1, name.chassis), text(2, name.port));
+}
+
+/// Gives the agent the seconds that passed, and prints the neighbors that age out.
+fn pass(agent: &mut Agent, seconds: u32) -> Result<(), Box<dyn Error>> {
+    for neighbor in agent.neighbors(0)?.filter(|neighbor| neighbor.left() <= seconds) {
+        if let Some(info) = neighbor.info() {
+            print("aged out", info.msap());
+        }
+    }
+    let mut left = seconds;
+    while left > 0 {
+        left -= agent.ticks(left).taken;
+    }
+    Ok(())
+}
+
+/// Gives the agent a frame, and prints what it did.
+fn hear(agent: &mut Agent, frame: &[u8]) -> Result<(), Box<dyn Error>> {
+    match agent.frame_news(0, frame)?.1 {
+        News::New(name) => print("new", name),
+        News::Changed(name) => print("changed", name),
+        News::Dropped(name) => print("no room for", name),
+        News::Gone(name) => print("gone", name),
+        _ => (),
+    }
+    Ok(())
+}
+
+/// Returns the lines of standard input as they come.
+fn lines() -> Receiver<String> {
+    let (sender, receiver) = channel();
+    thread::spawn(move || {
+        stdin().lock().lines().map_while(Result::ok).try_for_each(|line| sender.send(line))
+    });
+    receiver
+}
+
+fn main() -> Result<(), Box<dyn Error>> {
+    let options = Options { ports: &["eth0"], receive_only: true, ..Options::default() };
+    let (mut agent, lines) = (Agent::open(&options)?, lines());
+    let mut now = Instant::now();
+    loop {
+        let came = lines.recv_timeout(Duration::from_secs(agent.due().map_or(3600, u64::from)));
+        // First the seconds that passed, and then the frame.
+        let passed = now.elapsed().as_secs();
+        now += Duration::from_secs(passed);
+        pass(&mut agent, passed as u32)?;
+        match came {
+            Ok(line) => hear(&mut agent, &octets_of(&line).ok_or("a line that is not hexadecimal")?)?,
+            Err(RecvTimeoutError::Timeout) => (),
+            Err(RecvTimeoutError::Disconnected) => return Ok(()),
+        }
+    }
+}

@@ -1,0 +1,27 @@
+#!/bin/sh
+# Builds lldpa-live and checks it with cargo: its form, what clippy warns of, its tests.
+#     tools/gate/check-live.sh
+# It stands on crates/lldpa_c/out/lib, which tools/library/library.sh makes unless it is there. The last line is
+# `N passed, M failed`; without cargo it says so, and its status is 3.
+set -u
+cd "$(dirname "$0")/../.." || exit 2
+. tools/gate/parts.sh
+needs cargo || exit 3
+export LLDPA_LIB_DIR="$PWD/crates/lldpa_c/out/lib"
+if ! [ -f "$LLDPA_LIB_DIR/liblldpa.a" ]; then
+    tools/library/library.sh > "$room/out" 2>&1
+    judge $? "tools/library/library.sh: $(tail -n 5 "$room/out")"
+fi
+for words in "" --dynamic; do
+    # shellcheck disable=SC2086
+    tools/release/live.sh $words > "$room/out" 2>&1
+    judge $? "tools/release/live.sh $words: $(tail -n 5 "$room/out")"
+done
+cd rust/live || exit 2
+export CARGO_TARGET_DIR=out/target
+for words in "fmt --check" "clippy --offline --all-targets --quiet -- -D warnings" "test --offline --quiet"; do
+    # shellcheck disable=SC2086
+    cargo $words > "$room/out" 2>&1
+    judge $? "cargo $words: $(tail -n 20 "$room/out")"
+done
+finish

@@ -1,0 +1,118 @@
+"""Checks the crate rust/lldpa over the library, for tools/library/check-library.py."""
+from __future__ import annotations
+
+import os
+import pathlib
+import re
+import shutil
+import subprocess
+
+from library_examples import follow
+from library_parts import TOP, Counts, Library, fault_of, ran, skip
+
+CRATE = TOP / "rust" / "lldpa"
+
+
+def strange_archive(library: Library) -> pathlib.Path:
+    """Makes an archive that answers 77 to all but lldpa_open, and is of another version if LLDPA_STRANGE is set.
+    Returns its folder."""
+    header = (library.folder / "lldpa.h").read_text()
+    found = re.search(r"define LLDPA_VERSION (\d+)", header)
+    assert found is not None
+    answers = {"lldpa_open": "0", "lldpa_version": f'getenv("LLDPA_STRANGE") ? 1 : {found[1]}', "lldpa_close": ""}
+    lines = [f"{kind} {name}() {{ return {answers.get(name, '77')}; }}"
+             for kind, name in re.findall(r"^(\w+) (lldpa_\w+)\(", header, re.M)]
+    source, strange = library.room / "strange.c", library.room / "strange.o"
+    lines += [f'const struct {{ char words[20]; uint32_t number; }} version = {{"liblldpa version", {found[1]}}};']
+    source.write_text("\n".join(["#include <stdbool.h>", "#include <stdint.h>", "#include <stdlib.h>", *lines, ""]))
+    ran(["cc", "-c", source, "-o", strange])
+    ran(["ar", "rcs", library.room / "liblldpa.a", strange])
+    return library.room
+
+
+def cargo(words: list[str], folder: pathlib.Path, library: Library) -> subprocess.CompletedProcess[str]:
+    """Runs cargo in the crate over the archive in a folder. A warning is an error."""
+    settings = os.environ | {"LLDPA_LIB_DIR": str(folder), "RUSTFLAGS": "-D warnings",
+                             "CARGO_TARGET_DIR": str(library.room / "target")}
+    return ran(["cargo", words[0], "--offline", "--locked", "--quiet", *words[1:]], CRATE, settings)
+
+
+def check_crate(words: list[str], folder: pathlib.Path, library: Library, counts: Counts) -> None:
+    """Counts the tests of the crate that pass, as cargo says, and that cargo ends well."""
+    ended = cargo(words, folder, library)
+    results = re.findall(r"^test result: \w+\. (\d+) passed; \d+ failed", ended.stdout, re.M)
+    counts.passed += sum(map(int, results))
+    is_right = ended.returncode == 0 and (words[0] != "test" or sum(map(int, results)) > 0)
+    counts.judge(None if is_right else f"{ended.stdout[-1500:]}{ended.stderr[-1500:]}", f"cargo {' '.join(words)}")
+
+
+def check_versions(library: Library, counts: Counts) -> None:
+    """Checks that the crate accepts an archive of another patch release, and no other version."""
+    octets, at = (library.folder / "liblldpa.a").read_bytes(), b"liblldpa version\0\0\0\0"
+    for number, fits in ((10000, True), (10042, True), (10100, False), (20000, False)):
+        folder = library.room / str(number)
+        folder.mkdir()
+        end = octets.index(at) + len(at)
+        (folder / "liblldpa.a").write_bytes(octets[:end] + number.to_bytes(4, "little") + octets[end + 4:])
+        ended = cargo(["check"], folder, library)
+        is_right = ended.returncode == 0 if fits else "this crate needs 1.0" in ended.stderr
+        counts.judge(None if is_right else ended.stderr[-1500:], f"the crate for Rust with an archive of {number}")
+
+
+def check_bindings(library: Library, counts: Counts) -> None:
+    """Checks that the declarations for Rust are those that bindgen writes of the header."""
+    if shutil.which("bindgen") is None:
+        skip("the declarations for Rust, since there is no bindgen")
+        return
+    written, kept = ran([TOP / "tools" / "library" / "bindings.sh"]).stdout, (CRATE / "src" / "sys.rs").read_text()
+    # With and without rustfmt, bindgen lays them out differently.
+    bare = [re.sub(r"\s+|,(?=\s*[)}])", "", text) for text in (written, kept)]
+    counts.judge(None if bare[0] == bare[1] != "" else "bindgen writes others", "rust/lldpa/src/sys.rs")
+
+
+def check_example(library: Library, counts: Counts) -> None:
+    """Checks that the receive loop in Rust reports what happens to a neighbor."""
+    built = cargo(["build", "--example", "receive"], library.folder, library)
+    counts.judge(built.stderr[-1500:] if built.returncode else None, "building rust/lldpa/examples/receive.rs")
+    if built.returncode:
+        return
+    program = library.room / "target" / "debug" / "examples" / "receive"
+    with subprocess.Popen([program], stdin=subprocess.PIPE, stdout=subprocess.PIPE) as heard:
+        assert heard.stdin is not None
+        lines = heard.stdin
+        is_told = follow(heard, lambda frame: (lines.write(frame.hex().encode() + b"\n"), lines.flush()))
+        heard.stdin.close()
+    is_right = is_told and heard.returncode == 0
+    counts.judge(None if is_right else f"status {heard.returncode}", "rust/lldpa/examples/receive.rs")
+
+
+def check_oldest(library: Library, counts: Counts) -> None:
+    """Checks that the crate builds with the compiler of the system, such as Debian's, if it has one."""
+    if not pathlib.Path("/usr/bin/rustc").exists() or not pathlib.Path("/usr/bin/cargo").exists():
+        skip("the crate for Rust by the system's compiler, since there is none")
+        return
+    settings = os.environ | {"LLDPA_LIB_DIR": str(library.folder), "RUSTC": "/usr/bin/rustc", "RUSTFLAGS": "-D warnings",
+                             "CARGO_TARGET_DIR": str(library.room / "oldest")}
+    ended = ran(["/usr/bin/cargo", "build", "--offline", "--locked", "--quiet", "--all-targets"], CRATE, settings)
+    counts.judge(ended.stderr[-1500:] if ended.returncode else None, "the crate for Rust by the system's compiler")
+
+
+def check_rust(library: Library, counts: Counts) -> None:
+    """Checks the crate for Rust: its tests and examples, also over an archive that answers what no library does; clippy;
+    and that its build says what is missing."""
+    if shutil.which("cargo") is None:
+        skip("the crate for Rust, since there is no cargo")
+        return
+    check_crate(["test"], library.folder, library, counts)
+    if fault_of(["cargo", "clippy", "--version"]) is None:
+        for words in (["--all-targets"], ["--no-default-features"]):
+            check_crate(["clippy", *words, "--", "-D", "warnings"], library.folder, library, counts)
+    else:
+        skip("clippy, which is not installed")
+    check_crate(["test", "--test", "strange", "--", "--ignored"], strange_archive(library), library, counts)
+    check_versions(library, counts)
+    check_example(library, counts)
+    check_oldest(library, counts)
+    missing = cargo(["check"], library.room / "none", library)
+    is_said = missing.returncode != 0 and "Set LLDPA_LIB_DIR to the folder" in missing.stderr
+    counts.judge(None if is_said else missing.stderr, "the crate for Rust without an archive")

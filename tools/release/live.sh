@@ -1,0 +1,57 @@
+#!/bin/sh
+# Builds lldpa-live, which needs the library that tools/library/library.sh makes.
+#     tools/release/live.sh [--arch amd64|arm64] [--dynamic]
+# rust/live/out/lldpa-live is then the program for this machine, rust/live/out/ARCH/lldpa-live that for another
+# architecture. It contains all that it needs and runs in an empty folder. With --dynamic it uses the GNU C library of
+# the system, and is in the folder `dynamic` beside it, from which tools/release/package.sh takes it. LLDPA_LIB_DIR names
+# the folder of liblldpa.a if that is elsewhere. Needs cargo, and no network. Another architecture needs its gcc and
+# Rust's standard library for it, such as Debian's libstd-rust-dev:arm64, which Debian's own cargo uses; without that
+# library the status is 3. Prints the path of the program.
+set -eu
+cd "$(dirname "$0")/../.."
+fail() {
+    echo "tools/release/live.sh: $1" >&2
+    exit 1
+}
+
+machine=$(uname -m)
+arch=
+dynamic=
+flags="-C target-feature=+crt-static"
+while [ $# -gt 0 ]; do
+    case $1 in
+        --arch) arch=${2-} && shift ;;
+        --dynamic) flags='' dynamic=/dynamic ;;
+        *) fail "$1 is no option" ;;
+    esac
+    shift
+done
+case ${arch:-$machine} in
+    amd64 | x86_64) arch=amd64 triple=x86_64-unknown-linux-gnu ;;
+    arm64 | aarch64) arch=arm64 triple=aarch64-unknown-linux-gnu ;;
+    *) fail "there is no architecture $arch" ;;
+esac
+command -v cargo > /dev/null || fail "there is no cargo"
+has_library() { [ -d "$("$1" --print sysroot)/lib/rustlib/$triple/lib" ]; }
+if ! has_library rustc; then
+    has_library /usr/bin/rustc 2> /dev/null || { echo "there is no standard library of Rust for $arch" >&2 && exit 3; }
+    PATH=/usr/bin:$PATH
+fi
+out=$PWD/rust/live/out
+if [ "$triple" = "$machine-unknown-linux-gnu" ]; then
+    program=$out$dynamic/lldpa-live
+    library=$PWD/crates/lldpa_c/out/lib
+else
+    program=$out/$arch$dynamic/lldpa-live
+    library=$PWD/crates/lldpa/out/$arch/lib
+    export CARGO_TARGET_AARCH64_UNKNOWN_LINUX_GNU_LINKER=aarch64-linux-gnu-gcc
+    export CARGO_TARGET_X86_64_UNKNOWN_LINUX_GNU_LINKER=x86_64-linux-gnu-gcc
+fi
+export LLDPA_LIB_DIR="${LLDPA_LIB_DIR:-$library}"
+[ -f "$LLDPA_LIB_DIR/liblldpa.a" ] || fail "$LLDPA_LIB_DIR has no liblldpa.a; tools/library/library.sh makes it"
+export CARGO_TARGET_DIR="$out/target" RUSTFLAGS="$flags"
+(cd rust/live && cargo build --offline --release --locked --quiet --target "$triple")
+mkdir -p "$(dirname "$program")"
+cp "$out/target/$triple/release/lldpa-live" "$program.new"
+mv "$program.new" "$program"
+echo "$program"
