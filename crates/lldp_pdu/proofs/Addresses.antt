@@ -7,7 +7,7 @@ use Rattle.std.proofs.lemmas.List.{take_at, length-append, length-take, length-d
 use Rattle.std.proofs.Math.Seq.{drop-append-add}
 use Rattle.std.proofs.lemmas.Nat.{from_be_bytes-to_be_bytes_4}
 use Rattle.lldp_pdu.specs.Tlv.{AreOctets}
-use Rattle.lldp_pdu.specs.ManagementAddress.{Address, IsAddress, IsSpelled, address_fields, address_of}
+use Rattle.lldp_pdu.specs.ManagementAddress.{Address, IsSpelled, address_of}
 use Rattle.lldp_pdu.proofs.Cuts.{AreOctets-right}
 use Rattle.std.proofs.lemmas.Grind.{common_steps}
 
@@ -43,19 +43,8 @@ address_at m f n a b c d o address oid e =
 
 -- ---- what is spelled is well formed
 
-spelled_fits : (a : Address) (n : ℕ) → IsAddress a → n ≡ length a.address + 1 + length a.oid + 7 → fits (length a.address + 1) (length a.oid) n ≡ true
-spelled_fits a n h e = grind (arith, common_steps, le-leb, eq-eqb)
-
 pub spelled_is_address : (body : List ℕ) (a : Address) → IsSpelled body a → address_of body ≡ Some a
-spelled_is_address body a h =
-    let front = (length a.address + 1) ∷ a.family ∷ a.address in
-    let tail = (a.numbering ∷ to_be_bytes w32 a.interface) ++ (length a.oid ∷ a.oid) in
-    ap address_of (h.octets ∙ append_assoc front (a.numbering ∷ to_be_bytes w32 a.interface) (length a.oid ∷ a.oid))
-    ∙ address_at (length a.address + 1) a.family a.numbering _ _ _ _ (length a.oid) a.address a.oid refl
-    ∙ there (fits (length a.address + 1) (length a.oid) (length (front ++ tail))) (spelled_fits a (length (front ++ tail)) h.address (omega (arith, length-append a.address tail))) (from_be_bytes-to_be_bytes_4 a.interface h.address.interface)
-  where
-    there : (b : Bool) {i : ℕ} → b ≡ true → i ≡ a.interface → ◌≡◌ {A = Option Address} (cond b (Some (record { family = a.family; address = a.address; numbering = a.numbering; interface = i; oid = a.oid })) None) (Some a)
-    there b p q = rw (p, q) refl
+spelled_is_address body a h = grind (arith, common_steps, append_assoc, address_at, le-leb, eq-eqb, length-append, from_be_bytes-to_be_bytes_4)
 
 -- ---- what is well formed is spelled
 
@@ -66,11 +55,7 @@ record Fits (m o len : ℕ) : Type 0 where
   pub exact : len ≡ m + o + 7
 
 fits_parts : (m o len : ℕ) → fits m o len ≡ true → Fits m o len
-fits_parts m o len h =
-    let p = and_parts (leb 2 m && leb m 32 && leb o 128) (eqb len (m + o + 7)) h in
-    let q = and_parts (leb 2 m && leb m 32) (leb o 128) p.0 in
-    let r = and_parts (leb 2 m) (leb m 32) q.0 in
-    record { least = leb-true 2 m r.0; greatest = leb-true m 32 r.1; oid = leb-true o 128 q.1; exact = eqb-true len (m + o + 7) p.1 }
+fits_parts m o len h = grind (arith, common_steps, and_parts, leb-true, eqb-true)
 
 four_back : (a b c d : ℕ) → a < 256 → b < 256 → c < 256 → d < 256 → (to_be_bytes w32 (from_be_bytes w32 (a ∷ b ∷ c ∷ d ∷ [])) ≡ a ∷ b ∷ c ∷ d ∷ []) × (from_be_bytes w32 (a ∷ b ∷ c ∷ d ∷ []) < 2 ^ 32)
 four_back a b c d h k l m = grind (arith, common_steps)
@@ -120,10 +105,7 @@ six_octets other h = absurd (omega (arith, h))
 
 -- the lengths of a well-formed body
 long_enough : (body : List ℕ) (found : Address) → address_of body ≡ Some found → Fits (get_or body 0 0) (get_or body (get_or body 0 0 + 6) 0) (length body)
-long_enough body found h =
-    let m = get_or body 0 0 in
-    let o = get_or body (m + 6) 0 in
-    fits_parts m o (length body) (cond_some (fits m o (length body)) (address_fields body m) found h).0
+long_enough body found h = grind (arith, common_steps, fits_parts, cond_some)
 
 pub address_is_spelled : (body : List ℕ) (found : Address) → AreOctets body → address_of body ≡ Some found → IsSpelled body found
 address_is_spelled body found octets h =

@@ -1,5 +1,5 @@
 -- There is one cut, and `cut` computes it.
-use Rattle.std.proofs.Common.{◌≡◌, ℕ, zero, suc, ◌+◌, ◌*◌, ◌/◌, ◌%◌, ◌<◌, ◌≤◌, Bool, true, false, cond, ltb, List, [], ◌∷◌, ◌++◌, length, take, drop, get_or, ◌⊎◌, Option, Some, None, refl, sym, ap, subst, ◌∙◌, append_assoc, arith, inl, inr}
+use Rattle.std.proofs.Common.{◌≡◌, ℕ, zero, suc, ◌+◌, ◌/◌, ◌%◌, ◌<◌, ◌≤◌, cond, ltb, List, [], ◌∷◌, ◌++◌, length, take, drop, get_or, ◌⊎◌, Option, Some, None, refl, sym, ap, ◌∙◌, append_assoc, arith, inl, inr}
 use Rattle.std.specs.List.{AllByRecursion}
 use Rattle.std.proofs.lemmas.Bool.{ltb-false, le-ltb}
 use Rattle.std.proofs.lemmas.List.{take_at, drop_at, take-append-drop, length-append, length-take, length-drop, append-nil}
@@ -28,12 +28,9 @@ AreOctets-from_index (x ∷ xs) h = (h 0, AreOctets-from_index xs (λ i. h (suc 
 announced : ℕ → List ℕ → Option (TlvUnit × List ℕ)
 announced header octets = cond (ltb (length octets) (header % 512)) None (Some (record { kind = header / 512; body = take (header % 512) octets }, drop (header % 512) octets))
 
-header_back : (kind n : ℕ) → kind < 128 → n < 512 → 256 * ((512 * kind + n) / 256 % 256) + (512 * kind + n) % 256 ≡ 512 * kind + n
-header_back kind n h k = omega arith
-
 pub first_tlv-spelling : (u : TlvUnit) (others : List ℕ) → IsTlv u → first_tlv (spelling u ++ others) ≡ Some (u, others)
 unfolding announced
-first_tlv-spelling u others h = grind (arith, common_steps, le-ltb, length-append, header_back, take_at, drop_at)
+first_tlv-spelling u others h = grind (arith, common_steps, le-ltb, length-append, take_at, drop_at)
 
 -- what is read at the front is spelled there
 pub record Takes (octets : List ℕ) (u : TlvUnit) (others : List ℕ) : Type 0 where
@@ -41,35 +38,9 @@ pub record Takes (octets : List ℕ) (u : TlvUnit) (others : List ℕ) : Type 0 
   pub tlv : IsTlv u
   pub octets_left : AreOctets others
 
-header_octets : (high low n header : ℕ) → high < 256 → low < 256 → header ≡ 256 * high + low → n ≡ header % 512 → ((512 * (header / 512) + n) / 256 % 256 ≡ high) × ((512 * (header / 512) + n) % 256 ≡ low) × (header / 512 < 128)
-header_octets high low n header h l e k = (omega arith, omega arith, omega arith)
-
-cond_none : {A : Type 0} (b : Bool) (x y : A) → cond b None (Some x) ≡ Some y → (b ≡ false) × (x ≡ y)
-cond_none true x y e = absurd cc
-cond_none false x y e = (refl, cc)
-
-announced_takes : (high low header : ℕ) (octets : List ℕ) (u : TlvUnit) (others : List ℕ) → header ≡ 256 * high + low → AreOctets (high ∷ low ∷ octets) → announced header octets ≡ Some (u, others) → Takes (high ∷ low ∷ octets) u others
-unfolding announced
-announced_takes high low header octets u others e fits h =
-    let n = header % 512 in
-    let g = cond_none (ltb (length octets) n) (record { kind = header / 512; body = take n octets }, drop n octets) (u, others) h in
-    let long : n ≤ length octets = ltb-false _ _ g.0 in
-    let len : n ≡ length (take n octets) = omega (arith, length-take n octets) in
-    let back = header_octets high low (length (take n octets)) header fits.0 fits.1.0 e (sym len) in
-    let parts : high ∷ low ∷ octets ≡ spelling (record { kind = header / 512; body = take n octets }) ++ drop n octets = ap2 (sym back.0) (sym back.1) (sym (take-append-drop n octets)) in
-    let left : AreOctets (drop n octets) = AreOctets-right (take n octets) (drop n octets) (subst AreOctets (sym (take-append-drop n octets)) fits.1.1) in
-    let short : length (take n octets) < 512 = omega (arith, len) in
-    let made : Takes (high ∷ low ∷ octets) (record { kind = header / 512; body = take n octets }) (drop n octets) = record { parts = parts; tlv = record { kind = back.2; body = short }; octets_left = left } in
-    subst (λ (p : TlvUnit × List ℕ). Takes (high ∷ low ∷ octets) p.0 p.1) g.1 made
-  where
-    ap2 : {a b c d : ℕ} {xs ys : List ℕ} → a ≡ b → c ≡ d → xs ≡ ys → a ∷ c ∷ xs ≡ b ∷ d ∷ ys
-    ap2 p q r = cc
-
 pub first_takes : (octets : List ℕ) (u : TlvUnit) (others : List ℕ) → AreOctets octets → first_tlv octets ≡ Some (u, others) → Takes octets u others
 unfolding announced
-first_takes [] u others fits h = absurd cc
-first_takes (high ∷ []) u others fits h = absurd cc
-first_takes (high ∷ low ∷ octets) u others fits h = announced_takes high low (256 * high + low) octets u others refl fits h
+first_takes octets u others fits h = grind (arith, common_steps, ltb-false, length-take, take-append-drop, AreOctets-right)
 
 -- a list that begins with a TLV shows one at its front, and the other way round
 pub begins_none : (octets : List ℕ) → first_tlv octets ≡ None → ¬ (BeginsTlv octets)
@@ -86,27 +57,14 @@ none_begins octets fits h =
       | inr (x, e) ↦ let t = first_takes octets x.0 x.1 fits e in absurd (h (x.0, x.1, t.tlv, t.parts))
     ]
 
--- what follows the first TLV is shorter
-announced_shorter : (header : ℕ) (octets : List ℕ) (u : TlvUnit) (others : List ℕ) → announced header octets ≡ Some (u, others) → length others ≤ length octets
-unfolding announced
-announced_shorter header octets u others h = grind (arith, common_steps, cond_none, length-drop)
-
-announced_left : (header : ℕ) (octets : List ℕ) (u : TlvUnit) (others : List ℕ) → announced header octets ≡ Some (u, others) → others ≡ drop (length u.body) octets
-unfolding announced
-announced_left header octets u others h = grind (arith, common_steps, cond_none, ltb-false, length-take)
-
 -- what follows the first TLV stands behind it
 pub first_left : (octets : List ℕ) (u : TlvUnit) (others : List ℕ) → first_tlv octets ≡ Some (u, others) → others ≡ drop (2 + length u.body) octets
 unfolding announced
-first_left [] u others h = absurd cc
-first_left (high ∷ []) u others h = absurd cc
-first_left (high ∷ low ∷ octets) u others h = grind (arith, common_steps, announced_left)
+first_left octets u others h = grind (arith, common_steps, ltb-false, length-take)
 
 pub first_shorter : (octets : List ℕ) (u : TlvUnit) (others : List ℕ) → first_tlv octets ≡ Some (u, others) → length others + 2 ≤ length octets
 unfolding announced
-first_shorter [] u others h = absurd cc
-first_shorter (high ∷ []) u others h = absurd cc
-first_shorter (high ∷ low ∷ octets) u others h = omega (arith, announced_shorter (256 * high + low) octets u others h)
+first_shorter octets u others h = grind (arith, common_steps, length-drop)
 
 -- ---- the cut
 
@@ -127,13 +85,11 @@ enough (suc n) (suc m) octets h k = after_same (first_tlv octets) (λ u others e
 -- the cut is the first TLV, and the cut of what follows it
 pub cut_none : (octets : List ℕ) → first_tlv octets ≡ None → cut octets ≡ record { tlvs = []; rest = octets }
 unfolding cut cut_within
-cut_none [] h = refl
-cut_none (x ∷ octets) h = ap (λ (o : Option (TlvUnit × List ℕ)). cut_after o (cut_within (length octets)) (x ∷ octets)) h
+cut_none octets h = grind (arith, common_steps)
 
 pub cut_some : (octets : List ℕ) (u : TlvUnit) (others : List ℕ) → first_tlv octets ≡ Some (u, others) → cut octets ≡ record { tlvs = u ∷ (cut others).tlvs; rest = (cut others).rest }
 unfolding cut cut_within
-cut_some [] u others h = absurd cc
-cut_some (x ∷ octets) u others h = grind (arith, common_steps, enough, first_shorter)
+cut_some octets u others h = grind (arith, common_steps, enough, first_shorter)
 
 -- TLVs in front of octets are TLVs in front of their cut
 pub cut-spellings : (us : List TlvUnit) (octets : List ℕ) → AllByRecursion IsTlv us → cut (spellings us ++ octets) ≡ record { tlvs = us ++ (cut octets).tlvs; rest = (cut octets).rest }

@@ -43,13 +43,9 @@ seconds_back ttl h = omega (arith, h)
 cut_draft : (d : Draft) → IsDraft d → cut (spellings (all_tlvs d)) ≡ record { tlvs = all_tlvs d; rest = [] }
 cut_draft d h = cut_alone (all_tlvs d) (draft_tlvs d h)
 
--- the draft is what its octets spell
-draft_back : (d : Draft) (octets : List ℕ) → octets ≡ spellings (all_tlvs d) → IsDraft d → draft_of octets ≡ d
-unfolding draft_of
-draft_back d octets e h = grind (arith, common_steps, cut_draft, ttl_tlvs, seconds_back, msap_tlvs)
-
 pub builds : (d : Draft) (octets : List ℕ) (met : List Bool) (lives : Bool) → octets ≡ spellings (all_tlvs d) → IsDraft d → length octets + 2 ≤ 1500 → Flags met (λ kind. was_put kind d.tlvs) → lives ≡ ltb 0 d.ttl → Builds octets met lives × (draft_of octets ≡ d)
-builds d octets met lives e h room flags l = grind (arith, common_steps, draft_back)
+unfolding draft_of
+builds d octets met lives e h room flags l = grind (arith, common_steps, cut_draft, ttl_tlvs, seconds_back, msap_tlvs)
 
 -- ---- begun
 
@@ -84,18 +80,9 @@ pub put_fault_is : (d : Draft) (u : TlvUnit) (a b c e f g : Bool) → is_between
 unfolding put_fault
 put_fault_is d u a b c e f g p q r s t v = grind (arith, common_steps)
 
-decided_none : (a b c d e f : Bool) → decided a b c d e f ≡ None → (a ≡ true) × (b ≡ false) × (c ≡ false) × (d ≡ false) × (e ≡ true) × (f ≡ false)
-decided_none true false false false true false h = (refl, refl, refl, refl, refl, refl)
-decided_none false b c d e f h = absurd cc
-decided_none true true c d e f h = absurd cc
-decided_none true false true d e f h = absurd cc
-decided_none true false false true e f h = absurd cc
-decided_none true false false false false f h = absurd cc
-decided_none true false false false true true h = absurd cc
-
 -- what passes each check, and the other way round
 pub passes : (d : Draft) (u : TlvUnit) → put_fault d u ≡ None → CanPut d u
-passes d u h = grind (arith, common_steps, decided_none, put_fault_is, and_parts, leb-true, eqb-false, ltb-false, put_length)
+passes d u h = grind (arith, common_steps, put_fault_is, and_parts, leb-true, eqb-false, ltb-false, put_length)
 
 pub can_put : (d : Draft) (u : TlvUnit) → CanPut d u → put_fault d u ≡ None
 can_put d u h = grind (arith, common_steps, put_fault_is, ne_eqb, le-ltb, put_length, le-leb)
@@ -106,10 +93,7 @@ long d u octets met lives v b = put_length d u ∙ ap (λ (n : ℕ). n + length 
 
 -- the bit says whether the TTL is 0
 pub tells_shutdown : (d : Draft) (octets : List ℕ) (met : List Bool) (lives : Bool) → Builds octets met lives → draft_of octets ≡ d → not lives ≡ eqb d.ttl 0
-tells_shutdown d octets met lives b v = ap not b.lives_is ∙ zero (draft_of octets).ttl ∙ ap (λ (d : Draft). eqb d.ttl 0) v
-  where
-    zero : (n : ℕ) → not (ltb 0 n) ≡ eqb n 0
-    zero n = grind (arith, common_steps, ne_eqb, eq-eqb, lt-ltb, le-ltb)
+tells_shutdown d octets met lives b v = grind (arith, common_steps, ne_eqb, eq-eqb, lt-ltb, le-ltb)
 
 -- ---- one more TLV
 
@@ -118,10 +102,7 @@ optional_more [] u h k = (k, tt)
 optional_more (v ∷ us) u h k = (h.0, optional_more us u h.1 k)
 
 earlier_more : (s a w f h : Bool) → (s && ((a || w) || h)) ≡ false → (s && (w || ((a && f) || h))) ≡ false
-earlier_more false a w f h e = refl
-earlier_more true false true f h e = absurd (true≢false e)
-earlier_more true false false f h e = e
-earlier_more true true w f h e = absurd (true≢false e)
+earlier_more s a w f h e = grind (arith, common_steps, true≢false)
 
 kept_more : (earlier us : List TlvUnit) (u : TlvUnit) → AllKept earlier us → is_well_formed u ≡ true → (is_single u.kind && (was_put u.kind us || has_well_formed u.kind earlier)) ≡ false → AllKept earlier (us ++ u ∷ [])
 kept_more earlier [] u h w e = (rw (w, e) refl, tt)

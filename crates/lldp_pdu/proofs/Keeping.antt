@@ -1,5 +1,5 @@
 -- The flags of the single types tell what "an earlier TLV" tells.
-use Rattle.std.proofs.Common.{◌≡◌, ℕ, ◌+◌, ◌-◌, ◌<◌, ◌≤◌, Bool, true, false, cond, not, ◌&&◌, ◌||◌, leb, eqb, List, [], ◌∷◌, length, get_or, set, refl, sym, ap, ◌∙◌, arith}
+use Rattle.std.proofs.Common.{◌≡◌, ℕ, ◌+◌, Bool, true, false, cond, not, ◌&&◌, ◌||◌, eqb, List, [], ◌∷◌, length, refl, sym, ap, ◌∙◌, arith}
 use Rattle.std.proofs.lemmas.Bool.{cases_eq, and_parts, leb-true, eq-eqb, ne_eqb, and_right, and_left, or_right, le-leb, true≢false}
 use Rattle.std.proofs.Math.Bool.{or-false}
 use Rattle.std.proofs.lemmas.List.{length-set, get_or-set_same, get_or-set_other}
@@ -15,24 +15,15 @@ use Rattle.std.proofs.lemmas.Grind.{common_steps}
 pub flags_none : Flags none_seen (λ kind. false)
 flags_none = grind (arith, common_steps)
 
-single_range : (kind : ℕ) → (leb 4 kind && leb kind 7) ≡ true → (4 ≤ kind) × (kind ≤ 7)
-single_range kind h = let p = and_parts (leb 4 kind) (leb kind 7) h in (leb-true 4 kind p.0, leb-true kind 7 p.1)
-
-between : (kind : ℕ) → 4 ≤ kind → kind ≤ 7 → (leb 4 kind && leb kind 7) ≡ true
-between kind low high = rw (le-leb 4 kind low, le-leb kind 7 high) refl
-
-set_at : (seen : List Bool) (kind i : ℕ) → i ≡ kind - 4 → i < length seen → get_or (set seen i true) (kind - 4) false ≡ true
-set_at seen kind i h k = ap (λ (j : ℕ). get_or (set seen i true) j false) (sym h) ∙ get_or-set_same seen i true false k
-
 -- once a flag is set its type is met too, and no other
 pub flags_more : (seen : List Bool) (is_met : ℕ → Bool) (met : ℕ) → Flags seen is_met → Flags (with_flag seen met) (λ kind. is_met kind || eqb met kind)
 unfolding with_flag
-flags_more seen is_met met f = grind (arith, common_steps, ne_eqb, or-false, true≢false, between, single_range, length-set, cases_eq, set_at, or_right, eq-eqb, get_or-set_other)
+flags_more seen is_met met f = grind (arith, common_steps, ne_eqb, or-false, true≢false, le-leb, and_parts, leb-true, length-set, cases_eq, get_or-set_same, or_right, eq-eqb, get_or-set_other)
 
 -- what is read is whether a type with a flag is met
 pub flag_is : (seen : List Bool) (is_met : ℕ → Bool) (kind : ℕ) → Flags seen is_met → has_flag seen kind ≡ (is_single kind && is_met kind)
 unfolding has_flag
-flag_is seen is_met kind f = grind (arith, common_steps, single_range, and_left)
+flag_is seen is_met kind f = grind (arith, common_steps, and_parts, leb-true, and_left)
 
 -- the same types are met, said otherwise
 pub flags_as : (seen : List Bool) (is_met also : ℕ → Bool) → ((kind : ℕ) → is_met kind ≡ also kind) → Flags seen is_met → Flags seen also

@@ -9,5 +9,4 @@ pub mod Addresses
 pub mod CapsSpelled
 pub mod SoundForms
 pub mod Framing
-pub mod FrameForms
 pub mod Vectors

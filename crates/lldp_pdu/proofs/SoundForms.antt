@@ -1,5 +1,5 @@
 -- An LLDPDU is sound exactly if it has the form of one, and any other has the fault of its first part that is wrong.
-use Rattle.std.proofs.Common.{◌≡◌, ℕ, ◌<◌, ◌≤◌, ◌⊎◌, inl, inr, Bool, true, false, cond, ◌&&◌, leb, List, [], ◌∷◌, length, Some, None, refl, sym, ap, ◌∙◌, eq-zero-or-pos, arith}
+use Rattle.std.proofs.Common.{◌≡◌, ℕ, ◌<◌, ◌≤◌, ◌⊎◌, inl, inr, Bool, true, false, cond, ◌&&◌, List, [], ◌∷◌, length, Some, None, refl, sym, ap, ◌∙◌, eq-zero-or-pos, arith}
 use Rattle.std.specs.Prelude.{nat_lt}
 use Rattle.std.specs.List.{list_any, AllByRecursion}
 use Rattle.std.proofs.lemmas.Bool.{or_parts, le-leb, leb-true, lt-ltb}
@@ -64,8 +64,7 @@ sound_has_form octets h =
     by others e none (inr lives) = inr (later_kinds others (none lives))
 
 neither : {r : Bool} (b : Bool) → r ≡ false → cond (b && r) (Some Repeated) None ≡ None
-neither true e = rw e refl
-neither false e = refl
+neither b e = grind (arith, common_steps)
 
 pub form_is_sound : (octets : List ℕ) → IsSound octets → fault_of octets ≡ None
 form_is_sound octets f =
@@ -86,27 +85,14 @@ named : (body : List ℕ) → IsIdentifier body → is_between 2 (length body) 2
 named body h = rw (le-leb 2 (length body) h.least, le-leb (length body) 256 h.greatest) refl
 
 unnamed : (body : List ℕ) → ¬ (IsIdentifier body) → is_between 2 (length body) 256 ≡ false
-unnamed body n = by (leb 2 (length body)) (leb (length body) 256) refl refl
-  where
-    by : (a b : Bool) → leb 2 (length body) ≡ a → leb (length body) 256 ≡ b → (a && b) ≡ false
-    by true true e f = absurd (n (record { least = leb-true 2 (length body) e; greatest = leb-true (length body) 256 f }))
-    by true false e f = refl
-    by false b e f = refl
-
-some_other : (us : List TlvUnit) (b : Bool) → list_any is_mandatory (before_end us) ≡ b → ¬ (AreOther us) → b ≡ true
-some_other us true e n = refl
-some_other us false e n = absurd (n (later_kinds us e))
+unnamed body n = grind (arith, common_steps, leb-true)
 
 by_checks : (octets : List ℕ) (us : List TlvUnit) → (cut octets).tlvs ≡ us → fault_of octets ≡ first_fault (checks us (ttl_of octets) (later_tlvs octets))
 by_checks octets us e = fault_from octets us (ttl_of octets) e refl
 
 all_but_last : (octets chassis port ttl : List ℕ) (us : List TlvUnit) → (cut octets).tlvs ≡ of_kind 1 chassis ∷ of_kind 2 port ∷ of_kind 3 ttl ∷ us → AreNamed chassis port → 2 ≤ length ttl → 0 < seconds ttl → ¬ (AreOther us)
     → first_fault (checks (of_kind 1 chassis ∷ of_kind 2 port ∷ of_kind 3 ttl ∷ us) (ttl_of octets) (later_tlvs octets)) ≡ Some Repeated
-all_but_last octets chassis port ttl us e h l s n =
-    let lives : ttl_of octets ≡ seconds ttl = ttl_tlvs octets ∙ ap (λ (vs : List TlvUnit). seconds (tlv_at vs 2).body) e in
-    let again : list_any is_mandatory (later_tlvs octets) ≡ true = ap (list_any is_mandatory) (later_from octets _ e) ∙ some_other us _ refl n in
-    sound_checks chassis port ttl us (ttl_of octets) (later_tlvs octets) h.chassis_fits.least h.chassis_fits.greatest h.port_fits.least h.port_fits.greatest l
-    ∙ rw (again, lives, lt-ltb 0 (seconds ttl) s) refl
+all_but_last octets chassis port ttl us e h l s n = grind (arith, common_steps, ttl_tlvs, later_from, later_kinds, sound_checks, lt-ltb)
 
 pub faults_are : (octets chassis port ttl : List ℕ) (u : TlvUnit) (us : List TlvUnit) → HasFaults octets chassis port ttl u us
 faults_are octets chassis port ttl u us = record {

@@ -1,18 +1,17 @@
 -- The loop over the TLVs after the mandatory ones.
-use Rattle.std.proofs.Common.{◌≡◌, ℕ, ◌+◌, ◌<◌, ◌≤◌, Bool, true, false, cond, ltb, leb, List, [], ◌∷◌, ◌++◌, length, take, get_or, refl, sym, ap, ◌∙◌, append_assoc, add-zero, arith}
+use Rattle.std.proofs.Common.{◌≡◌, ℕ, ◌+◌, ◌<◌, ◌≤◌, Bool, true, false, cond, ltb, List, [], ◌∷◌, ◌++◌, length, take, get_or, refl, sym, ap, ◌∙◌, append_assoc, add-zero, arith}
 use Rattle.std.specs.List.{list_any}
 use Rattle.std.proofs.lemmas.List.{length-append, take_at}
-use Rattle.std.proofs.lemmas.Grind.{flat_map-append}
+use Rattle.std.proofs.lemmas.Grind.{flat_map-append, common_steps}
 use Rattle.lldp_pdu.specs.Tlv.{TlvUnit, spelling, spellings, AreOctets}
 use Rattle.lldp_pdu.specs.Cut.{Cut, cut}
 use Rattle.lldp_pdu.specs.Lldpdu.{is_end, before_end, ended_incomplete}
 use Rattle.lldp_pdu.specs.Fault.{is_mandatory}
 use Rattle.lldp_pdu.specs.Kept.{count_unrecognized}
-use Rattle.lldp_pdu.specs.Code.Seen.{none_seen, is_kept_seen, seen_after, kept_seen}
+use Rattle.lldp_pdu.specs.Code.Seen.{none_seen, seen_after, kept_seen}
 use Rattle.lldp_pdu.specs.Code.Survey.{count_lost, IsSurveyOf}
 use Rattle.lldp_pdu.proofs.Cuts.{cut_is_cut, AreOctets-from_index}
 use Rattle.lldp_pdu.proofs.Opening.{with_front}
-use Rattle.std.proofs.lemmas.Grind.{common_steps}
 
 abbrev pub extent_left : List ℕ → List TlvUnit
 extent_left octets = before_end (cut octets).tlvs
@@ -33,9 +32,6 @@ starts after left seen e f = rw (e, f) (record { length_is = omega arith; lost_a
 
 extent_front : (left next : List ℕ) (u : TlvUnit) → cut left ≡ with_front u next → is_end u ≡ false → extent_left left ≡ u ∷ extent_left next
 extent_front left next u e k = ap (λ (c : Cut). before_end c.tlvs) e ∙ rw k refl
-
-unknown_front : (seen : List Bool) (u : TlvUnit) (us : List TlvUnit) (n : ℕ) → cond (is_kept_seen seen u) (cond (leb 9 u.kind) 1 0) 0 ≡ n → count_unrecognized (kept_seen seen (u ∷ us)) ≡ n + count_unrecognized (kept_seen (seen_after seen u) us)
-unknown_front seen u us n e = grind (arith, common_steps)
 
 -- ---- bounds
 
@@ -64,7 +60,7 @@ lost_few seen (u ∷ us) = grind (arith, common_steps, length-append, lost_few (
 
 unknown_few : (seen : List Bool) (us : List TlvUnit) → count_unrecognized (kept_seen seen us) ≤ length (spellings us)
 unknown_few seen [] = omega arith
-unknown_few seen (u ∷ us) = grind (arith, common_steps, unknown_front, length-append, unknown_few (seen_after seen u) us)
+unknown_few seen (u ∷ us) = grind (arith, common_steps, length-append, unknown_few (seen_after seen u) us)
 
 -- what the counters stay below
 pub record Bounds (after left : List ℕ) (n lose know : ℕ) : Type 0 where

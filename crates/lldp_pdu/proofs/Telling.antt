@@ -1,5 +1,5 @@
 -- What the extent of a sound LLDPDU tells again.
-use Rattle.std.proofs.Common.{◌≡◌, ℕ, zero, suc, ◌+◌, ◌*◌, ◌<◌, ◌≤◌, Bool, true, false, cond, not, ◌&&◌, ltb, leb, eqb, List, [], ◌∷◌, ◌++◌, length, drop, get_or, None, refl, sym, ap, subst, ◌∙◌, arith}
+use Rattle.std.proofs.Common.{◌≡◌, ℕ, ◌+◌, ◌*◌, ◌<◌, ◌≤◌, Bool, true, false, cond, ◌&&◌, leb, eqb, List, [], ◌∷◌, length, drop, get_or, None, refl, sym, ap, subst, ◌∙◌, arith}
 use Rattle.std.specs.List.{list_any, AllByRecursion}
 use Rattle.std.proofs.lemmas.Bool.{not-false, eqb-true, lt-leb, true≢false, ltb-false, and_right, and_parts, leb-true, lt-ltb, or_parts}
 use Rattle.std.proofs.lemmas.List.{append-nil, length-append}
@@ -42,38 +42,14 @@ pub record Opened (us : List TlvUnit) : Type 0 where
   pub port_fits : IsIdentifier port.body
   pub ttl_fits : 2 ≤ length ttl.body
 
-identifier : (body : List ℕ) → (leb 2 (length body) && leb (length body) 256) ≡ true → IsIdentifier body
-identifier body h = let p = and_parts (leb 2 (length body)) (leb (length body) 256) h in record { least = leb-true 2 (length body) p.0; greatest = leb-true (length body) 256 p.1 }
-
 pub sound_opens : (us : List TlvUnit) (ttl : ℕ) (later : List TlvUnit) → first_fault (checks us ttl later) ≡ None → Opened us
-sound_opens [] ttl later h = let p = all_pass (checks [] ttl later) h 0 in absurd (true≢false p)
-sound_opens (a ∷ []) ttl later h = let p = all_pass (checks (a ∷ []) ttl later) h 3 in absurd (true≢false p)
-sound_opens (a ∷ b ∷ []) ttl later h = let p = all_pass (checks (a ∷ b ∷ []) ttl later) h 6 in absurd (true≢false p)
-sound_opens (a ∷ b ∷ d ∷ us) ttl later h =
-    let p = all_pass (checks (a ∷ b ∷ d ∷ us) ttl later) h in
-    record {
-      chassis = a;
-      port = b;
-      ttl = d;
-      others = us;
-      parts = refl;
-      chassis_kind = eqb-true a.kind 1 (not-false _ (p 1));
-      port_kind = eqb-true b.kind 2 (not-false _ (p 4));
-      ttl_kind = eqb-true d.kind 3 (not-false _ (p 7));
-      chassis_fits = identifier a.body (not-false _ (p 2));
-      port_fits = identifier b.body (not-false _ (p 5));
-      ttl_fits = ltb-false (length d.body) 2 (p 8);
-    }
+sound_opens us ttl later h = grind (arith, common_steps, all_pass, true≢false, eqb-true, not-false, and_parts, leb-true, ltb-false)
 
 -- ---- the cut of the extent
 
 before_end-again : (us : List TlvUnit) → before_end (before_end us) ≡ before_end us
 before_end-again [] = refl
 before_end-again (u ∷ us) = grind (arith, common_steps, before_end-again us)
-
-no_end : (us : List TlvUnit) → list_any is_end (before_end us) ≡ false
-no_end [] = refl
-no_end (u ∷ us) = grind (arith, common_steps, no_end us)
 
 pub tlvs_before_end : (us : List TlvUnit) → AllByRecursion IsTlv us → AllByRecursion IsTlv (before_end us)
 tlvs_before_end [] h = tt
@@ -103,10 +79,6 @@ pub kept-again : (octets : List ℕ) → AreOctets octets → kept_of (extent oc
 unfolding kept_of
 kept-again octets fits = ap (kept_after []) (later-again octets fits)
 
-pub complete-again : (octets : List ℕ) → AreOctets octets → ended_incomplete (extent octets) ≡ false
-unfolding ended_incomplete
-complete-again octets fits = ap (λ (c : Cut). not (list_any is_end c.tlvs) && ltb 0 (length c.rest)) (cut_extent octets fits) ∙ and_right (not (list_any is_end (extent_tlvs octets))) false refl
-
 -- the mandatory TLVs stand in the extent
 opened_extent : (octets : List ℕ) (o : Opened (cut octets).tlvs) → extent_tlvs octets ≡ o.chassis ∷ o.port ∷ o.ttl ∷ before_end o.others
 opened_extent octets o = ap before_end o.parts ∙ rw (o.chassis_kind, o.port_kind, o.ttl_kind) refl
@@ -129,8 +101,8 @@ unfolding fault_of
 fault_tlvs octets = refl
 
 fewer_discarded : (octets : List ℕ) → AreOctets octets → discarded_of (extent octets) ≤ discarded_of octets
-unfolding discarded_of
-fewer_discarded octets fits = grind (arith, common_steps, later-again, complete-again)
+unfolding discarded_of ended_incomplete
+fewer_discarded octets fits = grind (arith, common_steps, later-again, cut_extent, and_right)
 
 -- what a sound LLDPDU tells, and its extent again
 record Again (octets : List ℕ) : Type 0 where
@@ -170,9 +142,7 @@ record IsLater (u : TlvUnit) : Type 0 where
   pub not_mandatory : is_mandatory u ≡ false
 
 pub later_kind : (kind : ℕ) → eqb kind 0 ≡ false → (leb 1 kind && leb kind 3) ≡ false → 4 ≤ kind
-later_kind zero h k = absurd (true≢false h)
-later_kind (suc (suc (suc (suc n)))) h k = omega arith
-later_kind (suc other) h k = absurd (true≢false k)
+later_kind kind h k = grind (arith, common_steps, true≢false)
 
 all_later : (us : List TlvUnit) → AllByRecursion IsTlv us → list_any is_mandatory (before_end us) ≡ false → AllByRecursion IsLater (before_end us)
 all_later [] h m = tt
@@ -207,22 +177,7 @@ tlvs_fewer (u ∷ us) = omega (arith, tlvs_fewer us, length-append (spelling u) 
 -- three mandatory TLVs of at least 4 octets each, and the others of at least 2
 later_fewer : (octets : List ℕ) → Opened (cut octets).tlvs → 12 + 2 * length (later_tlvs octets) ≤ length (extent octets)
 unfolding extent
-later_fewer octets o =
-    let later : later_tlvs octets ≡ before_end o.others = later_of octets ∙ ap (drop 3) (opened_extent octets o) in
-    let others = spellings (before_end o.others) in
-    let len : length (extent octets) ≡ length (spelling o.chassis ++ (spelling o.port ++ (spelling o.ttl ++ others))) = ap (λ (us : List TlvUnit). length (spellings us)) (opened_extent octets o) in
-    omega (
-      arith,
-      len,
-      ap length later,
-      tlvs_fewer (before_end o.others),
-      o.chassis_fits.least,
-      o.port_fits.least,
-      o.ttl_fits,
-      length-append (spelling o.chassis) (spelling o.port ++ (spelling o.ttl ++ others)),
-      length-append (spelling o.port) (spelling o.ttl ++ others),
-      length-append (spelling o.ttl) others,
-    )
+later_fewer octets o = grind (arith, common_steps, later_of, opened_extent, tlvs_fewer, length-append)
 
 few_kept : (octets : List ℕ) → Opened (cut octets).tlvs → 12 + 2 * length (kept_of octets) ≤ length (extent octets)
 unfolding kept_of

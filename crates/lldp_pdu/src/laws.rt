@@ -24,6 +24,7 @@ ghost use Rattle.lldp_pdu.specs.declared.tlv_type.TheConstants as code;
 ghost use Rattle.lldp_pdu.specs.TlvType as standard;
 
 /// Each list of octets has a cut, and no other.
+#[tactic(auto, using(crate::proofs::Cuts::cut_is_cut, crate::proofs::Cuts::only_cut))]
 pub fn octets_have_one_cut()
     ensures is_cut { (octets : List ℕ) → AreOctets octets → IsCut octets (cut octets) }
     ensures only { (octets : List ℕ) (c : Cut) → AreOctets octets → IsCut octets c →
@@ -42,6 +43,7 @@ pub fn tlvs_give_the_cut()
 /// and a Time To Live of 2 or more, and its TTL is 0 or no other TLV before its End Of LLDPDU is of
 /// these types. Any other has the fault of the first of these three that is wrong, or else
 /// Repeated.
+#[tactic(auto, using(crate::proofs::SoundForms::sound_has_form, crate::proofs::SoundForms::form_is_sound, crate::proofs::SoundForms::faults_are))]
 pub fn sound_lldpdus_have_their_form()
     ensures sound { (octets : List ℕ) → (fault_of octets ≡ None) ↔ IsSound octets }
     ensures faults { (octets chassis port ttl : List ℕ) (u : TlvUnit) (us : List TlvUnit) →
@@ -58,6 +60,7 @@ pub fn later_tlvs_are_kept_once()
 
 /// The extent of a sound LLDPDU with a TTL above 0 says the same as the LLDPDU, with no more
 /// discarded TLVs.
+#[tactic(auto, using(crate::proofs::Telling::tells_itself))]
 pub fn extents_tell_the_same()
     ensures info { (octets : List ℕ) → AreOctets octets → fault_of octets ≡ None →
         0 < ttl_of octets → IsInfo (info_of octets) }
@@ -66,12 +69,14 @@ pub fn extents_tell_the_same()
 {}
 
 /// An LLDPDU begins with its extent.
+#[tactic(auto, using(crate::proofs::Whole::extent_front))]
 pub fn lldpdus_begin_with_extents()
     ensures { (octets : List ℕ) → AreOctets octets →
         (more : List ℕ) × (octets ≡ extent octets ++ more) }
 {}
 
 /// An LLDPDU of at most 1,500 octets behind the three fields of an LLDP frame is that frame's.
+#[tactic(auto, using(crate::proofs::Framing::has_lldpdu))]
 pub fn frames_hold_lldpdus()
     ensures { (source lldpdu : List ℕ) → length source ≡ 6 → length lldpdu ≤ 1500 →
         lldpdu_of (nearest_bridge ++ source ++ lldp_ethertype ++ lldpdu) ≡ Some lldpdu }
@@ -84,6 +89,7 @@ pub fn lldp_frames_have_their_form()
 {}
 
 /// A TLV is put exactly if it passes each check of `Builder::put`.
+#[tactic(auto, using(crate::proofs::Drafts::can_put, crate::proofs::Drafts::passes))]
 pub fn checked_tlvs_are_put()
     ensures { (draft : Draft) (tlv : TlvUnit) → CanPut draft tlv ↔ (put_fault draft tlv ≡ None) }
 {}

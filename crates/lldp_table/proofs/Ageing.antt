@@ -2,5 +2,4 @@
 pub mod Timed
 pub mod Ticks
 pub mod Steps
-pub mod Order
 pub mod Due

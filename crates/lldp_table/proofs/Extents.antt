@@ -1,32 +1,19 @@
 -- What the extent of a learned frame tells.
-use Rattle.std.proofs.Common.{◌≡◌, ℕ, ◌+◌, ◌*◌, ◌<◌, ◌≤◌, List, length, length-append, None, sym, ap, subst, arith}
+use Rattle.std.proofs.Common.{◌≡◌, ℕ, ◌+◌, ◌*◌, ◌<◌, ◌≤◌, List, length, length-append, None, ap, arith}
 use Rattle.lldp_pdu.specs.Tlv.{AreOctets}
-use Rattle.lldp_pdu.specs.Msap.{MsapId, IsIdentifier}
 use Rattle.lldp_pdu.specs.Lldpdu.{extent, ttl_of, msap_of}
 use Rattle.lldp_pdu.specs.Fault.{fault_of}
 use Rattle.lldp_pdu.specs.Kept.{kept_of}
-use Rattle.lldp_pdu.specs.Info.{LldpInfo, info_of, IsInfo, TellsItself}
+use Rattle.lldp_pdu.specs.Info.{LldpInfo, info_of, TellsItself}
 use Rattle.lldp_pdu.proofs.Telling.{tells_itself}
 use Rattle.lldp_pdu.proofs.Whole.{extent_front}
 use Rattle.lldp_table.specs.Events.{Neighbor}
 use Rattle.lldp_table.specs.Contents.{IsExtent, IsHeld}
+use Rattle.std.proofs.lemmas.Grind.{common_steps}
 
 -- what an `Info` tells can be stored
 pub info_is_extent : (info : LldpInfo) → TellsItself info → 0 < info.ttl → length info.octets ≤ 1500 → IsExtent info.msap info.ttl info.octets
-info_is_extent info t l s =
-    let living : 0 < ttl_of info.octets = subst (λ n. 0 < n) (sym t.ttl) l in
-    let told = (tells_itself info.octets t.are_octets t.sound living).0 in
-    record {
-      short = s;
-      lives = l;
-      chassis = subst (λ (m : MsapId). IsIdentifier m.chassis) t.msap told.chassis;
-      port = subst (λ (m : MsapId). IsIdentifier m.port) t.msap told.port;
-      are_octets = t.are_octets;
-      sound = t.sound;
-      msap_is = t.msap;
-      ttl_is = t.ttl;
-      extent_is = t.extent;
-    }
+info_is_extent info t l s = grind (arith, common_steps, tells_itself)
 
 -- an LLDPDU is no shorter than its extent
 extent_within : (pdu : List ℕ) → AreOctets pdu → length (extent pdu) ≤ length pdu
@@ -38,7 +25,4 @@ lldpdu_is_extent pdu o f l s = info_is_extent (info_of pdu) (tells_itself pdu o 
 
 -- a held neighbor's frame has few kept TLVs
 pub kept_is_short : (neighbor : Neighbor) → IsHeld neighbor → 12 + 2 * length (kept_of neighbor.octets) ≤ length neighbor.octets
-kept_is_short neighbor h =
-    let t = h.extent in
-    let again : IsInfo (info_of neighbor.octets) = (tells_itself neighbor.octets t.are_octets t.sound (subst (λ n. 0 < n) (sym t.ttl_is) t.lives)).0 in
-    subst (λ (os : List ℕ). 12 + 2 * length (kept_of neighbor.octets) ≤ length os) t.extent_is again.few
+kept_is_short neighbor h = grind (arith, common_steps, tells_itself)

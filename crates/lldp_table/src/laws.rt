@@ -18,6 +18,7 @@ ghost use Rattle.lldp_table.specs.declared.limits.TheConstants.{MOST_NEIGHBORS};
 
 /// A table that stands for a list of calls stands, after one more call, for the list with that
 /// call, if the call is possible (`IsPossible`).
+#[tactic(auto, using(crate::proofs::Standing::Calls::carries))]
 pub fn calls_carry_standing()
     ensures { (table : Contents) (call : Call) → IsPossible table call →
         ForEachCalls table (λ opened calls. Stands opened (call ∷ calls) (table_after table call)) }
@@ -50,6 +51,7 @@ pub fn calls_leave_sound_tables()
 
 /// The extent of a sound LLDPDU with a TTL above 0 and at most 1,500 octets can be stored. A stored
 /// one has twelve octets and two more for each kept TLV, or more.
+#[tactic(auto, using(crate::proofs::Extents::lldpdu_is_extent, crate::proofs::Extents::kept_is_short))]
 pub fn extents_can_be_stored()
     ensures stored { (pdu : List ℕ) → AreOctets pdu → fault_of pdu ≡ None → 0 < ttl_of pdu →
         length pdu ≤ 1500 →
@@ -78,6 +80,7 @@ pub fn tables_hold_last_stored_frames()
 
 /// A frame is a refresh exactly if a neighbor of its name is live, new exactly if none is and fewer
 /// than the limit in force are live, and else it is dropped.
+#[tactic(auto, using(crate::proofs::Standing::Lists::refreshed_is, crate::proofs::Standing::Lists::new_is, crate::proofs::Standing::Lists::dropped_is))]
 pub fn live_neighbors_decide_answers()
     ensures refreshed { (opened : ℕ) (calls : List Call) (name : MsapId) →
         (answer opened name (events_of opened calls) ≡ Refreshed)
@@ -93,6 +96,7 @@ pub fn live_neighbors_decide_answers()
 
 /// What is left of the too-many timer is the most that any frame dropped since the last purge has
 /// left of its TTL, and 0 if no such frame has anything left.
+#[tactic(auto, using(crate::proofs::Live::Order::greatest_dropped, crate::proofs::Live::Order::none_dropped_above))]
 pub fn timers_keep_the_greatest_dropped()
     ensures one { (events : List TableEvent) → 0 < too_many_left events →
         WasDropped events (too_many_left events) }
@@ -144,6 +148,7 @@ pub fn stored_frames_replace_their_name_alone()
 {}
 
 /// A dropped frame makes the too-many timer run at least as long as its TTL; nothing else changes.
+#[tactic(auto, using(crate::proofs::Live::Calls::learn_dropped))]
 pub fn dropped_frames_change_the_timer_alone()
     ensures { (opened : ℕ) (calls : List Call) (name : MsapId) (ttl : ℕ) (octets : List ℕ) →
         answer opened name (events_of opened calls) ≡ Dropped →
@@ -152,6 +157,7 @@ pub fn dropped_frames_change_the_timer_alone()
 {}
 
 /// A purge removes all neighbors and ends the too-many timer, and the limit stays.
+#[tactic(auto, using(crate::proofs::Live::Calls::purge_leaves))]
 pub fn purges_end_timers_too()
     ensures { (opened : ℕ) (calls : List Call) → table_of opened (purge ∷ calls)
         ≡ record (table_of opened calls) { neighbors = []; too_many_left = 0 } }
@@ -177,6 +183,7 @@ pub fn limits_last_until_the_next()
 
 /// If the octets of two names, the chassis ID's followed by the port ID's, differ in one place,
 /// their tags differ. The tag affects only speed.
+#[tactic(auto, using(crate::proofs::Slots::Tags::same_octet))]
 pub fn names_one_octet_apart_have_tags_apart()
     ensures { (one other : MsapId) (front back : List ℕ) (a b : ℕ) →
         one.chassis ++ one.port ≡ front ++ a ∷ back → other.chassis ++ other.port ≡ front ++ b ∷ back →

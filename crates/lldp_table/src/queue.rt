@@ -22,6 +22,7 @@ pub(crate) fn place_in(slots: &[u8], slot: u8) -> usize
 }
 
 /// Returns the place at which a neighbor with so many ticks left enters, and its difference there.
+#[tactic(auto, using(crate::proofs::Ageing::Due::enters_here, crate::proofs::Ageing::Due::enters_behind))]
 fn place_for(slots: &[u8], times: &mut Times, left: u16) -> (usize, u16)
     requires { AllByRecursion (λ i. i < MOST_NEIGHBORS) slots.now }
     ensures within { result.0 ≤ length slots.now }
@@ -45,6 +46,7 @@ fn place_for(slots: &[u8], times: &mut Times, left: u16) -> (usize, u16)
 }
 
 /// Takes so much from the difference at a place, if a slot is there.
+#[tactic(auto, using(crate::proofs::Ageing::Due::lessened, crate::proofs::Ageing::Due::within_times))]
 fn lessen(times: &mut Times, slots: &[u8], at: usize, less: u16)
     requires queue { IsQueue times.old.shown slots.now }
     requires most { at < length slots.now →
@@ -62,6 +64,7 @@ fn lessen(times: &mut Times, slots: &[u8], at: usize, less: u16)
 }
 
 /// Adds so much to the difference at a place, if a slot is there.
+#[tactic(auto, using(crate::proofs::Ageing::Due::raised, crate::proofs::Ageing::Due::within_times))]
 fn raise(times: &mut Times, slots: &[u8], at: usize, more: u16)
     requires queue { IsQueue times.old.shown slots.now }
     requires fits { at < length slots.now →
@@ -157,6 +160,7 @@ impl Model for Queue {
 }
 
 impl Queue {
+    #[tactic(auto, using(crate::proofs::Ageing::Due::queue_none))]
     pub(crate) fn new() -> Queue
         ensures { result.shown ≡ [] }
     {
@@ -167,6 +171,7 @@ impl Queue {
         }
     }
 
+    #[tactic(auto, using(crate::proofs::Ageing::Due::queue_none))]
     pub(crate) fn clear(&mut self)
         ensures { self.new.shown ≡ [] }
     {
@@ -217,6 +222,7 @@ impl Queue {
     }
 
     /// Removes the first slot, which has no ticks left, and returns it.
+    #[tactic(auto, using(crate::proofs::Slots::Counted::shown_is, crate::proofs::Ageing::Due::queue_popped, crate::proofs::Ageing::Due::total_popped))]
     pub(crate) fn pop(&mut self) -> u8
         requires { is_spent self.old.shown ≡ true }
         ensures after { self.old.shown ≡ due result 0 ∷ self.new.shown }

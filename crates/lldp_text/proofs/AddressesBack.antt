@@ -11,6 +11,7 @@ use Rattle.hex.specs.Hex.{encode_with}
 use Rattle.lldp_pdu.specs.Tlv.{AreOctets}
 use Rattle.lldp_text.specs.Addresses.{mac_text, ipv4_text, ipv6_text}
 use Rattle.lldp_text.proofs.ReadBack.{octet, octet_is, high, low}
+use Rattle.std.proofs.lemmas.Grind.{common_steps}
 
 -- ## MAC addresses
 
@@ -81,8 +82,7 @@ unmarked n lt = agree_below_at has_mark (λ _. false) 256 n none_has_mark lt
 
 digit_read : (before cs : List ℕ) (c : ℕ) (b : Bool) → (c == 46) ≡ b → (b || (c == 58)) ≡ false → numbers_read before (c ∷ cs) ≡ numbers_read (before ++ c ∷ []) cs
 unfolding numbers_read
-digit_read before cs c true e h = cc
-digit_read before cs c false e h = ap (λ (x : Bool). if x then digits_value 10 before ∷ numbers_read [] cs else numbers_read (before ++ c ∷ []) cs) e
+digit_read before cs c b e h = grind (arith, common_steps)
 
 digits_read : (before ds cs : List ℕ) → list_any is_mark ds ≡ false → numbers_read before (ds ++ cs) ≡ numbers_read (before ++ ds) cs
 digits_read before [] cs h = ap (λ x. numbers_read x cs) (sym (append-nil before))
@@ -126,6 +126,4 @@ ipv4_without (c ∷ d ∷ cs) h =
 
 pub ipv6_with : (octets : List ℕ) → 4 ≤ length octets → list_any is_colon (ipv6_text octets) ≡ true
 unfolding encode_with
-ipv6_with (a ∷ b ∷ c ∷ d ∷ cs) long =
-    or_right (is_colon (high a)) _ (or_right (is_colon (low a)) _ (or_right (is_colon (high b)) _ (or_right (is_colon (low b)) _ refl)))
-ipv6_with other long = absurd (omega arith)
+ipv6_with octets long = grind (arith, common_steps, or_right, high, low)

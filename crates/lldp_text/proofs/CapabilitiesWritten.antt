@@ -1,5 +1,5 @@
 -- How the capabilities that are written grow by a bit.
-use Rattle.std.proofs.Common.{◌≡◌, ℕ, ◌+◌, ◌<◌, Bool, true, false, List, [], ◌∷◌, ◌++◌, length, get_or, take, map, refl, ap, sym, ◌∙◌, append-nil, zero-add, arith}
+use Rattle.std.proofs.Common.{◌≡◌, ℕ, ◌+◌, ◌<◌, Bool, true, false, List, [], ◌∷◌, ◌++◌, length, get_or, take, map, refl, ◌∙◌, append-nil, zero-add, arith}
 use Rattle.std.specs.List.{join_with_byte, filter}
 use Rattle.std.proofs.lemmas.List.{map-append, length-map, length-append}
 use Rattle.std.proofs.lemmas.List.Elements.{filter_more}
@@ -7,6 +7,7 @@ use Rattle.std.proofs.lemmas.List.FromFn.{get_or-range_with_len}
 use Rattle.lldp_text.specs.Text.{separator}
 use Rattle.lldp_text.specs.Capabilities.{capability_bits}
 use Rattle.lldp_text.proofs.TextJoined.{join_push, grown}
+use Rattle.std.proofs.lemmas.Grind.{common_steps}
 
 bit_is : (i : ℕ) → i < 16 → get_or capability_bits i 0 ≡ i
 bit_is i h = get_or-range_with_len 0 16 i 0 h ∙ zero-add i
@@ -24,20 +25,8 @@ pub record Written (p : ℕ → Bool) (f : ℕ → List ℕ) (old line : List �
 
 pub one_set : (p : ℕ → Bool) (f : ℕ → List ℕ) (old cur mid new : List ℕ) (written written' i : ℕ) → i < 16 → p i ≡ true → Written p f old cur written i
     → mid ≡ cur ++ separator 44 written → new ≡ mid ++ f i → written' ≡ written + 1 → Written p f old new written' (i + 1)
-one_set p f old cur mid new written written' i h e w a b n =
-    let before = filter p (take i capability_bits) in
-    let more : filter p (take (i + 1) capability_bits) ≡ before ++ i ∷ [] = set_more p i h e in
-    let len : length (map f before) ≡ written = length-map before f ∙ sym w.written_is in
-    let joined : join_with_byte 44 (map f (before ++ i ∷ [])) ≡ join_with_byte 44 (map f before) ++ (separator 44 written ++ f i) =
-    ap (join_with_byte 44) (map-append f before (i ∷ [])) ∙ join_push 44 (map f before) (f i) ∙ ap (λ n. join_with_byte 44 (map f before) ++ (separator 44 n ++ f i)) len in
-    record {
-      line_is = grown old cur mid new (join_with_byte 44 (map f before)) (separator 44 written) (f i) _ w.line_is a b (ap (λ l. join_with_byte 44 (map f l)) more ∙ joined);
-      written_is = rw (more, length-append before (i ∷ [])) (n ∙ omega (arith, w.written_is));
-    }
+one_set p f old cur mid new written written' i h e w a b n = grind (arith, common_steps, set_more, length-map, map-append, join_push, grown, length-append)
 
 pub one_unset : (p : ℕ → Bool) (f : ℕ → List ℕ) (old cur new : List ℕ) (written written' i : ℕ) → i < 16 → p i ≡ false → Written p f old cur written i
     → new ≡ cur → written' ≡ written → Written p f old new written' (i + 1)
-one_unset p f old cur new written written' i h e w a n = record {
-  line_is = a ∙ w.line_is ∙ ap (λ l. old ++ join_with_byte 44 (map f l)) (sym (unset_more p i h e));
-  written_is = n ∙ w.written_is ∙ ap length (sym (unset_more p i h e));
-}
+one_unset p f old cur new written written' i h e w a n = grind (arith, common_steps, unset_more)

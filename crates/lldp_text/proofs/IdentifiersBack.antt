@@ -1,5 +1,5 @@
 -- Identifiers are read back: what they are by their keys, then their octets.
-use Rattle.std.proofs.Common.{◌≡◌, ℕ, ◌≤◌, ◌==◌, ◌&&◌, Bool, true, false, List, [], ◌∷◌, ◌++◌, length, drop, refl, sym, ap, ◌∙◌, arith}
+use Rattle.std.proofs.Common.{◌≡◌, ℕ, ◌≤◌, ◌==◌, Bool, true, false, List, [], ◌∷◌, ◌++◌, length, drop, refl, sym, ap, ◌∙◌, arith}
 use Rattle.std.specs.Prelude.{if◌then◌else◌, codes, slice_index}
 use Rattle.std.specs.List.{list_any}
 use Rattle.std.proofs.lemmas.Bool.{eqb-true, and_parts, cond_both}
@@ -8,13 +8,14 @@ use Rattle.lldp_pdu.specs.Tlv.{AreOctets}
 use Rattle.lldp_pdu.specs.Msap.{IsIdentifier}
 use Rattle.lldp_text.specs.Text.{escaped}
 use Rattle.lldp_text.specs.Addresses.{mac_text, ipv4_text, ipv6_text, address_kind}
-use Rattle.lldp_text.specs.Identifier.{chassis_kind, port_kind, network_text, identifier_text, chassis_text, port_text}
+use Rattle.lldp_text.specs.Identifier.{chassis_kind, port_kind, identifier_text, chassis_text, port_text}
 use Rattle.lldp_text.specs.declared.addresses.AddressKind.{AddressKind}
 use Rattle.lldp_text.specs.declared.addresses.AddressKind.TheVariants.{Ipv4, Ipv6, Unknown}
 use Rattle.lldp_text.specs.declared.identifier.IdentifierKind.{IdentifierKind}
 use Rattle.lldp_text.specs.declared.identifier.IdentifierKind.TheVariants.{Component, InterfaceAlias, PortComponent, Mac, Network, InterfaceName, CircuitId, Local, Other}
 use Rattle.lldp_text.proofs.ReadBack.{unescaped, plain, text_back, unhex, hex_back}
 use Rattle.lldp_text.proofs.AddressesBack.{pairs_read, mac_back, fours_read, ipv6_back, numbers_read, ipv4_back, is_colon, ipv4_without, ipv6_with}
+use Rattle.std.proofs.lemmas.Grind.{common_steps}
 
 -- ## How an identifier is shown
 
@@ -36,14 +37,17 @@ shown_as Network seven Unknown = whole
 shown_as Other seven address = whole
 shown_as kind seven address = text kind
 
+abbrev key_of : IdentifierKind → List ℕ
+key_of Component = codes "component="
+key_of InterfaceAlias = codes "ifalias="
+key_of PortComponent = codes "portcomp="
+key_of InterfaceName = codes "ifname="
+key_of CircuitId = codes "circuit="
+key_of Local = codes "local="
+key_of kind = []
+
 abbrev written : Shown → List ℕ → List ℕ
-written (text Component) body = codes "component=" ++ escaped (drop 1 body)
-written (text InterfaceAlias) body = codes "ifalias=" ++ escaped (drop 1 body)
-written (text PortComponent) body = codes "portcomp=" ++ escaped (drop 1 body)
-written (text InterfaceName) body = codes "ifname=" ++ escaped (drop 1 body)
-written (text CircuitId) body = codes "circuit=" ++ escaped (drop 1 body)
-written (text Local) body = codes "local=" ++ escaped (drop 1 body)
-written (text kind) body = []
+written (text kind) body = key_of kind ++ escaped (drop 1 body)
 written mac body = codes "mac=" ++ mac_text (drop 1 body)
 written ipv4 body = codes "ip=" ++ ipv4_text (drop 2 body)
 written ipv6 body = codes "ip=" ++ ipv6_text (drop 2 body)
@@ -51,12 +55,7 @@ written whole body = codes "unhandled=" ++ encode_lower body
 
 is_written : (kind : IdentifierKind) (body : List ℕ) (seven : Bool) (address : AddressKind) → (length body == 7) ≡ seven → address_kind (slice_index body 1) (length (drop 2 body)) ≡ address
     → identifier_text kind body ≡ written (shown_as kind seven address) body
-is_written Mac body true address e f = ap (λ (b : Bool). if b then codes "mac=" ++ mac_text (drop 1 body) else codes "unhandled=" ++ encode_lower body) e
-is_written Mac body false address e f = ap (λ (b : Bool). if b then codes "mac=" ++ mac_text (drop 1 body) else codes "unhandled=" ++ encode_lower body) e
-is_written Network body seven Ipv4 e f = ap (λ a. network_text a body) f
-is_written Network body seven Ipv6 e f = ap (λ a. network_text a body) f
-is_written Network body seven Unknown e f = ap (λ a. network_text a body) f
-is_written kind body seven address e f = refl
+is_written kind body seven address e f = grind (arith, common_steps)
 
 -- ## What was shown, by its key
 
@@ -78,19 +77,16 @@ abbrev HasSubtype : (IdentifierKind → ℕ) → IdentifierKind → ℕ → Type
 HasSubtype number Other subtype = Unit {0}
 HasSubtype number kind subtype = subtype ≡ number kind
 
+-- and a text is one of a kind that has texts
 abbrev IsShownAs : (IdentifierKind → ℕ) → Shown → List ℕ → Type 0
+IsShownAs number (text Mac) body = ⊥
+IsShownAs number (text Network) body = ⊥
+IsShownAs number (text Other) body = ⊥
 IsShownAs number (text kind) body = slice_index body 0 ≡ number kind
 IsShownAs number mac body = slice_index body 0 ≡ number Mac
 IsShownAs number ipv4 body = (slice_index body 0 ≡ number Network) × (slice_index body 1 ≡ 1) × (length (drop 2 body) ≡ 4)
 IsShownAs number ipv6 body = (slice_index body 0 ≡ number Network) × (slice_index body 1 ≡ 2) × (length (drop 2 body) ≡ 16)
 IsShownAs number whole body = Unit {0}
-
--- a text is one of a kind that has texts
-abbrev HasText : Shown → Type 0
-HasText (text Mac) = ⊥
-HasText (text Network) = ⊥
-HasText (text Other) = ⊥
-HasText shown = Unit {0}
 
 abbrev IsAddress : AddressKind → ℕ → ℕ → Type 0
 IsAddress Ipv4 family len = (family ≡ 1) × (len ≡ 4)
@@ -98,50 +94,26 @@ IsAddress Ipv6 family len = (family ≡ 2) × (len ≡ 16)
 IsAddress Unknown family len = Unit {0}
 
 address_is : (family len : ℕ) → IsAddress (address_kind family len) family len
-address_is family len =
-    cond_both ((family == 1) && (len == 4)) Ipv4 (if (family == 2) && (len == 16) then Ipv6 else Unknown) (λ a. IsAddress a family len)
-    (λ e. let both = and_parts (family == 1) (len == 4) e in (eqb-true family 1 both.0, eqb-true len 4 both.1))
-    (λ _. cond_both ((family == 2) && (len == 16)) Ipv6 Unknown (λ a. IsAddress a family len)
-    (λ e. let both = and_parts (family == 2) (len == 16) e in (eqb-true family 2 both.0, eqb-true len 16 both.1)) (λ _. tt))
+address_is family len = grind (arith, common_steps, cond_both, and_parts, eqb-true)
 
 is_shown_as : (number : IdentifierKind → ℕ) (kind : IdentifierKind) (body : List ℕ) (seven : Bool) (address : AddressKind) → HasSubtype number kind (slice_index body 0)
     → IsAddress address (slice_index body 1) (length (drop 2 body)) → IsShownAs number (shown_as kind seven address) body
-is_shown_as number Mac body true address s a = s
-is_shown_as number Mac body false address s a = tt
-is_shown_as number Network body seven Ipv4 s a = (s, a.0, a.1)
-is_shown_as number Network body seven Ipv6 s a = (s, a.0, a.1)
-is_shown_as number Network body seven Unknown s a = tt
-is_shown_as number Other body seven address s a = tt
-is_shown_as number kind body seven address s a = s
-
-has_text : (kind : IdentifierKind) (seven : Bool) (address : AddressKind) → HasText (shown_as kind seven address)
-has_text Mac true address = tt
-has_text Mac false address = tt
-has_text Network seven Ipv4 = tt
-has_text Network seven Ipv6 = tt
-has_text Network seven Unknown = tt
-has_text kind seven address = tt
+is_shown_as number kind body seven address s a = grind (arith, common_steps)
 
 -- ## Reading it back
 
-by_key : (number : IdentifierKind → ℕ) (shown : Shown) (body : List ℕ) → HasText shown → IsShownAs number shown body → AreOctets (drop 2 body) → shown_by (written shown body) ≡ shown
+by_key : (number : IdentifierKind → ℕ) (shown : Shown) (body : List ℕ) → IsShownAs number shown body → AreOctets (drop 2 body) → shown_by (written shown body) ≡ shown
 unfolding shown_by
-by_key number (text Mac) body h s o = absurd h
-by_key number (text Network) body h s o = absurd h
-by_key number (text Other) body h s o = absurd h
-by_key number ipv4 body h s o = ap (λ (b : Bool). if b then ipv6 else ipv4) (ipv4_without (drop 2 body) o)
-by_key number ipv6 body h s o = ap (λ (b : Bool). if b then ipv6 else ipv4) (ipv6_with (drop 2 body) (let n = s.2 in omega arith))
-by_key number shown body h s o = refl
+by_key number (text Mac) body s o = absurd s
+by_key number (text Network) body s o = absurd s
+by_key number (text Other) body s o = absurd s
+by_key number ipv4 body s o = ap (λ (b : Bool). if b then ipv6 else ipv4) (ipv4_without (drop 2 body) o)
+by_key number ipv6 body s o = ap (λ (b : Bool). if b then ipv6 else ipv4) (ipv6_with (drop 2 body) (let n = s.2 in omega arith))
+by_key number shown body s o = refl
 
 -- the body of a line that is shown so
 read_as : (IdentifierKind → ℕ) → Shown → List ℕ → List ℕ
-read_as number (text Component) line = number Component ∷ unescaped plain (drop 10 line)
-read_as number (text InterfaceAlias) line = number InterfaceAlias ∷ unescaped plain (drop 8 line)
-read_as number (text PortComponent) line = number PortComponent ∷ unescaped plain (drop 9 line)
-read_as number (text InterfaceName) line = number InterfaceName ∷ unescaped plain (drop 7 line)
-read_as number (text CircuitId) line = number CircuitId ∷ unescaped plain (drop 8 line)
-read_as number (text Local) line = number Local ∷ unescaped plain (drop 6 line)
-read_as number (text kind) line = []
+read_as number (text kind) line = number kind ∷ unescaped plain (drop (length (key_of kind)) line)
 read_as number mac line = number Mac ∷ pairs_read (drop 4 line)
 read_as number ipv4 line = number Network ∷ 1 ∷ numbers_read [] (drop 3 line)
 read_as number ipv6 line = number Network ∷ 2 ∷ fours_read (drop 3 line)
@@ -153,17 +125,17 @@ behind n t rest back e f = cc
 behind_two : (n t m u : ℕ) (rest back : List ℕ) → t ≡ n → u ≡ m → back ≡ rest → n ∷ m ∷ back ≡ t ∷ u ∷ rest
 behind_two n t m u rest back e f g = cc
 
-read_back : (number : IdentifierKind → ℕ) (shown : Shown) (t u : ℕ) (rest : List ℕ) → HasText shown → IsShownAs number shown (t ∷ u ∷ rest) → AreOctets (t ∷ u ∷ rest)
+read_back : (number : IdentifierKind → ℕ) (shown : Shown) (t u : ℕ) (rest : List ℕ) → IsShownAs number shown (t ∷ u ∷ rest) → AreOctets (t ∷ u ∷ rest)
     → read_as number shown (written shown (t ∷ u ∷ rest)) ≡ t ∷ u ∷ rest
 unfolding read_as
-read_back number (text Mac) t u rest h s o = absurd h
-read_back number (text Network) t u rest h s o = absurd h
-read_back number (text Other) t u rest h s o = absurd h
-read_back number (text kind) t u rest h s o = behind _ t (u ∷ rest) _ s (text_back (u ∷ rest) o.1)
-read_back number mac t u rest h s o = behind _ t (u ∷ rest) _ s (mac_back (u ∷ rest) o.1)
-read_back number ipv4 t u rest h s o = behind_two _ t _ u rest _ s.0 s.1 (ipv4_back rest (let n = s.2 in omega arith) o.1.1)
-read_back number ipv6 t u rest h s o = behind_two _ t _ u rest _ s.0 s.1 (ipv6_back 8 rest s.2 o.1.1)
-read_back number whole t u rest h s o = hex_back (t ∷ u ∷ rest) o
+read_back number (text Mac) t u rest s o = absurd s
+read_back number (text Network) t u rest s o = absurd s
+read_back number (text Other) t u rest s o = absurd s
+read_back number (text kind) t u rest s o = behind _ t (u ∷ rest) _ s (text_back (u ∷ rest) o.1)
+read_back number mac t u rest s o = behind _ t (u ∷ rest) _ s (mac_back (u ∷ rest) o.1)
+read_back number ipv4 t u rest s o = behind_two _ t _ u rest _ s.0 s.1 (ipv4_back rest (let n = s.2 in omega arith) o.1.1)
+read_back number ipv6 t u rest s o = behind_two _ t _ u rest _ s.0 s.1 (ipv6_back 8 rest s.2 o.1.1)
+read_back number whole t u rest s o = hex_back (t ∷ u ∷ rest) o
 
 -- the body that a line shows
 body_of : (IdentifierKind → ℕ) → List ℕ → List ℕ
@@ -179,10 +151,9 @@ identifier_back number kind (t ∷ u ∷ rest) s long o =
     let address : AddressKind = address_kind (slice_index body 1) (length (drop 2 body)) in
     let shown : Shown = shown_as kind seven address in
     let is : IsShownAs number shown body = is_shown_as number kind body seven address s (address_is (slice_index body 1) (length (drop 2 body))) in
-    let has : HasText shown = has_text kind seven address in
     ap (λ line. read_as number (shown_by line) line) (is_written kind body seven address refl refl)
-    ∙ ap (λ k. read_as number k (written shown body)) (by_key number shown body has is o.1.1)
-    ∙ read_back number shown t u rest has is o
+    ∙ ap (λ k. read_as number k (written shown body)) (by_key number shown body is o.1.1)
+    ∙ read_back number shown t u rest is o
 
 -- ## Chassis IDs and port IDs
 
@@ -211,26 +182,10 @@ port_number PortComponent = 256
 port_number Other = 256
 
 chassis_has : (t : ℕ) → HasSubtype chassis_number (chassis_kind t) t
-chassis_has t =
-    let P : IdentifierKind → Type 0 = λ k. HasSubtype chassis_number k t in
-    cond_both (t == 1) Component _ P (eqb-true t 1)
-    (λ _. cond_both (t == 2) InterfaceAlias _ P (eqb-true t 2)
-    (λ _. cond_both (t == 3) PortComponent _ P (eqb-true t 3)
-    (λ _. cond_both (t == 4) Mac _ P (eqb-true t 4)
-    (λ _. cond_both (t == 5) Network _ P (eqb-true t 5)
-    (λ _. cond_both (t == 6) InterfaceName _ P (eqb-true t 6)
-    (λ _. cond_both (t == 7) Local Other P (eqb-true t 7) (λ _. tt)))))))
+chassis_has t = grind (arith, common_steps, cond_both, eqb-true)
 
 port_has : (t : ℕ) → HasSubtype port_number (port_kind t) t
-port_has t =
-    let P : IdentifierKind → Type 0 = λ k. HasSubtype port_number k t in
-    cond_both (t == 1) InterfaceAlias _ P (eqb-true t 1)
-    (λ _. cond_both (t == 2) Component _ P (eqb-true t 2)
-    (λ _. cond_both (t == 3) Mac _ P (eqb-true t 3)
-    (λ _. cond_both (t == 4) Network _ P (eqb-true t 4)
-    (λ _. cond_both (t == 5) InterfaceName _ P (eqb-true t 5)
-    (λ _. cond_both (t == 6) CircuitId _ P (eqb-true t 6)
-    (λ _. cond_both (t == 7) Local Other P (eqb-true t 7) (λ _. tt)))))))
+port_has t = grind (arith, common_steps, cond_both, eqb-true)
 
 chassis_back : (body : List ℕ) → IsIdentifier body → AreOctets body → body_of chassis_number (chassis_text body) ≡ body
 chassis_back body is o = identifier_back chassis_number (chassis_kind (slice_index body 0)) body (chassis_has (slice_index body 0)) is.least o

@@ -1,5 +1,5 @@
 -- What is known of the bodies of kept TLVs.
-use Rattle.std.proofs.Common.{◌≡◌, ℕ, ◌≤◌, Bool, true, false, cond, leb, eqb, List, length, Some, None, is_some, refl, arith}
+use Rattle.std.proofs.Common.{◌≡◌, ℕ, ◌≤◌, Bool, true, cond, leb, eqb, List, length, Some, None, is_some, refl, arith}
 use Rattle.std.proofs.lemmas.Bool.{and_parts, leb-true, eqb-true}
 use Rattle.std.proofs.lemmas.List.{length-drop, length-take}
 use Rattle.lldp_pdu.specs.Kept.{IsKeptTlv}
@@ -26,8 +26,7 @@ unfolding is_well_formed
 organizational_least body h = leb-true 4 (length body) h.well_formed
 
 some_where : {A : Type 0} (b : Bool) (a : A) → is_some (cond b (Some a) None) ≡ true → b ≡ true
-some_where true a h = refl
-some_where false a h = h
+some_where b a h = grind (arith, common_steps)
 
 pub capabilities_are : (body : List ℕ) → IsKeptTlv (record { kind = 7; body = body }) → caps_of body ≡ Some (caps_fields body)
 unfolding is_well_formed

@@ -1,5 +1,5 @@
 -- Vectors that are computed lane by lane from one vector.
-use Rattle.std.proofs.Common.{◌≡◌, ℕ, zero, suc, ◌+◌, ◌-◌, T, ◌*◌, ◌/◌, ◌%◌, ◌^◌, ◌<◌, Bool, ◌&&◌, true, false, nat_lt, if◌then◌else◌, List, [], ◌∷◌, ◌++◌, map, length, get_or, replicate, cond, leb, eqb, bit_and, bit_or, Option, Some, None, Fits, w8, eqb→eq, eqb-true, refl, sym, ap, subst, ◌∙◌, inl, inr, arith}
+use Rattle.std.proofs.Common.{◌≡◌, ℕ, zero, suc, ◌+◌, ◌-◌, T, ◌*◌, ◌/◌, ◌%◌, ◌^◌, ◌<◌, Bool, ◌&&◌, true, false, nat_lt, if◌then◌else◌, List, [], ◌∷◌, ◌++◌, map, length, get_or, replicate, cond, leb, eqb, bit_and, bit_or, Option, Some, None, Fits, w8, eqb-true, refl, sym, ap, subst, ◌∙◌, inl, inr, arith}
 use Rattle.std.proofs.lemmas.Bool.{agree_below, agree_below_at, and_parts, cases_lt, leb-false, leb-true}
 use Rattle.std.proofs.lemmas.List.{get_or-map, get_or_past, get_or_append_left, get_or-append_right, drop_more, length-map}
 use Rattle.std.proofs.lemmas.Simd.{map-map, zip2_of_maps, zip2_splat, get_or-zip2, length-zip2, mask_l-mod, get_or_wider, below_from_Fits, Each1-get_or}
@@ -8,6 +8,7 @@ use Rattle.std.specs.Prelude.{◌↔◌}
 use Rattle.std.specs.Simd.Lanes.{zip2, sel_l, mask_l, top, chunk, number_l, digits_l, pick_l, Each1}
 use Rattle.hex.specs.Hex.{hex_digit_value, lower_digits}
 use Rattle.lldp_text.specs.Code.Digits.{IsValue, AreSmall}
+use Rattle.std.proofs.lemmas.Grind.{common_steps}
 
 -- an operator on a vector and a splat, at one lane
 pub splat_lane : (f : ℕ → ℕ → ℕ) (v : List ℕ) (n y k : ℕ) → length v ≡ n → k < n → get_or (zip2 f v (replicate n y)) k 0 ≡ f (get_or v k 0) y
@@ -31,10 +32,7 @@ same (Some a) None = false
 same (Some a) (Some b) = eqb a b
 
 same_is : (a b : Option ℕ) → T (same a b) → a ≡ b
-same_is None None t = refl
-same_is None (Some b) t = absurd t
-same_is (Some a) None t = absurd t
-same_is (Some a) (Some b) t = ap Some (eqb→eq a b t)
+same_is a b t = grind (arith, common_steps)
 
 abbrev pub value_test : (ℕ → ℕ) → ℕ → Bool
 value_test f c = same (hex_digit_value c) (if nat_lt (f c) 16 then Some (f c) else None)
@@ -53,14 +51,10 @@ values_are f v e long fits all = (
 -- f computes to the digit of each value
 pub digits_are : (f : ℕ → ℕ) (v : List ℕ) {z : List ℕ} → z ≡ map f v → length v ≡ 16 → agree_below (λ c. eqb (f c) (get_or lower_digits c 0)) (λ _. true) 16 ≡ true
     → (k : ℕ) → k < 16 → get_or v k 0 < 16 → get_or z k 0 ≡ get_or lower_digits (get_or v k 0) 0
-digits_are f v e long all k h small =
-    ap (λ l. get_or l k 0) e ∙ get_or-map f v k 0 0 (omega (arith, long)) ∙ eqb-true _ _ (agree_below_at (λ c. eqb (f c) (get_or lower_digits c 0)) (λ _. true) 16 (get_or v k 0) all small)
+digits_are f v e long all k h small = grind (arith, common_steps, get_or-map, eqb-true, agree_below_at)
 
 two_lanes : (v : List ℕ) (i : ℕ) → i + 1 < length v → chunk i 2 v ≡ get_or v i 0 ∷ get_or v (i + 1) 0 ∷ []
-two_lanes v i h =
-    let a = drop_more v i 0 (omega arith) in
-    let b = drop_more v (i + 1) 0 (omega arith) in
-    rw (a, b) refl
+two_lanes v i h = grind (arith, common_steps, drop_more)
 
 abbrev pub upper_half : ℕ → ℕ → ℕ
 upper_half factor x = x * factor % 65536 / 256
@@ -113,11 +107,7 @@ abbrev pub not_below : ℕ → List ℕ → ℕ
 not_below n xs = mask_l (map (top 7) (zip2 at_least (replicate (length xs) n) xs))
 
 no_bit : (n x rest : ℕ) → x < n → rest ≡ 0 → cond (top 7 (at_least n x)) 1 0 + 2 * rest ≡ 0
-no_bit n x rest below none = go (leb n x) refl
-  where
-    go : (t : Bool) → leb n x ≡ t → cond (top 7 (at_least n x)) 1 0 + 2 * rest ≡ 0
-    go true p = absurd (omega (arith, leb-true n x p))
-    go false p = rw (p, none) refl
+no_bit n x rest below none = grind (arith, common_steps, leb-true)
 
 none_marked : (n : ℕ) (xs : List ℕ) → ((i : ℕ) → get_or xs i 0 < n) → not_below n xs ≡ 0
 none_marked n [] all = refl

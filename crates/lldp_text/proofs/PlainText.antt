@@ -1,16 +1,14 @@
 -- Text of plain octets alone is escaped as it is.
-use Rattle.std.proofs.Common.{◌≡◌, ℕ, ◌==◌, ◌&&◌, Bool, true, false, List, [], ◌∷◌, ◌++◌, refl, ap, ◌∙◌}
+use Rattle.std.proofs.Common.{◌≡◌, ℕ, ◌==◌, ◌&&◌, Bool, true, false, List, [], ◌∷◌, ◌++◌, refl, ap, ◌∙◌, arith}
 use Rattle.std.specs.Prelude.{not, nat_le, if◌then◌else◌, codes}
 use Rattle.std.specs.List.{list_all}
 use Rattle.hex.specs.Hex.{encode_lower}
 use Rattle.lldp_text.specs.Text.{is_plain, escape, escaped}
+use Rattle.std.proofs.lemmas.Grind.{common_steps}
 
 one_plain : (c : ℕ) (over under slash : Bool) → (over && (under && not slash)) ≡ true
     → (if slash then codes "\\\\" else if over && under then c ∷ [] else codes "\\x" ++ encode_lower (c ∷ [])) ≡ c ∷ []
-one_plain c true true false h = refl
-one_plain c true true true h = cc
-one_plain c true false slash h = cc
-one_plain c false under slash h = cc
+one_plain c over under slash h = grind (arith, common_steps)
 
 pub plain_text : (text : List ℕ) → list_all is_plain text ≡ true → escaped text ≡ text
 plain_text [] h = refl

@@ -1,11 +1,12 @@
 -- Escaped texts and hexadecimal digits are read back.
-use Rattle.std.proofs.Common.{◌≡◌, ℕ, ◌+◌, ◌*◌, ◌/◌, ◌%◌, ◌<◌, ◌==◌, ◌&&◌, Bool, true, false, List, [], ◌∷◌, ◌++◌, refl, sym, ap, ◌∙◌, arith}
+use Rattle.std.proofs.Common.{◌≡◌, ℕ, ◌+◌, ◌*◌, ◌/◌, ◌%◌, ◌<◌, ◌==◌, ◌&&◌, Bool, List, [], ◌∷◌, ◌++◌, refl, sym, ap, ◌∙◌, arith}
 use Rattle.std.specs.Prelude.{nat_le, if◌then◌else◌, codes, slice_index, unwrap_or}
 use Rattle.std.proofs.lemmas.Bool.{eqb-true}
 use Rattle.hex.specs.Hex.{encode_with, encode_lower, lower_digits, hex_digit_value}
 use Rattle.hex.proofs.HexLemmas.{IsDigits-lower_digits}
 use Rattle.lldp_pdu.specs.Tlv.{AreOctets}
 use Rattle.lldp_text.specs.Text.{escaped}
+use Rattle.std.proofs.lemmas.Grind.{common_steps}
 
 -- ## Two hexadecimal digits
 
@@ -29,10 +30,7 @@ octet h l = value h * 16 + value l
 
 pub octet_is : (c : ℕ) → c < 256 → octet (high c) (low c) ≡ c
 unfolding octet
-octet_is c lt =
-    let h : value (high c) ≡ c / 16 = value_is (c / 16) (omega arith) in
-    let l : value (low c) ≡ c % 16 = value_is (c % 16) (omega arith) in
-    omega arith
+octet_is c lt = grind (arith, common_steps, value_is)
 
 -- the octets of digits two by two
 pub unhex : List ℕ → List ℕ
@@ -64,9 +62,7 @@ unescaped (second h) (c ∷ cs) = octet h c ∷ unescaped plain cs
 one_back : (c : ℕ) (cs : List ℕ) (is_slash is_plain : Bool) → c < 256 → (c == 92) ≡ is_slash
     → unescaped plain ((if is_slash then codes "\\\\" else if is_plain then c ∷ [] else codes "\\x" ++ encode_lower (c ∷ [])) ++ cs) ≡ c ∷ unescaped plain cs
 unfolding unescaped encode_with
-one_back c cs true is_plain lt e = ap (λ x. x ∷ unescaped plain cs) (sym (eqb-true c 92 e))
-one_back c cs false true lt e = ap (λ (b : Bool). if b then unescaped slash cs else c ∷ unescaped plain cs) e
-one_back c cs false false lt e = ap (λ x. x ∷ unescaped plain cs) (octet_is c lt)
+one_back c cs is_slash is_plain lt e = grind (arith, common_steps, eqb-true, octet_is)
 
 none_back : unescaped plain [] ≡ []
 unfolding unescaped

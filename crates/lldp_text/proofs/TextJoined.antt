@@ -3,6 +3,7 @@ use Rattle.std.proofs.Common.{◌≡◌, ℕ, ◌+◌, ◌<◌, List, [], ◌∷
 use Rattle.std.specs.List.{join_with_byte}
 use Rattle.std.proofs.lemmas.List.{take_more, length-take-le, length-map, map-append}
 use Rattle.lldp_text.specs.Text.{separator}
+use Rattle.std.proofs.lemmas.Grind.{common_steps}
 
 -- one item more
 pub join_push : (c : ℕ) (xs : List (List ℕ)) (x : List ℕ) → join_with_byte c (xs ++ x ∷ []) ≡ join_with_byte c xs ++ (separator c (length xs) ++ x)
@@ -16,12 +17,7 @@ grown old cur mid new j s x j' a b c d = rw (c, b, a, d) (simp append_assoc)
 
 -- the items up to place i, and that at i
 pub joined_more : {A : Type 0} (c : ℕ) (f : A → List ℕ) (xs : List A) (i : ℕ) (d : A) → i < length xs → join_with_byte c (map f (take (i + 1) xs)) ≡ join_with_byte c (map f (take i xs)) ++ (separator c i ++ f (get_or xs i d))
-joined_more c f xs i d h =
-    let len : length (map f (take i xs)) ≡ i = length-map (take i xs) f ∙ length-take-le i xs (omega arith) in
-    ap (λ l. join_with_byte c (map f l)) (take_more xs i d h)
-    ∙ ap (join_with_byte c) (map-append f (take i xs) (get_or xs i d ∷ []))
-    ∙ join_push c (map f (take i xs)) (f (get_or xs i d))
-    ∙ ap (λ n. join_with_byte c (map f (take i xs)) ++ (separator c n ++ f (get_or xs i d))) len
+joined_more c f xs i d h = grind (arith, common_steps, length-map, length-take-le, take_more, map-append, join_push)
 
 -- a text with a key and a value behind it
 pub behind : (old mid new k v v' : List ℕ) → mid ≡ old ++ k → new ≡ mid ++ v → v ≡ v' → new ≡ old ++ (k ++ v')

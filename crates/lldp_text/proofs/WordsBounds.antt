@@ -1,5 +1,5 @@
 -- No word is longer than its line, and a line without quotes has words.
-use Rattle.std.proofs.Common.{◌≡◌, ℕ, ◌+◌, ◌≤◌, true, false, List, [], ◌∷◌, ◌++◌, length, Option, Some, None, is_some, refl, sym, ap, arith, suc, length-append}
+use Rattle.std.proofs.Common.{◌≡◌, ℕ, ◌+◌, ◌≤◌, true, false, List, [], ◌∷◌, ◌++◌, length, Option, is_some, refl, ap, arith, suc, length-append}
 use Rattle.std.specs.Prelude.{unwrap_or}
 use Rattle.std.specs.Option.{option_map}
 use Rattle.std.specs.List.{AllByRecursion as ByRecursion}
@@ -23,19 +23,14 @@ spelled_short (w ∷ words) line a =
     let whole : length line ≡ length a.0 + length a.1 + length a.2 = omega (arith, ap length a.6, length-append (a.0 ++ a.1) a.2, length-append a.0 a.1) in
     (omega (arith, length-spelling a.1 w a.4), longer (length a.2) (length line) words (omega arith) (spelled_short words a.2 a.7))
 
-pub words_of-short : (line : List ℕ) (words : List (List ℕ)) → words_of line ≡ Some words → ByRecursion (λ w. length w ≤ length line) words
-words_of-short line words h = spelled_short words line ((words_spelled line words).0 h)
-
 spelled_or_none : (line : List ℕ) (o : Option (List (List ℕ))) → words_of line ≡ o → ByRecursion (λ w. length w ≤ length line) (unwrap_or o [])
-spelled_or_none line None e = tt
-spelled_or_none line (Some words) e = words_of-short line words e
+spelled_or_none line o e = grind (arith, common_steps, spelled_short, words_spelled)
 
 pub words_left-short : (line : List ℕ) → ByRecursion (λ w. length w ≤ length line) (unwrap_or (words_of line) [])
 words_left-short line = spelled_or_none line (words_of line) refl
 
 is_some-mapped : (w : List ℕ) (o : Option (List (List ℕ))) → is_some (option_map (λ words. w ∷ words) o) ≡ is_some o
-is_some-mapped w None = refl
-is_some-mapped w (Some words) = refl
+is_some-mapped w o = grind (arith, common_steps)
 
 -- if no octet is a quote there are words, between words and in an unquoted one
 unquoted : (line : List ℕ) → ByRecursion (λ c. is_quote c ≡ false) line → (is_some (words_from between line) ≡ true) × ((w : List ℕ) → is_some (words_from (bare w) line) ≡ true)
@@ -49,5 +44,4 @@ no_quote (c ∷ cs) h =
     (false_from_ne_true (is_quote c) (λ e. h 0 (omega arith) (omega arith) e), no_quote cs (λ k low high. h (suc k) (omega arith) (omega arith)))
 
 pub words_of-unquoted : (line : List ℕ) (found : Option ℕ) → IsFirstByte (is_byte 34) line found → is_some found ≡ false → is_some (words_of line) ≡ true
-words_of-unquoted line None h none = (unquoted line (no_quote line h)).0
-words_of-unquoted line (Some k) h none = absurd (false≢true (sym none))
+words_of-unquoted line found h none = grind (arith, common_steps, unquoted, no_quote, false≢true)

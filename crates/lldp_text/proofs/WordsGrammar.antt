@@ -1,5 +1,5 @@
 -- The words that reading gives are those of the grammar, and the other way round.
-use Rattle.std.proofs.Common.{◌≡◌, ℕ, Bool, true, false, List, [], ◌∷◌, ◌++◌, Option, Some, None, refl, ap, sym, ◌∙◌, append-nil, append_assoc, arith, inl, inr, ◌⊎◌}
+use Rattle.std.proofs.Common.{◌≡◌, ℕ, Bool, true, false, List, [], ◌∷◌, ◌++◌, Option, Some, refl, ap, sym, ◌∙◌, append-nil, append_assoc, arith, inl, inr, ◌⊎◌}
 use Rattle.std.specs.Prelude.{if◌then◌else◌, IsTrue, ◌↔◌}
 use Rattle.std.specs.Option.{option_map}
 use Rattle.std.specs.List.{AllPass}
@@ -11,13 +11,11 @@ use Rattle.std.proofs.lemmas.Grind.{common_steps}
 
 -- which way a test went
 chosen : {A : Type 0} (b : Bool) (x y z : A) → (if b then x else y) ≡ z → ((b ≡ true) × (x ≡ z)) ⊎ ((b ≡ false) × (y ≡ z))
-chosen true x y z h = inl (refl, h)
-chosen false x y z h = inr (refl, h)
+chosen b x y z h = grind (arith, common_steps)
 
 -- the words behind a first one
 mapped : (w : List ℕ) (o : Option (List (List ℕ))) (ws : List (List ℕ)) → option_map (λ words. w ∷ words) o ≡ Some ws → (tail : List (List ℕ)) × (o ≡ Some tail) × (ws ≡ w ∷ tail)
-mapped w None ws h = cc
-mapped w (Some tail) ws h = (tail, refl, cc)
+mapped w o ws h = grind (arith, common_steps)
 
 -- a separator more in front
 gap_more : (c : ℕ) (line : List ℕ) (ws : List (List ℕ)) → is_separator c ≡ true → AreWords line ws → AreWords (c ∷ line) ws

@@ -1,6 +1,6 @@
 -- How reading goes over the parts of a line.
 use Rattle.std.proofs.Common.{◌≡◌, ℕ, ◌<◌, Bool, true, false, not, List, [], ◌∷◌, ◌++◌, length, Option, Some, None, refl, ap, sym, ◌∙◌, append-nil, append_assoc, arith}
-use Rattle.std.specs.Prelude.{◌&&◌, MatchResult, MatchOption, IsTrue, IsSomeAnd, Result, Ok, Err}
+use Rattle.std.specs.Prelude.{◌&&◌, MatchResult, MatchOption, IsTrue, IsSomeAnd, Result}
 use Rattle.std.specs.Option.{option_map}
 use Rattle.std.specs.List.{AllPass, IsFirstAndRest, AllByRecursion as ByRecursion}
 use Rattle.std.proofs.lemmas.Bool.{false≢true}
@@ -23,18 +23,7 @@ words_of-gap gap rest h = gap_read gap rest (recursion_from_All (λ c. is_separa
 
 -- what is neither a separator nor a quote
 bare_is : (a b : Bool) → (not a && not b ≡ true) → (a ≡ false) × (b ≡ false)
-bare_is true b h = absurd (false≢true h)
-bare_is false true h = absurd (false≢true h)
-bare_is false false h = (refl, refl)
-
-stops_is : (a b : Bool) → a ≡ false → not a && not b ≡ false → b ≡ true
-stops_is true b h k = absurd (false≢true (sym h))
-stops_is false true h k = refl
-stops_is false false h k = absurd (false≢true (sym k))
-
-not_is : (a : Bool) → not a ≡ true → a ≡ false
-not_is true h = absurd (false≢true h)
-not_is false h = refl
+bare_is a b h = grind (arith, common_steps, false≢true)
 
 -- octets of an unquoted word
 bare_read : (word : List ℕ) (before : List ℕ) (rest : List ℕ) → ByRecursion (λ c. is_bare c ≡ true) word → words_from (bare before) (word ++ rest) ≡ words_from (bare (before ++ word)) rest
@@ -46,19 +35,17 @@ bare_read (c ∷ word) before rest h = grind (arith, common_steps, bare_is, appe
 quoted_read : (word : List ℕ) (before : List ℕ) (rest : List ℕ) → ByRecursion (λ c. is_unquote c ≡ true) word → words_from (quoted before) (word ++ rest) ≡ words_from (quoted (before ++ word)) rest
 unfolding words_from
 quoted_read [] before rest h = simp append-nil
-quoted_read (c ∷ word) before rest h = grind (arith, common_steps, not_is, append_assoc, quoted_read word (before ++ c ∷ []) rest h.1)
+quoted_read (c ∷ word) before rest h = grind (arith, common_steps, false≢true, append_assoc, quoted_read word (before ++ c ∷ []) rest h.1)
 
 -- an unquoted word that ends
 bare_ends : (word rest : List ℕ) → may_end_word rest ≡ true → words_from (bare word) rest ≡ option_map (λ words. word ∷ words) (words_of rest)
 unfolding words_from
-bare_ends word [] h = refl
-bare_ends word (c ∷ rest) h = rw h refl
+bare_ends word rest h = grind (arith, common_steps)
 
 -- and one that a quote follows
 bare_quote : (word rest : List ℕ) → may_end_word rest ≡ false → begins_bare rest ≡ false → words_from (bare word) rest ≡ None
 unfolding words_from
-bare_quote word [] h k = absurd (false≢true (sym h))
-bare_quote word (c ∷ rest) h k = rw (h, stops_is (is_separator c) (is_quote c) h k) refl
+bare_quote word rest h k = grind (arith, common_steps, false≢true)
 
 -- the first octet of an unquoted word, a quote that opens a word and one that closes it
 bare_begin : (c : ℕ) (rest : List ℕ) → is_separator c ≡ false → is_quote c ≡ false → words_from between (c ∷ rest) ≡ words_from (bare (c ∷ [])) rest
@@ -84,13 +71,11 @@ none_read = refl
 -- behind a closing quote the line goes on as behind a separator
 closed_ends : (rest : List ℕ) → may_end_word rest ≡ true → words_from closed rest ≡ words_of rest
 unfolding words_from
-closed_ends [] h = refl
-closed_ends (c ∷ rest) h = rw h refl
+closed_ends rest h = grind (arith, common_steps)
 
 closed_other : (rest : List ℕ) → may_end_word rest ≡ false → words_from closed rest ≡ None
 unfolding words_from
-closed_other [] h = absurd (false≢true (sym h))
-closed_other (c ∷ rest) h = rw h refl
+closed_other rest h = grind (arith, common_steps, false≢true)
 
 -- What reading gives at a line is what the reader's answer says.
 abbrev pub Answers : {R : Type 0} → (R → List ℕ) → (R → List ℕ) → List ℕ → Result (Option R) CommandFault → Type 0
@@ -103,13 +88,7 @@ Ends word rest w after r = MatchResult r (λ found. IsTrue (may_end_word after) 
 answered : {R : Type 0} (word rest : R → List ℕ) (r : Result (Option R) CommandFault) (line w after : List ℕ)
     → (may_end_word after ≡ true → words_of line ≡ option_map (λ words. w ∷ words) (words_of after)) → (may_end_word after ≡ false → words_of line ≡ None)
     → Ends word rest w after r → Answers word rest line r
-answered word rest (Ok None) line w after ends other a = absurd a.1
-answered word rest (Ok (Some x)) line w after ends other a = rw (a.1.0, a.1.1) (ends a.0)
-answered word rest (Err fault) line w after ends other a = (a.0, other a.1)
-
--- what is no quote by its number
-not_quote : (c : ℕ) → (c ≡ 34 → ⊥) → is_quote c ≡ false
-not_quote c h = grind (arith, nat_tests)
+answered word rest r line w after ends other a = grind (arith, common_steps)
 
 -- an unquoted word and what follows it
 pub bare_found : {R : Type 0} (word rest : R → List ℕ) (r : Result (Option R) CommandFault) (line gap text : List ℕ) (first : ℕ) (more w after : List ℕ)
@@ -117,7 +96,7 @@ pub bare_found : {R : Type 0} (word rest : R → List ℕ) (r : Result (Option R
     → AllPass is_bare w → text ≡ w ++ after → begins_bare after ≡ false
     → Ends word rest w after r → Answers word rest line r
 bare_found word rest r line gap text first more [] [] g e sep t quo b s n a = let none : first ∷ more ≡ [] = sym t.0 ∙ s in cc
-bare_found word rest r line gap text first more [] (c ∷ after) g e sep t quo b s n a = grind (arith, common_steps, not_quote, false≢true)
+bare_found word rest r line gap text first more [] (c ∷ after) g e sep t quo b s n a = grind (arith, common_steps, nat_tests, false≢true)
 bare_found word rest r line gap text first more (c ∷ w) after g e sep t quo b s n a =
     let octets = recursion_from_All (λ c. is_bare c ≡ true) (c ∷ w) b in
     let octet = bare_is (is_separator c) (is_quote c) octets.0 in

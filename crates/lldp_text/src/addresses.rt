@@ -45,6 +45,7 @@ pub fn write_mac(line: &mut Writer, octets: &[u8])
 }
 
 /// Writes an IPv4 address of four octets, in at most 44 octets.
+#[tactic(auto, using(crate::proofs::TextJoined::grown, crate::proofs::TextJoined::joined_more))]
 pub fn write_ipv4(line: &mut Writer, octets: &[u8])
     requires room { length line.old + 44 ≤ ROOM }
     requires four { length octets.now ≡ 4 }

@@ -24,6 +24,7 @@ fn writes_number(word: &[u8]) -> bool
 }
 
 /// Returns the value of the digits, or `TOO_LARGE` if it is greater.
+#[tactic(auto, using(crate::proofs::NumberDigits::value_more))]
 fn value_of(digits: &[u8]) -> u32
     requires { IsTrue (is_number digits.now) }
     ensures { result ≡ min (digits_value 10 digits.now) 65536 }

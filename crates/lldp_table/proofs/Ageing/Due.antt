@@ -11,8 +11,7 @@ use Rattle.std.proofs.lemmas.List.Sorted.{All-permutation}
 use Rattle.std.proofs.lemmas.Map.Keys.{IsDistinct-head, IsDistinct-tail, IsDistinct-cons}
 use Rattle.lldp_table.specs.Code.Queue.{Due, due, dues, slots_of, holds, ticks_left, put, enter, leave, less_first, add_first, is_spent, total, IsRunning, IsQueue}
 use Rattle.lldp_table.proofs.Slots.Places.{at_place, all-push, all-both, not_before, not_behind, nat_eq_sym, map-remove, unheld, distinct-moved}
-use Rattle.lldp_table.proofs.Ageing.Steps.{at_first, behind, enter-last, total-cons, total-append, total-added, total-enter, total-leave, total-less_first, total-pass}
-use Rattle.lldp_table.proofs.Ageing.Order.{slots-enter, slots-leave}
+use Rattle.lldp_table.proofs.Ageing.Steps.{at_first, behind, enter-last, total-cons, total-append, total-added, total-enter, total-leave, total-less_first, total-pass, slots-enter, slots-leave}
 use Rattle.std.proofs.lemmas.Grind.{common_steps}
 
 module _ (times : List ℕ) where
@@ -198,12 +197,7 @@ module _ (times slots : List ℕ) (k slot : ℕ) (l : k < length slots) (e : get
       omega (arith, total_left, total_here, added)
 
   pub total_left_last : length slots ≤ k + 1 → total (leave slot (dues times slots)) + get_or times slot 0 ≡ total (dues times slots)
-  total_left_last m =
-      let past : length (dues times slots) ≤ suc k = omega (arith, length-dues times slots, m) in
-      let none : others ≡ [] = drop_of_length-le (dues times slots) past in
-      let added : total (add_first (get_or times slot 0) others) ≡ 0 = ap (λ q. total (add_first (get_or times slot 0) q)) none in
-      let left : total others ≡ 0 = ap total none in
-      omega (arith, total_left, total_here, added, left)
+  total_left_last m = grind (arith, common_steps, length-dues, drop_of_length-le, total_left, total_here)
 
 -- ## What stays true of a queue
 
@@ -249,12 +243,10 @@ queue_popped times (i ∷ is) h = grind (arith, common_steps, IsDistinct-tail, t
 
 -- the ticks left of the last, if the first has nothing left and leaves, and if a tick passes
 pub total_popped : (times slots : List ℕ) → is_spent (dues times slots) ≡ true → total (dues times (remove slots 0)) ≡ total (dues times slots)
-total_popped times [] e = refl
-total_popped times (i ∷ is) e = omega (arith, eqb-true (get_or times i 0) 0 e, total-cons (due i (get_or times i 0)) (dues times is))
+total_popped times slots e = grind (arith, common_steps, eqb-true, total-cons)
 
 pub total_passed : (times slots : List ℕ) → 0 < length slots → IsRunning (dues times slots) → total (less_first 1 (dues times slots)) + 1 ≡ total (dues times slots)
-total_passed times [] l r = absurd (omega arith)
-total_passed times (i ∷ is) l r = total-pass (due i (get_or times i 0)) (dues times is) r
+total_passed times slots l r = grind (arith, common_steps, total-pass)
 
 -- ## The ticks left of each slot, one after the other
 

@@ -1,9 +1,11 @@
 -- Each step of the queue changes the ticks left of the slots as it is meant to.
-use Rattle.std.proofs.Common.{◌≡◌, ℕ, ◌+◌, ◌-◌, ◌<◌, ◌≤◌, true, false, ◌||◌, cond, nat_eq, nat_le, List, [], ◌∷◌, ◌++◌, refl, inl, inr, ap, ◌∙◌, sym, arith, max}
+use Rattle.std.proofs.Common.{◌≡◌, ℕ, ◌+◌, ◌-◌, ◌<◌, ◌≤◌, true, false, ◌||◌, cond, nat_eq, nat_le, List, [], ◌∷◌, ◌++◌, refl, inl, inr, ap, ◌∙◌, sym, arith, max, subst}
 use Rattle.std.proofs.lemmas.List.Sums.{sum_by-cons}
-use Rattle.std.proofs.lemmas.Bool.{cases_Bool, le-leb, leb-true, leb-false, or_parts, cond-true, cond-false, eqb-true, eqb-false, eq-eqb}
-use Rattle.lldp_table.specs.Code.Queue.{Due, due, holds, ticks_left, enter, add_first, less_first, leave, IsRunning, total}
+use Rattle.std.proofs.lemmas.Bool.{cases_Bool, le-leb, leb-true, leb-false, or_parts, cond-true, cond-false, eqb-true, eqb-false, eq-eqb, ne_eqb}
+use Rattle.lldp_table.specs.Code.Queue.{Due, due, holds, ticks_left, enter, add_first, less_first, leave, IsRunning, total, slots_of}
 use Rattle.std.proofs.lemmas.Grind.{common_steps}
+use Rattle.std.specs.List.Sorted.{IsPermutation}
+use Rattle.std.proofs.lemmas.List.Sorted.{IsPermutation-refl, IsPermutation-cons, IsPermutation-trans, IsPermutation-append_comm, IsPermutation-append_left}
 
 -- ## The ticks left of one slot, by whether it is the first
 
@@ -55,8 +57,7 @@ left-enter_other slot left other (e ∷ queue) d h =
 -- ## Leaving
 
 left-add_first : (n slot : ℕ) (queue : List Due) → holds slot queue ≡ true → ticks_left (add_first n queue) slot ≡ n + ticks_left queue slot
-left-add_first n slot [] h = cc
-left-add_first n slot (e ∷ queue) h = grind (arith, common_steps, cases_Bool, at_first, behind)
+left-add_first n slot queue h = grind (arith, common_steps, cases_Bool, at_first, behind)
 
 -- if a slot leaves, the others keep theirs
 pub left-leave : (slot other : ℕ) (queue : List Due) → nat_eq slot other ≡ false → holds other queue ≡ true → ticks_left (leave slot queue) other ≡ ticks_left queue other
@@ -78,13 +79,11 @@ running_first e queue r = let n = eqb-false e.gap 0 r in omega (arith, n)
 
 -- it takes one from each
 pub left-pass : (slot : ℕ) (queue : List Due) → IsRunning queue → holds slot queue ≡ true → ticks_left (less_first 1 queue) slot ≡ ticks_left queue slot - 1
-left-pass slot [] r h = cc
-left-pass slot (e ∷ queue) r h = grind (arith, common_steps, cases_Bool, at_first, behind, running_first)
+left-pass slot queue r h = grind (arith, common_steps, cases_Bool, at_first, behind, running_first)
 
 -- each has some left if the first has
 pub left-positive : (slot : ℕ) (queue : List Due) → IsRunning queue → holds slot queue ≡ true → 0 < ticks_left queue slot
-left-positive slot [] r h = cc
-left-positive slot (e ∷ queue) r h = grind (arith, common_steps, running_first, cases_Bool, at_first, behind)
+left-positive slot queue r h = grind (arith, common_steps, running_first, cases_Bool, at_first, behind)
 
 -- a slot with nothing left at the front, and the others without it
 pub left-front_same : (slot : ℕ) (queue : List Due) → ticks_left ((due slot 0) ∷ queue) slot ≡ 0
@@ -102,17 +101,12 @@ pub total-enter : (slot left : ℕ) (queue : List Due) → total (enter slot lef
 total-enter slot left [] = omega arith
 total-enter slot left (e ∷ queue) = grind (arith, common_steps, total-cons, cases_Bool, leb-true, leb-false, total-enter slot (left - e.gap) queue)
 
-total-add_first : (n : ℕ) (queue : List Due) → total (add_first n queue) ≤ n + total queue
-total-add_first n [] = omega arith
-total-add_first n (e ∷ queue) = omega (arith, total-cons e queue, total-cons (due e.slot (n + e.gap)) queue)
-
 pub total-leave : (slot : ℕ) (queue : List Due) → total (leave slot queue) ≤ total queue
 total-leave slot [] = omega arith
-total-leave slot (e ∷ queue) = grind (arith, common_steps, total-cons, cases_Bool, total-add_first, total-leave slot queue)
+total-leave slot (e ∷ queue) = grind (arith, common_steps, total-cons, cases_Bool, total-leave slot queue)
 
 pub total-less_first : (n : ℕ) (queue : List Due) → total (less_first n queue) ≤ total queue
-total-less_first n [] = omega arith
-total-less_first n (e ∷ queue) = omega (arith, total-cons e queue, total-cons (due e.slot (e.gap - n)) queue)
+total-less_first n queue = grind (arith, common_steps, total-cons)
 
 pub total-append : (queue others : List Due) → total (queue ++ others) ≡ total queue + total others
 total-append [] others = omega arith
@@ -133,3 +127,43 @@ enter-last slot left (d ∷ queue) gap e =
     let sum : d.gap + total queue ≡ total (d ∷ queue) = sym (total-cons d queue) in
     let t : nat_le d.gap left ≡ true = le-leb d.gap left (omega arith) in
     rw t (ap (λ q. d ∷ q) (enter-last slot (left - d.gap) queue gap (omega arith)))
+
+-- ## Which slots a queue has, and that its first keeps some ticks left
+
+-- two that change places
+first_two : (a b : ℕ) (rest : List ℕ) → IsPermutation (a ∷ b ∷ rest) (b ∷ a ∷ rest)
+first_two a b rest = IsPermutation-append_left rest (a ∷ b ∷ []) (b ∷ a ∷ []) (IsPermutation-append_comm (a ∷ []) (b ∷ []))
+
+pub slots-less_first : (n : ℕ) (queue : List Due) → slots_of (less_first n queue) ≡ slots_of queue
+slots-less_first n queue = grind (arith, common_steps)
+
+-- a slot that enters is one more
+pub slots-enter : (slot left : ℕ) (queue : List Due) → IsPermutation (slot ∷ slots_of queue) (slots_of (enter slot left queue))
+slots-enter slot left [] = IsPermutation-refl (slot ∷ [])
+slots-enter slot left (e ∷ queue) =
+    elim (cases_Bool (nat_le e.gap left)) [
+      | inl t ↦ rw t (IsPermutation-trans (slot ∷ e.slot ∷ slots_of queue) (e.slot ∷ slot ∷ slots_of queue) (e.slot ∷ slots_of (enter slot (left - e.gap) queue)) (first_two slot e.slot (slots_of queue))
+          (IsPermutation-cons e.slot (slot ∷ slots_of queue) (slots_of (enter slot (left - e.gap) queue)) (slots-enter slot (left - e.gap) queue)))
+      | inr f ↦ rw f (IsPermutation-refl (slot ∷ e.slot ∷ slots_of queue))
+    ]
+
+slots-add_first : (n : ℕ) (queue : List Due) → slots_of (add_first n queue) ≡ slots_of queue
+slots-add_first n queue = grind (arith, common_steps)
+
+-- and one that leaves is one less
+pub slots-leave : (slot : ℕ) (queue : List Due) → holds slot queue ≡ true → IsPermutation (slots_of queue) (slot ∷ slots_of (leave slot queue))
+slots-leave slot [] h = cc
+slots-leave slot (e ∷ queue) h =
+    elim (cases_Bool (nat_eq e.slot slot)) [
+      | inl t ↦ rw t (subst (λ xs. IsPermutation (e.slot ∷ slots_of queue) xs) (ap (λ s. s ∷ slots_of queue) (eqb-true e.slot slot t) ∙ ap (λ xs. slot ∷ xs) (sym (slots-add_first e.gap queue))) (IsPermutation-refl (e.slot ∷ slots_of queue)))
+      | inr f ↦
+          let behind : holds slot queue ≡ true = ap (λ b. b || holds slot queue) (sym f) ∙ h in
+          rw f (IsPermutation-trans (e.slot ∷ slots_of queue) (e.slot ∷ slot ∷ slots_of (leave slot queue)) (slot ∷ e.slot ∷ slots_of (leave slot queue))
+          (IsPermutation-cons e.slot (slots_of queue) (slot ∷ slots_of (leave slot queue)) (slots-leave slot queue behind)) (first_two e.slot slot (slots_of (leave slot queue))))
+    ]
+
+pub running-enter : (slot left : ℕ) (queue : List Due) → 0 < left → IsRunning queue → IsRunning (enter slot left queue)
+running-enter slot left queue l r = grind (arith, common_steps, ne_eqb)
+
+pub running-leave : (slot : ℕ) (queue : List Due) → IsRunning queue → IsRunning (leave slot queue)
+running-leave slot queue r = grind (arith, common_steps, ne_eqb, running_first)

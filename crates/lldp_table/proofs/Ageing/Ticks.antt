@@ -12,8 +12,7 @@ use Rattle.lldp_table.specs.Code.Stored.{Stored}
 use Rattle.lldp_table.specs.Code.Queue.{Due, due, holds, slots_of, ticks_left, less_first, is_spent, IsRunning, IsQueued, IsTimed}
 use Rattle.lldp_table.specs.Code.Layout.{neighbor_of, neighbors_at, blank, contents_of, IsLaidOut}
 use Rattle.lldp_table.proofs.Slots.Places.{nat_eq_sym, at_place, one-out, take-moved, distinct-take, distinct-moved, IsOrder-moved}
-use Rattle.lldp_table.proofs.Ageing.Steps.{left-pass, left-positive, left-front_same, left-front_other}
-use Rattle.lldp_table.proofs.Ageing.Order.{slots-less_first}
+use Rattle.lldp_table.proofs.Ageing.Steps.{left-pass, left-positive, left-front_same, left-front_other, slots-less_first}
 use Rattle.lldp_table.proofs.Ageing.Timed.{queued_less, all_queued, holds-slots}
 use Rattle.lldp_table.proofs.Slots.Layout.{laid_out}
 use Rattle.lldp_table.proofs.Standing.Sound.{sound_ticked}

@@ -8,8 +8,7 @@ use Rattle.std.proofs.lemmas.List.Sorted.{list_any-IsPermutation, length_permuta
 use Rattle.std.proofs.lemmas.Map.Keys.{IsDistinct-head, IsDistinct-tail, IsDistinct-cons}
 use Rattle.lldp_table.specs.Code.Queue.{Due, slots_of, holds, ticks_left, enter, leave, IsQueued}
 use Rattle.lldp_table.proofs.Slots.Places.{all-weaker, all-with, none-with, unheld, distinct-moved, nat_eq_sym}
-use Rattle.lldp_table.proofs.Ageing.Steps.{left-enter_same, left-enter_other, left-leave}
-use Rattle.lldp_table.proofs.Ageing.Order.{slots-enter, slots-leave}
+use Rattle.lldp_table.proofs.Ageing.Steps.{left-enter_same, left-enter_other, left-leave, slots-enter, slots-leave}
 
 pub holds-slots : (slot : ℕ) (queue : List Due) → holds slot queue ≡ list_any (nat_eq slot) (slots_of queue)
 holds-slots slot [] = refl

@@ -1,5 +1,5 @@
 -- What each call changes among the live neighbors, seen neighbor by neighbor.
-use Rattle.std.proofs.Common.{◌≡◌, ℕ, ◌+◌, ◌-◌, ◌<◌, ◌↔◌, max, Bool, true, false, cond, nat_lt, ◌⊎◌, List, [], ◌∷◌, ◌++◌, Option, Some, None, refl, inl, inr, ap, ◌∙◌, sym, arith}
+use Rattle.std.proofs.Common.{◌≡◌, ℕ, ◌-◌, ◌<◌, ◌↔◌, max, true, false, cond, ◌⊎◌, List, [], ◌∷◌, ◌++◌, Some, None, refl, inl, inr, ap, ◌∙◌, sym, arith}
 use Rattle.std.specs.List.{Contains, AllByRecursion}
 use Rattle.std.specs.Option.{option_and_then}
 use Rattle.std.proofs.lemmas.Bool.{cases_Bool, false≢true, ltb-true, lt-ltb, cond-true}
@@ -11,10 +11,11 @@ use Rattle.lldp_table.specs.Standing.{table_of}
 use Rattle.lldp_table.specs.Laws.Changes.{a_tick_before, just_stored, sets_limit}
 use Rattle.lldp_table.specs.Code.Steps.{aged}
 use Rattle.lldp_table.specs.declared.learned.Learned.{Learned}
-use Rattle.lldp_table.specs.declared.learned.Learned.TheVariants.{New, Refreshed, Dropped}
+use Rattle.lldp_table.specs.declared.learned.Learned.TheVariants.{Dropped}
 use Rattle.lldp_table.proofs.Msap.{same_msap-refl, same_msap-true}
 use Rattle.lldp_table.proofs.Live.Events.{live-other, live-ticked, live-stored, neighbors-purged, neighbors-dropped, neighbors-limit_set, too_many-ticked, too_many-dropped}
 use Rattle.lldp_table.proofs.Live.LastStored.{last_from_live, live_from_last, last_stored_from_held, held_from_last_stored}
+use Rattle.std.proofs.lemmas.Grind.{common_steps}
 
 -- a neighbor is held if it is what is live of its name
 module _ (opened : ℕ) (calls : List Call) (x : Neighbor) where
@@ -26,96 +27,53 @@ module _ (opened : ℕ) (calls : List Call) (x : Neighbor) where
 
 -- ## A name that takes leave
 
-another_name : (name : MsapId) (x : Neighbor) → same_msap name x.msap ≡ false → ¬ (x.msap ≡ name)
-another_name name x d e = false≢true (sym d ∙ ap (same_msap name) e ∙ same_msap-refl name)
-
 not_same : (name : MsapId) (x : Neighbor) → ¬ (x.msap ≡ name) → same_msap name x.msap ≡ false
 not_same name x n = elim (cases_Bool (same_msap name x.msap)) [ inl t ↦ absurd (n (sym (same_msap-true name x.msap t))) | inr d ↦ d ]
 
-unforgotten : (b : Bool) (o : Option Neighbor) (x : Neighbor) → cond b None o ≡ Some x → (b ≡ false) × (o ≡ Some x)
-unforgotten true o x h = cc
-unforgotten false o x h = (refl, h)
-
 module _ (past : List TableEvent) (name : MsapId) (x : Neighbor) where
   pub live_forgot : live x.msap (forgot name ∷ past) ≡ Some x → (live x.msap past ≡ Some x) × (¬ (x.msap ≡ name))
-  live_forgot h =
-      let p = unforgotten (same_msap name x.msap) (live x.msap past) x (sym (live-other x.msap (forgot name) past refl) ∙ h) in
-      (p.1, another_name name x p.0)
+  live_forgot h = grind (arith, common_steps, live-other, false≢true, same_msap-refl)
 
   pub forgot_live : live x.msap past ≡ Some x → ¬ (x.msap ≡ name) → live x.msap (forgot name ∷ past) ≡ Some x
   forgot_live h n = live-other x.msap (forgot name) past refl ∙ ap (λ b. cond b None (live x.msap past)) (not_same name x n) ∙ h
 
 -- ## A tick
 
-was_a_tick_before : (x y : Neighbor) → aged y ≡ Some x → (0 < x.left) × (y ≡ a_tick_before x)
-was_a_tick_before x y h =
-    let p = cond_some (nat_lt 1 y.left) (record y { left = y.left - 1 }) x h in
-    let more : 1 < y.left = ltb-true 1 y.left p.0 in
-    let left : y.left - 1 ≡ x.left = ap (λ (n : Neighbor). n.left) p.1 in
-    let again : y.left ≡ x.left + 1 = omega arith in
-    (omega arith, ap (λ n. record y { left = n }) again ∙ ap (λ (z : Neighbor). record z { left = x.left + 1 }) p.1)
-
 is_left : (x : Neighbor) → 0 < x.left → aged (a_tick_before x) ≡ Some x
-is_left x l =
-    let more : 1 < x.left + 1 = omega arith in
-    let left : x.left + 1 - 1 ≡ x.left = omega arith in
-    cond-true (nat_lt 1 (x.left + 1)) (Some (record x { left = x.left + 1 - 1 })) None (lt-ltb 1 (x.left + 1) more) ∙ ap (λ n. Some (record x { left = n })) left
+is_left x l = grind (arith, common_steps, cond-true, lt-ltb)
 
 module _ (past : List TableEvent) (x : Neighbor) where
   pub live_before : live x.msap (ticked ∷ past) ≡ Some x → (0 < x.left) × (live x.msap past ≡ Some (a_tick_before x))
-  live_before h =
-      option_and_then_some aged (live x.msap past) x (sym (live-ticked x.msap past) ∙ h)
-      (λ y here gone. let p = was_a_tick_before x y gone in (p.0, here ∙ ap Some p.1))
+  live_before h = grind (arith, common_steps, option_and_then_some, live-ticked, cond_some, ltb-true)
 
   pub live_a_tick_later : 0 < x.left → live x.msap past ≡ Some (a_tick_before x) → live x.msap (ticked ∷ past) ≡ Some x
   live_a_tick_later l h = live-ticked x.msap past ∙ ap (option_and_then aged) h ∙ is_left x l
 
 -- ## A stored frame
 
-taken : (b : Bool) (x new : Neighbor) (o : Option Neighbor) → cond b (Some new) o ≡ Some x → (x ≡ new) ⊎ ((b ≡ false) × (o ≡ Some x))
-taken true x new o h = let same : new ≡ x = cc in inl (sym same)
-taken false x new o h = inr (refl, h)
-
 module _ (past : List TableEvent) (name : MsapId) (ttl : ℕ) (octets : List ℕ) (answer : Learned) (x : Neighbor) where
   pub live_stored : 0 < ttl → is_stored answer ≡ true → live x.msap (learned name ttl octets answer ∷ past) ≡ Some x → (x ≡ just_stored name ttl octets) ⊎ ((live x.msap past ≡ Some x) × (¬ (x.msap ≡ name)))
-  live_stored l s h =
-      elim (taken (same_msap name x.msap) x (just_stored name ttl octets) (live x.msap past) (sym (live-stored name x.msap ttl octets answer past l s) ∙ h)) [
-        | inl e ↦ inl e
-        | inr p ↦ inr (p.1, another_name name x p.0)
-      ]
+  live_stored l s h = grind (arith, common_steps, live-stored, false≢true, same_msap-refl)
 
   pub stored_live : 0 < ttl → is_stored answer ≡ true → (x ≡ just_stored name ttl octets) ⊎ ((live x.msap past ≡ Some x) × (¬ (x.msap ≡ name))) → live x.msap (learned name ttl octets answer ∷ past) ≡ Some x
-  stored_live l s h =
-      live-stored name x.msap ttl octets answer past l s
-      ∙ elim h as (λ w. cond (same_msap name x.msap) (Some (just_stored name ttl octets)) (live x.msap past) ≡ Some x) [
-        | inl e ↦ ap (λ b. cond b (Some (just_stored name ttl octets)) (live x.msap past)) (ap (λ (y : Neighbor). same_msap name y.msap) e ∙ same_msap-refl name) ∙ ap Some (sym e)
-        | inr p ↦ ap (λ b. cond b (Some (just_stored name ttl octets)) (live x.msap past)) (not_same name x p.1) ∙ p.0
-      ]
+  stored_live l s h = grind (arith, common_steps, live-stored, same_msap-refl, not_same)
 
 pub stored_is : (a : Learned) → ¬ (a ≡ Dropped) → is_stored a ≡ true
-stored_is New n = refl
-stored_is Refreshed n = refl
-stored_is Dropped n = absurd (n refl)
+stored_is a n = grind (arith, common_steps)
 
 -- ## The limit
 
 pub limit_is_set : (opened limit : ℕ) (later calls : List Call) → AllByRecursion (λ call. sets_limit call ≡ false) later → limit_after opened (events_of opened (later ++ set_limit limit ∷ calls)) ≡ limit
 unfolding events_of
 limit_is_set opened limit [] calls a = refl
-limit_is_set opened limit (learn name ttl octets ∷ later) calls a = limit_is_set opened limit later calls a.1
-limit_is_set opened limit (forget name ∷ later) calls a = limit_is_set opened limit later calls a.1
-limit_is_set opened limit (purge ∷ later) calls a = limit_is_set opened limit later calls a.1
-limit_is_set opened limit (tick ∷ later) calls a = limit_is_set opened limit later calls a.1
 limit_is_set opened limit (set_limit other ∷ later) calls a = cc a.0
+limit_is_set opened limit (call ∷ later) calls a = limit_is_set opened limit later calls a.1
 
 pub limit_is_opened : (opened : ℕ) (calls : List Call) → AllByRecursion (λ call. sets_limit call ≡ false) calls → limit_after opened (events_of opened calls) ≡ opened
 unfolding events_of
 limit_is_opened opened [] a = refl
-limit_is_opened opened (learn name ttl octets ∷ calls) a = limit_is_opened opened calls a.1
-limit_is_opened opened (forget name ∷ calls) a = limit_is_opened opened calls a.1
-limit_is_opened opened (purge ∷ calls) a = limit_is_opened opened calls a.1
-limit_is_opened opened (tick ∷ calls) a = limit_is_opened opened calls a.1
 limit_is_opened opened (set_limit other ∷ calls) a = cc a.0
+limit_is_opened opened (call ∷ calls) a = limit_is_opened opened calls a.1
 
 -- ## Tables
 
@@ -169,9 +127,7 @@ module _ (opened : ℕ) (calls : List Call) where
 
     others_stay : (a : Learned) → ¬ (a ≡ Dropped) → too_many_left (learned name ttl octets a ∷ past) ≡ too_many_left past
     unfolding too_many_left
-    others_stay New n = refl
-    others_stay Refreshed n = refl
-    others_stay Dropped n = absurd (n refl)
+    others_stay a n = grind (arith, common_steps)
 
     pub learn_others : ¬ (answer opened name (events_of opened calls) ≡ Dropped) → record (table_of opened (learn name ttl octets ∷ calls)) { neighbors = (table_of opened calls).neighbors } ≡ table_of opened calls
     unfolding events_of
@@ -179,6 +135,4 @@ module _ (opened : ℕ) (calls : List Call) where
 
     pub learn_dropped : answer opened name (events_of opened calls) ≡ Dropped → table_of opened (learn name ttl octets ∷ calls) ≡ record (table_of opened calls) { too_many_left = max (table_of opened calls).too_many_left ttl }
     unfolding events_of
-    learn_dropped e =
-        ap (λ a. record (table_of opened calls) { neighbors = neighbors (learned name ttl octets a ∷ past); too_many_left = too_many_left (learned name ttl octets a ∷ past) }) e
-        ∙ cc (neighbors-dropped name ttl octets past, too_many-dropped name ttl octets past)
+    learn_dropped e = grind (arith, common_steps, neighbors-dropped, too_many-dropped)

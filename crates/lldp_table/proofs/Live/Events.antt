@@ -1,5 +1,5 @@
 -- What one more event makes of the live neighbors.
-use Rattle.std.proofs.Common.{◌≡◌, ℕ, suc, ◌-◌, ◌<◌, Bool, true, false, not, ◌&&◌, ◌||◌, cond, nat_lt, ◌⊎◌, List, [], ◌∷◌, ◌++◌, Option, Some, None, refl, inl, inr, ap, ◌∙◌, sym, arith, map, is_some, max}
+use Rattle.std.proofs.Common.{◌≡◌, ℕ, suc, ◌-◌, ◌<◌, Bool, true, false, not, ◌&&◌, ◌||◌, cond, ◌⊎◌, List, [], ◌∷◌, ◌++◌, Option, Some, None, refl, inl, inr, ap, ◌∙◌, sym, arith, map, is_some, max}
 use Rattle.std.specs.List.{find, filter, filter_map, cons_option, list_any}
 use Rattle.std.specs.Option.{option_and_then, option_map}
 use Rattle.std.proofs.lemmas.Bool.{cases_Bool, cond-true, cond-false, false≢true, lt-ltb, or_right, or_left, and_right, false_from_ne_true}
@@ -20,13 +20,8 @@ use Rattle.std.proofs.lemmas.Grind.{common_steps}
 
 -- ## One name
 
-live_after-more : (n : ℕ) (event : TableEvent) → live_after (suc n) event ≡ option_and_then aged (live_after n event)
-live_after-more n (learned name ttl octets answer) = grind (arith, nat_tests)
-live_after-more n _ = refl
-
 after-more : (n : ℕ) (last : Option TableEvent) → option_and_then (live_after (suc n)) last ≡ option_and_then aged (option_and_then (live_after n) last)
-after-more n None = refl
-after-more n (Some event) = live_after-more n event
+after-more n last = grind (arith, common_steps, nat_tests)
 
 -- a tick ages what is live of a name
 pub live-ticked : (name : MsapId) (past : List TableEvent) → live name (ticked ∷ past) ≡ option_and_then aged (live name past)
@@ -34,8 +29,7 @@ unfolding live
 live-ticked name past = after-more (ticks (since (decides_on name) past)) (find (decides_on name) past)
 
 settled : (b : Bool) (event : TableEvent) (rest : List TableEvent) (last : Option TableEvent) → is_tick event ≡ false → option_and_then (live_after (ticks (cond b [] (event ∷ rest)))) (cond b (Some event) last) ≡ cond b (live_after 0 event) (option_and_then (live_after (ticks rest)) last)
-settled true event rest last h = refl
-settled false event rest last h = ap (λ b. option_and_then (live_after (cond b (suc (ticks rest)) (ticks rest))) last) h
+settled b event rest last h = grind (arith, common_steps)
 
 -- another event decides on a name, or leaves it as it was
 pub live-other : (name : MsapId) (event : TableEvent) (past : List TableEvent) → is_tick event ≡ false → live name (event ∷ past) ≡ cond (decides_on name event) (live_after 0 event) (live name past)
@@ -46,25 +40,18 @@ find_passes : (test : TableEvent → Bool) (events : List TableEvent) (event : T
 find_passes test [] event h = cc
 find_passes test (e ∷ past) event h = elim (cases_Bool (test e)) [ inl t ↦ grind arith | inr f ↦ find_passes test past event (grind arith) ]
 
-named_after : (name : MsapId) (n : ℕ) (event : TableEvent) (x : Neighbor) → decides_on name event ≡ true → live_after n event ≡ Some x → x.msap ≡ name
-named_after name n (learned other ttl octets Dropped) x d h = cc
-named_after name n (learned other ttl octets answer) x d h = sym (ap (λ (y : Neighbor). y.msap) (cond_some (nat_lt n ttl) _ x h).1) ∙ same_msap-true other name d
-named_after name n _ x d h = cc
-
 -- what is live of a name has that name
 pub live-named : (name : MsapId) (past : List TableEvent) (x : Neighbor) → live name past ≡ Some x → x.msap ≡ name
 unfolding live
-live-named name past x h = grind (arith, common_steps, option_and_then_some, named_after, find_passes)
+live-named name past x h = grind (arith, common_steps, option_and_then_some, cond_some, same_msap-true, find_passes)
 
 -- ## Lists of names
 
 cons_and_then : (g : Neighbor → Option Neighbor) (o : Option Neighbor) (rest before : List Neighbor) → rest ≡ filter_map g before → cons_option (option_and_then g o) rest ≡ filter_map g (cons_option o before)
-cons_and_then g None rest before h = h
-cons_and_then g (Some x) rest before h = ap (cons_option (g x)) h
+cons_and_then g o rest before h = grind (arith, common_steps)
 
 cons_map : (g : Neighbor → Neighbor) (o : Option Neighbor) (rest before : List Neighbor) → rest ≡ map g before → cons_option (option_map g o) rest ≡ map g (cons_option o before)
-cons_map g None rest before h = h
-cons_map g (Some x) rest before h = ap (cons_option (Some (g x))) h
+cons_map g o rest before h = grind (arith, common_steps)
 
 module _ (f : MsapId → Option Neighbor) where
   filter_map-agree : (g : MsapId → Option Neighbor) → ((name : MsapId) → f name ≡ g name) → (names : List MsapId) → filter_map f names ≡ filter_map g names
@@ -84,8 +71,7 @@ abbrev pub keep : (Neighbor → Bool) → Neighbor → Option Neighbor
 keep p x = cond (p x) (Some x) None
 
 cons_cond : (b : Bool) (x : Neighbor) (xs : List Neighbor) → cons_option (cond b (Some x) None) xs ≡ cond b (x ∷ xs) xs
-cons_cond true x xs = refl
-cons_cond false x xs = refl
+cons_cond b x xs = grind (arith, common_steps)
 
 pub filter_map-keep : (p : Neighbor → Bool) (xs : List Neighbor) → filter_map (keep p) xs ≡ filter p xs
 filter_map-keep p [] = refl
@@ -109,14 +95,8 @@ neighbors-purged past =
     filter_map-agree (λ name. live name (purged ∷ past)) (λ name. None) (λ name. live-other name purged past refl) (arrivals past)
     ∙ none_live (arrivals past)
 
--- a neighbor that is forgotten
-forgets_one : (b c : Bool) (x : Neighbor) → c ≡ b → cond b None (Some x) ≡ cond (not c) (Some x) None
-forgets_one true c x h = ap (λ d. cond (not d) (Some x) None) (sym h)
-forgets_one false c x h = ap (λ d. cond (not d) (Some x) None) (sym h)
-
 forgets : (name other : MsapId) (o : Option Neighbor) → ((x : Neighbor) → o ≡ Some x → x.msap ≡ other) → cond (same_msap name other) None o ≡ option_and_then (keep (λ x. not (is_named name x))) o
-forgets name other None h = elim (same_msap name other) as (λ b. cond {A = Option Neighbor} b None None ≡ None) [ true ↦ refl | false ↦ refl ]
-forgets name other (Some x) h = forgets_one (same_msap name other) (is_named name x) x (ap (same_msap name) (h x refl))
+forgets name other o h = grind (arith, common_steps)
 
 pub neighbors-forgot : (name : MsapId) (past : List TableEvent) → neighbors (forgot name ∷ past) ≡ filter (λ x. not (is_named name x)) (neighbors past)
 unfolding neighbors
@@ -130,26 +110,16 @@ pub neighbors-dropped : (name : MsapId) (ttl : ℕ) (octets : List ℕ) (past : 
 unfolding neighbors
 neighbors-dropped name ttl octets past = grind (arith, common_steps, filter_map-agree, live-other)
 
--- a stored frame is live at once
-live_at_once : (name : MsapId) (ttl : ℕ) (octets : List ℕ) (answer : Learned) → 0 < ttl → live_after 0 (learned name ttl octets answer) ≡ Some (fresh name ttl octets)
-live_at_once name ttl octets answer h = grind (arith, common_steps, cond-true, lt-ltb)
-
 pub neighbors-limit_set : (limit : ℕ) (past : List TableEvent) → neighbors (limit_set limit ∷ past) ≡ neighbors past
 unfolding neighbors
 neighbors-limit_set limit past = filter_map-agree (λ name. live name (limit_set limit ∷ past)) (λ name. live name past) (λ name. live-other name (limit_set limit) past refl) (arrivals past)
 
--- a neighbor that is refreshed
-refreshes_one : (b c : Bool) (x y : Neighbor) → c ≡ b → cond b (Some y) (Some x) ≡ Some (cond c y x)
-refreshes_one true c x y h = ap (λ d. Some (cond d y x)) (sym h)
-refreshes_one false c x y h = ap (λ d. Some (cond d y x)) (sym h)
-
 refreshes : (name other : MsapId) (ttl : ℕ) (octets : List ℕ) (o : Option Neighbor) → (same_msap name other ≡ true → is_some o ≡ true) → ((x : Neighbor) → o ≡ Some x → x.msap ≡ other)
     → cond (same_msap name other) (Some (fresh name ttl octets)) o ≡ option_map (refreshed name ttl octets) o
-refreshes name other ttl octets None s h = cond-false (same_msap name other) (Some (fresh name ttl octets)) None (false_from_ne_true (same_msap name other) (λ e. false≢true (s e)))
-refreshes name other ttl octets (Some x) s h = refreshes_one (same_msap name other) (is_named name x) x (fresh name ttl octets) (ap (same_msap name) (h x refl))
+refreshes name other ttl octets o s h = grind (arith, common_steps, cond-false, false_from_ne_true, false≢true)
 
 pub live-stored : (name other : MsapId) (ttl : ℕ) (octets : List ℕ) (answer : Learned) (past : List TableEvent) → 0 < ttl → is_stored answer ≡ true → live other (learned name ttl octets answer ∷ past) ≡ cond (same_msap name other) (Some (fresh name ttl octets)) (live other past)
-live-stored name other ttl octets answer past t stored = grind (arith, common_steps, live-other, live_at_once)
+live-stored name other ttl octets answer past t stored = grind (arith, common_steps, live-other, cond-true, lt-ltb)
 
 pub neighbors-refreshed : (name : MsapId) (ttl : ℕ) (octets : List ℕ) (past : List TableEvent) → 0 < ttl → is_some (live name past) ≡ true → neighbors (learned name ttl octets Refreshed ∷ past) ≡ map (refreshed name ttl octets) (neighbors past)
 unfolding neighbors
@@ -190,8 +160,7 @@ still_there name new d names h =
     any-filter_same (same_msap name) (λ other. not (same_msap new other)) true (λ k e. ap (λ n. not (same_msap new n)) (sym (same_msap-true name k e)) ∙ ap not d) names ∙ h
 
 was_some : (o : Option Neighbor) → is_some (option_and_then aged o) ≡ true → is_some o ≡ true
-was_some None h = h
-was_some (Some x) h = refl
+was_some o h = grind (arith, common_steps)
 
 pub Arrived-ticked : (past : List TableEvent) → Arrived past → Arrived (ticked ∷ past)
 Arrived-ticked past h name s = h name (was_some (live name past) (ap is_some (sym (live-ticked name past)) ∙ s))
@@ -200,8 +169,7 @@ pub Arrived-purged : (past : List TableEvent) → Arrived (purged ∷ past)
 Arrived-purged past name s = absurd (false≢true (ap is_some (sym (live-other name purged past refl)) ∙ s))
 
 some_of_two : (b : Bool) (x y : Option Neighbor) → is_some (cond b x y) ≡ true → ((b ≡ true) × (is_some x ≡ true)) ⊎ ((b ≡ false) × (is_some y ≡ true))
-some_of_two true x y h = inl (refl, h)
-some_of_two false x y h = inr (refl, h)
+some_of_two b x y h = grind (arith, common_steps)
 
 pub Arrived-forgot : (name : MsapId) (past : List TableEvent) → Arrived past → Arrived (forgot name ∷ past)
 Arrived-forgot name past h other s = grind (arith, common_steps, some_of_two, live-other, false≢true)
@@ -224,12 +192,10 @@ Arrived-new name ttl octets past h other s = grind (arith, common_steps, some_of
 
 -- a table has a neighbor of a name if the name has arrived and is live
 there : (name : MsapId) (o : Option Neighbor) (xs : List Neighbor) (r : Bool) → ((x : Neighbor) → o ≡ Some x → is_named name x ≡ true) → list_any (is_named name) xs ≡ (r && is_some o) → list_any (is_named name) (cons_option o xs) ≡ is_some o
-there name None xs r h e = e ∙ and_right r false refl
-there name (Some x) xs r h e = ap (λ b. b || list_any (is_named name) xs) (h x refl)
+there name o xs r h e = grind (arith, common_steps, and_right)
 
 elsewhere : (name : MsapId) (o : Option Neighbor) (xs : List Neighbor) → ((x : Neighbor) → o ≡ Some x → is_named name x ≡ false) → list_any (is_named name) (cons_option o xs) ≡ list_any (is_named name) xs
-elsewhere name None xs h = refl
-elsewhere name (Some x) xs h = ap (λ b. b || list_any (is_named name) xs) (h x refl)
+elsewhere name o xs h = grind (arith, common_steps)
 
 has_named : (name : MsapId) (f : MsapId → Option Neighbor) → ((other : MsapId) (x : Neighbor) → f other ≡ Some x → x.msap ≡ other) → (names : List MsapId)
     → list_any (is_named name) (filter_map f names) ≡ (list_any (same_msap name) names && is_some (f name))
@@ -246,8 +212,7 @@ has_named name f h (other ∷ names) =
     ]
 
 and_known : (a b : Bool) → (b ≡ true → a ≡ true) → (a && b) ≡ b
-and_known a true h = ap (λ x. x && true) (h refl)
-and_known a false h = and_right a false refl
+and_known a b h = grind (arith, common_steps, and_right)
 
 -- a table that has the live neighbors has a name exactly if it is live
 pub has-live : (past : List TableEvent) → Arrived past → (name : MsapId) → list_any (is_named name) (neighbors past) ≡ is_some (live name past)
@@ -277,16 +242,10 @@ abbrev pub answer_by : Bool → Bool → Learned
 answer_by held room = cond held Refreshed (cond room New Dropped)
 
 pub by_refreshed : (held room : Bool) → answer_by held room ≡ Refreshed → held ≡ true
-by_refreshed true room h = refl
-by_refreshed false true h = cc
-by_refreshed false false h = cc
+by_refreshed held room h = grind arith
 
 pub by_new : (held room : Bool) → answer_by held room ≡ New → (held ≡ false) × (room ≡ true)
-by_new true room h = cc
-by_new false true h = (refl, refl)
-by_new false false h = cc
+by_new held room h = grind arith
 
 pub by_dropped : (held room : Bool) → answer_by held room ≡ Dropped → (held ≡ false) × (room ≡ false)
-by_dropped true room h = cc
-by_dropped false true h = cc
-by_dropped false false h = (refl, refl)
+by_dropped held room h = grind arith

@@ -88,24 +88,13 @@ module _ (events : List TableEvent) (x : Neighbor) where
 
   pub live_from_last : IsLastStored events x → live x.msap events ≡ Some x
   unfolding live
-  live_from_last h =
-      let event : TableEvent = learned x.msap x.ttl x.octets h.answer in
-      let passes : decides_on x.msap event ≡ true = and_from (is_stored h.answer) (same_msap x.msap x.msap) h.stored (same_msap-refl x.msap) in
-      let neighbor : ℕ → Neighbor = λ n. record { msap = x.msap; octets = x.octets; ttl = x.ttl; left = n } in
-      let less : ticks h.later < x.ttl = omega (arith, h.left, h.lives) in
-      let gone : x.ttl - ticks h.later ≡ x.left = omega (arith, h.left) in
-      ap (λ es. option_and_then (live_after (ticks (since (decides_on x.msap) es))) (find (decides_on x.msap) es)) h.split
-      ∙ ap (λ o. option_and_then (live_after (ticks (since (decides_on x.msap) (h.later ++ event ∷ h.earlier)))) o) (find-parted (decides_on x.msap) h.later h.earlier event h.last passes)
-      ∙ ap (λ es. live_after (ticks es) event) (since-parted (decides_on x.msap) h.later h.earlier event h.last passes)
-      ∙ cond-true (nat_lt (ticks h.later) x.ttl) (Some (neighbor (x.ttl - ticks h.later))) None (lt-ltb (ticks h.later) x.ttl less)
-      ∙ ap (λ n. Some (neighbor n)) gone
+  live_from_last h = grind (arith, common_steps, and_from, same_msap-refl, find-parted, since-parted, cond-true, lt-ltb)
 
 -- ## The neighbors are the live ones
 
 module _ (f : MsapId → Option Neighbor) (named : (name : MsapId) (x : Neighbor) → f name ≡ Some x → x.msap ≡ name) where
   each-cons : (name : MsapId) (o : Option Neighbor) (xs : List Neighbor) → f name ≡ o → AllByRecursion (λ x. f x.msap ≡ Some x) xs → AllByRecursion (λ x. f x.msap ≡ Some x) (cons_option o xs)
-  each-cons name None xs e a = a
-  each-cons name (Some x) xs e a = (ap f (named name x e) ∙ e, a)
+  each-cons name o xs e a = grind (arith, common_steps)
 
   each : (names : List MsapId) → AllByRecursion (λ x. f x.msap ≡ Some x) (filter_map f names)
   each [] = tt
@@ -116,8 +105,7 @@ module _ (f : MsapId → Option Neighbor) (named : (name : MsapId) (x : Neighbor
   contains-behind (Some y) xs x c = (suc c.0, omega (arith, c.1), c.2)
 
   contains-front : (o : Option Neighbor) (xs : List Neighbor) (x : Neighbor) → o ≡ Some x → Contains (cons_option o xs) x
-  contains-front None xs x e = cc
-  contains-front (Some y) xs x e = let same : y ≡ x = cc in (0, omega arith, same)
+  contains-front o xs x e = grind (arith, common_steps)
 
   contains_it : (names : List MsapId) (x : Neighbor) → list_any (same_msap x.msap) names ≡ true → f x.msap ≡ Some x → Contains (filter_map f names) x
   contains_it [] x a e = cc

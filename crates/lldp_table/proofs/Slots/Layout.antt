@@ -79,9 +79,6 @@ module _ {capacity : ℕ} {slots : List Stored} {left : ℕ → ℕ} {order : Li
   pub index_within : (at : ℕ) → at < used → get_or order at 0 < length slots
   index_within at l = at_place (λ i. i < length slots) order at 0 (omega (arith, fits)) h.indices.within
 
-  pub next_within : used < length slots → get_or order used 0 < length slots
-  next_within l = at_place (λ i. i < length slots) order used 0 (omega (arith, h.indices.all)) h.indices.within
-
   pub held_at : (at : ℕ) → at < used → IsHeld (neighbor_at slots left (get_or order at 0))
   held_at at l = subst IsHeld (place at (neighbor_of blank 0) l) (at_place IsHeld held at (neighbor_of blank 0) (omega (arith, count)) h.sound.held)
 
@@ -90,11 +87,7 @@ module _ {capacity : ℕ} {slots : List Stored} {left : ℕ → ℕ} {order : Li
 
   -- the neighbor at a place, from what was read of the slots and the order
   pub entry_at : (at : ℕ) (read : List ℕ) (slot : Stored) → read ≡ order → slot ≡ get_or slots (get_or read at 0) slot → at < used → neighbor_of slot (left (get_or read at 0)) ≡ neighbor_at slots left (get_or order at 0)
-  entry_at at read slot r e l =
-      let s : ℕ = get_or order at 0 in
-      let same : get_or read at 0 ≡ s = ap (λ (is : List ℕ). get_or is at 0) r in
-      ap (λ n. neighbor_of slot (left n)) same
-      ∙ ap (λ (y : Stored). neighbor_of y (left s)) (e ∙ ap (λ n. get_or slots n slot) same ∙ get_or_default slots s slot blank (index_within at l))
+  entry_at at read slot r e l = grind (arith, common_steps, get_or_default, index_within)
 
   pub get_at : (at : ℕ) → at < used → slice_get held at ≡ Some (neighbor_at slots left (get_or order at 0))
   get_at at l = slice_get-get_or held at (neighbor_of blank 0) (omega (arith, count)) ∙ ap Some (place at (neighbor_of blank 0) l)
@@ -117,11 +110,7 @@ module _ {capacity : ℕ} {slots : List Stored} {left : ℕ → ℕ} {order : Li
 
   -- a place at which this name stands
   pub named_there : {table : Contents} → shown ≡ table → (name : MsapId) (at : ℕ) → slice_get (names_of table.neighbors) at ≡ Some name → (at < used) × (same_msap name (msap_there at) ≡ true)
-  named_there is name at there =
-      let e = ap (λ (t : Contents). slice_get (names_of t.neighbors) at) is ∙ there in
-      let l : at < used = omega (arith, slice_get_within (names_of held) at name e, length-map held (λ (x : Neighbor). x.msap), count) in
-      let same : msap_there at ≡ name = cc (name_at at l) in
-      (l, ap (same_msap name) same ∙ same_msap-refl name)
+  named_there is name at there = grind (arith, common_steps, slice_get_within, length-map, count, name_at, same_msap-refl)
 
   module _ (name : MsapId) (ttl : ℕ) (octets : List ℕ) (slot : Stored) (left' : ℕ → ℕ) where
     module _ (at : ℕ) (l : at < used) (e : same_msap name (msap_at slots (get_or order at 0)) ≡ true) (w : IsStored (take used order) left (get_or order at 0) slot left' (fresh name ttl octets)) where
@@ -162,7 +151,7 @@ module _ {capacity : ℕ} {slots : List Stored} {left : ℕ → ℕ} {order : Li
             (λ i d q. q d) (take used order) (not_before order used short h.indices.distinct) (stored-others slots w))
 
         pushed : neighbors_at (set slots next slot) left' (take (used + 1) order) ≡ held ++ fresh name ttl octets ∷ []
-        pushed = grind (arith, common_steps, take_more, short, map-append, others, stored-same, next_within, free)
+        pushed = grind (arith, common_steps, take_more, short, map-append, others, stored-same, at_place, free)
 
         pub after_new : contents_of capacity (set slots next slot) left' order (used + 1) limit too_many ≡ learned_as New shown name ttl octets
         after_new = ap with_held pushed
@@ -232,11 +221,8 @@ module _ {capacity : ℕ} {slots : List Stored} {left : ℕ → ℕ} {order : Li
         order_same = front;
       }
 
-  not_full : nat_eq (length slots) used ≡ false → HasFree slots order
-  not_full e = let n = eqb-false (length slots) used e in record { laid = h; same = refl; free = omega (arith, n, h.fits); order_same = refl }
-
   pub has_free : used < limit → HasFree (with_next used blank slots) (with_next used used order)
-  has_free l = grind (arith, common_steps, cases_Bool, full, not_full)
+  has_free l = grind (arith, common_steps, cases_Bool, full, eqb-false)
 
 -- ## `open`
 

@@ -1,20 +1,20 @@
 -- What `learn` and `forget` make of a table: a frame that is written to a slot, which enters or leaves the queue.
 use Rattle.std.proofs.Common.{◌≡◌, ℕ, ◌+◌, ◌-◌, ◌<◌, ◌≤◌, true, false, nat_eq, List, [], ◌∷◌, ◌++◌, length, take, set, get_or, refl, ap, ◌∙◌, sym, subst, arith, length-take-le}
 use Rattle.std.specs.Prelude.{slice_index}
-use Rattle.std.specs.List.{list_any, remove, IsDistinct, AllByRecursion}
+use Rattle.std.specs.List.{list_any, remove, IsDistinct}
 use Rattle.std.specs.List.Sorted.{IsPermutation}
 use Rattle.std.proofs.lemmas.List.{get_or_default, get_or-take, take_more}
 use Rattle.std.proofs.lemmas.List.Sorted.{IsPermutation-sym, IsPermutation-append_comm, length_permutation}
 use Rattle.lldp_pdu.specs.Msap.{MsapId}
 use Rattle.lldp_table.specs.Msap.{same_msap}
-use Rattle.lldp_table.specs.Contents.{Contents, IsExtent, IsHeld, is_named}
+use Rattle.lldp_table.specs.Contents.{Contents, IsExtent, is_named}
 use Rattle.lldp_table.specs.Code.Steps.{fresh, learned_as, after_forget}
 use Rattle.lldp_table.specs.Code.Layout.{neighbor_of, neighbor_at, neighbors_at, msap_at, blank, with_next, contents_of, AreEntries, IsTable}
 use Rattle.lldp_table.specs.Code.Queue.{Due, holds, ticks_left, enter, leave, IsQueued, IsTimed}
 use Rattle.lldp_table.specs.Code.Stored.{Stored}
 use Rattle.lldp_table.specs.declared.learned.Learned.TheVariants.{New, Refreshed}
 use Rattle.lldp_table.proofs.Slots.Places.{all-weaker, all-take, map-agree, one-out, not_before, none-with, distinct-take}
-use Rattle.lldp_table.proofs.Ageing.Order.{running-enter, running-leave}
+use Rattle.lldp_table.proofs.Ageing.Steps.{running-enter, running-leave}
 use Rattle.lldp_table.proofs.Ageing.Timed.{all_queued, queued_enter, holds_it, queued_leave, enter_here, enter_others, out_of, leave_others, again_others}
 use Rattle.lldp_table.proofs.Slots.Layout.{IsStored, fresh_in, fits, entry_at, HasFree, has_free, after_refreshed, laid_refreshed, after_new, laid_new, moved_out, after_forgotten, laid_forgotten, laid_purged, laid_open}
 use Rattle.std.proofs.lemmas.Grind.{common_steps}
@@ -167,14 +167,7 @@ module _ {capacity : ℕ} {slots : List Stored} {queue : List Due} {order : List
         (all-weaker (λ i. holds i queue ≡ true) (λ i. neighbor_at slots (slice_index times) i ≡ neighbor_at slots (ticks_left queue) i) (λ i w. ap (neighbor_of (get_or slots i blank)) (told i w)) (take used order) (all_queued queue (take used order) h.timed.queued))
 
     pub are_entries : AreEntries slots (slice_index times) (take used order)
-    are_entries =
-        let most : length slots ≤ 128 = omega (arith, h.laid.written, h.laid.sound.most) in
-        let written = all-take (λ i. i < length slots) used order h.laid.indices.within in
-        record {
-          written = written;
-          within = all-weaker (λ i. i < length slots) (λ i. i < 128) (λ i w. omega (arith, w, most)) (take used order) written;
-          held = subst (AllByRecursion IsHeld) (sym entries_shown) h.laid.sound.held;
-        }
+    are_entries = grind (arith, common_steps, all-take, all-weaker, entries_shown)
 
     pub entry_shown : (at : ℕ) → at < used → (read : List ℕ) (slot : Stored) → read ≡ order → slot ≡ get_or slots (get_or read at 0) slot → neighbor_of slot (get_or times (get_or read at 0) 0) ≡ neighbor_at slots (ticks_left queue) (get_or order at 0)
     entry_shown at l read slot r e = ap (neighbor_of slot) (told (get_or read at 0) (rw r (is_in at l))) ∙ entry_at h.laid at read slot r e l

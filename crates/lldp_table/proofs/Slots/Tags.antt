@@ -5,11 +5,7 @@ use Rattle.std.proofs.Math.Nat.{add-mul-mod_self_right}
 use Rattle.std.proofs.lemmas.Nat.{mul-mod_first}
 use Rattle.lldp_pdu.specs.Msap.{MsapId}
 use Rattle.lldp_table.specs.Code.Stored.{mixed, tag_of}
-
-taken_back : (tag : ℕ) → tag < 2 ^ 32 → (tag * 16777619 % 2 ^ 32) * 899433627 % 2 ^ 32 ≡ tag
-taken_back tag l =
-    let product : tag * 16777619 * 899433627 ≡ tag + (tag * 3513497) * 2 ^ 32 = omega arith in
-    mul-mod_first (tag * 16777619) 899433627 (2 ^ 32) ∙ ap (λ n. n % 2 ^ 32) product ∙ add-mul-mod_self_right tag (tag * 3513497) (2 ^ 32) ∙ mod-eq_of_lt l
+use Rattle.std.proofs.lemmas.Grind.{common_steps}
 
 same_summand : (x y n : ℕ) → x < 2 ^ 32 → y < 2 ^ 32 → (x + n) % 2 ^ 32 ≡ (y + n) % 2 ^ 32 → x ≡ y
 same_summand x y n k l e = omega arith
@@ -19,10 +15,7 @@ step_fits n = mod-lt n (lit< tt)
 
 same_before : (a b : ℕ) (octets : List ℕ) → a < 2 ^ 32 → b < 2 ^ 32 → mixed a octets ≡ mixed b octets → a ≡ b
 same_before a b [] k l e = e
-same_before a b (octet ∷ octets) k l e =
-    let step = same_before ((a * 16777619 % 2 ^ 32 + octet) % 2 ^ 32) ((b * 16777619 % 2 ^ 32 + octet) % 2 ^ 32) octets (step_fits _) (step_fits _) e in
-    let products : a * 16777619 % 2 ^ 32 ≡ b * 16777619 % 2 ^ 32 = same_summand _ _ octet (step_fits _) (step_fits _) step in
-    sym (taken_back a k) ∙ ap (λ n. n * 899433627 % 2 ^ 32) products ∙ taken_back b l
+same_before a b (octet ∷ octets) k l e = grind (arith, common_steps, step_fits, same_summand, mul-mod_first, add-mul-mod_self_right, mod-eq_of_lt, same_before ((a * 16777619 % 2 ^ 32 + octet) % 2 ^ 32) ((b * 16777619 % 2 ^ 32 + octet) % 2 ^ 32) octets (step_fits _) (step_fits _) e)
 
 mixed-append : (tag : ℕ) (front back : List ℕ) → mixed tag (front ++ back) ≡ mixed (mixed tag front) back
 mixed-append tag [] back = refl

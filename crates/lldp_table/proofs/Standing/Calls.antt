@@ -1,20 +1,17 @@
 -- Each call carries standing from every list of calls to the list with the call.
-use Rattle.std.proofs.Common.{◌≡◌, ℕ, ◌<◌, ◌≤◌, false, nat_lt, List, [], ◌∷◌, length, Option, Some, None, refl, ap, ◌∙◌, sym, subst, is_some}
+use Rattle.std.proofs.Common.{◌≡◌, ℕ, ◌<◌, ◌≤◌, List, [], ◌∷◌, refl, ap, sym, subst, is_some, arith}
 use Rattle.std.specs.List.{list_any}
 use Rattle.lldp_pdu.specs.Msap.{MsapId}
-use Rattle.lldp_table.specs.Events.{Call, learn, forget, purge, tick, set_limit, TableEvent, learned, Neighbor, live, neighbors, too_many_left, limit_after, answer, event_of, events_of}
+use Rattle.lldp_table.specs.Events.{Call, learn, forget, purge, tick, set_limit, TableEvent, learned, live, neighbors, too_many_left, limit_after, answer, event_of, events_of}
 use Rattle.lldp_table.specs.Contents.{Contents, is_named}
-use Rattle.lldp_table.specs.Code.Steps.{learn_answer, learned_as, newly_opened, table_after}
+use Rattle.lldp_table.specs.Code.Steps.{learn_answer, newly_opened, table_after}
 use Rattle.lldp_table.specs.Standing.{Stands, IsPossible, table_of}
 use Rattle.lldp_table.specs.declared.learned.Learned.{Learned}
 use Rattle.lldp_table.specs.declared.learned.Learned.TheVariants.{New, Refreshed, Dropped}
 use Rattle.lldp_table.proofs.Live.Events.{Arrived, Arrived-new, Arrived-refreshed, Arrived-dropped, Arrived-forgot, Arrived-purged, Arrived-ticked, Arrived-limit_set, neighbors-limit_set, has-live, answer_by, by_refreshed, by_new, neighbors-new, neighbors-refreshed, neighbors-dropped, neighbors-forgot, neighbors-purged, neighbors-ticked, too_many-dropped, too_many-ticked}
+use Rattle.std.proofs.lemmas.Grind.{common_steps}
 
 -- ## What an answer tells
-
-none : (o : Option Neighbor) → is_some o ≡ false → o ≡ None
-none None h = refl
-none (Some x) h = cc
 
 -- ## Each live name has arrived
 
@@ -48,9 +45,7 @@ stands_neighbors table opened calls h = ap (λ (t : Contents). t.neighbors) h.is
 
 -- what a table stands for decides what `learn` answers
 answered : (opened : ℕ) (calls : List Call) (name : MsapId) → learn_answer (table_of opened calls) name ≡ answer opened name (events_of opened calls)
-answered opened calls name =
-    let past : List TableEvent = events_of opened calls in
-    ap (λ b. answer_by b (nat_lt (length (neighbors past)) (limit_after opened past))) (has-live past (arrived opened calls) name)
+answered opened calls name = grind (arith, common_steps, answer_by, has-live, arrived)
 
 pub learn_answers : (table : Contents) (opened : ℕ) (calls : List Call) (name : MsapId) → Stands opened calls table → learn_answer table name ≡ answer opened name (events_of opened calls)
 learn_answers table opened calls name h = rw h.is (answered opened calls name)
@@ -65,20 +60,10 @@ held_is_live table opened calls name h = rw h.is (has-live (events_of opened cal
 abbrev table_by : ℕ → List TableEvent → Contents
 table_by opened past = record { capacity = opened; limit = limit_after opened past; neighbors = neighbors past; too_many_left = too_many_left past }
 
-learn_leaves : (opened : ℕ) (past : List TableEvent) (name : MsapId) (ttl : ℕ) (octets : List ℕ) (a : Learned) → answer opened name past ≡ a → 0 < ttl → learned_as a (table_by opened past) name ttl octets ≡ table_by opened (learned name ttl octets a ∷ past)
-unfolding too_many_left
-learn_leaves opened past name ttl octets New e t = ap (λ xs. record (table_by opened past) { neighbors = xs }) (sym (neighbors-new name ttl octets past t (none (live name past) (by_new (is_some (live name past)) _ e).0)))
-learn_leaves opened past name ttl octets Refreshed e t = ap (λ xs. record (table_by opened past) { neighbors = xs }) (sym (neighbors-refreshed name ttl octets past t (by_refreshed (is_some (live name past)) _ e)))
-learn_leaves opened past name ttl octets Dropped e t = cc (neighbors-dropped name ttl octets past, too_many-dropped name ttl octets past)
-
 -- it is the one that the list with the call leaves
 pub leaves : (opened : ℕ) (calls : List Call) (call : Call) → IsPossible (table_of opened calls) call → table_after (table_of opened calls) call ≡ table_of opened (call ∷ calls)
 unfolding events_of too_many_left
-leaves opened calls (learn name ttl octets) t = ap (λ a. learned_as a (table_of opened calls) name ttl octets) (answered opened calls name) ∙ learn_leaves opened (events_of opened calls) name ttl octets _ refl t.lives
-leaves opened calls (forget name) t = cc (neighbors-forgot name (events_of opened calls))
-leaves opened calls purge t = cc (neighbors-purged (events_of opened calls))
-leaves opened calls tick t = cc (neighbors-ticked (events_of opened calls), too_many-ticked (events_of opened calls))
-leaves opened calls (set_limit limit) t = cc (neighbors-limit_set limit (events_of opened calls))
+leaves opened calls call t = grind (arith, common_steps, answered, neighbors-new, by_new, neighbors-refreshed, by_refreshed, neighbors-dropped, too_many-dropped, neighbors-forgot, neighbors-purged, neighbors-ticked, too_many-ticked, neighbors-limit_set)
 
 -- ## Standing
 
@@ -88,9 +73,7 @@ stands_open opened l m = record { least = l; most = m; allowed = tt; is = refl }
 
 -- a call carries standing from a list of calls to the list with the call
 pub carries : (table : Contents) (opened : ℕ) (calls : List Call) (call : Call) → Stands opened calls table → IsPossible table call → Stands opened (call ∷ calls) (table_after table call)
-carries table opened calls call h t =
-    let taken = subst (λ (x : Contents). IsPossible x call) h.is t in
-    record { least = h.least; most = h.most; allowed = (taken, h.allowed); is = ap (λ (x : Contents). table_after x call) h.is ∙ leaves opened calls call taken }
+carries table opened calls call h t = grind (arith, common_steps, leaves)
 
 -- the same of what a call leaves
 pub stands_after : (old new : Contents) (opened : ℕ) (calls : List Call) (call : Call) → new ≡ table_after old call → IsPossible old call → Stands opened calls old → Stands opened (call ∷ calls) new

@@ -15,15 +15,14 @@ use Rattle.lldp_table.specs.Standing.{IsNewLimit, IsPossible}
 use Rattle.lldp_table.proofs.Live.Events.{keep, filter_map-keep, by_new}
 use Rattle.lldp_table.proofs.Slots.Places.{all-push}
 use Rattle.lldp_table.specs.declared.learned.Learned.{Learned}
-use Rattle.lldp_table.specs.declared.learned.Learned.TheVariants.{New, Refreshed, Dropped}
+use Rattle.lldp_table.specs.declared.learned.Learned.TheVariants.{New, Refreshed}
 use Rattle.std.proofs.lemmas.Grind.{common_steps}
 
 -- ## A part of the neighbors, each under its name
 
 module _ (g : Neighbor → Option Neighbor) (same : (x y : Neighbor) → g x ≡ Some y → y.msap ≡ x.msap) where
   all-cons : (P : MsapId → Type 0) (x : Neighbor) (o : Option Neighbor) (xs : List Neighbor) → ((y : Neighbor) → o ≡ Some y → y.msap ≡ x.msap) → P x.msap → AllByRecursion P (names_of xs) → AllByRecursion P (names_of (cons_option o xs))
-  all-cons P x None xs h p ps = ps
-  all-cons P x (Some y) xs h p ps = (subst P (sym (h y refl)) p, ps)
+  all-cons P x o xs h p ps = grind (arith, common_steps)
 
   all-part : (P : MsapId → Type 0) (xs : List Neighbor) → AllByRecursion P (names_of xs) → AllByRecursion P (names_of (filter_map g xs))
   all-part P [] h = h
@@ -41,16 +40,14 @@ module _ (g : Neighbor → Option Neighbor) (same : (x y : Neighbor) → g x ≡
       (distinct-part xs (IsDistinct-tail same_msap x.msap (names_of xs) d))
 
 length-cons : (o : Option Neighbor) (xs : List Neighbor) → length (cons_option o xs) ≤ suc (length xs)
-length-cons None xs = omega arith
-length-cons (Some x) xs = omega arith
+length-cons o xs = grind (arith, common_steps)
 
 pub length-part : (g : Neighbor → Option Neighbor) (xs : List Neighbor) → length (filter_map g xs) ≤ length xs
 length-part g [] = omega arith
 length-part g (x ∷ xs) = omega (arith, length-cons (g x) (filter_map g xs), length-part g xs)
 
 held-cons : (o : Option Neighbor) (xs : List Neighbor) → ((y : Neighbor) → o ≡ Some y → IsHeld y) → AllByRecursion IsHeld xs → AllByRecursion IsHeld (cons_option o xs)
-held-cons None xs h k = k
-held-cons (Some y) xs h k = (h y refl, k)
+held-cons o xs h k = grind (arith, common_steps)
 
 pub held-part : (g : Neighbor → Option Neighbor) → ((x y : Neighbor) → IsHeld x → g x ≡ Some y → IsHeld y) → (xs : List Neighbor) → AllByRecursion IsHeld xs → AllByRecursion IsHeld (filter_map g xs)
 held-part g h [] k = k
@@ -111,9 +108,7 @@ pub sound_refreshed : (table : Contents) (name : MsapId) (ttl : ℕ) (octets : L
 sound_refreshed table name ttl octets t h = grind (arith, common_steps, length-map, held-refreshed, names-refreshed)
 
 sound_learned_as : (a : Learned) (table : Contents) (name : MsapId) (ttl : ℕ) (octets : List ℕ) → learn_answer table name ≡ a → IsExtent name ttl octets → IsSound table → IsSound (learned_as a table name ttl octets)
-sound_learned_as New table name ttl octets e t h = let n = by_new (holds_name table name) _ e in sound_new table name ttl octets n.0 (ltb-true _ _ n.1) t h
-sound_learned_as Refreshed table name ttl octets e t h = sound_refreshed table name ttl octets t h
-sound_learned_as Dropped table name ttl octets e t h = record { most = h.most; room = h.room; least = h.least; few = h.few; held = h.held; distinct = h.distinct }
+sound_learned_as a table name ttl octets e t h = grind (arith, common_steps, by_new, sound_new, ltb-true, sound_refreshed)
 
 pub sound_learned : (table : Contents) (name : MsapId) (ttl : ℕ) (octets : List ℕ) → IsExtent name ttl octets → IsSound table → IsSound (after_learn table name ttl octets)
 sound_learned table name ttl octets = sound_learned_as (learn_answer table name) table name ttl octets refl

@@ -10,6 +10,7 @@ ghost use Rattle.lldp_text.specs.Fault.{number_of_fault};
 
 /// The words of a line are those that the grammar gives it, both ways, and it has none if a quote
 /// is misplaced. Of the 256 octets a tab and a space separate words, and `"` alone is a quote.
+#[tactic(auto, using(crate::proofs::WordsGrammar::words_spelled))]
 pub fn words_are_spelled()
     ensures words { (line : List ℕ) (words : List (List ℕ)) →
         (words_of line ≡ Some words) ↔ AreWords line words }

@@ -11,11 +11,10 @@ use Rattle.lldp_pdu.proofs.Cuts.{AreOctets-from_index}
 use Rattle.lldp_pdu.proofs.Telling.{tells_itself}
 use Rattle.lldp_pdu.proofs.Whole.{ttl_is, msap_is, last_check, stands, tells}
 use Rattle.lldp_pdu.proofs.examination.examine.Goals as goal
+use Rattle.std.proofs.lemmas.Grind.{common_steps}
 
 pub returns-then-mandatory-eq0-clause-answer : goal.returns-then-mandatory-eq0-clause-answer
-returns-then-mandatory-eq0-clause-answer c =
-    let o = c.in_ok-mandatory.ensures.ok in
-    (ttl_is _ _ _ _ o ∙ c.if-mandatory-eq0.true, sym (msap_is _ _ _ _ o))
+returns-then-mandatory-eq0-clause-answer c = grind (arith, common_steps, ttl_is, msap_is)
 
 pub returns-in_err-found-clause-fault : goal.returns-in_err-found-clause-fault
 returns-in_err-found-clause-fault c =
@@ -29,9 +28,7 @@ slice_bounds-result-end c =
     omega (arith, st.end, length-take (length c.args.pdu.now - length c.in_ok-mandatory.mandatory.after.now + length c.in_ok-found.found.octets.now) c.args.pdu.now)
 
 sound : (c : goal.After-result-3-1) → None ≡ fault_of c.args.pdu.now
-sound c =
-    let last = last_check _ _ _ _ c.in_ok-mandatory.ensures.ok (list_any is_mandatory (before_end (cut c.in_ok-mandatory.mandatory.after.now).tlvs)) (omega (arith, c.if-mandatory-eq0.false)) refl in
-    c.in_ok-found.ensures.repeated ∙ sym last
+sound c = grind (arith, common_steps, last_check)
 
 lives : (c : goal.After-result-3-1) → 0 < ttl_of c.args.pdu.now
 lives c = rw (ttl_is _ _ _ _ c.in_ok-mandatory.ensures.ok) (omega (arith, c.if-mandatory-eq0.false))

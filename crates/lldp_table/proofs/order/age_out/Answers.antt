@@ -1,7 +1,8 @@
-use Rattle.std.proofs.Common.{sym, arith, length-take-le}
+use Rattle.std.proofs.Common.{arith, length-take-le}
 use Rattle.std.proofs.lemmas.List.Sorted.{length_permutation}
 use Rattle.lldp_table.proofs.Ageing.Ticks.{aging_begins, aging_goes_on, aging_ends, kept_some}
 use Rattle.lldp_table.proofs.order.age_out.Goals as goal
+use Rattle.std.proofs.lemmas.Grind.{common_steps}
 
 pub loop-spent-init : goal.loop-spent-init
 loop-spent-init c = record {
@@ -10,10 +11,7 @@ loop-spent-init c = record {
 }
 
 pub slice_bounds-place_in-end : goal.slice_bounds-place_in-end
-slice_bounds-place_in-end c =
-    let aging = c.loop-spent.invariant.aging in
-    let all = length_permutation c.args.order.now.items c.loop-spent.order.items aging.moved in
-    rw c.deref.ensures.0 (sym (length-take-le c.loop-spent.kept c.loop-spent.order.items (omega (arith, all, aging.fewer, c.requires.used))))
+slice_bounds-place_in-end c = grind (arith, common_steps, length_permutation, length-take-le)
 
 pub loop-spent-preserved : goal.loop-spent-preserved
 loop-spent-preserved c =
@@ -28,6 +26,4 @@ loop-spent-preserved c =
     }
 
 pub returns-clause-neighbors : goal.returns-clause-neighbors
-returns-clause-neighbors c =
-    let l = c.loop-spent in
-    aging_ends c.args.queue.now.shown c.args.order.now.items c.args.used c.requires.timed c.requires.distinct c.requires.used l.queue.shown l.order.items l.kept l.spent l.invariant.aging c.loop-spent-test.false
+returns-clause-neighbors c = grind (arith, common_steps, aging_ends)

@@ -1,4 +1,4 @@
-use Rattle.std.proofs.Common.{◌≡◌, Option, Some, ap, sym, ◌∙◌, get_or}
+use Rattle.std.proofs.Common.{◌≡◌, Option, Some, ap, get_or, arith}
 use Rattle.std.specs.Option.{option_map}
 use Rattle.lldp_pdu.specs.declared.fields.Mgmt.{Mgmt}
 use Rattle.lldp_pdu.specs.ManagementAddress.{Address, address_fields}
@@ -6,10 +6,10 @@ use Rattle.lldp_pdu.specs.View.{address_view}
 use Rattle.lldp_text.specs.ManagementAddress.{management_text}
 use Rattle.lldp_text.proofs.TextJoined.{behind}
 use Rattle.lldp_text.proofs.kept_tlv.write_management.Goals as goal
+use Rattle.std.proofs.lemmas.Grind.{common_steps}
 
 seen_is : (r : Option Mgmt) (m : Mgmt) (o : Option Address) (a : Address) → option_map address_view r ≡ o → o ≡ Some a → r ≡ Some m → address_view m ≡ a
-seen_is r m o a e f g =
-    let k : Some (address_view m) ≡ Some a = sym (ap (option_map address_view) g) ∙ e ∙ f in cc
+seen_is r m o a e f g = grind (arith, common_steps)
 
 pub returns-clause-value : goal.returns-clause-value
 returns-clause-value c =

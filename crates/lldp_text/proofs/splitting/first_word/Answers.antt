@@ -1,10 +1,10 @@
-use Rattle.std.proofs.Common.{refl}
+use Rattle.std.proofs.Common.{arith}
 use Rattle.lldp_text.proofs.WordsReading.{no_words, bare_found, quoted_found, quoted_open}
 use Rattle.lldp_text.proofs.splitting.first_word.Goals as goal
+use Rattle.std.proofs.lemmas.Grind.{common_steps}
 
 pub returns-in_default-clause-first : goal.returns-in_default-clause-first
-returns-in_default-clause-first c =
-    let split = c.split_at_word.ensures in no_words _ _ _ split.gap split.whole c.in_default.ensures.cases
+returns-in_default-clause-first c = grind (arith, common_steps, no_words)
 
 pub returns-in-Some-split_at_quote-clause-first : goal.returns-in-Some-split_at_quote-clause-first
 returns-in-Some-split_at_quote-clause-first c =
@@ -13,8 +13,7 @@ returns-in-Some-split_at_quote-clause-first c =
     quoted_found (λ x. x.0.now) (λ x. x.1.now) c.ended_word.result _ _ _ _ _ _ _ split.gap split.whole c.in-Some.ensures.cases c.if-first-eq34.true found.0 found.1 c.ended_word.ensures.ends
 
 pub returns-in-None-clause-first : goal.returns-in-None-clause-first
-returns-in-None-clause-first c =
-    let split = c.split_at_word.ensures in (refl, quoted_open _ _ _ _ _ split.gap split.whole c.in-Some.ensures.cases c.if-first-eq34.true c.in-None.ensures.none)
+returns-in-None-clause-first c = grind (arith, common_steps, quoted_open)
 
 pub returns-else-first-eq34-clause-first : goal.returns-else-first-eq34-clause-first
 returns-else-first-eq34-clause-first c =

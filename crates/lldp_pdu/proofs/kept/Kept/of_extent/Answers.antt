@@ -1,7 +1,7 @@
-use Rattle.std.proofs.Common.{◌≡◌, ℕ, ◌+◌, ◌*◌, ◌≤◌, List, length, drop, ap, ◌∙◌, sym, subst, arith}
+use Rattle.std.proofs.Common.{◌≡◌, ℕ, ◌+◌, ◌*◌, ◌≤◌, List, length, drop, ◌∙◌, sym, subst, arith}
 use Rattle.std.proofs.lemmas.List.{drop-drop}
-use Rattle.lldp_pdu.specs.Tlv.{TlvUnit, AreOctets}
-use Rattle.lldp_pdu.specs.Cut.{Cut, cut}
+use Rattle.lldp_pdu.specs.Tlv.{AreOctets}
+use Rattle.lldp_pdu.specs.Cut.{cut}
 use Rattle.lldp_pdu.specs.Lldpdu.{extent, later_tlvs}
 use Rattle.lldp_pdu.specs.Kept.{kept_of}
 use Rattle.lldp_pdu.specs.Info.{IsInfo, info_of}
@@ -9,13 +9,12 @@ use Rattle.lldp_pdu.proofs.Keeping.{kept_seen-none}
 use Rattle.lldp_pdu.proofs.Cuts.{AreOctets-from_index}
 use Rattle.lldp_pdu.proofs.Telling.{cut_extent, kept_tlvs_of, tells_itself}
 use Rattle.lldp_pdu.proofs.kept.Kept.of_extent.Goals as goal
+use Rattle.std.proofs.lemmas.Grind.{common_steps}
 
 -- behind its three mandatory TLVs stand the later ones, since an extent has no End Of LLDPDU
 later : (octets : List ℕ) → AreOctets octets → extent octets ≡ octets → drop 1 (drop 1 (drop 1 (cut octets).tlvs)) ≡ later_tlvs octets
 unfolding later_tlvs
-later octets fits whole =
-    let us : List TlvUnit = (cut octets).tlvs in
-    ap (drop 1) (drop-drop 1 1 us) ∙ drop-drop 1 2 us ∙ ap (λ (c : Cut). drop 3 c.tlvs) (ap cut (sym whole) ∙ cut_extent octets fits)
+later octets fits whole = grind (arith, common_steps, drop-drop, cut_extent, fits)
 
 fits : (c : goal.After-of) → AreOctets c.args.octets.now
 fits c = AreOctets-from_index c.args.octets.now (λ i. omega (arith, c.type_inv.octets i))

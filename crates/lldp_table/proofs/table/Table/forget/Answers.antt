@@ -1,16 +1,16 @@
 use Rattle.std.proofs.Common.{sym, ap, ◌∙◌, arith}
 use Rattle.std.proofs.lemmas.List.{get_or_default}
 use Rattle.lldp_pdu.specs.View.{msap_view}
-use Rattle.lldp_table.specs.Events.{Neighbor, forget}
+use Rattle.lldp_table.specs.Events.{forget}
 use Rattle.lldp_table.specs.Contents.{Contents}
 use Rattle.lldp_table.specs.Code.Steps.{after_forget}
 use Rattle.lldp_table.proofs.Slots.Counted.{shown_is}
 use Rattle.lldp_table.proofs.Standing.Calls.{stands_after, held_is_live}
-use Rattle.std.proofs.Common.{List}
 use Rattle.lldp_table.proofs.Slots.Places.{forgets_none, held_there}
 use Rattle.lldp_table.proofs.Slots.Layout.{fits, named_there}
 use Rattle.lldp_table.proofs.Slots.Learned.{is_in, forgotten_after, forgotten_table}
 use Rattle.lldp_table.proofs.table.Table.forget.Goals as goal
+use Rattle.std.proofs.lemmas.Grind.{common_steps}
 
 pub leave-requires : goal.leave-requires
 leave-requires g c =
@@ -24,9 +24,7 @@ invariant_of-self g c =
     rw (c.push.ensures.items, c.remove-slot.ensures.items) (forgotten_table c.self.invariant c.in-Some.at f.0 name f.1 c.remove-slot.ensures.value c.leave.ensures)
 
 pub returns-in-None-clause-after : goal.returns-in-None-clause-after
-returns-in-None-clause-after g c =
-    let table = c.args.self.now.shown in
-    ap (λ (held : List Neighbor). record table { neighbors = held }) (sym (forgets_none (msap_view c.args.msap.now) table.neighbors c.in-None.ensures))
+returns-in-None-clause-after g c = grind (arith, common_steps, forgets_none)
 
 pub returns-in-Some-clause-answer : goal.returns-in-Some-clause-answer
 returns-in-Some-clause-answer g c = sym (held_there (msap_view c.args.msap.now) _ c.in-Some.at c.in-Some.ensures)

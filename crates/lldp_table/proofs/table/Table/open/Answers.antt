@@ -1,10 +1,10 @@
-use Rattle.std.proofs.Common.{◌≡◌, [], sym, ap, subst, arith}
+use Rattle.std.proofs.Common.{[], sym, subst, arith}
 use Rattle.lldp_table.specs.Contents.{Contents}
-use Rattle.lldp_table.specs.Code.Steps.{newly_opened}
 use Rattle.lldp_table.specs.Standing.{Stands}
 use Rattle.lldp_table.proofs.Slots.Learned.{open_table}
 use Rattle.lldp_table.proofs.Standing.Calls.{stands_open}
 use Rattle.lldp_table.proofs.table.Table.open.Goals as goal
+use Rattle.std.proofs.lemmas.Grind.{common_steps}
 
 pub invariant_of-result : goal.invariant_of-result
 invariant_of-result g c =
@@ -12,9 +12,7 @@ invariant_of-result g c =
     open_table c.in_ok-open.field-0.capacity c.in_ok-open.field-0.items c.new-2.result.shown c.new.result.items c.args.limit (omega (arith, room.capacity)) room.items c.new-2.ensures c.new.ensures c.requires.least c.requires.most
 
 pub returns-clause-empty : goal.returns-clause-empty
-returns-clause-empty g c =
-    let exact : c.in_ok-open.field-0.capacity ≡ c.args.limit = omega (arith, c.in_ok-open.ensures.capacity) in
-    ap (λ n. record (newly_opened c.args.limit) { capacity = n }) exact
+returns-clause-empty g c = grind (arith, common_steps)
 
 pub returns-clause-stands : goal.returns-clause-stands
 returns-clause-stands g c = subst (λ (table : Contents). Stands c.args.limit [] table) (sym (returns-clause-empty g c)) (stands_open c.args.limit c.requires.least c.requires.most)

@@ -1,8 +1,9 @@
-use Rattle.std.proofs.Common.{◌≡◌, ℕ, ◌≤◌, Bool, true, ◌&&◌, List, [], ◌∷◌, length, refl}
+use Rattle.std.proofs.Common.{◌≡◌, ℕ, ◌≤◌, Bool, true, ◌&&◌, List, [], ◌∷◌, refl, arith}
 use Rattle.std.specs.Prelude.{nat_le}
 use Rattle.std.specs.List.{AllByRecursion, list_all}
 use Rattle.std.proofs.lemmas.Bool.{and_parts, leb-true, le-leb}
 use Rattle.lldp_text.proofs.laws.forms.texts_are_printable.Goals as goal
+use Rattle.std.proofs.lemmas.Grind.{common_steps}
 
 abbrev within : ℕ → Bool
 within c = nat_le 32 c && nat_le c 126
@@ -22,7 +23,4 @@ all [] h = refl
 all (c ∷ cs) h = rw (le-leb 32 c h.0.0, le-leb c 126 h.0.1) (all cs h.1)
 
 pub returns : goal.returns
-returns c = λ text. (
-  λ h. let p = and_parts (nat_le (length text) 255) (list_all within text) h in record { most = leb-true (length text) 255 p.0; printable = each text p.1 },
-  λ h. rw (le-leb (length text) 255 h.most) (all text h.printable),
-)
+returns c = grind (arith, common_steps, and_parts, leb-true, each, le-leb, all)

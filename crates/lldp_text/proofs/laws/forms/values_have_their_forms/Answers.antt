@@ -1,5 +1,5 @@
-use Rattle.std.proofs.Common.{◌≡◌, ◌≢◌, ℕ, ◌≤◌, ◌<◌, ◌⊎◌, Bool, true, false, ◌&&◌, List, [], ◌∷◌, ◌++◌, length, get_or, map, Some, refl, ap, ◌∙◌, arith}
-use Rattle.std.specs.Prelude.{◌==◌, if◌then◌else◌, decimal, codes}
+use Rattle.std.proofs.Common.{◌≡◌, ◌≢◌, ℕ, ◌≤◌, ◌<◌, ◌⊎◌, Bool, true, false, List, [], ◌∷◌, ◌++◌, get_or, map, Some, refl, ap, arith}
+use Rattle.std.specs.Prelude.{if◌then◌else◌, decimal, codes}
 use Rattle.std.specs.List.{flat_map, filter, join_with_byte}
 use Rattle.std.proofs.lemmas.Bool.{eqb-true}
 use Rattle.std.proofs.lemmas.Bool.Decides.{nat_tests}
@@ -8,17 +8,14 @@ use Rattle.hex.specs.Hex.{encode_with, encode_lower}
 use Rattle.lldp_pdu.specs.declared.fields.Caps.{Caps}
 use Rattle.lldp_pdu.specs.Capabilities.{caps_fields, caps_of}
 use Rattle.lldp_pdu.specs.ManagementAddress.{Address, address_fields, address_of}
-use Rattle.lldp_text.specs.declared.addresses.AddressKind.{AddressKind}
-use Rattle.lldp_text.specs.declared.addresses.AddressKind.TheVariants.{Ipv4, Ipv6, Unknown}
-use Rattle.lldp_text.specs.declared.identifier.IdentifierKind.TheVariants.{Mac, Other}
 use Rattle.lldp_text.specs.Text.{escaped}
-use Rattle.lldp_text.specs.Addresses.{address_kind, mac_text}
 use Rattle.lldp_text.specs.Capabilities.{capability_bits, is_set, capability_text, capabilities_text}
-use Rattle.lldp_text.specs.ManagementAddress.{address_text, management_text}
-use Rattle.lldp_text.specs.Identifier.{chassis_kind, port_kind, network_text, identifier_text, chassis_text, port_text}
+use Rattle.lldp_text.specs.ManagementAddress.{management_text}
+use Rattle.lldp_text.specs.Identifier.{chassis_text, port_text}
 use Rattle.lldp_text.specs.KeptTlv.{tlv_text}
-use Rattle.lldp_text.specs.Laws.Forms.{IsJoined, IsIpv4, IsIpv6, with_interface, IsManaged, unhandled, IsIdentified, HasKeys}
+use Rattle.lldp_text.specs.Laws.Forms.{IsJoined, IsManaged, IsIdentified, HasKeys}
 use Rattle.lldp_text.proofs.laws.forms.values_have_their_forms.Goals as goal
+use Rattle.std.proofs.lemmas.Grind.{common_steps}
 
 -- ---- texts and addresses
 
@@ -54,76 +51,22 @@ returns-clause-capabilities c = λ caps. ap (join_with_byte 0x2c) (picked (is_se
 
 -- ---- addresses of a family
 
-no_ip : (family : ℕ) (octets : List ℕ) → ¬ (IsIpv4 family octets) → ¬ (IsIpv6 family octets) → address_kind family (length octets) ≡ Unknown
-no_ip family octets four six = by (family == 1) (length octets == 4) (family == 2) (length octets == 16) refl refl refl refl
-  where
-    by : (f l g m : Bool) → (family == 1) ≡ f → (length octets == 4) ≡ l → (family == 2) ≡ g → (length octets == 16) ≡ m → (if f && l then Ipv4 else if g && m then Ipv6 else Unknown) ≡ Unknown
-    by true true g m e h i j = absurd (four (eqb-true family 1 e, eqb-true (length octets) 4 h))
-    by true false true true e h i j = absurd (six (eqb-true family 2 i, eqb-true (length octets) 16 j))
-    by true false true false e h i j = refl
-    by true false false m e h i j = refl
-    by false l true true e h i j = absurd (six (eqb-true family 2 i, eqb-true (length octets) 16 j))
-    by false l true false e h i j = refl
-    by false l false m e h i j = refl
-
-is_ipv4 : (family : ℕ) (octets : List ℕ) → IsIpv4 family octets → address_kind family (length octets) ≡ Ipv4
-is_ipv4 family octets h = rw (h.0, h.1) refl
-
-is_ipv6 : (family : ℕ) (octets : List ℕ) → IsIpv6 family octets → address_kind family (length octets) ≡ Ipv6
-is_ipv6 family octets h = rw (h.0, h.1) refl
-
 managed : (a : Address) → IsManaged a
-managed a =
-    let written : AddressKind → List ℕ = λ kind. with_interface (address_text kind a.family a.address) a in
-    record {
-      ipv4 = λ h. ap written (is_ipv4 a.family a.address h);
-      ipv6 = λ h. ap written (is_ipv6 a.family a.address h);
-      other = λ h k. ap written (no_ip a.family a.address h k);
-    }
+managed a = grind (arith, common_steps, eqb-true)
 
 pub returns-clause-management : goal.returns-clause-management
 returns-clause-management c = managed
 
 -- ---- identifiers
 
-mac_is : (subtype : ℕ) (octets : List ℕ) → length octets ≡ 6 → identifier_text Mac (subtype ∷ octets) ≡ 0x6d ∷ 0x61 ∷ 0x63 ∷ 0x3d ∷ mac_text octets
-mac_is subtype octets h = rw h refl
-
-no_mac : (subtype : ℕ) (octets : List ℕ) → length octets ≢ 6 → identifier_text Mac (subtype ∷ octets) ≡ unhandled (subtype ∷ octets)
-no_mac subtype octets other = grind (arith, nat_tests, other)
-
-no_chassis : (subtype : ℕ) → (subtype ≡ 0) ⊎ (7 < subtype) → chassis_kind subtype ≡ Other
-no_chassis subtype out = grind (arith, nat_tests, out)
-
-no_port : (subtype : ℕ) → (subtype ≡ 0) ⊎ (7 < subtype) → port_kind subtype ≡ Other
-no_port subtype out = grind (arith, nat_tests, out)
-
 chassis : (subtype family : ℕ) (octets : List ℕ) → IsIdentified 4 5 chassis_text subtype family octets
-chassis subtype family octets =
-    let network : AddressKind → List ℕ = λ kind. network_text kind (5 ∷ family ∷ octets) in
-    record {
-      mac_address = mac_is 4 octets;
-      no_mac_address = no_mac 4 octets;
-      ipv4 = λ h. ap network (is_ipv4 family octets h);
-      ipv6 = λ h. ap network (is_ipv6 family octets h);
-      other_network = λ h k. ap network (no_ip family octets h k);
-      other = λ out. ap (λ kind. identifier_text kind (subtype ∷ octets)) (no_chassis subtype out);
-    }
+chassis subtype family octets = grind (arith, common_steps, eqb-true, nat_tests)
 
 pub returns-clause-chassis : goal.returns-clause-chassis
 returns-clause-chassis c = chassis
 
 port : (subtype family : ℕ) (octets : List ℕ) → IsIdentified 3 4 port_text subtype family octets
-port subtype family octets =
-    let network : AddressKind → List ℕ = λ kind. network_text kind (4 ∷ family ∷ octets) in
-    record {
-      mac_address = mac_is 3 octets;
-      no_mac_address = no_mac 3 octets;
-      ipv4 = λ h. ap network (is_ipv4 family octets h);
-      ipv6 = λ h. ap network (is_ipv6 family octets h);
-      other_network = λ h k. ap network (no_ip family octets h k);
-      other = λ out. ap (λ kind. identifier_text kind (subtype ∷ octets)) (no_port subtype out);
-    }
+port subtype family octets = grind (arith, common_steps, eqb-true, nat_tests)
 
 pub returns-clause-ports : goal.returns-clause-ports
 returns-clause-ports c = port
@@ -132,12 +75,7 @@ returns-clause-ports c = port
 
 reserved : (body : List ℕ) (kind : ℕ) → 9 ≤ kind → kind ≤ 126
     → tlv_text (record { kind = kind; body = body }) ≡ (0x75 ∷ 0x6e ∷ 0x6b ∷ 0x6e ∷ 0x6f ∷ 0x77 ∷ 0x6e ∷ 0x2e ∷ []) ++ decimal kind ++ (0x3d ∷ []) ++ encode_lower body
-reserved body kind least most =
-    past 4 _ _ (λ e. omega (arith, e, least)) ∙ past 5 _ _ (λ e. omega (arith, e, least)) ∙ past 6 _ _ (λ e. omega (arith, e, least))
-    ∙ past 7 _ _ (λ e. omega (arith, e, least)) ∙ past 8 _ _ (λ e. omega (arith, e, least)) ∙ past 127 _ _ (λ e. omega (arith, e, most))
-  where
-    past : (n : ℕ) (text texts : List ℕ) → kind ≢ n → (if kind == n then text else texts) ≡ texts
-    past n text texts apart = grind (arith, nat_tests, apart)
+reserved body kind least most = grind (arith, common_steps, nat_tests)
 
 fields_are : (body : List ℕ) (caps : Caps) → caps_of body ≡ Some caps → caps_fields body ≡ caps
 fields_are body caps e = (cond_some _ (caps_fields body) caps e).1
