@@ -57,7 +57,7 @@ none_begins octets fits h =
       | inr (x, e) ↦ let t = first_takes octets x.0 x.1 fits e in absurd (h (x.0, x.1, t.tlv, t.parts))
     ]
 
--- what follows the first TLV stands behind it
+-- what follows the first TLV stands after it
 pub first_left : (octets : List ℕ) (u : TlvUnit) (others : List ℕ) → first_tlv octets ≡ Some (u, others) → others ≡ drop (2 + length u.body) octets
 unfolding announced
 first_left octets u others h = grind (arith, common_steps, ltb-false, length-take)

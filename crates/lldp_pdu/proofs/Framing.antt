@@ -1,4 +1,4 @@
--- An LLDPDU behind the three fields of an LLDP frame is that frame's, and an LLDP frame has that form.
+-- An LLDPDU after the three fields of an LLDP frame is that frame's, and an LLDP frame has that form.
 use Rattle.std.proofs.Common.{◌≡◌, ℕ, ◌≤◌, true, leb, List, [], ◌∷◌, ◌++◌, length, Some, arith, Bool, ◌&&◌, take, drop, sym, ap, ◌∙◌, append_assoc}
 use Rattle.std.proofs.lemmas.Bool.{le-leb, and_parts, leb-true}
 use Rattle.lldp_pdu.specs.Frame.{nearest_bridge, lldp_ethertype, is_lldp_frame, lldpdu_of}

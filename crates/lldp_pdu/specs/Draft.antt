@@ -37,7 +37,7 @@ end_of_lldpdu = record { kind = end_of_lldpdu_type; body = [] }
 abbrev pub lldpdu_octets : Draft → List ℕ
 lldpdu_octets d = spellings (all_tlvs d) ++ spelling end_of_lldpdu
 
--- one TLV more, behind those that were put
+-- one TLV more, after those that were put
 abbrev pub with_tlv : Draft → TlvUnit → Draft
 with_tlv d u = record { msap = d.msap; ttl = d.ttl; tlvs = d.tlvs ++ u ∷ [] }
 

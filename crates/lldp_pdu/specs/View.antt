@@ -12,7 +12,7 @@ use Rattle.lldp_pdu.specs.Cut.{cut}
 abbrev pub tlv_view : Tlv → TlvUnit
 tlv_view t = record { kind = t.kind; body = t.body.now }
 
--- One call of `next` on these octets. It gives the first TLV of the cut, and what is left, the octets behind it, has
+-- One call of `next` on these octets. It gives the first TLV of the cut, and what is left, the octets after it, has
 -- the others and the same rest; or the cut has no TLV, and the octets stay as they are.
 abbrev pub GivesFirstTlv : List ℕ → Option Tlv → List ℕ → Type 0
 GivesFirstTlv octets given left =

@@ -42,7 +42,7 @@ impl Model for Builder {
     ghost invariant = { λ b. Builds b.octets.items b.met.types b.lives };
 }
 
-/// Returns whether TLVs of the type belong behind the mandatory ones.
+/// Returns whether TLVs of the type belong after the mandatory ones.
 fn is_optional_type(kind: u8) -> bool
     ensures { result ≡ is_between port_description_type kind organizationally_specific_type }
 {
@@ -118,7 +118,7 @@ impl Builder {
         None
     }
 
-    /// Puts a TLV behind those before it.
+    /// Puts a TLV after those before it.
     ///
     ///
     /// If a check fails, nothing changes, and Err is the first of these that fails. Kind: the kind

@@ -133,7 +133,7 @@ fn optional_tlvs(after: &[u8]) -> Result<Optional<'_>, PduFault>
 ///
 ///
 /// Err is the first check that fails, in the order of `PduFault`; Truncated is checked at each of
-/// the three places. If the TTL is 0, nothing behind the third TLV is read (IEEE 802.1AB-2009, 8.2
+/// the three places. If the TTL is 0, nothing after the third TLV is read (IEEE 802.1AB-2009, 8.2
 /// and 9.2.7.7).
 pub fn examine(pdu: &[u8]) -> Result<Examined<'_>, PduFault>
     ensures fault { result_err result ≡ fault_of pdu.now }

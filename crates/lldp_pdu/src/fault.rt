@@ -19,7 +19,7 @@ pub enum PduFault {
     NoTtl = 6,
     /// The Time To Live has fewer than 2 octets.
     TtlLength = 7,
-    /// A mandatory TLV occurs again behind the third.
+    /// A mandatory TLV occurs again after the third.
     Repeated = 8,
 }
 

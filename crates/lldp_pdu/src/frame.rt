@@ -3,7 +3,7 @@ ghost use Rattle.std.specs.Prelude.{◌≡◌, ◌≤◌, length, IfSome};
 ghost use Rattle.std.specs.Option.{option_copied};
 ghost use Rattle.lldp_pdu.specs.Frame.{lldpdu_of};
 
-/// How many octets an LLDPDU has at most: what an Ethernet frame holds behind its EtherType.
+/// How many octets an LLDPDU has at most: what an Ethernet frame holds after its EtherType.
 pub const MOST_OCTETS: usize = 1500;
 
 /// The group address "nearest bridge".

@@ -32,7 +32,7 @@ impl<'a> Model for Kept<'a> {
     ghost view = { λ k. kept_seen k.seen.types (cut k.tlvs).tlvs };
 }
 
-/// Returns the octets behind the first TLV.
+/// Returns the octets after the first TLV.
 fn behind_first(octets: &[u8]) -> &[u8]
     ensures { (cut result.now).tlvs ≡ drop 1 (cut octets.now).tlvs }
 {

@@ -75,7 +75,7 @@ pub fn lldpdus_begin_with_extents()
         (more : List ℕ) × (octets ≡ extent octets ++ more) }
 {}
 
-/// An LLDPDU of at most 1,500 octets behind the three fields of an LLDP frame is that frame's.
+/// An LLDPDU of at most 1,500 octets after the three fields of an LLDP frame is that frame's.
 #[tactic(auto, using(crate::proofs::Framing::has_lldpdu))]
 pub fn frames_hold_lldpdus()
     ensures { (source lldpdu : List ℕ) → length source ≡ 6 → length lldpdu ≤ 1500 →

@@ -21,7 +21,7 @@ pub struct Tlv<'a> {
 
 /// The complete TLVs of some octets, from the front. An End Of LLDPDU is a TLV like any other, and
 /// does not end them. Each `next` returns the first TLV of the cut of the octets left, and leaves
-/// those behind it; if no complete TLV is left it returns None and leaves the rest as it is.
+/// those after it; if no complete TLV is left it returns None and leaves the rest as it is.
 #[derive(Debug, Drop)]
 pub struct Tlvs<'a> {
     rest: &'a [u8],

@@ -1,5 +1,5 @@
 -- The calls that were made on a table, and what they leave live (IEEE 802.1AB-2009, 9.2.7.7). Each list is newest
--- first, so the calls behind one in its list came before it.
+-- first, so the calls after one in its list came before it.
 use Rattle.std.specs.Prelude.{ℕ, suc, ◌-◌, Bool, true, false, not, ◌&&◌, if◌then◌else◌, nat_lt, max, List, [], ◌∷◌, ◌++◌, length, filter, find, filter_map, Option, Some, None, is_some, option_and_then, count_by, is_none}
 use Rattle.lldp_pdu.specs.Msap.{MsapId}
 use Rattle.lldp_table.specs.Msap.{same_msap}

@@ -43,7 +43,7 @@ pub record IsNewBefore (events : List TableEvent) (one other : Neighbor) : Type 
   pub other_later : IsTrue (list_any (makes_new other.msap) later)
   pub one_not_later : list_any (makes_new one.msap) later ≡ false
 
--- A frame was dropped, the table has not been purged since, and so many ticks of its TTL are left.
+-- A frame was dropped, the table has not been purged since, and this many ticks of its TTL are left.
 pub record WasDropped (events : List TableEvent) (left : ℕ) : Type 0 where
   pub later : List TableEvent
   pub msap : MsapId

@@ -54,7 +54,7 @@ pub(crate) fn write_next<A: Allocator>(
     }
 }
 
-/// Takes a tick: moves the slots whose neighbors expire out of the queue, and behind the others in
+/// Takes a tick: moves the slots whose neighbors expire out of the queue, and after the others in
 /// the order. Returns how many slots are still in use.
 #[inline(always)]
 pub(crate) fn age_out(

@@ -21,7 +21,7 @@ pub(crate) fn place_in(slots: &[u8], slot: u8) -> usize
     }
 }
 
-/// Returns the place at which a neighbor with so many ticks left enters, and its difference there.
+/// Returns the place at which a neighbor with this many ticks left enters, and its difference.
 #[tactic(auto, using(crate::proofs::Ageing::Due::enters_here, crate::proofs::Ageing::Due::enters_behind))]
 fn place_for(slots: &[u8], times: &mut Times, left: u16) -> (usize, u16)
     requires { AllByRecursion (λ i. i < MOST_NEIGHBORS) slots.now }
@@ -81,7 +81,7 @@ fn raise(times: &mut Times, slots: &[u8], at: usize, more: u16)
     times.set(slot, more + gap);
 }
 
-/// Enters a slot whose neighbor has so many ticks left.
+/// Enters a slot whose neighbor has this many ticks left.
 fn enter_into(slots: &mut ArrayVec<u8, MOST_NEIGHBORS>, times: &mut Times, slot: u8, left: u16)
     requires queue { IsQueue times.old.shown slots.old.items }
     requires room { length slots.old.items < MOST_NEIGHBORS }
@@ -97,7 +97,7 @@ fn enter_into(slots: &mut ArrayVec<u8, MOST_NEIGHBORS>, times: &mut Times, slot:
     slots.insert(at, slot);
 }
 
-/// Enters a slot as the last, so many ticks behind the one that was last before.
+/// Enters a slot as the last, this many ticks after the one that was last before.
 fn enter_last(slots: &mut ArrayVec<u8, MOST_NEIGHBORS>, times: &mut Times, slot: u8, gap: u16)
     requires queue { IsQueue times.old.shown slots.old.items }
     requires room { length slots.old.items < MOST_NEIGHBORS }
@@ -113,7 +113,7 @@ fn enter_last(slots: &mut ArrayVec<u8, MOST_NEIGHBORS>, times: &mut Times, slot:
     slots.push(slot);
 }
 
-/// Removes a slot, and adds its difference to the one behind it. Returns how much less is left of
+/// Removes a slot, and adds its difference to the one after it. Returns how much less is left of
 /// the last slot now.
 fn leave_from(slots: &mut ArrayVec<u8, MOST_NEIGHBORS>, times: &mut Times, slot: u8) -> u16
     requires queue { IsQueue times.old.shown slots.old.items }
@@ -139,7 +139,7 @@ fn leave_from(slots: &mut ArrayVec<u8, MOST_NEIGHBORS>, times: &mut Times, slot:
 pub(crate) struct Queue {
     slots: ArrayVec<u8, MOST_NEIGHBORS>,
     /// The ticks left of the last: the sum of the differences. A slot that expires no earlier is
-    /// entered behind it at once.
+    /// entered after it at once.
     last: u16,
     times: Times,
 }
@@ -179,7 +179,7 @@ impl Queue {
         self.last = 0;
     }
 
-    /// Enters a slot whose neighbor has so many ticks left, behind those that expire no later.
+    /// Enters a slot whose neighbor has this many ticks left, after those that expire no later.
     pub(crate) fn enter(&mut self, slot: u8, left: u16)
         requires room { length self.old.shown < MOST_NEIGHBORS }
         requires within { slot < MOST_NEIGHBORS }

@@ -24,7 +24,7 @@ impl<T, A: Allocator> Model for Room<T, A> {
 }
 
 impl<T, A: Allocator> Room<T, A> {
-    /// Takes room for so many items, and holds none yet. An error means that there was no memory.
+    /// Takes room for this many items, and holds none yet. An error means that there was no memory.
     pub fn open(alloc: A, capacity: usize) -> Result<Room<T, A>, AllocError>
         ensures items { IfOk result (λ room. room.items ≡ []) }
         ensures capacity { IfOk result (λ room. room.capacity ≡ capacity) }
@@ -80,7 +80,7 @@ impl<T, A: Allocator> Room<T, A> {
         self.items.as_mut_slice()
     }
 
-    /// Adds an item behind the others. There must be room for it.
+    /// Adds an item after the others. There must be room for it.
     pub fn push(&mut self, item: T)
         requires { length self.old.items < self.old.capacity }
         ensures items { self.new.items ≡ self.old.items ++ item ∷ [] }

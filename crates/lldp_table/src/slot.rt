@@ -20,7 +20,7 @@ pub(crate) struct Slot {
     ttl: u16,
     /// How many octets are stored.
     length: u16,
-    /// Its first octets are stored. Those behind them are left from earlier frames.
+    /// Its first octets are stored. Those after them are left from earlier frames.
     room: [u8; MOST_OCTETS],
 }
 

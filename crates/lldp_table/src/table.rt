@@ -139,7 +139,7 @@ impl<A: Allocator> Table<A> {
         self.queue.enter(slot, ttl);
     }
 
-    /// Adds a new neighbor behind the others, with this frame and its time. There is room for it.
+    /// Adds a new neighbor after the others, with this frame and its time. There is room for it.
     fn admit(&mut self, octets: &[u8], ttl: u16, tag: u32)
         requires extent { IsExtent (msap_of octets.now) ttl octets.now }
         requires tag { tag ≡ tag_of (msap_of octets.now) }

@@ -45,7 +45,7 @@ hex_back (c ∷ cs) h = ap (λ x. x ∷ unhex (encode_lower cs)) (octet_is c h.0
 
 -- ## Escaped text
 
--- where a reader of escaped text stands: at an octet, behind a backslash, before the first of two digits, behind it
+-- where a reader of escaped text stands: at an octet, after a backslash, before the first of two digits, after it
 pub data Place : Type 0 where
   plain : Place
   slash : Place

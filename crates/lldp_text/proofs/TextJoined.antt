@@ -11,7 +11,7 @@ join_push c [] x = refl
 join_push c (y ∷ []) x = refl
 join_push c (y ∷ z ∷ zs) x = ap (λ l. y ++ (c ∷ l)) (join_push c (z ∷ zs) x) ∙ sym (append_assoc y (c ∷ join_with_byte c (z ∷ zs)) (separator c (length (z ∷ zs)) ++ x))
 
--- a text with a separator and an item behind it
+-- a text with a separator and an item after it
 pub grown : (old cur mid new j s x j' : List ℕ) → cur ≡ old ++ j → mid ≡ cur ++ s → new ≡ mid ++ x → j' ≡ j ++ (s ++ x) → new ≡ old ++ j'
 grown old cur mid new j s x j' a b c d = rw (c, b, a, d) (simp append_assoc)
 
@@ -19,6 +19,6 @@ grown old cur mid new j s x j' a b c d = rw (c, b, a, d) (simp append_assoc)
 pub joined_more : {A : Type 0} (c : ℕ) (f : A → List ℕ) (xs : List A) (i : ℕ) (d : A) → i < length xs → join_with_byte c (map f (take (i + 1) xs)) ≡ join_with_byte c (map f (take i xs)) ++ (separator c i ++ f (get_or xs i d))
 joined_more c f xs i d h = grind (arith, common_steps, length-map, length-take-le, take_more, map-append, join_push)
 
--- a text with a key and a value behind it
+-- a text with a key and a value after it
 pub behind : (old mid new k v v' : List ℕ) → mid ≡ old ++ k → new ≡ mid ++ v → v ≡ v' → new ≡ old ++ (k ++ v')
 behind old mid new k v v' a b c = rw (b, a, c) (append_assoc old k v')

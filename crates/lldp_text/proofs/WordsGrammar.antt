@@ -13,7 +13,7 @@ use Rattle.std.proofs.lemmas.Grind.{common_steps}
 chosen : {A : Type 0} (b : Bool) (x y z : A) → (if b then x else y) ≡ z → ((b ≡ true) × (x ≡ z)) ⊎ ((b ≡ false) × (y ≡ z))
 chosen b x y z h = grind (arith, common_steps)
 
--- the words behind a first one
+-- the words after a first one
 mapped : (w : List ℕ) (o : Option (List (List ℕ))) (ws : List (List ℕ)) → option_map (λ words. w ∷ words) o ≡ Some ws → (tail : List (List ℕ)) × (o ≡ Some tail) × (ws ≡ w ∷ tail)
 mapped w o ws h = grind (arith, common_steps)
 

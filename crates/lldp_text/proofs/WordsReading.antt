@@ -68,7 +68,7 @@ pub none_read : words_of [] ≡ Some []
 unfolding words_from
 none_read = refl
 
--- behind a closing quote the line goes on as behind a separator
+-- after a closing quote the line goes on as after a separator
 closed_ends : (rest : List ℕ) → may_end_word rest ≡ true → words_from closed rest ≡ words_of rest
 unfolding words_from
 closed_ends rest h = grind (arith, common_steps)

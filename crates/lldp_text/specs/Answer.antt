@@ -11,7 +11,7 @@ abbrev pub on_ok : {A B E : Type 0} → (A → B) → Result A E → Result B E
 on_ok f (Ok a) = Ok (f a)
 on_ok f (Err fault) = Err fault
 
--- one step behind another, unless that has a fault
+-- one step after another, unless that has a fault
 infixl 10 ◌>>=◌
 abbrev pub ◌>>=◌ : {A B E : Type 0} → Result A E → (A → Result B E) → Result B E
 (Ok a) >>= next = next a

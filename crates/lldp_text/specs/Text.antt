@@ -23,7 +23,7 @@ escape octet =
 abbrev pub escaped : List ℕ → List ℕ
 escaped octets = flat_map escape octets
 
--- What precedes an item of a list that has so many items before it: nothing before the first.
+-- What precedes an item of a list that has this many items before it: nothing before the first.
 abbrev pub separator : ℕ → ℕ → List ℕ
 separator octet zero = []
 separator octet (suc before) = octet ∷ []

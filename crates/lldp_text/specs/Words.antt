@@ -49,7 +49,7 @@ AreWords line (word ∷ words) =
     (gap : List ℕ) × (text : List ℕ) × (rest : List ℕ) × AllPass is_separator gap × IsSpelling text word
     × IsTrue (may_end_word rest) × (line ≡ gap ++ text ++ rest) × AreWords rest words
 
--- Where a reader of the line is: between words, in an unquoted or a quoted word with its octets so far, or behind a
+-- Where a reader of the line is: between words, in an unquoted or a quoted word with its octets so far, or after a
 -- closing quote.
 pub data Place : Type 0 where
   between : Place

@@ -18,7 +18,7 @@ const FAMILY_IPV4: u8 = 1;
 
 const FAMILY_IPV6: u8 = 2;
 
-/// Returns the kind of an address of so many octets.
+/// Returns the kind of an address of this many octets.
 pub(crate) fn kind_of_address(family: u8, len: usize) -> AddressKind
     ensures { result ≡ address_kind family len }
 {

@@ -19,7 +19,7 @@ pub enum CommandFault {
     Text = 5,
     /// A word follows a complete form.
     Extra = 6,
-    /// A quote is inside a word, is not closed, or is closed with no separator behind it.
+    /// A quote is inside a word, is not closed, or is closed with no separator after it.
     Quote = 7,
     /// Some port holds more neighbors than the limit.
     InUse = 8,

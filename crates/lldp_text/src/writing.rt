@@ -14,7 +14,7 @@ pub type Line = ArrayVec<u8, 2048>;
 /// The room that a line takes at most, with its line feed.
 pub const LINE_ROOM: usize = 2049;
 
-/// The room that a value takes at most. It fits in a line behind at most 64 octets.
+/// The room that a value takes at most. It fits in a line after at most 64 octets.
 pub const VALUE_ROOM: usize = 1050;
 
 /// How many octets a writer holds at most.

@@ -12,7 +12,7 @@ use Rattle.lldp_pdu.specs.Draft.{Draft, with_tlv, put_fault}
 abbrev pub tlv : ℕ → List ℕ → TlvUnit
 tlv kind body = record { kind = kind; body = body }
 
--- what stands first in each row gives what stands behind it
+-- what stands first in each row gives what stands after it
 abbrev pub Gives : {A B : Type 0} → (A → B) → List (A × B) → Type 0
 Gives f rows = map (λ row. f row.0) rows ≡ map (λ row. row.1) rows
 
@@ -44,7 +44,7 @@ abbrev pub answer : Option BuildFault → ℕ
 answer None = 0
 answer (Some fault) = build_fault_number fault
 
--- the builder behind a TLV with this answer
+-- the builder after a TLV with this answer
 abbrev pub behind : Draft → TlvUnit → Option BuildFault → Draft
 behind draft u None = with_tlv draft u
 behind draft u (Some fault) = draft
@@ -54,7 +54,7 @@ abbrev pub answers : Draft → List TlvUnit → List ℕ
 answers draft [] = []
 answers draft (u ∷ us) = answer (put_fault draft u) ∷ answers (behind draft u (put_fault draft u)) us
 
--- the builder behind them
+-- the builder after them
 abbrev pub given : Draft → List TlvUnit → Draft
 given draft [] = draft
 given draft (u ∷ us) = given (behind draft u (put_fault draft u)) us

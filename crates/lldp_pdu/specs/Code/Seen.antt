@@ -27,7 +27,7 @@ with_flag seen kind = if is_single kind then slice_set seen (kind - port_descrip
 abbrev pub is_kept_seen : List Bool → TlvUnit → Bool
 is_kept_seen seen u = is_well_formed u && not (has_flag seen u.kind)
 
--- the flags behind it
+-- the flags after it
 abbrev pub seen_after : List Bool → TlvUnit → List Bool
 seen_after seen u = if is_well_formed u then with_flag seen u.kind else seen
 

@@ -13,7 +13,7 @@ pub record IsFirst (earlier : List TlvUnit) (u : TlvUnit) : Type 0 where
   pub once : 4 ≤ u.kind → u.kind ≤ 7 →
       AllByRecursion (λ (e : TlvUnit). ¬ ((e.kind ≡ u.kind) × (is_well_formed e ≡ true))) earlier
 
--- TLVs behind these earlier ones: the next one is kept exactly if it is such a first, and the others in their turn.
+-- TLVs after these earlier ones: the next one is kept exactly if it is such a first, and the others in their turn.
 pub record AreKeptOnce (earlier : List TlvUnit) (u : TlvUnit) (us : List TlvUnit) : Type 0 where
   pub none : kept_after earlier [] ≡ []
   pub kept : IsFirst earlier u → kept_after earlier (u ∷ us) ≡ u ∷ kept_after (u ∷ earlier) us

@@ -11,7 +11,7 @@ use Rattle.lldp_pdu.specs.Fault.{fault_of}
 abbrev pub of_kind : ℕ → List ℕ → TlvUnit
 of_kind kind body = record { kind = kind; body = body }
 
--- none of these is a second Chassis ID, Port ID or Time To Live, those behind the End Of LLDPDU left out
+-- none of these is a second Chassis ID, Port ID or Time To Live, those after the End Of LLDPDU left out
 abbrev pub AreOther : List TlvUnit → Type 0
 AreOther others = AllByRecursion (λ (u : TlvUnit). 4 ≤ u.kind) (before_end others)
 

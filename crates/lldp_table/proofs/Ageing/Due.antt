@@ -81,7 +81,7 @@ module _ (times : List ℕ) where
       pub enters_here : k < length slots → rest < gap → enter slot left queue ≡ take k queue ++ put slot rest (drop k queue)
       enters_here l m = grind (arith, common_steps, lt-leb, drop-dues)
 
-      -- behind one that expires no later
+      -- after one that expires no later
       pub enters_behind : k < length slots → gap ≤ rest → enter slot left queue ≡ take (k + 1) queue ++ enter slot (rest - gap) (drop (k + 1) queue)
       enters_behind l m =
           let t : nat_le gap rest ≡ true = le-leb gap rest m in
@@ -105,7 +105,7 @@ seam_take k xs ys e = ap (λ n. take n (xs ++ ys)) (sym e) ∙ take-append_seam 
 seam_drop : (k : ℕ) (xs ys : List Due) → length xs ≡ k → drop k (xs ++ ys) ≡ ys
 seam_drop k xs ys e = ap (λ n. drop n (xs ++ ys)) (sym e) ∙ drop-append_seam xs ys
 
--- `times'` has the differences that those behind the place keep
+-- `times'` has the differences that those after the place keep
 pub entered : (times times' slots : List ℕ) (k slot rest : ℕ) → k ≤ length slots → length times' ≡ 128 → slot < 128 → list_any (nat_eq slot) slots ≡ false
     → dues times' slots ≡ take k (dues times slots) ++ less_first rest (drop k (dues times slots))
     → dues (set times' slot rest) (insert slots k slot) ≡ take k (dues times slots) ++ put slot rest (drop k (dues times slots))
@@ -140,7 +140,7 @@ leaves_at times (i ∷ is) (suc k) slot l e d =
     cond-false (nat_eq i slot) (add_first (get_or times i 0) (dues times is)) (due i (get_or times i 0) ∷ leave slot (dues times is)) differs
     ∙ ap (λ q. due i (get_or times i 0) ∷ q) (leaves_at times is k slot (omega arith) e (IsDistinct-tail nat_eq i is d))
 
--- the list without the place, where those behind it are others
+-- the list without the place, where those after it are others
 without : (k : ℕ) (queue others : List Due) → k < length queue → remove (take (suc k) queue ++ others) k ≡ take k queue ++ others
 without k [] others l = absurd (omega arith)
 without zero (e ∷ queue) others l = refl
@@ -151,7 +151,7 @@ pub left_at : (times times' slots : List ℕ) (k slot gap : ℕ) → k < length 
     → dues times' (remove slots k) ≡ leave slot (dues times slots)
 left_at times times' slots k slot gap l e d g a = grind (arith, common_steps, length-dues, map-remove, without, leaves_at)
 
--- two differences, one behind the other
+-- two differences, one after the other
 two_of_total : (queue : List Due) (k : ℕ) (d : Due) → suc k < length queue → (get_or queue k d).gap + (get_or queue (suc k) d).gap ≤ total queue
 two_of_total [] k d h = absurd (omega arith)
 two_of_total (e ∷ []) k d h = absurd (omega arith)

@@ -53,7 +53,7 @@ module _ (name : MsapId) where
   other_before x (y ∷ xs) (suc k) d h a e = other_before x xs k d (omega arith) a.1 e
   other_before x [] k d h a e = absurd (omega arith)
 
-  -- the neighbors behind the one of this name
+  -- the neighbors after the one of this name
   others_behind : (x : Neighbor) (xs : List Neighbor) → AllByRecursion (λ n. same_msap x.msap n ≡ false) (names_of xs) → is_named name x ≡ true → AllByRecursion (λ y. is_named name y ≡ false) xs
   others_behind x [] a e = tt
   others_behind x (y ∷ xs) a e = (ap (λ n. same_msap n y.msap) (same_msap-true name x.msap e) ∙ a.0, others_behind x xs a.1 e)
@@ -122,7 +122,7 @@ not_before [] k h u = absurd (omega arith)
 not_before (i ∷ is) zero h u = tt
 not_before (i ∷ is) (suc k) h u = (nat_eq_sym (get_or is k 0) i ∙ at_place (λ j. nat_eq i j ≡ false) is k 0 (omega arith) (IsDistinct-head nat_eq i is u), not_before is k (omega arith) (IsDistinct-tail nat_eq i is u))
 
--- nor among those behind it
+-- nor among those after it
 pub not_behind : (is : List ℕ) (k : ℕ) → k < length is → IsDistinct nat_eq is → AllByRecursion (λ i. nat_eq (get_or is k 0) i ≡ false) (drop (suc k) is)
 not_behind [] k h u = absurd (omega arith)
 not_behind (i ∷ is) zero h u = IsDistinct-head nat_eq i is u

@@ -20,7 +20,7 @@ octets_at slots i = (slice_index_or slots i blank).octets
 abbrev pub msap_at : List Stored → ℕ → MsapId
 msap_at slots i = msap_of (octets_at slots i)
 
--- the neighbor whose frame a slot stores, with so many ticks left
+-- the neighbor whose frame a slot stores, with this many ticks left
 abbrev pub neighbor_of : Stored → ℕ → Neighbor
 neighbor_of slot left = record { msap = msap_of slot.octets; octets = slot.octets; ttl = slot.ttl; left = left }
 

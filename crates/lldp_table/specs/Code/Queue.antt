@@ -37,13 +37,13 @@ add_first n (e ∷ queue) = due e.slot (n + e.gap) ∷ queue
 abbrev pub put : ℕ → ℕ → List Due → List Due
 put slot left queue = due slot left ∷ less_first left queue
 
--- the queue with a slot that has so many ticks left, behind those that expire no later
+-- the queue with a slot that has this many ticks left, after those that expire no later
 abbrev pub enter : ℕ → ℕ → List Due → List Due
 enter slot left [] = put slot left []
 enter slot left (e ∷ queue) =
     if nat_le e.gap left then e ∷ enter slot (left - e.gap) queue else put slot left (e ∷ queue)
 
--- the queue without a slot, whose difference goes to the slot behind it
+-- the queue without a slot, whose difference goes to the slot after it
 abbrev pub leave : ℕ → List Due → List Due
 leave slot [] = []
 leave slot (e ∷ queue) = if e.slot == slot then add_first e.gap queue else e ∷ leave slot queue

@@ -20,7 +20,7 @@ fresh name ttl octets = record { msap = name; octets = octets; ttl = ttl; left =
 abbrev pub refreshed : MsapId → ℕ → List ℕ → Neighbor → Neighbor
 refreshed name ttl octets neighbor = if is_named name neighbor then fresh name ttl octets else neighbor
 
--- a new neighbor is put behind the others, a known one stays in its place, and for a dropped one the timer runs at
+-- a new neighbor is put after the others, a known one stays in its place, and for a dropped one the timer runs at
 -- least as long as its TTL
 abbrev pub learned_as : Learned → Contents → MsapId → ℕ → List ℕ → Contents
 learned_as New table name ttl octets =

@@ -1,4 +1,4 @@
--- The rest has to enter behind the places so far.
+-- The rest has to enter after the places so far.
 use Rattle.std.proofs.Common.{◌≡◌, ◌≤◌, ℕ, ◌++◌, take, drop}
 use Rattle.lldp_table.specs.Code.Queue.{enter, dues}
 use Rattle.lldp_table.proofs.queue.place_for.Given as goal
