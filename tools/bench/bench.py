@@ -22,7 +22,7 @@ import time
 from pathlib import Path
 from typing import Any
 
-from bench_captures import AUDIT, audit_of_cabling, capture_rows, other_readers, seconds
+from bench_captures import AUDIT, audit_of_cabling, capture_rows, other_readers, seconds, spent
 from bench_counts import counted, counted_start, library
 from bench_picture import picture
 from bench_rows import PORTS, Row, rows
@@ -54,13 +54,12 @@ def by_turns(row: Row, room: Path, sides: list[list[str]], times: int) -> list[f
 
 
 def start(program: str, room: Path) -> list[str]:
-    """Returns lines on a start of lldpa with one port and with 64 ports of 128."""
-    empty, lines = room / "empty", []
-    empty.write_text("")
-    for title, words in (("one port", ["eth0"]), ("64 ports of 128", ["--max-neighbors=128", *PORTS])):
-        least = min(seconds([program, *words], empty) for _ in range(20))
+    """Returns lines on a start of lldpa with one port and with 64 ports of 128 neighbors."""
+    lines = []
+    for title, words in (("one port", ["eth0"]), ("64 ports", ["--max-neighbors=128", *PORTS])):
+        least = min(spent([program, *words])[0] for _ in range(20))
         memory = resident([program, *words])
-        lines.append(f"start with {title}: {1e3 * least:.2f} ms of processor time, {memory} KB resident")
+        lines.append(f"start with {title}: {1e3 * least:.2f} ms of processor time, {memory} KB of memory")
     return lines
 
 
@@ -88,21 +87,21 @@ def compiled(room: Path) -> str:
 def table(options: argparse.Namespace, room: Path, count: bool) -> list[dict[str, Any]]:
     """Returns the rows, printed as they come, with or without the instructions counted."""
     heads = HEADS + [f"# {head}" for head in HEADS] if count else HEADS
-    print(" " * 34 + "".join(f"{head:>11}" for head in heads))
+    print(" " * 48 + "".join(f"{head:>11}" for head in heads))
     yardstick, told = compiled(room), []
     for row in rows(options.program, room):
         if options.only in row.title:
             sides = row.sides(options.program, yardstick)
             spent = by_turns(row, room, sides, options.times)
             ran = counted(row, room, sides) if count else []
-            print(f"{row.title:34}{columns(spent, ' ns')}{columns(ran) if count else ''}", flush=True)
+            print(f"{row.title:48}{columns(spent, ' ns')}{columns(ran) if count else ''}", flush=True)
             told.append({"title": row.title, "time": spent, "instructions": ran})
     return told
 
 
 def measured(options: argparse.Namespace, room: Path) -> dict[str, Any]:
     """Returns the table as it is saved and drawn."""
-    count = bool(shutil.which("valgrind")) and not options.no_instructions
+    count = bool(shutil.which("valgrind"))
     print(f"machine: {machine()}")
     told: dict[str, Any] = {"machine": machine(), "rows": table(options, room, count)}
     if count:
@@ -122,17 +121,14 @@ def counted_anew(options: argparse.Namespace, room: Path, told: dict[str, Any]) 
     for row in rows(options.program, room):
         ran = counted(row, room, row.sides(options.program, yardstick))
         kept[row.title]["instructions"] = ran
-        print(f"{row.title:34}{columns(ran)}", flush=True)
+        print(f"{row.title:48}{columns(ran)}", flush=True)
     told["start_instructions"], told["library"] = counted_start(options.program, room), library()
-    print(f"start with 64 ports of 128: {told['start_instructions']}")
+    print(f"start with 64 ports: {told['start_instructions']}")
 
 
 def kept(options: argparse.Namespace, room: Path) -> dict[str, Any]:
-    """Returns the saved table, with what is to be measured again."""
+    """Returns the saved table, with the instructions counted again if that is asked for."""
     told: dict[str, Any] = json.loads(Path(options.saved).read_text())
-    if options.captures:
-        told["captures"] = capture_rows(room, options.times)
-        print("\n".join(told["captures"]))
     if options.counts:
         counted_anew(options, room, told)
     return told
@@ -145,10 +141,8 @@ def read_options() -> argparse.Namespace:
     add("--program", default=str(TOP / "crates/lldpa/out/lldpa"), help="the built program")
     add("--times", type=int, default=5, help="runs of each side; the least counts (default: 5)")
     add("--only", default="", help="only rows with this text in their title")
-    add("--no-instructions", action="store_true", help="count no instructions")
     add("--save", metavar="FILE", help="keep the table in this file")
     add("--saved", metavar="FILE", help="measure nothing: take the table that was kept in this file")
-    add("--captures", action="store_true", help="with --saved, measure what reads captures")
     add("--counts", action="store_true", help="with --saved, count the instructions of each row")
     add("--svg", metavar="FILE", help="draw the table into this file (docs/bench.svg is the one that the pages show)")
     return parser.parse_args()

@@ -17,24 +17,19 @@ sys.path.append(str(TOP / "audit" / "tools"))
 import cabling  # noqa: E402
 from bench_rows import mix  # noqa: E402
 
-AUDIT = "an audit of 100,000 links from the shows of 2,000 hosts"
+AUDIT = "an audit of 100,000 links from neighbor lists of 2,000 hosts"
 PCAP = bytes.fromhex("d4c3b2a1020004000000000000000000ffff000001000000")
 
 
 def seconds(words: list[str], trace: Path) -> float:
     """Returns the processor time of one run of a program with this input."""
+    return spent(words, trace)[0]
+
+
+def spent(words: list[str], trace: Path = Path(os.devnull)) -> tuple[float, float]:
+    """Returns the seconds of processor time of one run of a program, and the most megabytes of memory that it took."""
     with trace.open("rb") as file:
         child = subprocess.Popen(words, stdin=file, stdout=subprocess.DEVNULL, stderr=subprocess.DEVNULL)
-        _, status, usage = os.wait4(child.pid, 0)
-        child.returncode = status
-    if status != 0:
-        sys.exit(f"{words} ended with {status}")
-    return float(usage.ru_utime + usage.ru_stime)
-
-
-def spent(words: list[str]) -> tuple[float, float]:
-    """Returns the seconds of processor time of one run of a program, and the most megabytes of memory that it took."""
-    child = subprocess.Popen(words, stdout=subprocess.DEVNULL, stderr=subprocess.DEVNULL)
     ended, kilobytes = 0, ["0"]
     while not ended:
         kilobytes += re.findall(r"VmHWM:\s+(\d+)", Path(f"/proc/{child.pid}/status").read_text())
@@ -79,14 +74,13 @@ def write_lldp_frames(path: Path) -> None:
 
 def other_readers(room: Path, times: int) -> list[str]:
     """Runs each tool that prints what it reads of the mix so many times, and returns a line on each."""
-    frames, capture, nothing = mix(992, 32), room / "mix.pcap", room / "nothing"
+    frames, capture = mix(992, 32), room / "mix.pcap"
     write_mix(capture, frames, 20)
-    nothing.write_text("")
     lines = []
     for tool, words in (("tcpdump", ["-nnv", "-r"]), ("tshark", ["-V", "-r"])):
         if shutil.which(tool):
-            used = min(seconds([tool, *words, str(capture)], nothing) for _ in range(times))
-            lines.append(f"a frame of the mix, read and printed by {tool}: {1e9 * used / (20 * len(frames)):.0f} ns")
+            used = min(spent([tool, *words, str(capture)])[0] for _ in range(times))
+            lines.append(f"a typical frame, read and printed by {tool}: {1e9 * used / (20 * len(frames)):.0f} ns")
     return lines
 
 

@@ -28,10 +28,10 @@ sys.path.append(str(TOP / "tools" / "gate"))
 from counts import Counts  # noqa: E402
 
 MOST, MOST_ELSEWHERE = 1.01, 1.05
-START = "start with 64 ports of 128"
-HELD = ("a frame of the mix, 32 held", "a frame of 36 octets", "a frame of the mix, 128 held",
-        "the same, names of one tag", "a tick of 64 ports of 128", "a shown line, 64 ports of 128",
-        "a sent frame, 64 ports")
+START = "start with 64 ports"
+HELD = ("receive a typical frame, 32 neighbors", "receive the shortest frame, 36 octets",
+        "receive a typical frame, 128 neighbors", "the same, names chosen to collide",
+        "one second of 64 ports with 128 neighbors each", "print a line of the neighbor table", "send a frame")
 
 
 def instructions(words: list[str], trace: Path) -> int:

@@ -7,29 +7,7 @@ from typing import Any
 LEFT, WIDEST, TOP, BAR, WIDTH = 300, 330, 66, 15, 940
 # The names here of the programs of a row, in the order of its figures.
 NAMES = ["lldpa", "plain C", "C that checks nothing, with vector instructions"]
-# The names of the rows here.
-WORDS = {
-    "a frame of the mix, 32 held": "receive a typical frame, 32 neighbors",
-    "a frame of 36 octets": "receive the shortest frame, 36 octets",
-    "a frame of 1,514 octets": "receive the longest frame, 1,514 octets",
-    "a frame of the mix, 128 held": "receive a typical frame, 128 neighbors",
-    "a refresh, the last of 128": "refresh the last of 128 neighbors",
-    "the same, names of one tag": "the same, names chosen to collide",
-    "a tick of 64 ports, nothing due": "one second of 64 ports without neighbors",
-    "a tick of 64 ports of 128": "one second of 64 ports with 128 neighbors each",
-    "a shown line, 64 ports of 128": "print a line of the neighbor table",
-    "a sent frame, 64 ports": "send a frame",
-}
-CHANGED = {"a frame of the mix,": "a typical frame,", "resident": "of memory", "64 ports of 128": "64 ports",
-           "from the shows of": "from neighbor lists of"}
 FILLS = ["#3b7dd8", "#a9b4c2", "#d9b26f"]
-
-
-def in_words(line: str) -> str:
-    """Returns a line below the bars in words for everybody."""
-    for ours, theirs in CHANGED.items():
-        line = line.replace(ours, theirs)
-    return html.escape(line)
 
 
 def high(row: dict[str, Any]) -> int:
@@ -47,7 +25,7 @@ def bars(row: dict[str, Any], y: float, scale: float) -> list[str]:
     """Returns the lines of a row in the picture, by its place and the length of C's bar."""
     ours, theirs = row["time"][:2]
     middle = y + high(row) / 2
-    out = [f'<text x="{LEFT - 10}" y="{middle:.0f}" text-anchor="end">{html.escape(WORDS[row["title"]])}</text>']
+    out = [f'<text x="{LEFT - 10}" y="{middle:.0f}" text-anchor="end">{html.escape(row["title"])}</text>']
     for k, value in enumerate(row["time"]):
         width, down = scale * value / theirs, y + 2 + BAR * k
         out.append(f'<rect x="{LEFT}" y="{down}" width="{width:.0f}" height="13" fill="{FILLS[k]}"/>'
@@ -71,7 +49,7 @@ def picture(told: dict[str, Any]) -> str:
     rows_of_c = [row for row in told["rows"] if len(row["time"]) > 1]
     others = [row for row in told["rows"] if len(row["time"]) == 1]
     end = TOP + sum(high(row) for row in rows_of_c)
-    foot = [f"{WORDS[row['title']]}: {row['time'][0]:.0f} ns" for row in others] + told["start"] + told["others"]
+    foot = [f"{row['title']}: {row['time'][0]:.0f} ns" for row in others] + told["start"] + told["others"]
     foot += told.get("captures", [])
     out, y, scale = head(told, end + 34 + 19 * len(foot)), TOP, scale_of(rows_of_c)
     for row in rows_of_c:
@@ -79,5 +57,5 @@ def picture(told: dict[str, Any]) -> str:
         y += high(row)
     out.append(f'<path d="M{LEFT} {TOP - 6} V{end}" stroke="#444"/>')
     for i, line in enumerate(foot):
-        out.append(f'<text x="16" y="{end + 24 + 19 * i}" fill="#555">{in_words(line)}</text>')
+        out.append(f'<text x="16" y="{end + 24 + 19 * i}" fill="#555">{html.escape(line)}</text>')
     return "\n".join(out) + "\n</svg>\n"

@@ -134,12 +134,12 @@ def rows_received() -> list[Row]:
     many, plain = [*MANY, "eth0"], [["read", "128"]]
     own, one = own_tags(), one_tag()
     return [
-        Row("a frame of the mix, 32 held", ONE_PORT, "", received(mix(992, 32)), 100_000, both(32)),
-        Row("a frame of 36 octets", ONE_PORT, "", received(least(32)), 200_000, both(32)),
-        Row("a frame of 1,514 octets", ONE_PORT, "", received(greatest(32)), 30_000, both(32)),
-        Row("a frame of the mix, 128 held", many, "", received(mix(1024, 128)), 100_000, both(128)),
-        Row("a refresh, the last of 128", many, received(own), received(own[-1:]), 200_000, plain),
-        Row("the same, names of one tag", many, received(one), received(one[-1:]), 200_000, plain),
+        Row("receive a typical frame, 32 neighbors", ONE_PORT, "", received(mix(992, 32)), 100_000, both(32)),
+        Row("receive the shortest frame, 36 octets", ONE_PORT, "", received(least(32)), 200_000, both(32)),
+        Row("receive the longest frame, 1,514 octets", ONE_PORT, "", received(greatest(32)), 30_000, both(32)),
+        Row("receive a typical frame, 128 neighbors", many, "", received(mix(1024, 128)), 100_000, both(128)),
+        Row("refresh the last of 128 neighbors", many, received(own), received(own[-1:]), 200_000, plain),
+        Row("the same, names chosen to collide", many, received(one), received(one[-1:]), 200_000, plain),
     ]
 
 
@@ -153,11 +153,11 @@ def rows_of_ports(program: str, room: Path) -> list[Row]:
     shown = subprocess.run([program, *words], input=asked, capture_output=True, check=True).stdout
     lines.write_bytes(shown)
     return [
-        Row("a tick of 64 ports, nothing due", PORTS, LONG, "tick\n", 300_000),
-        Row("a tick of 64 ports of 128", words, held, "tick\n", 60_000),
-        Row("a shown line, 64 ports of 128", words, held, "show neighbors\n", 8, [["show", str(lines)]],
+        Row("one second of 64 ports without neighbors", PORTS, LONG, "tick\n", 300_000),
+        Row("one second of 64 ports with 128 neighbors each", words, held, "tick\n", 60_000),
+        Row("print a line of the neighbor table", words, held, "show neighbors\n", 8, [["show", str(lines)]],
             shown.count(b"\n")),
-        Row("a sent frame, 64 ports", PORTS, "configure lldp tx-interval 1\n", "tick\n", 3_000,
+        Row("send a frame", PORTS, "configure lldp tx-interval 1\n", "tick\n", 3_000,
             [["send", str(default)]], 64),
     ]
 

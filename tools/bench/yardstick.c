@@ -1,15 +1,13 @@
-/* The yardstick of bench.py: the same work in plain C, without a proof and without most checks.
+/* The yardstick of bench.py, for amd64: the same work in plain C, without a proof and without most checks.
  *
  *   yardstick read NEIGHBORS < TRACE      reads lines `rx PORT HEX`, decodes the digits by a table, walks the TLVs and
  *                                         refreshes the neighbor of that name among so many; counts ticks
  *   yardstick vectors NEIGHBORS < TRACE   the same, but the digits are read by SSE, nothing of the TLVs is checked,
- *                                         and the first 16 octets of an LLDPDU are taken for its name (x86-64 only)
+ *                                         and the first 16 octets of an LLDPDU are taken for its name
  *   yardstick show LINES < TRACE          writes the lines of that file for each line that begins with `show`
  *   yardstick send FRAME < TRACE          writes 64 lines `tx eth0 HEX` of that frame, digit by digit, for each line
  */
-#ifdef __SSE2__
 #include <emmintrin.h>
-#endif
 #include <stdint.h>
 #include <stdio.h>
 #include <stdlib.h>
@@ -87,7 +85,6 @@ static void take(const uint8_t *pdu, int length, int limit)
     table[i].ttl = ttl;
 }
 
-#ifdef __SSE2__
 /* Returns lanes of ones for those octets that are at most so much. */
 static inline __m128i at_most(__m128i octets, int most)
 {
@@ -128,17 +125,6 @@ static int may_be_same(const uint8_t *a, const uint8_t *b)
     __m128i same = _mm_cmpeq_epi8(_mm_loadu_si128((const __m128i *)a), _mm_loadu_si128((const __m128i *)b));
     return _mm_movemask_epi8(same) == 0xffff;
 }
-#else
-static int decode_by_vectors(const char *digits, int count, uint8_t *octets)
-{
-    return decode(digits, count, octets);
-}
-
-static int may_be_same(const uint8_t *a, const uint8_t *b)
-{
-    return memcmp(a, b, BLOCK) == 0;
-}
-#endif
 
 /* Refreshes the neighbor of this name among so many, and looks at no TLV. */
 static void take_unchecked(const uint8_t *pdu, int length, int limit)

@@ -1,11 +1,11 @@
 #!/usr/bin/env python3
 """Floods one port of an lldpa-live that logs, and checks that the log of the others continues.
 
-    tools/by-hand/flood-log.py [--frames 3000000] [--most 2] [--keep 20] [--minutes 10]
+    tools/by-hand/flood-log.py [--frames 3000000] [--minutes 10]
 
 One port receives so many frames of 200 neighbors, as long as they may be, as fast as possible; at
-another one five neighbors come, change and age out. The log's files have `most` megabytes each and
-`keep` together. At ten moments lldpa-live is asked for its tables, and must answer in time; a replay
+another one five neighbors come, change and age out. The log's files have 2 megabytes each and 20
+together. At ten moments lldpa-live is asked for its tables, and must answer in time; a replay
 of the one file of that moment must give the same tables. The folder must never have more than it
 may, and no frame of the quiet port may be dropped.
 
@@ -32,6 +32,7 @@ from wires import Peer, Wires, flood  # noqa: E402
 
 LATE = 1.0
 MOMENTS = 10
+MOST, KEEP = 2, 20  # megabytes of a file of the log, and of all
 FRAMES = [numbered(number, 600, tlv(5, b"n%d" % number)).ljust(1514, b"\0")
           for number in range(200)]
 counts = Counts()
@@ -43,7 +44,7 @@ def numbers(live):
     return {key: int(value) for key, value in lines if value.isdigit()}
 
 
-def take(live, peer, moments, folder, keep, number, sent):
+def take(peer, moments, folder, number, sent):
     """Lets the quiet port's neighbors send, and takes a moment."""
     for place in range(5):
         if place != number % 5:
@@ -54,24 +55,24 @@ def take(live, peer, moments, folder, keep, number, sent):
     took = time.monotonic() - began
     size = sum(path.stat().st_size for path in folder.iterdir())
     counts.that(f"moment {number + 1}: answered in {took:.3f} s", took < LATE)
-    counts.that(f"moment {number + 1}: {size} octets", size <= keep * 1_000_000)
+    counts.that(f"moment {number + 1}: {size} octets", size <= KEEP * 1_000_000)
     return sent
 
 
 def compare(given, wires):
     """Floods and compares."""
     folder = pathlib.Path(wires.folder, "log")
-    live = Live(wires, "--log", str(folder), "--log-most", str(given.most),
-                "--log-keep", str(given.keep), "eth0", "eth1", "--", "--receive-only")
+    live = Live(wires, "--log", str(folder), "--log-most", str(MOST), "--log-keep", str(KEEP),
+                "eth0", "eth1", "--", "--receive-only")
     peer = Peer(wires, "peer1")
     moments, sent = Moments(live), 0
     sender = flood(wires, "peer0", FRAMES, given.frames)
     while sender.poll() is None:
         if len(moments.answers) < MOMENTS:
-            sent = take(live, peer, moments, folder, given.keep, len(moments.answers), sent)
+            sent = take(peer, moments, folder, len(moments.answers), sent)
         time.sleep(given.frames / 3_000_000)
     while len(moments.answers) < MOMENTS:
-        sent = take(live, peer, moments, folder, given.keep, len(moments.answers), sent)
+        sent = take(peer, moments, folder, len(moments.answers), sent)
     told = numbers(live)
     for name in ("live.eth0.kernel-drops", "live.eth0.limit-drops", "lldp.eth0.received",
                  "lldp.eth1.received"):
@@ -100,8 +101,6 @@ def main():
     parser = argparse.ArgumentParser(description=__doc__,
                                      formatter_class=argparse.RawDescriptionHelpFormatter)
     parser.add_argument("--frames", type=int, default=3_000_000)
-    parser.add_argument("--most", type=int, default=2)
-    parser.add_argument("--keep", type=int, default=20)
     parser.add_argument("--minutes", type=float)
     given = parser.parse_args()
     wires = Wires(3)

@@ -1,5 +1,4 @@
-"""What the library and other readers say of frames, and the rules of docs/STANDARD.md by which
-they differ."""
+"""What other readers say of frames, and the rules of docs/STANDARD.md by which they differ."""
 from __future__ import annotations
 
 import subprocess
@@ -17,11 +16,9 @@ class Frame:
     def __init__(self, octets: bytes):
         self.octets = octets
         self.pdu = octets[14:]
-        self.tlvs, self.rest = model.cut(self.pdu)
-        kinds = [tlv.kind for tlv in self.tlvs]
-        self.has_end = 0 in kinds
-        self.end = self.tlvs[kinds.index(0)] if self.has_end else None
-        self.inside = self.tlvs[:kinds.index(0)] if self.has_end else self.tlvs
+        tlvs, _ = model.cut(self.pdu)
+        self.end = next((tlv for tlv in tlvs if tlv.kind == 0), None)
+        self.inside = tlvs if self.end is None else tlvs[:tlvs.index(self.end)]
         self.kinds = [tlv.kind for tlv in self.inside]
         is_to_bridge = octets[:6] == model.NEAREST_BRIDGE and octets[12:14] == model.ETHERTYPE
         self.is_ours = is_to_bridge and 14 <= len(octets) <= 1514
@@ -61,7 +58,7 @@ Reason = tuple[str, set[str], Callable[[Frame], bool]]
 
 # Why the library accepts a frame that a peer refuses.
 TAKEN: list[Reason] = [
-    ("it may be missing", BOTH, lambda frame: not frame.has_end),
+    ("it may be missing", BOTH, lambda frame: frame.end is None),
     ("one with a length above 0 ends the LLDPDU too", BOTH,
      lambda frame: frame.end is not None and frame.end.body != b""),
     ("a reserved subtype is accepted", LLDPD, has_odd_subtype),
@@ -86,27 +83,23 @@ REFUSED: list[Reason] = [
 
 
 class Told:
-    """What a program says of a frame."""
+    """What a peer says of a frame."""
 
     def __init__(self, line: str):
         words = line.split(" ")
         self.is_accepted = words[0] == "accept"
         self.fields = dict(word.split("=", 1) for word in words if "=" in word)
 
+    def identifiers(self) -> tuple[bytes, ...]:
+        """Returns the Chassis ID and the Port ID with their subtypes."""
+        return tuple(bytes([int(self.fields[f"{name[0]}type"])]) + bytes.fromhex(self.fields[name])
+                     for name in ("chassis", "port"))
+
 
 def verdicts(command: list[str]) -> list[Told]:
-    """Returns what a program says of each frame."""
+    """Returns what a peer says of each frame."""
     ran = subprocess.run(command, capture_output=True, text=True, check=True)
     return [Told(line) for line in ran.stdout.splitlines()]
-
-
-def identifiers(told: Told, is_ours: bool) -> tuple[bytes, bytes]:
-    """Returns Chassis ID and port ID with their subtypes."""
-    both = [bytes.fromhex(told.fields[name]) for name in ("chassis", "port")]
-    if not is_ours:
-        subtypes = [bytes([int(told.fields[name])]) for name in ("ctype", "ptype")]
-        both = [subtype + body for subtype, body in zip(subtypes, both)]
-    return both[0], both[1]
 
 
 def rule_for(reasons: list[Reason], peer: str, frame: Frame) -> str | None:
@@ -129,31 +122,17 @@ def fault_of_texts(frame: Frame, told: Told) -> str | None:
     return None
 
 
-def compared(peer: str, frame: Frame, ours: Told, theirs: Told) -> str:
+def compared(peer: str, frame: Frame, theirs: Told) -> str:
     """Returns "the same", the rule by which they differ, or `?` and how they differ."""
-    if ours.is_accepted != theirs.is_accepted:
-        rule = rule_for(TAKEN if ours.is_accepted else REFUSED, peer, frame)
-        return rule or f"? the library {'takes' if ours.is_accepted else 'refuses'} it"
-    if not ours.is_accepted:
+    ours = frame.told
+    if (ours is not None) != theirs.is_accepted:
+        rule = rule_for(REFUSED if ours is None else TAKEN, peer, frame)
+        return rule or f"? the library {'refuses' if ours is None else 'accepts'} it"
+    if ours is None:
         return "the same"
-    is_same = identifiers(ours, True) == identifiers(theirs, False)
-    if not is_same or ours.fields["ttl"] != theirs.fields["ttl"]:
+    if ours.name != theirs.identifiers() or ours.ttl != int(theirs.fields["ttl"]):
         return "? another sender or another time to live"
     if frame.is_shutdown():
         return "the same"
     fault = fault_of_texts(frame, theirs)
     return f"? {fault}" if fault else "the same"
-
-
-def fault_of_ours(frame: Frame, ours: Told) -> str | None:
-    """Returns how the library differs from the model, or None."""
-    told = frame.told
-    if ours.is_accepted != (told is not None):
-        return "taken or refused"
-    if told is None:
-        return None
-    if identifiers(ours, True) != told.name or int(ours.fields["ttl"]) != told.ttl:
-        return "the sender or the time to live"
-    wanted = (len(told.extent), told.discarded, told.unrecognized) if told.ttl else (0, 0, 0)
-    found = tuple(int(ours.fields[name]) for name in ("extent", "discarded", "unrecognized"))
-    return None if found == wanted else f"{found} and not {wanted}"

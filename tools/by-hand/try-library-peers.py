@@ -1,16 +1,16 @@
 #!/usr/bin/env python3
 """Reads the same frames by the library, by lldpd's decoder and by systemd's sd-lldp, and compares
-what they say and how long they take. If they differ, a rule of docs/STANDARD.md must say so.
+what they say and how long they take. The library must say what tools/model/model.py says; if a peer
+says something else, a rule of docs/STANDARD.md must say so.
 
     tools/by-hand/try-library-peers.py --peers FOLDER [--library FOLDER] [--frames FILE ..] [--count N]
-                               [--seed N] [--rounds N]
 
 The folder of the peers has the programs lldpd_decode and sd_decode, built over the sources of their
 projects: each is given `verdict FILE` and `bench FILE N`, with a frame in hexadecimal on each line
 of the file. The folder of the library is what tools/library/library.sh makes, which runs unless one
 is given. --frames names captures (pcap) and traces, besides those of docs and examples. The N frames,
-300,000 unless given, are those of all these, altered ones, and those of tools/model/fuzz.py. What the
-library says is also compared with tools/model/model.py. The last line is `N passed, M failed`.
+300,000 unless given, are those of all these, altered ones, and those of tools/model/fuzz.py. The last
+line is `N passed, M failed`.
 """
 from __future__ import annotations
 
@@ -23,14 +23,15 @@ import sys
 import tempfile
 
 TOP = pathlib.Path(__file__).resolve().parents[2]
-sys.path += [str(TOP / "tools" / "model"), str(TOP / "tools" / "gate"), str(TOP / "python")]
+sys.path += [str(TOP / name) for name in ("tools/library", "tools/model", "tools/gate", "python")]
 import fuzz  # noqa: E402
 from lldpa.capture.packets import packets_of  # noqa: E402
-from library_peers import Frame, Told, compared, fault_of_ours, verdicts  # noqa: E402
+from library_parts import Library  # noqa: E402
+from library_peers import Frame, Told, compared, verdicts  # noqa: E402
+from library_transcripts import row_of, written_rows  # noqa: E402
 
 STANDARD = TOP / "docs" / "STANDARD.md"
-OURS = "the library"
-SAME = ("the same", "the same as the model")
+SOURCES = TOP / "tools" / "library" / "c"
 
 
 def captured_frames(paths: list[pathlib.Path]) -> list[bytes]:
@@ -46,9 +47,9 @@ def captured_frames(paths: list[pathlib.Path]) -> list[bytes]:
     return list(found)
 
 
-def corpus(captured: list[bytes], count: int, seed: int) -> list[bytes]:
+def corpus(captured: list[bytes], count: int) -> list[bytes]:
     """Returns captured frames, then altered ones of them and those of tools/model/fuzz.py in turn."""
-    dice = fuzz.Dice(seed)
+    dice = fuzz.Dice(1)
     frames = list(captured)
     while len(frames) < count:
         octets = dice.choice(captured)
@@ -58,48 +59,52 @@ def corpus(captured: list[bytes], count: int, seed: int) -> list[bytes]:
     return frames[:count]
 
 
-def nanoseconds(command: list[str], rounds: int) -> float:
-    """Returns the time for a frame, the least of some rounds."""
+def nanoseconds(command: list[str]) -> float:
+    """Returns the time for a frame, the least of seven rounds."""
     times = []
-    for _ in range(rounds):
+    for _ in range(7):
         ran = subprocess.run(command, capture_output=True, text=True, check=True)
         times.append(float(re.findall(r"ns_per_frame=([0-9.]+)", ran.stdout)[0]))
     return min(times)
 
 
-def print_times(programs: dict[str, list[str]], files: dict[str, pathlib.Path],
-                rounds: int) -> None:
+def print_times(programs: dict[str, list[str]], files: dict[str, pathlib.Path]) -> None:
     """Prints the time for a frame of each program over each file."""
     for of_what, path in files.items():
         for name, command in programs.items():
-            took = nanoseconds([*command, str(path), "600000"], rounds)
+            took = nanoseconds([*command, str(path), "600000"])
             print(f"{of_what}, {name}: {took:.1f} ns a frame")
 
 
-def found_of(peer: str, frame: Frame, ours: Told, theirs: Told) -> str:
-    """Returns how a program's answer compares: the same, a rule, or `?` and what is wrong."""
-    if peer != OURS:
-        return compared(peer, frame, ours, theirs)
-    fault = fault_of_ours(frame, ours)
-    return f"? {fault}" if fault else SAME[1]
-
-
-def judge(peer: str, frames: list[Frame], ours: list[Told], theirs: list[Told]) -> tuple[int, int]:
-    """Compares all that a program said, and prints how it differs. Returns how many held, and how many did not."""
+def judge(peer: str, frames: list[Frame], told: list[Told]) -> tuple[int, int]:
+    """Compares all that a peer said, and prints how it differs. Returns how many held, and how many
+    did not."""
+    assert len(told) == len(frames), f"{peer} reports other frames"
     counts: collections.Counter[str] = collections.Counter()
-    for frame, our, their in zip(frames, ours, theirs):
-        found = found_of(peer, frame, our, their)
+    for frame, theirs in zip(frames, told):
+        found = compared(peer, frame, theirs)
         counts[found] += 1
         if found.startswith("?") and counts[found] <= 3:
             print(f"FAILED: {peer}: {found[2:]}: {frame.octets.hex()}")
     page = STANDARD.read_text()
     failed = sum(count for found, count in counts.items() if found.startswith("?"))
-    unsaid = [found for found in counts if found not in SAME and found not in page]
+    unsaid = [found for found in counts if found != "the same" and found not in page]
     for found, count in counts.most_common():
         print(f"{peer}: {count} {found}")
     for found in unsaid:
         print(f"FAILED: docs/STANDARD.md does not say: {found}")
     return len(frames) - failed, failed + len(unsaid)
+
+
+def judge_library(program: str, frames: list[Frame], room: pathlib.Path) -> tuple[int, int]:
+    """Compares what the library says of the LLDPDUs of frames with the model, as `judge`."""
+    rows = [row_of(frame.pdu) for frame in frames if frame.is_ours]
+    found = written_rows([program], rows, room)
+    differing = [row for row, other in zip(rows, found) if row != other]
+    for row in differing[:3]:
+        print(f"FAILED: the library has another row than {row}")
+    print(f"the library: {len(rows) - len(differing)} LLDPDUs as the model has them")
+    return len(rows) - len(differing), len(differing)
 
 
 def read_arguments() -> argparse.Namespace:
@@ -109,23 +114,22 @@ def read_arguments() -> argparse.Namespace:
     parser.add_argument("--library", type=pathlib.Path)
     parser.add_argument("--frames", type=pathlib.Path, nargs="*", default=[])
     parser.add_argument("--count", type=int, default=300000)
-    parser.add_argument("--seed", type=int, default=1)
-    parser.add_argument("--rounds", type=int, default=5)
     return parser.parse_args()
 
 
-def built(library: pathlib.Path | None, room: pathlib.Path) -> str:
-    """Returns the program over the library, built."""
-    if library is None:
-        library = room / "lib"
-        command = [TOP / "tools" / "library" / "library.sh", library]
-        subprocess.run(command, check=True, stdout=subprocess.DEVNULL)
-    program = room / "verdicts"
-    source = TOP / "tools" / "library" / "c" / "verdicts.c"
-    archive = library / "liblldpa.a"
-    subprocess.run(["cc", "-std=c99", "-O2", f"-I{library}", source, archive, "-o", program],
-                   check=True)
-    return str(program)
+def built(library: pathlib.Path, name: str, room: pathlib.Path) -> str:
+    """Returns a program over the library, built."""
+    fault = Library(library, room).compiled(SOURCES / f"{name}.c", name)
+    if fault is not None:
+        sys.exit(fault)
+    return str(room / name)
+
+
+def library_in(room: pathlib.Path) -> pathlib.Path:
+    """Builds the library, and returns its folder."""
+    subprocess.run([TOP / "tools" / "library" / "library.sh", room / "lib"], check=True,
+                   stdout=subprocess.DEVNULL)
+    return room / "lib"
 
 
 def main() -> int:
@@ -134,26 +138,27 @@ def main() -> int:
     corpora = {"frames of captures": captured_frames([*sorted((TOP / "docs").rglob("*.pcap")), *words.frames]),
                "frames of traces": captured_frames(sorted((TOP / "examples").glob("*.trace")))}
     captured = list(dict.fromkeys(frame for found in corpora.values() for frame in found))
-    octets = corpus(captured, words.count, words.seed)
+    octets = corpus(captured, words.count)
     print(f"{len(octets)} frames, {len(captured)} of captures and traces")
-    frames, passed, failed = [Frame(frame) for frame in octets], 0, 0
+    frames = [Frame(frame) for frame in octets]
     with tempfile.TemporaryDirectory() as name:
         room = pathlib.Path(name)
         corpora |= {"both": captured, "all frames": octets}
         files = {of_what: room / of_what.replace(" ", "-") for of_what in corpora}
         for of_what, path in files.items():
             path.write_text("".join(f"{frame.hex()}\n" for frame in corpora[of_what]))
-        programs = {OURS: built(words.library, room), "lldpd": str(words.peers / "lldpd_decode"),
-                    "sd-lldp": str(words.peers / "sd_decode")}
-        told = {peer: verdicts([program, "verdict", str(files["all frames"])])
-                for peer, program in programs.items()}
-        for peer, theirs in told.items():
-            assert len(theirs) == len(frames), f"{peer} reports other frames"
-            held, not_held = judge(peer, frames, told[OURS], theirs)
+        library = words.library or library_in(room)
+        passed, failed = judge_library(built(library, "vectors", room), frames, room)
+        peers = {"lldpd": str(words.peers / "lldpd_decode"),
+                 "sd-lldp": str(words.peers / "sd_decode")}
+        for peer, program in peers.items():
+            told = verdicts([program, "verdict", str(files["all frames"])])
+            held, not_held = judge(peer, frames, told)
             passed, failed = passed + held, failed + not_held
-        timed = {f"{OURS}, without a walk": [programs[OURS], "examine"]}
-        timed |= {peer: [program, "bench"] for peer, program in programs.items()}
-        print_times(timed, files, words.rounds)
+        readings = built(library, "readings", room)
+        timed = {"the library, without a walk": [readings, "examine"],
+                 "the library": [readings, "bench"]}
+        print_times(timed | {peer: [program, "bench"] for peer, program in peers.items()}, files)
     print(f"{passed} passed, {failed} failed")
     return 1 if failed or not passed else 0
 

@@ -28,6 +28,7 @@ from lldpa.lldpcli_forms.writing import LINE, one_line, shortened  # noqa: E402
 from lldpa.texts import printable  # noqa: E402
 from patience import eventually  # noqa: E402
 from real_lldpd import Lldpd  # noqa: E402
+from senders import SENDERS  # noqa: E402
 from served import frame, tlv  # noqa: E402
 from wires import Wires, inside, ip  # noqa: E402
 
@@ -46,31 +47,8 @@ IDENTIFIER = re.compile(r"(chassis|port)\.(mac|ip|ifname|ifalias|local|unhandled
 AGE = re.compile(r"Time: \d+ days?, [0-9:]+")
 COORDINATES = [(degrees, resolution) for degrees in (0, 48.8566613, -33.8567844, 0.5, -0.5, -1, 89.9999999, -0.001)
                for resolution in (0, 5, 9, 10, 15, 22, 25, 34)]
-# the settings of the lldpd at the far end, by what it then is
-SENDERS = {
-    "a switch": (
-        "configure ports peer0 dot3 power pse supported enabled paircontrol powerpairs spare class class-3",
-        "configure lldp custom-tlv add oui 00,80,c2 subtype 1 oui-info 00,78",
-        "configure lldp custom-tlv add oui 00,80,c2 subtype 2 oui-info 06,00,7b",
-        "configure lldp custom-tlv add oui 00,80,c2 subtype 3 oui-info 00,78,06,6f,66,66,69,63,65",
-        "configure lldp custom-tlv add oui 00,80,c2 subtype 3 oui-info 00,79,05,67,75,65,73,74",
-        "configure lldp custom-tlv add oui 00,80,c2 subtype 4 oui-info 05,88,cc,00,01,02",
-        "configure lldp custom-tlv add oui 00,12,0f subtype 4 oui-info 05,f2",
-        "configure lldp custom-tlv add oui 33,44,55 subtype 44 oui-info 45,45,45,45,45",
-        "configure lldp custom-tlv add oui 33,44,55 subtype 254"),
-    "a phone": (
-        "configure ports peer0 dot3 power pd supported enabled powerpairs signal class class-4",
-        "configure ports peer0 med policy application voice tagged vlan 500 priority voice dscp 46",
-        "configure ports peer0 med policy application guest-voice unknown",
-        "configure ports peer1 med policy application streaming-video vlan priority-tagged priority video dscp 34",
-        "configure ports peer0 med power pd source pse priority high value 5000",
-        "configure ports peer0 med location coordinate latitude 48.85667N longitude 2.2014W altitude 117.5 m datum WGS84",
-        "configure ports peer1 med location address country US language en_US city Albany number 7",
-        "configure inventory hardware-revision HW-B", "configure inventory firmware-revision FW-9",
-        "configure inventory serial-number SN-0001", "configure inventory manufacturer Example",
-        "configure inventory model Phone-7", "configure inventory asset asset-42"),
-    "a plain host": ("configure system description \"two words\"", "configure lldp portidsubtype ifname"),
-}
+PLAIN_HOST = ("configure system description \"two words\"", "configure lldp portidsubtype ifname",
+              "configure lldp custom-tlv add oui 33,44,55 subtype 254")
 # what makes the near lldpd say what lldpa-live says
 ALIKE = ("configure lldp portidsubtype ifname", "configure system description alike",
          "configure system ip management pattern 192.0.2.1")
@@ -291,7 +269,7 @@ class Lab:
 
 def configured(lab, comparison):
     """Compares senders that are lldpds."""
-    for name, commands in SENDERS.items():
+    for name, commands in {**SENDERS, "a plain host": PLAIN_HOST}.items():
         with lab.hearing(name, commands):
             lab.compare(comparison, name, COMMANDS)
     lab.compare(comparison, "nobody", COMMANDS)

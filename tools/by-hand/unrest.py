@@ -1,6 +1,7 @@
 """Everything at once to an lldpa-live, for tools/by-hand/flood-log.py --minutes."""
 from __future__ import annotations
 
+import collections
 import os
 import random
 import signal
@@ -18,7 +19,7 @@ from served import PROGRAM, numbered, tlv
 from wires import Peer, Wires, ip
 
 HOSTILE_A_TURN, SECONDS_OF_A_TURN = 50, 0.05
-SECONDS_OF_A_WORD = 0.2  # so that a port hears fewer than 64 a second
+SECONDS_OF_A_WORD = 0.2
 MOST_GROWTH = 1500  # KiB
 QUIET = 5  # neighbors
 REFUSED = ("rx eth1 00", "tick", "no such command", "configure lldp tx-hold 0", "x" * 4096)
@@ -74,8 +75,7 @@ class Unrest:
         self.sent: list[bytes] = []
         self.expected: dict[str, str] = {}  # the last word of each quiet neighbor
         self.wrong: list[str] = []
-        self.late = 0  # looks that a frame was not there for, and then was
-        self.done: dict[str, int] = {}
+        self.done: collections.Counter[str] = collections.Counter()
         self.figures: list[tuple[float, int, int]] = []  # seconds, KiB and descriptors
         self.began = time.monotonic()
         self.is_over = threading.Event()
@@ -98,39 +98,33 @@ class Unrest:
         self.quiet.send(octets)
 
     def look(self) -> None:
-        """Compares the tables with what was sent."""
-        try:
-            ports = {port.name: port for port in read_show(self.live.ask("show neighbors")).ports}
-        except Refused as refused:
-            self.note(f"refused: {refused.text}")
-            return
-        said = {one.id: dict(one.said)["chassis.name"] for one in ports["eth1"].neighbors}
-        if said != self.expected:  # a busy kernel may hand a frame over behind the question
-            self.late += 1
-            time.sleep(SECONDS_OF_A_WORD)
-            said = {one.id: one.name for one in read_show(self.live.ask("show neighbors")).neighbors
-                    if one.port == "eth1"}
-        if said != self.expected:
-            self.wrong.append(f"{time.monotonic() - self.began:.0f} s: eth1 has {said}, "
-                              f"not {self.expected}")
-        false = {one.id for one in ports["eth0"].neighbors} - self.able
-        if false or len(ports["eth2"].neighbors) > self.is_there:
-            self.wrong.append(f"false neighbors: {false} {ports['eth2']}")
+        """Compares the tables with what was sent. A busy kernel may hand a frame over late."""
+        if not eventually(self.is_as_sent, SECONDS_OF_A_WORD):
+            seconds = time.monotonic() - self.began
+            self.wrong.append(f"{seconds:.0f} s: {self.told}, not {self.expected}")
 
-    def note(self, what: str) -> None:
-        """Counts what was done, or said."""
-        self.done[what] = self.done.get(what, 0) + 1
+    def is_as_sent(self) -> bool:
+        """Returns whether the quiet port has the last words of its neighbors, and no other port a
+        false one."""
+        try:
+            ports = read_show(self.live.ask("show neighbors")).ports
+        except Refused as refused:
+            self.done[f"refused: {refused.text}"] += 1
+            return True
+        self.told = {port.name: {one.id: one.name for one in port.neighbors} for port in ports}
+        return (self.told["eth1"] == self.expected and set(self.told["eth0"]) <= self.able
+                and len(self.told["eth2"]) <= self.is_there)
 
     def act(self) -> None:
         """Does something."""
         what: Callable[[], None] = self.choice.choice(
             [self.reload, self.question, self.configure, self.address, self.come_or_go,
              self.stand_still, self.link])
-        self.note(what.__name__)
+        self.done[what.__name__] += 1
         try:
             what()
         except Refused as refused:
-            self.note(f"refused: {refused.text}")
+            self.done[f"refused: {refused.text}"] += 1
 
     def reload(self) -> None:
         """Has other settings read."""
@@ -162,27 +156,31 @@ class Unrest:
 
     def come_or_go(self) -> None:
         """Takes an interface away, or makes it anew and has somebody send there."""
-        if self.is_there:
-            self.far.close()
-            self.wires.remove_link("eth2")
-        else:
-            self.wires.add_link(2)
-            self.far = Peer(self.wires, "peer2")
-        self.is_there = not self.is_there
+        (self.go if self.is_there else self.come)()
         where = "present" if self.is_there else "awaited"
         if not eventually(lambda: f"live.eth2.interface={where}" in self.live.ask("live")):
             self.wrong.append(f"eth2 is not {where}")
         if self.is_there:
             self.far.send(numbered(77, 600))
 
+    def go(self) -> None:
+        """Takes the interface away."""
+        self.far.close()
+        self.wires.remove_link("eth2")
+        self.is_there = False
+
+    def come(self) -> None:
+        """Makes the interface anew."""
+        self.wires.add_link(2)
+        self.far = Peer(self.wires, "peer2")
+        self.is_there = True
+
     def stand_still(self) -> None:
         """Lets lldpa-live stand still while an interface is replaced."""
         self.live.signal(signal.SIGSTOP)
         if self.is_there:
-            self.far.close()
-            self.wires.remove_link("eth2")
-            self.wires.add_link(2)
-            self.far = Peer(self.wires, "peer2")
+            self.go()
+            self.come()
         time.sleep(self.choice.random())
         self.live.signal(signal.SIGCONT)
 
@@ -255,4 +253,4 @@ class Unrest:
             judge(least[-1] <= least[min(1, len(least) - 1)] + growth,
                   f"lldpa-live: {what}, at most {max(one[place] for one in self.figures)}, "
                   f"the least of each minute: {least}")
-        print(f"{self.late} frames came late", self.done, flush=True)
+        print(dict(self.done), flush=True)

@@ -5,9 +5,9 @@
 
 It looks up links and their anchors; files, calls and options; and lines of sources in blocks that say `rust` or `antt`,
 which must be consecutive lines of one file. On pages about proofs it looks up each clause, definition, lemma and large
-number. The first line of each module of a crate and of each file of lemmas must say what it is. Each row of SECURITY.md
-that says what shows it must name a law or call of the crates, a test of python/tests or audit/tests or a script, and
-these must exist. No page may call lldpa-live "the bridge", and no line of text may be over 120 columns long.
+number. Each row of SECURITY.md that says what shows it must name a law or call of the crates, a test of python/tests or
+audit/tests or a script, and these must exist. No page may call lldpa-live "the bridge", and no line of text may be over
+120 columns long.
 
 With --installed it looks up only the links of the pages in that folder, which tools/release/install.sh has filled. The
 last line counts what was looked up.
@@ -185,18 +185,6 @@ def check_page(checks, page):
         checks.see(name, lines[0], None if is_shown(lines) else "these are not consecutive lines of a source")
 
 
-def check_modules(checks):
-    """Checks that the first line of each module says what it is, and that of each file of lemmas what it proves."""
-    for crate in CRATES:
-        for path in sorted((TOP / "crates" / crate / "src").rglob("*.rt")):
-            if "tests" not in path.relative_to(TOP).parts:
-                says = re.match(r"//! \w", path.read_text())
-                checks.see(path.relative_to(TOP), "its first line", None if says else "does not say what the module is")
-        for path in sorted((TOP / "crates" / crate / "proofs").glob("*.antt")):
-            says = path.stem == "Lib" or re.match(r"-- \w", path.read_text())
-            checks.see(path.relative_to(TOP), "its first line", None if says else "does not say what the file proves")
-
-
 def is_shown_by(name):
     """Returns whether there is such a script, test of the Python package (test_file.test_name), or law or call of the
     crates."""
@@ -241,7 +229,6 @@ def main():
         return checks.end()
     for page in PAGES:
         check_page(checks, page)
-    check_modules(checks)
     check_security(checks)
     return checks.end()
 

@@ -9,19 +9,16 @@ cd "$(dirname "$0")/../.." || exit 2
 needs cargo || exit 3
 export LLDPA_LIB_DIR="$PWD/crates/lldpa_c/out/lib"
 if ! [ -f "$LLDPA_LIB_DIR/liblldpa.a" ]; then
-    tools/library/library.sh > "$room/out" 2>&1
-    judge $? "tools/library/library.sh: $(tail -n 5 "$room/out")"
+    check "tools/library/library.sh" tools/library/library.sh
 fi
 for words in "" --dynamic; do
     # shellcheck disable=SC2086
-    tools/release/live.sh $words > "$room/out" 2>&1
-    judge $? "tools/release/live.sh $words: $(tail -n 5 "$room/out")"
+    check "tools/release/live.sh $words" tools/release/live.sh $words
 done
 cd rust/live || exit 2
 export CARGO_TARGET_DIR=out/target
 for words in "fmt --check" "clippy --offline --all-targets --quiet -- -D warnings" "test --offline --quiet"; do
     # shellcheck disable=SC2086
-    cargo $words > "$room/out" 2>&1
-    judge $? "cargo $words: $(tail -n 20 "$room/out")"
+    check "cargo $words" cargo $words
 done
 finish

@@ -248,14 +248,15 @@ def see_walks(sources: Sources) -> None:
         sources.see(is_known, f"{name}: by hand")
 
 
-def is_seen(mutant: tuple[str, str, str]) -> bool:
-    """Returns whether the sources with a text of a file replaced break some rule."""
-    name, old, new = mutant
+def is_seen(name: str, change: tuple[str, ...]) -> bool:
+    """Returns whether the sources with the texts of a file replaced break some rule."""
     sources = Sources()
-    is_there_once = sources.texts[name].count(old) == 1
-    sources.texts[name] = sources.texts[name].replace(old, new.replace("@", old))
+    for old, new in zip(change[::2], change[1::2]):
+        if sources.texts[name].count(old) != 1:
+            return False
+        sources.texts[name] = sources.texts[name].replace(old, new.replace("@", old))
     see_all(sources)
-    return is_there_once and len(sources.broken) > 0
+    return len(sources.broken) > 0
 
 
 def main() -> int:
@@ -263,10 +264,10 @@ def main() -> int:
     sources = Sources()
     see_all(sources)
     see_walks(sources)
-    mutants = [(name, *pair) for name, pairs in MUTANTS.items() for pair in pairs]
+    mutants = [(name, change) for name, changes in MUTANTS.items() for change in changes]
     with ProcessPoolExecutor() as pool:
-        for (name, _, new), seen in zip(mutants, pool.map(is_seen, mutants)):
-            sources.see(seen, f"{name}, with {new}: not seen, or not there once")
+        for (name, change), seen in zip(mutants, pool.map(is_seen, *zip(*mutants))):
+            sources.see(seen, f"{name}, with {change[1]}: not seen, or not there once")
     for fault in sources.broken:
         print(fault)
     print(f"{sources.rules - len(sources.broken)} passed, {len(sources.broken)} failed")

@@ -46,7 +46,7 @@ def fault_of_vector(place: str) -> str | None:
     rows = [row.split("\t")[:2] for row in (TOP / "examples" / "vectors.rows").read_text().splitlines()]
     if [kind, name] not in rows:
         return f"examples/vectors.rows has no row {place}"
-    return fault_of_test(TEST_OF_ROWS[kind])
+    return fault_of_test(TEST_OF_ROWS[kind]) or fault_of_script("tools/library/check-library.py")
 
 
 @functools.cache
@@ -80,12 +80,7 @@ def fault_of_test(place: str) -> str | None:
         return f"{file.relative_to(TOP)} has no test {function}"
     if not asserts(function):
         return f"{function} of {file.relative_to(TOP)} asserts nothing"
-    return fault_of_row(file, text, row) if row else None
-
-
-def fault_of_row(file: pathlib.Path, text: str, row: str) -> str | None:
-    """Returns what is wrong with a named row of a test, or None."""
-    return None if f'"{row}"' in text else f"{file.relative_to(TOP)} has no row {row}"
+    return None if not row or f'"{row}"' in text else f"{file.relative_to(TOP)} has no row {row}"
 
 
 def fault_of_shell(command: str) -> str | None:
@@ -102,8 +97,7 @@ def fault_of_script(name: str) -> str | None:
 
 
 PLACES = {"transcript": fault_of_transcript, "counters": fault_of_counters, "vector": fault_of_vector,
-          "test": fault_of_test,
-          "shell": fault_of_shell, "script": fault_of_script}
+          "test": fault_of_test, "shell": fault_of_shell, "script": fault_of_script}
 
 
 def fault_of_place(place: str) -> str | None:

@@ -28,15 +28,18 @@ listed() {
 install_into() {
     tree=$1
     shift
-    DESTDIR=$tree tools/release/install.sh "$@" > "$room/said" 2>&1
-    judge $? "tools/release/install.sh $*: $(cat "$room/said")"
+    check "tools/release/install.sh $*" env "DESTDIR=$tree" tools/release/install.sh "$@"
+}
+
+# Lists the files that are left in a tree.
+left_in() {
+    [ -z "$(find "$1" ! -type d -o -name lldpa.d | tee /dev/stderr)" ]
 }
 
 tools/release/package.sh "$room" > "$room/name" 2> "$room/said"
 judge $? "tools/release/package.sh: $(cat "$room/said")"
 package=$(cat "$room/name")
-dpkg-deb -x "$package" "$room/package"
-judge $? "dpkg-deb -x $package"
+check "dpkg-deb -x $package" dpkg-deb -x "$package" "$room/package"
 
 # The package has what is installed under /usr, and these files besides. postinst puts the configuration in its place.
 install_into "$room/usr" --python /usr/lib/python3/dist-packages /usr
@@ -45,12 +48,10 @@ mv "$room/package/usr/share/lldpa/default" "$room/package/etc/default/lldpa"
 own='^usr/share/doc/lldpa/\(copyright\|changelog.Debian.gz\) \|^usr/share/lintian\>'
 listed "$room/package" | grep -v "$own" > "$room/packaged"
 listed "$room/usr" > "$room/installed"
-diff "$room/installed" "$room/packaged"
-judge $? "the package has other files than tools/release/install.sh installs"
-tools/release/install.sh --list --python /usr/lib/python3/dist-packages /usr | sort > "$room/out"
+check "the package has other files than tools/release/install.sh installs" diff "$room/installed" "$room/packaged"
+tools/release/install.sh --list --python /usr/lib/python3/dist-packages /usr | sed '/^link/!s/ [^ ]*$//' | sort > "$room/listed"
 (cd "$room/usr" && find . -type f -printf '%m /%P\n' -o -type l -printf 'link /%P %l\n') | sort > "$room/found"
-sed '/^link/!s/ [^ ]*$//' "$room/out" | sort | diff - "$room/found"
-judge $? "tools/release/install.sh --list tells other files than it installs"
+check "tools/release/install.sh --list prints other files than it installs" diff "$room/listed" "$room/found"
 strip --remove-section=.comment --remove-section=.note "$room/usr/usr/bin/lldpa" "$room/usr/usr/bin/lldpa-live"
 diff -rq "$room/usr" "$room/package" | grep -v 'Only in .*package/usr/share' > "$room/out"
 [ ! -s "$room/out" ]
@@ -58,48 +59,43 @@ judge $? "files differ: $(cat "$room/out")"
 
 # The same holds for the default prefix, except folders that Debian names otherwise.
 install_into "$room/local" --python /usr/local/lib/python3/dist-packages
-(cd "$room/local" && find . ! -type d | sed 's,/usr/local/,/usr/,; s,/site-functions/,/vendor-completions/,' | LC_ALL=C sort) > "$room/out"
-(cd "$room/usr" && find . ! -type d | LC_ALL=C sort) | diff "$room/out" -
-judge $? "the prefix /usr/local has other files than /usr"
+(cd "$room/local" && find . ! -type d) | sed 's,/usr/local/,/usr/,; s,/site-functions/,/vendor-completions/,' | sort > "$room/of-local"
+(cd "$room/usr" && find . ! -type d) | sort > "$room/of-usr"
+check "the prefix /usr/local has other files than /usr" diff "$room/of-local" "$room/of-usr"
 
 # All that is installed is removed again, except a configuration that was changed.
 for prefix in /usr /usr/local /opt/lldpa; do
     install_into "$room/gone" --python /opt/python "$prefix"
-    DESTDIR=$room/gone tools/release/install.sh --uninstall --python /opt/python "$prefix" > "$room/said" 2>&1
-    left=$(find "$room/gone" ! -type d -o -name lldpa.d)
-    [ -z "$left" ]
-    judge $? "tools/release/install.sh --uninstall $prefix leaves $left"
+    install_into "$room/gone" --uninstall --python /opt/python "$prefix"
+    check "tools/release/install.sh --uninstall $prefix leaves files" left_in "$room/gone"
 done
 install_into "$room/kept" /usr
 echo 'PORTS="swp1"' > "$room/kept/etc/default/lldpa"
 install_into "$room/kept" /usr
-DESTDIR=$room/kept tools/release/install.sh --uninstall /usr > "$room/said" 2>&1
-grep -qx 'PORTS="swp1"' "$room/kept/etc/default/lldpa"
-judge $? "tools/release/install.sh does not keep a configuration that was changed"
+install_into "$room/kept" --uninstall /usr
+check "tools/release/install.sh does not keep a configuration that was changed" \
+    grep -qx 'PORTS="swp1"' "$room/kept/etc/default/lldpa"
 
 # Each program has its page and its completions, and runs from the package. lldpctl is not among those on the path.
+version=$(dpkg-deb -f "$package" Version)
 for path in "$room"/package/usr/bin/* "$room/package/usr/lib/lldpa/bin/lldpctl"; do
     name=${path##*/}
     case $name in lldpa-live | lldpa-ctl) section=8 ;; *) section=1 ;; esac
     for file in man/man$section/$name.$section.gz bash-completion/completions/$name zsh/vendor-completions/_lldpa; do
-        [ -f "$room/package/usr/share/$file" ]
-        judge $? "$name has no usr/share/$file"
+        check "$name has no usr/share/$file" [ -f "$room/package/usr/share/$file" ]
     done
     "$path" --help > "$room/out" 2>&1 && grep -q "$name" "$room/out"
     judge $? "$name --help of the package: $(head -c 200 "$room/out")"
-    [ "$("$path" --version)" = "$name $(dpkg-deb -f "$package" Version | sed 's/-[^-]*$//')" ]
-    judge $? "$name --version of the package: $("$path" --version)"
+    said=$("$path" --version)
+    check "$name --version of the package says $said" [ "$said" = "$name ${version%-*}" ]
 done
-[ ! -e "$room/package/usr/bin/lldpctl" ] && [ ! -e "$room/package/usr/bin/lldpcli" ]
-judge $? "the package has a program of lldpd's name in usr/bin"
+for name in lldpctl lldpcli; do
+    check "the package has lldpd's $name in usr/bin" [ ! -e "$room/package/usr/bin/$name" ]
+done
 "$room/package/usr/lib/lldpa/bin/lldpcli" -u "$room/none" show chassis > "$room/out" 2>&1
 grep -q "^lldpcli: nobody answers at $room/none" "$room/out"
 judge $? "lldpcli of the package: $(cat "$room/out")"
-[ -f "$room/package/usr/lib/lldpa/python/lldpa/py.typed" ]
-judge $? "the package has no py.typed"
-version=$(dpkg-deb -f "$package" Version)
-[ "lldpa ${version%-*}" = "$("$room/package/usr/bin/lldpa" --version)" ]
-judge $? "the package is $version, and the program says $("$LLDPA" --version)"
+check "the package has no py.typed" [ -f "$room/package/usr/lib/lldpa/python/lldpa/py.typed" ]
 (cd / && PYTHONDONTWRITEBYTECODE=1 PYTHONPATH=$room/package/usr/lib/python3/dist-packages \
     /usr/bin/python3 -c 'import lldpa; print(lldpa.__file__)') > "$room/out" 2>&1
 [ "$(cat "$room/out")" = "$room/package/usr/lib/python3/dist-packages/lldpa/__init__.py" ]
@@ -113,27 +109,26 @@ judge $? "python3 -m lldpa_audit: $(cat "$room/out")"
 [ "$(cat "$room/out")" = "./README.md ./SECURITY.md ./audit/README.md ./docs/CAPTURES.md ./docs/LLDPD.md \
 ./docs/OPERATORS.md ./docs/PROGRAMS.md" ]
 judge $? "the package has other pages: $(cat "$room/out")"
-python3 tools/gate/check-links.py --installed "$room/package/usr/share/doc/lldpa" > "$room/out" 2>&1
-judge $? "links of installed pages: $(cat "$room/out")"
+check "links of installed pages" python3 tools/gate/check-links.py --installed "$room/package/usr/share/doc/lldpa"
 ! dpkg-deb --info "$package" conffiles | grep /etc/default/lldpa
 judge $? "/etc/default/lldpa is a configuration file of the package, about which an upgrade could ask"
-grep -qx 'LIVE_OPTIONS=""' "$room/package/etc/default/lldpa"
-judge $? "/etc/default/lldpa has options that belong in the unit"
+check "/etc/default/lldpa has options that belong in the unit" grep -qx 'LIVE_OPTIONS=""' "$room/package/etc/default/lldpa"
 units=$room/package/usr/lib/systemd/system
-grep -q '^ExecStart=/usr/bin/lldpa-live .* --log ${STATE_DIRECTORY} --events --forget-on-down ' "$units/lldpa.service" &&
+check "lldpa.service does not run lldpa-live" grep -q \
+    '^ExecStart=/usr/bin/lldpa-live .* --log ${STATE_DIRECTORY} --events --forget-on-down ' "$units/lldpa.service"
+check "lldpa-metrics.service does not run lldpa-ctl" \
     grep -q '^ExecStart=/usr/bin/lldpa-ctl metrics ' "$units/lldpa-metrics.service"
-judge $? "the services of the package do not run its programs"
-[ -f "$units/lldpa-metrics.timer" ] && [ -f "$room/package/usr/share/lldpa/lldpa.rules.yml" ]
-judge $? "the package has no timer for metrics, or no rules for Prometheus"
+check "there is no timer for metrics, or no rules for Prometheus" \
+    ls "$units/lldpa-metrics.timer" "$room/package/usr/share/lldpa/lldpa.rules.yml"
 # The service reads the settings of its folder, which exists; another prefix has another folder.
-[ -d "$room/package/etc/lldpa.d" ] && [ -d "$room/local/etc/lldpa.d" ] &&
-    grep -q '^ExecStart=.* --config /etc/lldpa.conf --config /etc/lldpa.d ' "$units/lldpa.service"
-judge $? "the service of the package does not read /etc/lldpa.d"
 install_into "$room/opt" --python /opt/python /opt/lldpa
-[ -d "$room/opt/opt/lldpa/etc/lldpa.d" ] && grep -q \
+check "there is no folder of settings" \
+    ls -d "$room/package/etc/lldpa.d" "$room/local/etc/lldpa.d" "$room/opt/opt/lldpa/etc/lldpa.d"
+check "the service of the package does not read /etc/lldpa.d" \
+    grep -q '^ExecStart=.* --config /etc/lldpa.conf --config /etc/lldpa.d ' "$units/lldpa.service"
+check "the service below /opt/lldpa does not read /opt/lldpa/etc/lldpa.d" grep -q \
     '^ExecStart=/opt/lldpa/bin/lldpa-live .* --config /opt/lldpa/etc/lldpa.conf --config /opt/lldpa/etc/lldpa.d ' \
     "$room/opt/opt/lldpa/lib/systemd/system/lldpa.service"
-judge $? "the service below /opt/lldpa does not read /opt/lldpa/etc/lldpa.d"
 
 # The packages of the library have what tools/release/install.sh --library installs, and pkg-config finds it there.
 library_packages() {
@@ -149,12 +144,11 @@ library_packages() {
     install_into "$room/dev" --library /usr
     own='^usr/share/doc/\(lldpa1\|lldpa-dev/\(copyright\|changelog.Debian.gz\)\) \|^usr/share/doc/lldpa1/\|^usr/share/lintian\>'
     listed "$room/developed" | grep -v "$own" > "$room/packaged"
-    listed "$room/dev" | diff - "$room/packaged"
-    judge $? "the packages of the library have other files than tools/release/install.sh --library installs"
-    DESTDIR=$room/dev tools/release/install.sh --uninstall --library /usr > "$room/said" 2>&1
-    left=$(find "$room/dev" ! -type d)
-    [ -z "$left" ]
-    judge $? "tools/release/install.sh --uninstall --library leaves $left"
+    listed "$room/dev" > "$room/installed"
+    check "the packages of the library have other files than tools/release/install.sh --library installs" \
+        diff "$room/installed" "$room/packaged"
+    install_into "$room/dev" --uninstall --library /usr
+    check "tools/release/install.sh --uninstall --library leaves files" left_in "$room/dev"
     shared_object
     if command -v pkg-config > /dev/null && command -v cc > /dev/null; then
         told_by_pkg_config liblldpa.so.1
@@ -170,11 +164,11 @@ shared_object() {
     [ "$files" = "changelog.Debian.gz copyright liblldpa.so.1 lldpa1 " ]
     judge $? "lldpa1 has the files $files"
     shared=$(find "$room/shared" -name liblldpa.so.1)
-    objdump -p "$shared" | grep -qx ' *SONAME  *liblldpa.so.1'
-    judge $? "the shared object has another name: $(objdump -p "$shared" | grep SONAME)"
+    objdump -p "$shared" > "$room/said"
+    check "the shared object has another name" grep -x ' *SONAME  *liblldpa.so.1' "$room/said"
     nm -D --defined-only "$shared" | sed 's/.* //; s/@@LLDPA_1$//' | grep -vx LLDPA_1 | sort > "$room/exported"
-    sed -n 's/^[a-z0-9_]* \(lldpa_[a-z_]*\)(.*/\1/p' crates/lldpa_c/include/lldpa.h | sort | diff - "$room/exported"
-    judge $? "the shared object exports other names than lldpa.h declares"
+    sed -n 's/^[a-z0-9_]* \(lldpa_[a-z_]*\)(.*/\1/p' crates/lldpa_c/include/lldpa.h | sort > "$room/declared"
+    check "the shared object exports other names than lldpa.h declares" diff "$room/declared" "$room/exported"
     [ "$(dpkg-deb -f "$made" Package)" = lldpa1 ] && dpkg-deb --info "$made" shlibs | grep -q '^liblldpa 1 lldpa1 '
     judge $? "lldpa1 does not say which package a program depends on"
 }
@@ -201,11 +195,9 @@ else
     echo "skipped: the packages of the library: $(cat "$room/said")"
 fi
 
-if command -v lintian > /dev/null; then
+if needs lintian; then
     # shellcheck disable=SC2086 # these are the packages of the library, each a word
     lintian --fail-on error,warning --allow-root "$package" $developed > "$room/out" 2>&1 && [ ! -s "$room/out" ]
     judge $? "lintian: $(cat "$room/out")"
-else
-    echo "skipped: lintian, which is not installed"
 fi
 finish

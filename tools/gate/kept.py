@@ -4,7 +4,7 @@
     tools/gate/kept.py NAME COMMAND ..
 
 Runs the command, unless the files of READ and the versions of the compilers are those with which it last passed here.
-If something was skipped, the count is not kept. The states are in out/kept, which git ignores, so a clean clone runs
+If something was skipped, the count is not kept. The states are in out/passed, which git ignores, so a clean clone runs
 everything. The last line is `N passed, M failed`.
 """
 from __future__ import annotations
@@ -17,7 +17,7 @@ import sys
 from collections.abc import Iterable
 
 TOP = pathlib.Path(__file__).resolve().parents[2]
-KEPT = TOP / "out" / "kept"
+KEPT = TOP / "out" / "passed"
 # what tools/library/check-library.py and check-arm64.py read
 READ = ("crates", "crates.txt", "rust", "examples", "docs/LIBRARY.md", "docs/lab.pcap", "tools/library", "tools/release",
         "tools/model", "tools/gate/examples.py", "tools/gate/counts.py")
@@ -42,19 +42,6 @@ def state_of(names: Iterable[str], words: str = "") -> str:
     return digest.hexdigest()
 
 
-def notes() -> dict[str, list[str]]:
-    """Returns what was noted, by its name: a state, and how many checks passed."""
-    lines = KEPT.read_text().splitlines() if KEPT.exists() else []
-    return {name: noted for name, *noted in map(str.split, lines)}
-
-
-def note(name: str, state: str, passed: int) -> None:
-    """Notes how many checks passed in that state."""
-    KEPT.parent.mkdir(exist_ok=True)
-    noted = {**notes(), name: [state, str(passed)]}
-    KEPT.write_text("".join(f"{' '.join([one, *rest])}\n" for one, rest in sorted(noted.items())))
-
-
 def run(command: list[str]) -> tuple[int, list[str]]:
     """Runs a command. Returns its status and its lines, each of which is printed as it comes."""
     lines = []
@@ -69,15 +56,16 @@ def run(command: list[str]) -> tuple[int, list[str]]:
 def main() -> int:
     """Runs the command, or prints its count again."""
     name, *command = sys.argv[1:]
-    state = state_of(READ, "".join(map(written_by, COMPILERS)))
-    kept, passed = notes().get(name, ["", "0"])
+    state, note = state_of(READ, "".join(map(written_by, COMPILERS))), KEPT / name
+    kept, passed = note.read_text().split() if note.exists() else ("", "0")
     if kept == state:
         print(f"kept: nothing that it reads has changed since it passed here\n{passed} passed, 0 failed")
         return 0
     status, lines = run(command)
     last = re.fullmatch(r"(\d+) passed, 0 failed\n", lines[-1]) if lines else None
     if status == 0 and last and not any(line.startswith("skipped: ") for line in lines):
-        note(name, state, int(last[1]))
+        KEPT.mkdir(parents=True, exist_ok=True)
+        note.write_text(f"{state} {last[1]}\n")
     return status
 
 

@@ -1,7 +1,8 @@
 """Changes of the sources that tools/gate/check-memory.py must see, each of which breaks a rule."""
 from __future__ import annotations
 
-# for each file an old text, which it contains once, and the new one, in which @ is the old one
+# for each file its changes: an old text, which it contains once, and the new one, in which @ is the old one; a change
+# may have further such pairs
 MUTANTS = {
     "lldp_engine/src/agent.rt": (
         ("pub fn find_port(",
@@ -47,7 +48,8 @@ MUTANTS = {
         ("let gone = self.used - kept;", "for i in 0..kept { let _ = self.entry(i); } @"),
     ),
     "lldp_table/src/queue.rt": (
-        ("    last: u16,", "@ all: [u16; MOST_NEIGHBORS],"),
+        ("    last: u16,", "@ all: [u16; MOST_NEIGHBORS],", "            last: 0,", "@ all: [0; MOST_NEIGHBORS],",
+         "self.last -= 1;", "@ for left in &mut self.all { *left = left.saturating_sub(1); }"),
         ("let first = self.slots[0];", "let _ = self.lefts(); @"),
     ),
     "lldp_table/src/room.rt": (

@@ -18,6 +18,14 @@ judge() {
     fi
 }
 
+# check WHAT COMMAND..: runs a command, and counts whether it succeeds. If not, what it said is reported.
+check() {
+    check_what=$1
+    shift
+    "$@" > "$room/out" 2>&1
+    judge $? "$check_what: $(tail -n 20 "$room/out")"
+}
+
 # needs COMMAND: succeeds if that command is installed; if not, it says what is skipped.
 needs() {
     command -v "$1" > /dev/null && return

@@ -9,6 +9,7 @@ qemu-user the status is 3. The last line is `N passed, M failed`.
 """
 from __future__ import annotations
 
+import concurrent.futures
 import functools
 import importlib
 import os
@@ -16,8 +17,10 @@ import pathlib
 import shutil
 import sys
 import tempfile
+from typing import Any
 
 from library_parts import TOP, WARNINGS, Counts, fault_of, ran, side_by_side, skip
+import examples  # found by library_parts
 
 COMPILER = "aarch64-linux-gnu-gcc"
 QEMU = ["qemu-aarch64", "-L", "/usr/aarch64-linux-gnu"]
@@ -37,9 +40,18 @@ def wrapped(program: pathlib.Path) -> pathlib.Path:
 
 
 def check_program(program: pathlib.Path, counts: Counts) -> None:
-    """Runs the transcripts of examples/, each in one piece, and random traces, and compares them with the model."""
+    """Runs the transcripts of examples/, each in one piece, and compares random traces with the model."""
     script = wrapped(program)
-    NATIVE.check_transcripts([str(script)], counts)
+
+    def fault_of_one(one: Any) -> str | None:
+        _, words, texts, trace, steps = one
+        wanted = b"".join(line for _, written in steps for line in written)
+        return examples.fault_of_run(script, words, texts, ([trace], wanted))
+
+    transcripts = list(examples.transcripts([]))
+    with concurrent.futures.ThreadPoolExecutor(os.cpu_count()) as pool:
+        for one, fault in zip(transcripts, pool.map(fault_of_one, transcripts)):
+            counts.judge(fault, f"transcript {one[0]}, {program.name}")
     command = [sys.executable, MODEL / "fuzz.py", "--program", script, "--traces", TRACES, "--seed", "1"]
     ended = ran(command)
     is_passed = ended.stdout.rstrip().endswith("1 passed, 0 failed")
@@ -49,7 +61,7 @@ def check_program(program: pathlib.Path, counts: Counts) -> None:
 def check_library(folder: pathlib.Path, room: pathlib.Path, counts: Counts) -> None:
     """Runs the programs in C over the library, and one over the shared object."""
     for name, linked in (("vectors", "liblldpa.a"), ("vectors", "liblldpa.so.1"), ("nulls", "liblldpa.a"),
-                         ("refused", "liblldpa.a"), ("transcript", "liblldpa.a")):
+                         ("limits", "liblldpa.a"), ("refused", "liblldpa.a"), ("transcript", "liblldpa.a")):
         more = NATIVE.WRAPPED if name == "refused" else []
         fault = fault_of([COMPILER, "-std=c99", "-O2", *WARNINGS, *more, f"-I{folder}", TOOLS / f"{name}.c",
                           folder / linked, "-o", room / name])

@@ -1,9 +1,9 @@
 #!/usr/bin/env python3
-"""Checks the library for C: runs vectors and rows, and cut and altered LLDPDUs beside the model
-(tools/library/c/vectors.c), the transcripts of examples/ and whole shows beside the model
-(tools/library/c/transcript.c), NULL for each pointer (tools/library/c/nulls.c) and refused memory
-(tools/library/c/refused.c, under valgrind) over it, with the compiler's sanitizers; the crate
-rust/lldpa with its tests; and the examples of docs/LIBRARY.md and of examples/.
+"""Checks the library for C, by programs of tools/library/c that run over it with the compiler's
+sanitizers: rows, and cut and altered LLDPDUs beside the model (vectors.c); the transcripts of
+examples/ and whole shows beside the model (transcript.c); NULL for each pointer and what is out of
+range (nulls.c); what rows do not reach (limits.c); and refused memory under valgrind (refused.c). Then
+the crate rust/lldpa with its tests, and the examples of docs/LIBRARY.md and of examples/.
 
     python3 tools/library/check-library.py [FOLDER]
 
@@ -13,31 +13,24 @@ counted; without a C compiler or a library the status is 3. The last line is `N 
 """
 from __future__ import annotations
 
-import concurrent.futures
-import importlib
 import os
 import pathlib
 import re
 import shutil
 import sys
 import tempfile
-from typing import Any, Callable
+from typing import Callable
 
-sys.path += [str(pathlib.Path(__file__).resolve().parents[1] / name) for name in ("gate", "model")]
-import compare  # noqa: E402
-import examples  # noqa: E402
-import model  # noqa: E402
-from library_examples import check_page, check_receive, check_sd_lldp_rx, check_who  # noqa: E402
-from library_front import check_front  # noqa: E402
-from library_layout import check_layout  # noqa: E402
-from library_machine import check_machine  # noqa: E402
-from library_parts import (TOP, WARNINGS, Counts, Library, count_of, fault_of, ran,  # noqa: E402
-                           side_by_side, skip)
-from library_rust import check_bindings, check_rust  # noqa: E402
+from library_examples import check_page, check_receive, check_sd_lldp_rx, check_who
+from library_front import check_front
+from library_layout import check_layout
+from library_machine import check_machine
+from library_parts import (TOP, WARNINGS, Counts, Library, count_of, fault_of, ran, side_by_side,
+                           skip)
+from library_rust import check_bindings, check_rust
+from library_transcripts import check_rows, check_transcripts
 
-FRAMES = importlib.import_module("check-frames")
 TOOLS = TOP / "tools" / "library" / "c"
-ROWS = TOP / "examples" / "vectors.rows"
 MANUAL = TOP / "crates" / "lldpa_c" / "include" / "lldpa.3"
 SANITIZERS = ["-fsanitize=address,undefined", "-fno-sanitize-recover=all"]
 WRAPPED = ["-Wl,--wrap=malloc,--wrap=realloc,--wrap=free"]
@@ -94,21 +87,6 @@ def check_size(library: Library, counts: Counts) -> None:
     counts.judge(None if 0 < sizes[1] - sizes[0] < 6000 else f"{sizes} octets", "the size of the reader in a program")
 
 
-def check_transcripts(program: list[str], counts: Counts) -> None:
-    """Runs each transcript, in one piece."""
-    def fault_of_one(one: Any) -> tuple[str, str | None]:
-        name, words, texts, trace, steps = one
-        if isinstance(steps, str):
-            return name, steps
-        wanted = b"".join(line for _, lines in steps for line in lines)
-        run = ([trace], wanted)
-        return name, examples.fault_of_run(program[0], [*program[1:], *words], texts, run)
-
-    with concurrent.futures.ThreadPoolExecutor(os.cpu_count()) as pool:
-        for name, fault in pool.map(fault_of_one, examples.transcripts([])):
-            counts.judge(fault, f"transcript {name}")
-
-
 def has_sanitizers(room: pathlib.Path) -> bool:
     """Returns whether the compiler has the sanitizers, and what it builds with them runs."""
     (room / "empty.c").write_text("int main(void) { return 0; }\n")
@@ -121,23 +99,11 @@ def check_programs(library: Library, counts: Counts) -> None:
     flags = SANITIZERS if has_sanitizers(library.room) else []
     if not flags:
         skip("the sanitizers, which the compiler does not have")
-    for name in ("vectors", "transcript", "nulls"):
+    for name in ("vectors", "transcript", "nulls", "limits"):
         fault = library.compiled(TOOLS / f"{name}.c", name, *flags)
         counts.judge(fault, f"building {name}")
         if fault is None:
             run_program(name, [str(library.room / name)], library.room, counts)
-    check_whole_shows(str(library.room / "transcript"), counts)
-
-
-def check_whole_shows(program: str, counts: Counts) -> None:
-    """Compares every show of 64 ports, and of a full table, with the model. The program also asks for each line alone."""
-    for ports, neighbors in ((64, 2), (1, 128)):
-        names = [f"p{port}" for port in range(ports)]
-        lines = [f"rx {name} {FRAMES.frame_of(number, 120).hex()}" for name in names for number in range(neighbors)]
-        lines += [f"show {show}" for show in model.SHOWS]
-        words = ["--receive-only", "--max-neighbors", "128", *names]
-        fault = compare.difference(program, words, [line.encode() for line in lines])
-        counts.judge(fault, f"shows of {ports} ports with {neighbors} neighbors")
 
 
 def run_program(name: str, command: list[str], room: pathlib.Path, counts: Counts) -> None:
@@ -145,29 +111,9 @@ def run_program(name: str, command: list[str], room: pathlib.Path, counts: Count
     if name == "transcript":
         check_transcripts(command, counts)
     elif name == "vectors":
-        count_of([*command, ROWS], name, counts)
-        (room / "altered.rows").write_text("".join(map(row_of, altered())))
-        counts.judge(fault_of([*command, room / "altered.rows", "examine"]), "cut and altered LLDPDUs")
+        check_rows(command, room, counts)
     else:
         count_of(command, name, counts)
-
-
-def altered() -> list[bytes]:
-    """Returns each front of the LLDPDUs of tools/model/check-frames.py, and each with one octet changed."""
-    return [b"", *(pdu for whole in FRAMES.LLDPDUS for pdu in FRAMES.altered(whole))]
-
-
-def row_of(pdu: bytes) -> str:
-    """Returns the row of examples/vectors.rows that has what the model reads of an LLDPDU."""
-    fields: list[Any] = ["examine", pdu.hex() or "-", pdu.hex() or "-"]
-    try:
-        told = model.Lldpdu(pdu)
-        fields += ["told", told.ttl, *(name.hex() for name in told.name)]
-        fields += ([len(told.extent), told.discarded, told.unrecognized] if told.ttl else [0, 0, 0])
-        fields += [f"{tlv.kind}:{tlv.body.hex()}" for tlv in (told.kept if told.ttl else [])]
-    except model.UnsoundLldpdu as fault:
-        fields += ["fault", *fault.args]
-    return "\t".join(map(str, fields)) + "\n"
 
 
 def check_refused(library: Library, counts: Counts) -> None:
@@ -186,9 +132,9 @@ def check_processor(library: Library, counts: Counts) -> None:
     if shutil.which("qemu-x86_64") is None or os.uname().machine != "x86_64":
         skip("an old processor, since there is no qemu-x86_64")
         return
-    counts.judge(library.compiled(TOOLS / "vectors.c", "plain"), "building vectors")
-    command = ["qemu-x86_64", "-cpu", "core2duo", library.room / "plain", ROWS]
-    counts.judge(fault_of(command), "the library on a Core 2 Duo")
+    counts.judge(library.compiled(TOOLS / "vectors.c", "vectors"), "building vectors")
+    program = str(library.room / "vectors")
+    check_rows(["qemu-x86_64", "-cpu", "core2duo", program], library.room, counts)
 
 
 def check_stack(library: Library, counts: Counts) -> None:

@@ -125,8 +125,6 @@ def check_sd_lldp_rx(library: Library, counts: Counts) -> None:
     ended = subprocess.run([library.room / "sd_lldp_rx"], input="\n".join([*lines, ""]), text=True,
                            stdout=subprocess.PIPE, timeout=SECONDS, check=False)
     counts.judge(None if ended.stdout == wanted else f"it writes {ended.stdout}", "examples/c/sd_lldp_rx.c")
-    few = len(source.read_text().splitlines()) < 120
-    counts.judge(None if few else "it has 120 lines or more", "the lines of examples/c/sd_lldp_rx.c")
 
 
 def check_receive(library: Library, counts: Counts) -> None:

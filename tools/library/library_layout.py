@@ -1,7 +1,10 @@
-"""Compares what the header and crates/lldpa_c say of each struct and function of the library: the fields and the parameters, in order, by their types, and which pointers are only read. The front asserts the size of
-each struct and the place of each field, and does not compile with a header that has another one.
+"""Compares what the header and crates/lldpa_c say of each struct and function of the library: the
+fields by their names and types, in order, the parameters by their types, and which pointers are only
+read. The front asserts the size of each struct, and does not compile with a header that has another
+one.
 
-A slice of Rattle is a pointer and a length in C. A handle's memory is a pointer that only the library knows.
+A slice of Rattle is a pointer and a length in C. A handle's memory is a pointer that only the
+library knows.
 """
 from __future__ import annotations
 
@@ -17,10 +20,8 @@ PARTS = TOP / "crates" / "lldp_transmit" / "src" / "parts.rt"
 TYPES = {"uint8_t": "u8", "uint16_t": "u16", "uint32_t": "u32", "size_t": "usize", "bool": "bool", "void": "()",
          "ticks_taken": "ticks", "parts": "machine", "statistics_told": "statistics",
          "configuration_told": "configuration"}
-
-# How many octets a type has, on the platforms that the library is built for.
-OCTETS = {"u8": 1, "u16": 2, "u32": 4, "usize": 8, "bool": 1, "pointer": 8, "const pointer": 8}
 STRUCT = re.compile(r"typedef struct lldpa_\w+ \{(.*?)\} lldpa_(\w+);", re.S)
+LENGTH = "usize behind a pointer"
 Lists = dict[str, list[str]]
 
 
@@ -54,61 +55,55 @@ def of_rust(declared: str) -> list[str]:
     return {"Global": [], "Held": ["pointer"], "LldpaText<'a>": ["text"]}.get(declared, [plain(declared)])
 
 
-def split(text: str) -> list[str]:
-    """Returns the parts of a list that commas separate."""
-    return [part.strip() for part in text.split(",") if part.strip()]
+def split(text: str, mark: str) -> list[str]:
+    """Returns the parts of a list that a mark separates."""
+    return [part.strip() for part in text.split(mark) if part.strip()]
 
 
-def structs_of(text: str) -> Lists:
-    """Returns the structs of the header, each with the declarations of its fields."""
-    return {name: [field.strip() for field in body.split(";") if field.strip()] for body, name in STRUCT.findall(text)}
+def fields_of_c(body: str) -> list[str]:
+    """Returns the names and types of fields. The length behind a pointer has no name in Rattle."""
+    found: list[str] = []
+    for field in split(body, ";"):
+        name, kind = re.findall(r"\w+", field.split("[")[0])[-1], of_c(field)
+        is_length = kind == "usize" and bool(found) and found[-1].endswith(" pointer")
+        found.append(LENGTH if is_length else f"{name}: {kind}")
+    return found
+
+
+def fields_of_rust(body: str) -> list[str]:
+    """Returns the names and the types that the fields of a struct have in C."""
+    found: list[str] = []
+    declarations = r"^ +(?:pub(?:\(crate\))? )(?:is_)?(\w+): (.*?),$"
+    for name, declared in re.findall(declarations, body, re.M):
+        kind, *length = of_rust(declared)
+        found += [f"{name}: {kind}", *(LENGTH for _ in length)]
+    return found
 
 
 def header_lists(text: str) -> Lists:
     """Returns the structs and the functions of the header."""
-    found = {plain(name): [of_c(field) for field in fields] for name, fields in structs_of(text).items()}
+    found = {plain(name): fields_of_c(body) for body, name in STRUCT.findall(text)}
     for answer, name, body in re.findall(r"^(\w+) (lldpa_\w+)\((.*?)\);", text, re.M | re.S):
-        found[name] = [*(of_c(one) for one in split(body) if one != "void"), plain(answer)]
+        found[name] = [*(of_c(one) for one in split(body, ",") if one != "void"), plain(answer)]
     return found
 
 
 def rust_lists(text: str) -> Lists:
-    """Returns the structs for C and the functions of a source of Rust or Rattle."""
+    """Returns the structs for C and the functions of a source of Rattle."""
     text = re.sub(r"//[^\n]*", "", text)
     found: Lists = {}
     for name, body in re.findall(r"#\[repr\(C\)\].*?struct (\w+)(?:<'a>)? \{(.*?)\n\}", text, re.S):
-        fields = re.findall(r"^ +(?:pub(?:\(crate\))? )(\w+): (.*?),$", body, re.M)
-        found[plain(name)] = [one for _, kind in fields for one in of_rust(kind)]
+        found[plain(name)] = fields_of_rust(body)
     for name, body, answer in re.findall(r"fn (lldpa_\w+)\((.*?)\)(?: -> (\w+))?[;\s]", text, re.S):
-        kinds = [one.split(":", 1)[1] for one in split(body)]
+        kinds = [one.split(":", 1)[1] for one in split(body, ",")]
         found[name] = [*(one for kind in kinds for one in of_rust(kind)), plain(answer) if answer else "()"]
     return found
 
 
-def assertions(text: str) -> list[str]:
-    """Returns what the front asserts of the header's structs, if each has its fields as C lays them out: each field at
-    the next place that its type's alignment divides, and the size a multiple of the greatest alignment."""
-    found, sizes = [], {name: (octets, octets) for name, octets in OCTETS.items()}
-    for name, fields in structs_of(text).items():
-        end, greatest, places = 0, 1, []
-        for field in fields:
-            array = re.fullmatch(r"\[(\w+); (\d+)\]", of_c(field))
-            size, alignment = sizes[array[1] if array else of_c(field)]
-            at = -(-end // alignment) * alignment
-            called = re.findall(r"\w+", field.split("[")[0])[-1]
-            places.append(f"AT({name}, {called}, {at})")
-            end, greatest = at + size * int(array[2] if array else 1), max(greatest, alignment)
-        sizes[plain(name)] = -(-end // greatest) * greatest, greatest
-        found += [f"SIZE({name}, {sizes[plain(name)][0]})", *places]
-    return found
-
-
-def check_assertions(library: Library, text: str, counts: Counts) -> None:
-    """Checks that the front asserts each size and place, and that a further field in a struct of the header is seen."""
-    wanted, found = assertions(text), re.findall(r"\b(?:SIZE|AT)\(\w+, [\w, ]*\d\)", FRONT.read_text())
-    counts.judge(None if found == wanted else f"{set(found) ^ set(wanted)}", "what the front asserts of the structs")
+def check_sizes(library: Library, counts: Counts) -> None:
+    """Checks that the front does not compile with a header that has a struct of another size."""
     header = (library.folder / "lldpa.h").read_text()
-    for name in structs_of(text):
+    for _, name in STRUCT.findall(header):
         (library.room / "lldpa.h").write_text(re.sub(rf"(struct lldpa_{name} {{)", r"\1 char more;", header))
         said = ran(["cc", "-std=gnu99", "-fsyntax-only", f"-I{library.room}", FRONT]).stderr
         is_seen = re.search(rf"error.*the size of lldpa_{name}\b", said) is not None
@@ -116,9 +111,9 @@ def check_assertions(library: Library, text: str, counts: Counts) -> None:
 
 
 def check_layout(library: Library, counts: Counts) -> None:
-    """Checks that both say the same, and that the front asserts it."""
+    """Checks that both say the same, and that the front asserts the sizes."""
+    check_sizes(library, counts)
     text = re.sub(r"/\*.*?\*/", "", (library.folder / "lldpa.h").read_text(), flags=re.S)
-    check_assertions(library, text, counts)
     # The front gives a proved reader of an agent a copy of its handle.
     wants = header_lists(text.replace("(const lldpa_agent *", "(lldpa_agent *"))
     found: Lists = {}

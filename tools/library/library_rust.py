@@ -9,6 +9,7 @@ import subprocess
 
 from library_examples import follow
 from library_parts import TOP, Counts, Library, fault_of, ran, skip
+from library_transcripts import check_transcripts
 
 CRATE = TOP / "rust" / "lldpa"
 
@@ -70,14 +71,16 @@ def check_bindings(library: Library, counts: Counts) -> None:
     counts.judge(None if bare[0] == bare[1] != "" else "bindgen writes others", "rust/lldpa/src/sys.rs")
 
 
-def check_example(library: Library, counts: Counts) -> None:
-    """Checks that the receive loop in Rust reports what happens to a neighbor."""
-    built = cargo(["build", "--example", "receive"], library.folder, library)
-    counts.judge(built.stderr[-1500:] if built.returncode else None, "building rust/lldpa/examples/receive.rs")
+def check_examples(library: Library, counts: Counts) -> None:
+    """Runs the transcripts, and checks that the receive loop reports what happens to a neighbor."""
+    built = cargo(["build", "--examples"], library.folder, library)
+    counts.judge(built.stderr[-1500:] if built.returncode else None, "building rust/lldpa/examples")
     if built.returncode:
         return
-    program = library.room / "target" / "debug" / "examples" / "receive"
-    with subprocess.Popen([program], stdin=subprocess.PIPE, stdout=subprocess.PIPE) as heard:
+    programs = library.room / "target" / "debug" / "examples"
+    check_transcripts([str(programs / "transcript")], counts)
+    with subprocess.Popen([programs / "receive"], stdin=subprocess.PIPE,
+                          stdout=subprocess.PIPE) as heard:
         assert heard.stdin is not None
         lines = heard.stdin
         is_told = follow(heard, lambda frame: (lines.write(frame.hex().encode() + b"\n"), lines.flush()))
@@ -111,7 +114,7 @@ def check_rust(library: Library, counts: Counts) -> None:
         skip("clippy, which is not installed")
     check_crate(["test", "--test", "strange", "--", "--ignored"], strange_archive(library), library, counts)
     check_versions(library, counts)
-    check_example(library, counts)
+    check_examples(library, counts)
     check_oldest(library, counts)
     missing = cargo(["check"], library.room / "none", library)
     is_said = missing.returncode != 0 and "Set LLDPA_LIB_DIR to the folder" in missing.stderr

@@ -15,14 +15,13 @@ from concurrent.futures import ProcessPoolExecutor
 
 import compare
 import fuzz
+import model
 import near
 from counts import Counts
 
 # besides the right lines one with octets whose upper case latin-1 does not have
 FORMS = [*near.LINES, ["configure", "system", "hostname", "\u00ff\u00b5"]]
-ROLES = ["station", "bridge", "router"]
-OPTIONS = ["max-neighbors", "mac", "hostname", "management", "role", "tx-credit-max", "tx-fast-init", "reinit-delay",
-           "receive-only", "listen", "connections", "help", "version"]
+OPTIONS = [*(name.replace("_", "-") for name in model.VALUED), "receive-only", "help", "version"]
 SHORT = "hV"
 WORDS = ["--receive-only", "eth0"]
 SENDING = ["eth0"]
@@ -49,8 +48,9 @@ def fault_of(form):
 
 def roles():
     """Returns the arguments with a role that does not exist."""
-    words = [*near.WORDS, *(other for role in ROLES for other in near.near(role)), ""]
-    return [["--role", word, "eth0"] for word in dict.fromkeys(words) if word not in ROLES and not word.startswith("-")]
+    words = [*near.WORDS, *(other for role in model.ROLES for other in near.near(role)), ""]
+    wrong = [word for word in dict.fromkeys(words) if word not in model.ROLES and not word.startswith("-")]
+    return [["--role", word, "eth0"] for word in wrong]
 
 
 def options():

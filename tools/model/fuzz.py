@@ -2,7 +2,7 @@
 """Runs lldpa and the model of tools/model/model.py on the same random words and traces, and compares the answers. Some
 of the traces also go to the judge of tools/model/judge.py, which checks when frames were sent.
 
-    python3 tools/model/fuzz.py [--program FILE] [--seed N] [--seconds S] [--traces N] [--judge-one-in N]
+    python3 tools/model/fuzz.py [--program FILE] [--seed N] [--seconds S] [--traces N]
 
 Each trace has a seed of its own: trace K of a run has the seed N + K, so `--seed SEED --traces 1` runs one
 alone. The first seed is printed first. After the first difference the trace is made small and printed with its seed.
@@ -26,8 +26,8 @@ from examples import words_and_filter
 TOP = pathlib.Path(__file__).resolve().parents[2]
 
 
-# how many traces are given to the processors at once
-AT_ONCE = 200
+# how many traces are given to the processors at once, and one in how many is judged
+AT_ONCE, JUDGED_ONE_IN = 200, 20
 
 # ------------------------------------------------------------------------------------------------ frames
 HEADER = bytes.fromhex("0180c200000e00112233445588cc")
@@ -55,8 +55,7 @@ class Dice(random.Random):
 
 def spelled(kind, body):
     """Returns a TLV. A body that is too long for it is cut."""
-    body = body[:511]
-    return (kind << 9 | len(body)).to_bytes(2, "big") + body
+    return model.spelled(kind, body[:511])
 
 
 def identifier(dice):
@@ -436,7 +435,6 @@ def options():
     parser.add_argument("--seed", type=int, default=random.randrange(10 ** 9))
     parser.add_argument("--seconds", type=float)
     parser.add_argument("--traces", type=int)
-    parser.add_argument("--judge-one-in", type=int, default=20)
     return parser.parse_args()
 
 
@@ -461,7 +459,7 @@ def main():
 def finder_of(given, seed):
     """Returns what finds something wrong with the trace of a seed, or None."""
     words, lines = case(seed)
-    finders = [difference] + [judged] * (seed % given.judge_one_in == 0)
+    finders = [difference] + [judged] * (seed % JUDGED_ONE_IN == 0)
     return next((find for find in finders if find(given.program, words, lines) is not None), None)
 
 

@@ -26,14 +26,9 @@ name=lldpa
 folder=.
 while [ $# -gt 0 ]; do
     case $1 in
-        --revision)
+        --revision | --arch)
             [ $# -gt 1 ] || usage
-            revision=$2
-            shift
-            ;;
-        --arch)
-            [ $# -gt 1 ] || usage
-            architecture=$2
+            case $1 in --revision) revision=$2 ;; *) architecture=$2 ;; esac
             shift
             ;;
         --library) name=lldpa-dev ;;
@@ -82,17 +77,23 @@ c_library() {
     "${tools}objdump" -T "$@" | grep -o 'GLIBC_[0-9.]*' | sort -uV | tail -n 1 | sed 's/GLIBC_//'
 }
 
-control() {
+# What each package says of itself first.
+head_of_control() {
     cat << END
-Package: lldpa
+Package: $name
 Version: $version
 Architecture: $architecture
 Maintainer: $maker
 Installed-Size: $(du -sk --apparent-size "$tree" | cut -f 1)
+Priority: optional
+END
+}
+
+control() {
+    cat << END
 Depends: libc6 (>= $(c_library "$program" "$LLDPA_LIVE")), libgcc-s1, python3:any (>= 3.9)
 Suggests: graphviz
 Section: net
-Priority: optional
 Description: agent for the Link Layer Discovery Protocol (LLDP)
  lldpa shows which switch and port each network cable of a host leads to, and
  announces the host to the switches. Its core is formally verified.
@@ -107,14 +108,8 @@ END
 # The package of the library for C.
 library_control() {
     cat << END
-Package: lldpa-dev
-Version: $version
-Architecture: $architecture
-Maintainer: $maker
-Installed-Size: $(du -sk --apparent-size "$tree" | cut -f 1)
 Depends: libc6-dev, lldpa1 (= $version)
 Section: libdevel
-Priority: optional
 Description: agent for the Link Layer Discovery Protocol (LLDP) - library for C
  With these files a program in C, or in a language that calls C, can read and
  build LLDPDUs and run an agent of its own. Each call of the library is
@@ -126,15 +121,9 @@ END
 # The package of the shared object.
 shared_control() {
     cat << END
-Package: lldpa1
-Version: $version
-Architecture: $architecture
 Multi-Arch: same
-Maintainer: $maker
-Installed-Size: $(du -sk --apparent-size "$tree" | cut -f 1)
 Depends: libc6 (>= $(c_library "$(find "$tree" -name liblldpa.so.1)"))
 Section: libs
-Priority: optional
 Description: agent for the Link Layer Discovery Protocol (LLDP) - shared library
  Programs that are linked with the library of lldpa load it from this package.
  They read and build LLDPDUs, or run an agent of their own. Each call of the
@@ -179,16 +168,17 @@ install -m 644 share/debian/copyright "$tree/usr/share/doc/$name/copyright"
 mkdir -p "$tree/usr/share/lintian/overrides"
 sed "s/^lldpa:/$name:/; /^lldpa1:/{/^$name:/!d}" share/debian/lintian-overrides > "$tree/usr/share/lintian/overrides/$name"
 mkdir "$room/DEBIAN"
+head_of_control > "$room/DEBIAN/control"
 if [ "$name" = lldpa ]; then
-    control > "$room/DEBIAN/control"
+    control >> "$room/DEBIAN/control"
     printf '%s\n' /etc/lldpa.conf /etc/lldpa.d/README > "$room/DEBIAN/conffiles"
     install -m 755 share/debian/postinst share/debian/prerm share/debian/postrm "$room/DEBIAN"
 elif [ "$name" = lldpa1 ]; then
-    shared_control > "$room/DEBIAN/control"
+    shared_control >> "$room/DEBIAN/control"
     echo "liblldpa 1 lldpa1 (>= ${version%-*})" > "$room/DEBIAN/shlibs"
     echo "activate-noawait ldconfig" > "$room/DEBIAN/triggers"
 else
-    library_control > "$room/DEBIAN/control"
+    library_control >> "$room/DEBIAN/control"
 fi
 (cd "$tree" && find usr -type f -exec md5sum {} + | LC_ALL=C sort -k 2) > "$room/DEBIAN/md5sums"
 mv "$room/DEBIAN" "$tree/DEBIAN"

@@ -14,7 +14,8 @@ import re
 import sys
 
 TOP = pathlib.Path(__file__).resolve().parents[2]
-sys.path.append(str(TOP / "tools" / "gate"))
+sys.path += [str(TOP / "tools" / "gate"), str(TOP / "tools" / "model")]
+import model  # noqa: E402
 from examples import ROWS, rows, transcripts  # noqa: E402
 
 FILE = TOP / "crates/lldpa/proofs/Transcripts.antt"
@@ -150,10 +151,6 @@ counted {{input = input}} shown =
     lines_with counters (text (opened shown.options) (input ++ codes "show statistics\\n"))
 """
 
-NUMBERS = {"max-neighbors": "max_neighbors", "tx-credit-max": "credit_max", "tx-fast-init": "fast_init",
-           "reinit-delay": "reinit"}
-
-
 def octets(values):
     return "".join(f"{value} ∷ " for value in values) + "[]"
 
@@ -188,28 +185,24 @@ def written_by(lines):
     return f"({joined(lines)})" if len(lines) > 1 else joined(lines)
 
 
+# How the fields of the options are written, except numbers.
+FIELDS = {
+    "mac": lambda value: f"mac = {octets(bytes.fromhex(value.replace(':', '')))}",
+    "hostname": lambda value: f"hostname = {codes(value.encode())}",
+    "management": lambda value: f"management = Some ({octets(value.split('.'))})",
+    "role": lambda value: f"role = {value.capitalize()}",
+    "receive_only": lambda value: "receive_only = true",
+}
+
+
 def options(words):
     """Returns the options of some words, as what differs from the usual ones, and the management address among them."""
-    names, fields, management, words = [], [], None, iter(words)
-    for word in words:
-        name, equals, value = word.removeprefix("--").partition("=")
-        if not word.startswith("--"):
-            names.append(word.encode())
-            continue
-        if name == "receive-only":
-            fields.append("receive_only = true")
-            continue
-        value = value if equals else next(words)
-        if name == "management":
-            management = value.split(".")
-        fields.append({
-            "mac": lambda: f"mac = {octets(bytes.fromhex(value.replace(':', '')))}",
-            "hostname": lambda: f"hostname = {codes(value.encode())}",
-            "management": lambda: f"management = Some ({octets(management)})",
-            "role": lambda: f"role = {value.capitalize()}",
-        }.get(name, lambda: f"{NUMBERS[name]} = {int(value)}")())
-    if names != [b"eth0"]:
-        fields.append(f"names = {listed(names)}")
+    given, names = model.read_words(words)
+    fields = [FIELDS[name](value) if name in FIELDS
+              else f"{name.removeprefix('tx_').removesuffix('_delay')} = {value}" for name, value in given.items()]
+    if names != ["eth0"]:
+        fields.append(f"names = {listed(name.encode() for name in names)}")
+    management = given["management"].split(".") if "management" in given else None
     return f"record usual {{ {'; '.join(fields)} }}" if fields else "usual", management
 
 

@@ -32,23 +32,17 @@ impl<'a> Builder<'a> {
         Builder { chassis, port, ttl, tlvs: Vec::new() }
     }
 
-    /// Puts a TLV behind the others. What is wrong with it, [`Built::faults`] tells.
+    /// Puts a TLV after the others. [`Built::faults`] says what is wrong with it.
     pub fn put(mut self, kind: u8, body: &'a [u8]) -> Builder<'a> {
         self.tlvs.push(Tlv { kind, body });
         self
     }
 
-    /// Builds the LLDPDU.
-    ///
-    /// # Errors
-    ///
-    /// An identifier has not 2 to 256 octets.
+    /// Builds the LLDPDU. Fails if an identifier does not have 2 to 256 octets.
     pub fn finish(self) -> Result<Built, RangeFault> {
-        let tlvs: Vec<sys::lldpa_tlv> = self
-            .tlvs
-            .iter()
-            .map(|tlv| sys::lldpa_tlv { body: tlv.body.as_ptr(), length: tlv.body.len(), kind: tlv.kind })
-            .collect();
+        let tlv_of =
+            |tlv: &Tlv| sys::lldpa_tlv { body: tlv.body.as_ptr(), length: tlv.body.len(), kind: tlv.kind };
+        let tlvs: Vec<sys::lldpa_tlv> = self.tlvs.iter().map(tlv_of).collect();
         let mut faults = vec![0u8; tlvs.len()];
         let mut octets = vec![0u8; sys::LLDPA_PDU_ROOM as usize];
         let mut length = 0;
@@ -86,14 +80,12 @@ pub struct Built {
 }
 
 impl Built {
-    /// Its octets, at most 1500, the End Of LLDPDU included.
-    #[must_use]
+    /// Returns its octets, at most 1500, the End Of LLDPDU included.
     pub fn octets(&self) -> &[u8] {
         &self.octets
     }
 
-    /// For each TLV that was put, in their order, why it was left out, or None.
-    #[must_use]
+    /// Returns for each TLV that was put, in their order, why it was left out, or None.
     pub fn faults(&self) -> &[Option<BuildFault>] {
         &self.faults
     }

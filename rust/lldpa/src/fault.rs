@@ -11,13 +11,13 @@ macro_rules! faults {
         $(#[$about])*
         #[derive(Clone, Copy, Debug, PartialEq, Eq, Hash)]
         pub enum $name {
-            $($(#[$case_about])* $case = $number,)*
+            $($(#[$case_about])* #[doc = concat!("The text is \"", $text, "\".")] $case = $number,)*
             /// The archive answered a number that this crate does not know: it is of another version.
             Unexpected = 255,
         }
 
         impl $name {
-            /// What an answer says: nothing is wrong, or this fault.
+            /// Returns the fault that an answer means, if it is not 0.
             pub(crate) fn check(answer: u8) -> Result<(), $name> {
                 match answer {
                     sys::LLDPA_OK => Ok(()),
@@ -26,8 +26,7 @@ macro_rules! faults {
                 }
             }
 
-            /// The number of the fault in `lldpa.h`, or 255.
-            #[must_use]
+            /// Returns the number of the fault in `lldpa.h`, or 255.
             pub fn number(self) -> u8 {
                 self as u8
             }
@@ -50,21 +49,13 @@ macro_rules! faults {
 faults! {
     /// What is wrong with an LLDPDU, in the order in which it is looked for.
     PduFault {
-        /// No complete TLV where a mandatory one belongs.
         Truncated = 1, "no complete TLV where a mandatory one belongs";
-        /// The first TLV is not a Chassis ID.
         NoChassis = 2, "the first TLV is not a Chassis ID";
-        /// The Chassis ID does not have 2 to 256 octets.
         ChassisLength = 3, "the Chassis ID does not have 2 to 256 octets";
-        /// The second TLV is not a Port ID.
         NoPort = 4, "the second TLV is not a Port ID";
-        /// The Port ID does not have 2 to 256 octets.
         PortLength = 5, "the Port ID does not have 2 to 256 octets";
-        /// The third TLV is not a Time To Live.
         NoTtl = 6, "the third TLV is not a Time To Live";
-        /// The Time To Live has fewer than 2 octets.
         TtlLength = 7, "the Time To Live has fewer than 2 octets";
-        /// A mandatory TLV is repeated after the third.
         Repeated = 8, "a mandatory TLV is repeated after the third";
     }
 }
@@ -84,21 +75,14 @@ faults! {
 faults! {
     /// Why an agent is not opened, in the order of the checks.
     OpenFault {
-        /// There was no memory for it.
         Memory = 21, "there was no memory";
-        /// No port was named.
         NoPorts = 22, "no port was named";
-        /// More than 64 ports were named.
         TooManyPorts = 23, "more than 64 ports were named";
-        /// The name of a port is not valid.
         PortName = 24, "the name of a port is not valid";
-        /// Two ports have the same name.
         SamePort = 25, "two ports have the same name";
-        /// The hostname is over 255 octets, or has one that is not printable ASCII.
         Text = 26, "the hostname is over 255 octets, or has one that is not printable";
         /// `max_neighbors`, `credit_max`, `fast_init` or `reinit` is not in its range.
         OutOfRange = 100, "a number of the options is not in its range";
-        /// The archive is of another version than this crate.
         Version = 254, "the archive is of another version than this crate";
     }
 }
@@ -108,17 +92,14 @@ faults! {
     CommandFault {
         /// A word is missing, or no form has it there.
         Unknown = 31, "unknown command";
-        /// No port has that name.
         NoSuchPort = 32, "no such port";
         /// A word is not one or more decimal digits.
         Number = 33, "not a number";
-        /// A number is not in its range.
         Range = 34, "out of range";
         /// A text is over 255 octets, or has one that is not printable ASCII.
         Text = 35, "bad text";
         /// A word follows a complete command.
         Extra = 36, "extra word";
-        /// A quote is wrong.
         Quote = 37, "bad quote";
         /// Some port holds more neighbors than the limit.
         InUse = 38, "too many held";
@@ -126,33 +107,38 @@ faults! {
 }
 
 impl CommandFault {
-    /// The line that the program writes of the fault, as `error: unknown command`.
-    #[must_use]
+    /// Returns the line that the program writes of the fault, as `error: unknown command`.
     pub fn line(self) -> String {
         format!("error: {self}")
     }
 }
 
-/// What the fault or the misuse of that number in `lldpa.h` is, in words. None if none has that number.
-#[must_use]
-pub fn fault_text(number: u32) -> Option<String> {
-    let mut room = [0u8; sys::LLDPA_FAULT_ROOM as usize];
+/// Returns the text that a call writes to a room, with its length; None if it answers that something is out of range.
+pub(crate) fn text_written(
+    room: &mut [u8],
+    call: impl FnOnce(&mut [u8], &mut usize) -> u8,
+) -> Option<String> {
     let mut length = 0;
-    // SAFETY: the room has as many octets as are told, and nothing else is lent.
-    let answer = unsafe { sys::lldpa_fault_text(number, room.as_mut_ptr(), room.len(), &mut length) };
-    match answer {
+    match call(room, &mut length) {
         sys::LLDPA_OK => Some(String::from_utf8_lossy(&room[..length]).into_owned()),
         sys::LLDPA_OUT_OF_RANGE => None,
-        _ => unexpected(answer),
+        answer => unexpected(answer),
     }
+}
+
+/// Returns the words of the fault or the misuse of that number in `lldpa.h`, or None if none has it.
+#[must_use]
+pub fn fault_text(number: u32) -> Option<String> {
+    // SAFETY: the room has as many octets as its length says, and the length is a value of its own.
+    text_written(&mut [0; sys::LLDPA_FAULT_ROOM as usize], |room, length| unsafe {
+        sys::lldpa_fault_text(number, room.as_mut_ptr(), room.len(), length)
+    })
 }
 
 faults! {
     /// Why an LLDPDU is not built, or a machine not made or told of an event.
     RangeFault {
-        /// A number, or the length of an identifier, is not in its range.
         OutOfRange = 100, "a number or a length is not in its range";
-        /// The archive is of another version than this crate.
         Version = 254, "the archive is of another version than this crate";
     }
 }
@@ -160,12 +146,11 @@ faults! {
 faults! {
     /// Why a call of an agent is refused that names a port.
     PortFault {
-        /// The agent has no port of that number.
         NoPort = 103, "the agent has no port of that number";
     }
 }
 
-/// The end of a call that has no fault, if the archive answers a number that this crate does not know.
+/// Ends a call that has no fault, if the archive answers a number that this crate does not know.
 ///
 /// # Panics
 ///
@@ -175,7 +160,7 @@ pub(crate) fn unexpected(answer: impl fmt::Display) -> ! {
     panic!("liblldpa answered {answer}, which this crate does not know")
 }
 
-/// Looks that the answer of a call that has no fault is 0.
+/// Checks that the answer of a call that has no fault is 0.
 pub(crate) fn expect_ok(answer: u8) {
     if answer != sys::LLDPA_OK {
         unexpected(answer);
@@ -187,24 +172,24 @@ mod tests {
     use super::*;
     use alloc::string::ToString;
 
-    fn words(fault: u8) -> String {
-        fault_text(fault.into()).expect("a fault")
+    fn words(number: u32) -> String {
+        fault_text(number).expect("a fault")
+    }
+
+    /// Checks that the texts of faults are the words of the archive.
+    fn same<F: ToString>(check: fn(u8) -> Result<(), F>, numbers: core::ops::RangeInclusive<u8>) {
+        for number in numbers {
+            let fault = check(number).expect_err("a fault");
+            assert_eq!(fault.to_string(), words(number.into()));
+        }
     }
 
     #[test]
     fn texts_are_those_of_the_archive() {
-        for fault in 1..=8 {
-            assert_eq!(PduFault::check(fault).map_err(|fault| fault.to_string()), Err(words(fault)));
-        }
-        for fault in 11..=13 {
-            assert_eq!(BuildFault::check(fault).map_err(|fault| fault.to_string()), Err(words(fault)));
-        }
-        for fault in 21..=26 {
-            assert_eq!(OpenFault::check(fault).map_err(|fault| fault.to_string()), Err(words(fault)));
-        }
-        for fault in 31..=38 {
-            assert_eq!(CommandFault::check(fault).map_err(|fault| fault.to_string()), Err(words(fault)));
-        }
+        same(PduFault::check, 1..=8);
+        same(BuildFault::check, 11..=13);
+        same(OpenFault::check, 21..=26);
+        same(CommandFault::check, 31..=38);
         assert_eq!(RangeFault::OutOfRange.to_string(), words(100));
         assert_eq!(PortFault::NoPort.to_string(), words(103));
         assert!([0, 9, 27, 106, 256 + 21].iter().all(|number| fault_text(*number).is_none()));

@@ -31,20 +31,26 @@ mod fault;
 mod full;
 mod machine;
 mod neighbors;
+mod numbers;
+mod options;
 mod reading;
+mod shows;
 #[allow(dead_code, missing_docs, non_camel_case_types, clippy::all)]
 #[rustfmt::skip]
 mod sys;
+mod told;
 
-pub use agent::{Agent, Commanded, Configuration, Options, Role, Sent, Show, Statistics, Status, Ticks};
+pub use agent::Agent;
 pub use building::{Builder, Built};
 pub use fault::{fault_text, BuildFault, CommandFault, OpenFault, PduFault, PortFault, RangeFault};
 pub use machine::{Cause, Machine, Mark};
 pub use neighbors::{Neighbor, Neighbors, News};
+pub use options::{Options, Role};
 pub use reading::{
     caps, escape, examine, frame_pdu, mgmt, tlv_text, Capabilities, Examined, Info, Kept, Management, Msap,
     Tlv,
 };
+pub use told::{Commanded, Configuration, Sent, Show, Statistics, Status, Ticks};
 
 /// The version of the archive: 10000 times the first number, 100 times the second and the third. The build,
 /// [`Agent::open`] and [`Machine::new`] accept only an archive whose first two numbers are those of this crate.

@@ -1,6 +1,7 @@
 //! The transmit machine of one port (clause 9).
 
-use crate::fault::{unexpected, RangeFault};
+use crate::fault::RangeFault;
+use crate::numbers::numbered;
 use crate::sys;
 
 /// What an event is for a port.
@@ -24,24 +25,13 @@ pub enum Cause {
     Nothing = 7,
 }
 
-/// Which frame goes.
-#[derive(Clone, Copy, Debug, PartialEq, Eq, Hash)]
-pub enum Mark {
-    /// One with the whole configuration.
-    Ordinary = 1,
-    /// One with a time to live of 0.
-    Shutdown = 2,
-}
-
-impl Mark {
-    /// The mark of that number, or None for a quiet port.
-    pub(crate) fn of(number: u8) -> Option<Mark> {
-        match number {
-            0 => None,
-            1 => Some(Mark::Ordinary),
-            2 => Some(Mark::Shutdown),
-            _ => unexpected(number),
-        }
+numbered! {
+    /// Which frame goes.
+    Mark {
+        /// One with the whole configuration.
+        Ordinary = 1,
+        /// One with a time to live of 0.
+        Shutdown = 2,
     }
 }
 
@@ -60,12 +50,9 @@ pub struct Machine {
 }
 
 impl Machine {
-    /// A machine with full credit, on a port whose link is up and that is not active: txCreditMax, 1 to 10;
-    /// txFastInit, 1 to 8; reinitDelay in seconds, 1 to 10; and whether the port may transmit from the start.
-    ///
-    /// # Errors
-    ///
-    /// A number is not in its range, or the archive is of another version.
+    /// Returns a machine with full credit, on a port whose link is up and that is not active: txCreditMax, 1 to 10;
+    /// txFastInit, 1 to 8; reinitDelay in seconds, 1 to 10; and whether the port may transmit from the start. Fails if a
+    /// number is not in its range, or the archive is of another version.
     pub fn new(credit_max: u8, fast_init: u8, reinit: u8, allowed: bool) -> Result<Machine, RangeFault> {
         let mut held = sys::lldpa_machine::default();
         if !crate::is_of_this_version() {
@@ -79,22 +66,18 @@ impl Machine {
         Ok(Machine { held })
     }
 
-    /// Takes one event, with the tx-interval in force after it, 1 to 3600 seconds, and tells which frame goes.
-    ///
-    /// # Errors
-    ///
-    /// The interval is not in its range, and the machine stays as it was.
+    /// Takes one event, with the tx-interval in force after it, 1 to 3600 seconds, and returns which frame to send. If the
+    /// interval is not in its range, the machine stays as it was.
     pub fn event(&mut self, cause: Cause, interval: u16) -> Result<Option<Mark>, RangeFault> {
         let mut mark = 0;
         // SAFETY: both are values of their own.
         let answer =
             unsafe { sys::lldpa_transmit_event(&mut self.held, cause as u32, interval.into(), &mut mark) };
         RangeFault::check(answer)?;
-        Ok(Mark::of(mark))
+        Ok((mark != sys::LLDPA_QUIET).then(|| Mark::of(mark.into())))
     }
 
-    /// How many ordinary frames may go before the next tick, 0 to 10.
-    #[must_use]
+    /// Returns how many ordinary frames may be sent before the next tick, 0 to 10.
     pub fn credit(&self) -> u8 {
         self.held.credit
     }

@@ -64,19 +64,16 @@ pub struct Neighbor {
 
 impl Neighbor {
     /// Its LLDPDU without the End Of LLDPDU, at most 1500 octets.
-    #[must_use]
     pub fn octets(&self) -> &[u8] {
         &self.octets
     }
 
     /// The seconds until it ages out, at least 1.
-    #[must_use]
     pub fn left(&self) -> u32 {
         self.left
     }
 
     /// What its LLDPDU tells. None only if the archive is of another version.
-    #[must_use]
     pub fn info(&self) -> Option<Info<'_>> {
         match examine(&self.octets) {
             Ok(Examined::Info(info)) => Some(info),

@@ -1,6 +1,6 @@
 //! Frames, LLDPDUs and TLVs that are read. Nothing is copied: all that is told is part of what was given.
 
-use crate::fault::{unexpected, PduFault};
+use crate::fault::{text_written, PduFault};
 use crate::sys;
 use alloc::string::String;
 use alloc::vec;
@@ -29,7 +29,7 @@ pub struct Msap<'a> {
     pub port: &'a [u8],
 }
 
-/// What a sound LLDPDU tells.
+/// What a sound LLDPDU says.
 #[derive(Clone, Copy, Debug, PartialEq, Eq)]
 pub enum Examined<'a> {
     /// The neighbor is gone: the time to live is 0.
@@ -40,7 +40,6 @@ pub enum Examined<'a> {
 
 impl<'a> Examined<'a> {
     /// Who sent it.
-    #[must_use]
     pub fn msap(&self) -> Msap<'a> {
         match self {
             Examined::Shutdown(msap) => *msap,
@@ -49,7 +48,7 @@ impl<'a> Examined<'a> {
     }
 }
 
-/// What an LLDPDU tells of a neighbor that lives.
+/// What an LLDPDU says of a neighbor that lives.
 #[derive(Clone, Copy, Debug, PartialEq, Eq)]
 pub struct Info<'a> {
     msap: Msap<'a>,
@@ -61,31 +60,26 @@ pub struct Info<'a> {
 
 impl<'a> Info<'a> {
     /// Who sent it.
-    #[must_use]
     pub fn msap(&self) -> Msap<'a> {
         self.msap
     }
 
     /// The octets that count: those before the End Of LLDPDU.
-    #[must_use]
     pub fn octets(&self) -> &'a [u8] {
         self.octets
     }
 
     /// The time to live in seconds, 1 to 65535.
-    #[must_use]
     pub fn ttl(&self) -> u16 {
         self.ttl
     }
 
     /// How many TLVs are discarded, one that is not complete among them.
-    #[must_use]
     pub fn discarded(&self) -> usize {
         self.discarded
     }
 
     /// How many kept TLVs are of the types 9 to 127.
-    #[must_use]
     pub fn unrecognized(&self) -> usize {
         self.unrecognized
     }
@@ -96,11 +90,7 @@ impl<'a> Info<'a> {
     }
 }
 
-/// Examines an LLDPDU of any length.
-///
-/// # Errors
-///
-/// The first fault, in the order of [`PduFault`].
+/// Examines an LLDPDU of any length. Returns what it says, or its first fault in the order of [`PduFault`].
 ///
 /// ```
 /// let pdu = b"\x02\x07\x04\x00\x11\x22\x33\x44\x55\x04\x05\x05eth0\x06\x02\x00\x78\x0a\x03sw1\0\0";
@@ -217,24 +207,11 @@ pub fn mgmt(body: &[u8]) -> Option<Management<'_>> {
 /// ```
 #[must_use]
 pub fn tlv_text(kind: u8, body: &[u8]) -> Option<String> {
-    let mut room = [0u8; sys::LLDPA_VALUE_ROOM as usize];
-    let mut length = 0;
-    // SAFETY: the body and the room have as many octets as are told; the length is a value of its own.
-    let answer = unsafe {
-        sys::lldpa_tlv_text(
-            kind.into(),
-            body.as_ptr(),
-            body.len(),
-            room.as_mut_ptr(),
-            room.len(),
-            &mut length,
-        )
-    };
-    match answer {
-        sys::LLDPA_OK => Some(String::from_utf8_lossy(&room[..length]).into_owned()),
-        sys::LLDPA_OUT_OF_RANGE => None,
-        _ => unexpected(answer),
-    }
+    let kind = kind.into();
+    // SAFETY: the body and the room have as many octets as their lengths say.
+    text_written(&mut [0; sys::LLDPA_VALUE_ROOM as usize], |room, length| unsafe {
+        sys::lldpa_tlv_text(kind, body.as_ptr(), body.len(), room.as_mut_ptr(), room.len(), length)
+    })
 }
 
 /// A text that came from a neighbor, so that it can be printed: with each backslash doubled, and each octet that is not
@@ -245,14 +222,8 @@ pub fn tlv_text(kind: u8, body: &[u8]) -> Option<String> {
 /// ```
 #[must_use]
 pub fn escape(text: &[u8]) -> Option<String> {
-    let mut room = vec![0u8; 4 * text.len()];
-    let mut length = 0;
-    // SAFETY: the text and the room have as many octets as are told; the length is a value of its own.
-    let answer =
-        unsafe { sys::lldpa_escape(text.as_ptr(), text.len(), room.as_mut_ptr(), room.len(), &mut length) };
-    match answer {
-        sys::LLDPA_OK => Some(String::from_utf8_lossy(&room[..length]).into_owned()),
-        sys::LLDPA_OUT_OF_RANGE => None,
-        _ => unexpected(answer),
-    }
+    // SAFETY: the text and the room have as many octets as their lengths say.
+    text_written(&mut vec![0; 4 * text.len()], |room, length| unsafe {
+        sys::lldpa_escape(text.as_ptr(), text.len(), room.as_mut_ptr(), room.len(), length)
+    })
 }

@@ -1,5 +1,5 @@
-//! Over an archive that answers 77 to all but `lldpa_open`, and is of another version once `LLDPA_STRANGE` is set, no
-//! call takes what it does not know for success. `tools/library/check-library.py` makes the archive.
+//! Over an archive that answers 77 to every call except `lldpa_open`, and is of another version once `LLDPA_STRANGE` is
+//! set, no call takes an unknown answer for success. `tools/library/check-library.py` makes the archive.
 
 use lldpa::{
     examine, fault_text, Agent, Builder, CommandFault, Machine, Mark, OpenFault, Options, PduFault,
@@ -7,20 +7,7 @@ use lldpa::{
 };
 use std::panic::{catch_unwind, AssertUnwindSafe};
 
-const OPTIONS: Options = Options {
-    ports: &["eth0"],
-    hostname: "",
-    mac: [2, 0, 0, 0, 0, 1],
-    management: None,
-    receive_only: false,
-    role: lldpa::Role::Station,
-    max_neighbors: 1,
-    credit_max: 5,
-    fast_init: 4,
-    reinit: 2,
-};
-
-/// Whether a call that has no fault ends in a panic.
+/// Returns whether a call that has no fault ends in a panic.
 fn panics<T>(call: impl FnOnce() -> T) -> bool {
     catch_unwind(AssertUnwindSafe(call)).is_err()
 }
@@ -31,7 +18,8 @@ fn unknown_answers_are_faults() {
     assert_eq!(examine(b"junk"), Err(PduFault::Unexpected));
     assert_eq!(Builder::new(b"\x05a", b"\x05a", 120).put(5, b"sw1").finish(), Err(RangeFault::Unexpected));
     assert_eq!(Machine::new(5, 4, 2, true).err(), Some(RangeFault::Unexpected));
-    let mut agent = Agent::open(&OPTIONS).expect("the one that answers 0");
+    let options = Options { ports: &["eth0"], ..Options::default() };
+    let mut agent = Agent::open(&options).expect("the one that answers 0");
     assert_eq!(agent.frame(0, b""), Err(PortFault::Unexpected));
     assert_eq!(agent.frame_news(0, b""), Err(PortFault::Unexpected));
     assert_eq!(agent.link(0, true), Err(PortFault::Unexpected));
@@ -44,6 +32,6 @@ fn unknown_answers_are_faults() {
     assert!(panics(|| agent.configuration()) && panics(|| fault_text(1)));
     assert!(panics(|| agent.show(Show::Chassis)) && panics(|| agent.show_line(Show::Chassis, 0)));
     std::env::set_var("LLDPA_STRANGE", "another version");
-    assert_eq!(Agent::open(&OPTIONS).err(), Some(OpenFault::Version));
+    assert_eq!(Agent::open(&options).err(), Some(OpenFault::Version));
     assert_eq!(Machine::new(5, 4, 2, true).err(), Some(RangeFault::Version));
 }

@@ -1,17 +1,14 @@
 /*
- * Calls each function of the library with NULL for each of its pointers: it says so, and writes nothing. NULL with a
- * length of 0 stands for no octet, no TLV, no port or no room.
+ * Calls each function of the library with NULL for each of its pointers, with handles that are not open, and with
+ * numbers, ports and rooms that are out of range: it says so, and writes nothing. NULL with a length of 0 means no
+ * octets, no TLVs, no ports or no room.
  *     nulls
- * What does not hold is told; the last line is `N passed, M failed`.
+ * What does not hold is reported; the last line is `N passed, M failed`.
  */
+#include "checks.h"
 #include "lldpa.h"
-#include <stdio.h>
-#include <string.h>
 
-static unsigned passed;
-static unsigned failed;
-
-/* All that a call may write to but an agent, and how it was before. */
+/* All that a call may write to except an agent, and how it was before. */
 typedef struct written {
     lldpa_place place;
     lldpa_examined examined;
@@ -37,17 +34,7 @@ static written now;
 static written before;
 static lldpa_agent agent;
 
-static const uint8_t octets[] = "\1\200\302\0\0\16\0\21\"3DU\210\314\2\7\4\0\21\"3DU\4\5\5eth0\6\2\0x\0";
-
-static void holds(int is_so, const char *what)
-{
-    if (is_so) {
-        passed++;
-    } else {
-        failed++;
-        printf("FAILED: %s\n", what);
-    }
-}
+static const uint8_t frame[] = "\1\200\302\0\0\16\0\21\"3DU\210\314\2\7\4\0\21\"3DU\4\5\5eth0\6\2\0x\0";
 
 static void begin(void)
 {
@@ -74,27 +61,46 @@ static void read_nulls(void)
 {
     ANSWERS(lldpa_frame_pdu(NULL, 33, &now.place), false);
     ANSWERS(lldpa_frame_pdu(NULL, 0, &now.place), false);
-    ANSWERS(lldpa_frame_pdu(octets, sizeof octets, NULL), false);
+    ANSWERS(lldpa_frame_pdu(frame, sizeof frame, NULL), false);
     ANSWERS(lldpa_examine(NULL, 19, &now.examined), LLDPA_NULL);
     ANSWERS(lldpa_examine(NULL, 0, &now.examined), LLDPA_TRUNCATED);
-    ANSWERS(lldpa_examine(octets + 14, sizeof octets - 14, NULL), LLDPA_NULL);
+    ANSWERS(lldpa_examine(frame + 14, sizeof frame - 14, NULL), LLDPA_NULL);
     ANSWERS(lldpa_examine(NULL, 0, NULL), LLDPA_NULL);
     ANSWERS(lldpa_next_kept(NULL, 19, &now.kept), false);
     ANSWERS(lldpa_next_kept(NULL, 0, &now.kept), false);
-    ANSWERS(lldpa_next_kept(octets + 14, sizeof octets - 14, NULL), false);
+    ANSWERS(lldpa_next_kept(frame + 14, sizeof frame - 14, NULL), false);
     ANSWERS(lldpa_caps(NULL, 4, &now.capabilities), false);
     ANSWERS(lldpa_caps(NULL, 0, &now.capabilities), false);
     ANSWERS(lldpa_caps((const uint8_t *)"\0\4\0\4", 4, NULL), false);
     ANSWERS(lldpa_mgmt(NULL, 12, &now.management), false);
     ANSWERS(lldpa_mgmt(NULL, 0, &now.management), false);
     ANSWERS(lldpa_mgmt((const uint8_t *)"\5\1\n\0\0\1\2\0\0\0\1\0", 12, NULL), false);
+    ANSWERS(lldpa_caps((const uint8_t *)"\0\4\0\24", 4, &now.capabilities), false);
+    ANSWERS(lldpa_mgmt((const uint8_t *)"\5\1\n\0\0\1\2\0\0\0\1", 11, &now.management), false);
 }
 
-/* lldpa_build with identifiers of octets, and all else as it is given. */
+/* Only the source address of a frame may be any. */
+static void read_headers(void)
+{
+    for (size_t at = 0; at < 14; at++) {
+        uint8_t other[sizeof frame];
+        lldpa_place place = {0, 0};
+        memcpy(other, frame, sizeof frame);
+        holds(lldpa_frame_pdu(other, sizeof other, &place) && place.start == 14 && place.length == sizeof other - 14,
+              "the LLDPDU of a frame");
+        other[at] ^= 1;
+        holds(lldpa_frame_pdu(other, sizeof other, &place) == (at >= 6 && at < 12), "a frame with another header");
+    }
+    ANSWERS(lldpa_frame_pdu(frame, 13, &now.place), false);
+    holds(lldpa_examine(frame + 14, sizeof frame - 14, &now.examined) == LLDPA_OK && now.examined.chassis.start == 2 &&
+              now.examined.port.start == 11, "the places of the identifiers");
+}
+
+/* lldpa_build with the identifiers of the frame, and all else as it is given. */
 static uint8_t built(const lldpa_tlv *tlvs, size_t count, uint8_t *faults, size_t fault_count, uint8_t *room,
                      size_t room_length, size_t *length)
 {
-    return lldpa_build(octets + 16, 7, octets + 25, 5, 120, tlvs, count, faults, fault_count, room, room_length,
+    return lldpa_build(frame + 16, 7, frame + 25, 5, 120, tlvs, count, faults, fault_count, room, room_length,
                        length);
 }
 
@@ -102,7 +108,7 @@ static uint8_t built(const lldpa_tlv *tlvs, size_t count, uint8_t *faults, size_
 static void build_empty_bodies(void)
 {
     for (int kind = 0; kind < 256; kind++) {
-        lldpa_tlv tlv = {octets, 0, (uint8_t)kind};
+        lldpa_tlv tlv = {frame, 0, (uint8_t)kind};
         begin();
         uint8_t wanted = built(&tlv, 1, now.faults, 1, now.room, sizeof now.room, &now.length);
         memcpy(&before, &now, sizeof now);
@@ -116,12 +122,12 @@ static void build_empty_bodies(void)
 
 static void build_nulls(void)
 {
-    lldpa_tlv tlvs[2] = {{octets, 4, 5}, {NULL, 1, 6}};
+    lldpa_tlv tlvs[2] = {{frame, 4, 5}, {NULL, 1, 6}};
     uint8_t *room = now.room;
-    ANSWERS(lldpa_build(NULL, 7, octets, 5, 120, NULL, 0, NULL, 0, room, 1500, &now.length), LLDPA_NULL);
-    ANSWERS(lldpa_build(octets, 7, NULL, 5, 120, NULL, 0, NULL, 0, room, 1500, &now.length), LLDPA_NULL);
-    ANSWERS(lldpa_build(NULL, 0, octets, 5, 120, NULL, 0, NULL, 0, room, 1500, &now.length), LLDPA_OUT_OF_RANGE);
-    ANSWERS(lldpa_build(octets, 7, NULL, 0, 120, NULL, 0, NULL, 0, room, 1500, &now.length), LLDPA_OUT_OF_RANGE);
+    ANSWERS(lldpa_build(NULL, 7, frame, 5, 120, NULL, 0, NULL, 0, room, 1500, &now.length), LLDPA_NULL);
+    ANSWERS(lldpa_build(frame, 7, NULL, 5, 120, NULL, 0, NULL, 0, room, 1500, &now.length), LLDPA_NULL);
+    ANSWERS(lldpa_build(NULL, 0, frame, 5, 120, NULL, 0, NULL, 0, room, 1500, &now.length), LLDPA_OUT_OF_RANGE);
+    ANSWERS(lldpa_build(frame, 7, NULL, 0, 120, NULL, 0, NULL, 0, room, 1500, &now.length), LLDPA_OUT_OF_RANGE);
     ANSWERS(built(NULL, 1, now.faults, 1, room, 1500, &now.length), LLDPA_NULL);
     ANSWERS(built(tlvs, 2, now.faults, 2, room, 1500, &now.length), LLDPA_NULL);
     ANSWERS(built(tlvs, 1, NULL, 1, room, 1500, &now.length), LLDPA_NULL);
@@ -131,6 +137,15 @@ static void build_nulls(void)
     ANSWERS(built(NULL, 0, NULL, 0, room, 1500, NULL), LLDPA_NULL);
     begin();
     holds(built(NULL, 0, NULL, 0, room, 1500, &now.length) == LLDPA_OK && now.length == 22, "no TLVs, by NULL");
+    ANSWERS(built(NULL, 0, NULL, 0, room, 21, &now.length), LLDPA_NO_ROOM);
+    for (size_t at = 0; at < 3; at++) {
+        static const uint8_t identifier[257] = {4};
+        static const size_t lengths[] = {0, 1, 257};
+        ANSWERS(lldpa_build(identifier, lengths[at], frame, 5, 120, NULL, 0, NULL, 0, room, 1500, &now.length),
+                LLDPA_OUT_OF_RANGE);
+        ANSWERS(lldpa_build(frame, 7, identifier, lengths[at], 120, NULL, 0, NULL, 0, room, 1500, &now.length),
+                LLDPA_OUT_OF_RANGE);
+    }
     build_empty_bodies();
 }
 
@@ -141,12 +156,50 @@ static void machine_nulls(void)
     ANSWERS(lldpa_transmit_event(&now.machine, LLDPA_CAUSE_TICK, 30, NULL), LLDPA_NULL);
 }
 
+static void machine_numbers(void)
+{
+    static const uint8_t wrong[][3] = {{0, 4, 2}, {11, 4, 2}, {5, 0, 2}, {5, 9, 2}, {5, 4, 0}, {5, 4, 11}};
+    lldpa_machine *machine = &now.machine;
+    for (size_t at = 0; at < sizeof wrong / sizeof *wrong; at++) {
+        ANSWERS(lldpa_transmit_new(machine, wrong[at][0], wrong[at][1], wrong[at][2], true), LLDPA_OUT_OF_RANGE);
+    }
+    for (uint32_t cause = 8; cause < 600; cause++) {
+        ANSWERS(lldpa_transmit_event(machine, cause, 30, &now.octet), LLDPA_OUT_OF_RANGE);
+    }
+    ANSWERS(lldpa_transmit_event(machine, LLDPA_CAUSE_TICK, 0, &now.octet), LLDPA_OUT_OF_RANGE);
+    ANSWERS(lldpa_transmit_event(machine, LLDPA_CAUSE_TICK, 3601, &now.octet), LLDPA_OUT_OF_RANGE);
+    ANSWERS(lldpa_transmit_event(machine, LLDPA_CAUSE_TICK, 65566, &now.octet), LLDPA_OUT_OF_RANGE);
+    machine->credit = 6; /* more than its credit_max */
+    holds(lldpa_transmit_event(machine, LLDPA_CAUSE_TICK, 30, &now.octet) == LLDPA_OUT_OF_RANGE, "too much credit");
+}
+
 /* A handle that opening has refused is not open. */
 #define REFUSES(options, wanted)                                                                                       \
     do {                                                                                                               \
         lldpa_agent handle = {0};                                                                                      \
         holds(lldpa_open(options, &handle) == (wanted) && !handle.open, #options " " #wanted);                         \
     } while (0)
+
+/* Options that are out of range. */
+static void open_numbers(lldpa_options options)
+{
+    uint32_t *numbers[] = {&options.max_neighbors, &options.credit_max, &options.fast_init, &options.reinit};
+    static const uint8_t most[] = {128, 10, 8, 10};
+    for (size_t at = 0; at < 4; at++) {
+        uint32_t right = *numbers[at];
+        const uint32_t wrong[] = {0, most[at] + 1u, 256 + right};
+        for (size_t which = 0; which < 3; which++) {
+            *numbers[at] = wrong[which];
+            REFUSES(&options, LLDPA_OUT_OF_RANGE);
+        }
+        *numbers[at] = right;
+    }
+    options.role = 3;
+    REFUSES(&options, LLDPA_OUT_OF_RANGE);
+    options.role = LLDPA_ROUTER;
+    options.hostname = (lldpa_text){(const uint8_t *)"\xff", 1};
+    REFUSES(&options, LLDPA_OUT_OF_RANGE);
+}
 
 static void open_nulls(void)
 {
@@ -172,6 +225,7 @@ static void open_nulls(void)
     options.size++;
     options.ports = names;
     options.port_count = 1;
+    open_numbers(options);
     ANSWERS(lldpa_open(&options, &agent), LLDPA_OK);
     ANSWERS(lldpa_open(&options, &agent), LLDPA_IS_OPEN);
 }
@@ -190,9 +244,9 @@ static void step_nulls(void)
     ANSWERS(lldpa_statistics(&agent, 0, NULL), LLDPA_NULL);
     ANSWERS(lldpa_configuration(NULL, &now.configuration), LLDPA_NULL);
     ANSWERS(lldpa_configuration(&agent, NULL), LLDPA_NULL);
-    ANSWERS(lldpa_frame(NULL, 0, octets, 33, &now.marks, &now.news), LLDPA_NULL);
+    ANSWERS(lldpa_frame(NULL, 0, frame, 33, &now.marks, &now.news), LLDPA_NULL);
     ANSWERS(lldpa_frame(&agent, 0, NULL, 33, &now.marks, &now.news), LLDPA_NULL);
-    ANSWERS(lldpa_frame(&agent, 0, octets, 33, NULL, &now.news), LLDPA_NULL);
+    ANSWERS(lldpa_frame(&agent, 0, frame, 33, NULL, &now.news), LLDPA_NULL);
     ANSWERS(lldpa_neighbor_count(NULL, 0, &now.number), LLDPA_NULL);
     ANSWERS(lldpa_neighbor_count(&agent, 0, NULL), LLDPA_NULL);
     ANSWERS(lldpa_neighbor(NULL, 0, 0, now.room, 1500, &now.held), LLDPA_NULL);
@@ -212,13 +266,13 @@ static void show_nulls(void)
 {
     uint8_t *room = now.room;
     ANSWERS(lldpa_tlv_text(5, NULL, 3, room, 1058, &now.length), LLDPA_NULL);
-    ANSWERS(lldpa_tlv_text(5, octets, 3, NULL, 1058, &now.length), LLDPA_NULL);
+    ANSWERS(lldpa_tlv_text(5, frame, 3, NULL, 1058, &now.length), LLDPA_NULL);
     ANSWERS(lldpa_tlv_text(5, NULL, 0, NULL, 0, &now.length), LLDPA_NO_ROOM);
-    ANSWERS(lldpa_tlv_text(5, octets, 3, room, 1058, NULL), LLDPA_NULL);
+    ANSWERS(lldpa_tlv_text(5, frame, 3, room, 1058, NULL), LLDPA_NULL);
     ANSWERS(lldpa_escape(NULL, 3, room, 12, &now.length), LLDPA_NULL);
-    ANSWERS(lldpa_escape(octets, 3, NULL, 12, &now.length), LLDPA_NULL);
+    ANSWERS(lldpa_escape(frame, 3, NULL, 12, &now.length), LLDPA_NULL);
     ANSWERS(lldpa_escape(NULL, 0, NULL, 0, &now.length), LLDPA_OK);
-    ANSWERS(lldpa_escape(octets, 3, room, 12, NULL), LLDPA_NULL);
+    ANSWERS(lldpa_escape(frame, 3, room, 12, NULL), LLDPA_NULL);
     ANSWERS(lldpa_fault_text(LLDPA_MEMORY, NULL, 65, &now.length), LLDPA_NULL);
     ANSWERS(lldpa_fault_text(LLDPA_MEMORY, NULL, 0, &now.length), LLDPA_NO_ROOM);
     ANSWERS(lldpa_fault_text(LLDPA_MEMORY, room, 65, NULL), LLDPA_NULL);
@@ -232,10 +286,11 @@ static void show_nulls(void)
     ANSWERS(lldpa_frame_of(&agent, 0, LLDPA_ORDINARY, room, 1514, NULL), LLDPA_NULL);
 }
 
-/* What only reads an agent writes nothing to its handle, not even where nothing can be written. */
-static void handles_are_read(void)
+/* A handle that is not open. What only reads an agent does not write to it, even if it could not be written. */
+static void use_closed(void)
 {
     static const lldpa_agent none = {NULL, false};
+    lldpa_agent closed = none;
     uint8_t *room = now.room;
     ANSWERS(lldpa_neighbor_count(&none, 0, &now.number), LLDPA_NOT_OPEN);
     ANSWERS(lldpa_neighbor(&none, 0, 0, room, 1500, &now.held), LLDPA_NOT_OPEN);
@@ -244,6 +299,42 @@ static void handles_are_read(void)
     ANSWERS(lldpa_configuration(&none, &now.configuration), LLDPA_NOT_OPEN);
     ANSWERS(lldpa_show_lines(&none, 3, 0, room, 1514, &now.lines), LLDPA_NOT_OPEN);
     ANSWERS(lldpa_frame_of(&none, 0, LLDPA_ORDINARY, room, 1514, &now.length), LLDPA_NOT_OPEN);
+    ANSWERS(lldpa_leave(&closed, &now.marks), LLDPA_NOT_OPEN);
+    ANSWERS(lldpa_ticks(&closed, 9, &now.marks, &now.ticks), LLDPA_NOT_OPEN);
+    ANSWERS(lldpa_frame(&closed, 0, frame, 33, &now.marks, NULL), LLDPA_NOT_OPEN);
+    ANSWERS(lldpa_frame(&closed, 0, frame, 33, &now.marks, &now.news), LLDPA_NOT_OPEN);
+    ANSWERS(lldpa_link(&closed, 0, true, &now.marks), LLDPA_NOT_OPEN);
+    ANSWERS(lldpa_command(&closed, (const uint8_t *)"update", 6, &now.number, &now.marks), LLDPA_NOT_OPEN);
+    lldpa_close(&closed);
+    holds(!closed.open, "a handle is open after it was closed");
+}
+
+/* Ports, marks and shows that the agent does not have, and rooms that are too small by an octet. */
+static void use_badly(void)
+{
+    static const uint32_t ports[] = {1, 255, 256, 65536, UINT32_MAX};
+    uint8_t *room = now.room;
+    for (size_t at = 0; at < sizeof ports / sizeof *ports; at++) {
+        uint32_t port = ports[at];
+        ANSWERS(lldpa_frame(&agent, port, frame, 0, &now.marks, NULL), LLDPA_NO_PORT);
+        ANSWERS(lldpa_frame(&agent, port, frame, 0, &now.marks, &now.news), LLDPA_NO_PORT);
+        ANSWERS(lldpa_link(&agent, port, true, &now.marks), LLDPA_NO_PORT);
+        ANSWERS(lldpa_frame_of(&agent, port, LLDPA_ORDINARY, room, 1514, &now.length), LLDPA_NO_PORT);
+        ANSWERS(lldpa_neighbor_count(&agent, port, &now.number), LLDPA_NO_PORT);
+        ANSWERS(lldpa_statistics(&agent, port, &now.statistics), LLDPA_NO_PORT);
+        ANSWERS(lldpa_neighbor(&agent, port, 0, room, 1500, &now.held), LLDPA_NO_PORT);
+    }
+    for (uint32_t mark = 0; mark < 256; mark += 3) { /* neither LLDPA_ORDINARY nor LLDPA_SHUTDOWN */
+        ANSWERS(lldpa_frame_of(&agent, 0, mark, room, 1514, &now.length), LLDPA_OUT_OF_RANGE);
+        ANSWERS(lldpa_show_lines(&agent, mark == 0 ? 0 : mark + 2, 0, room, 1514, &now.lines), LLDPA_OUT_OF_RANGE);
+    }
+    ANSWERS(lldpa_frame_of(&agent, 0, LLDPA_ORDINARY, room, 56, &now.length), LLDPA_NO_ROOM);
+    ANSWERS(lldpa_show_lines(&agent, LLDPA_SHOW_CHASSIS, 3, room, 29, &now.lines), LLDPA_NO_ROOM);
+    holds(lldpa_frame_of(&agent, 0, LLDPA_ORDINARY, room, 57, &now.length) == LLDPA_OK, "a frame of 57 octets");
+    holds(lldpa_show_lines(&agent, LLDPA_SHOW_CHASSIS, 9, room, 0, &now.lines) == LLDPA_OK && now.lines.done &&
+              now.lines.length == 0 && now.lines.next == 9, "lines behind the last");
+    holds(lldpa_show_lines(&agent, LLDPA_SHOW_CHASSIS, 1, room, 1514, &now.lines) == LLDPA_OK && now.lines.done &&
+              now.lines.next == 4, "the end of a show");
 }
 
 /* All that an agent shows. */
@@ -263,19 +354,21 @@ int main(void)
 {
     static uint8_t first[8192], last[8192];
     read_nulls();
+    read_headers();
     build_nulls();
     machine_nulls();
+    machine_numbers();
     open_nulls();
     size_t length = shown(first, sizeof first);
     step_nulls();
     show_nulls();
-    handles_are_read();
+    use_closed();
+    use_badly();
     holds(shown(last, sizeof last) == length && memcmp(first, last, length) == 0, "the agent is what it was");
     begin();
-    holds(lldpa_frame(&agent, 0, NULL, 0, &now.marks, NULL) == LLDPA_OK && now.marks.count == 0, "no octets as a frame");
+    holds(lldpa_frame(&agent, 0, NULL, 0, &now.marks, NULL) == LLDPA_OK, "no octets as a frame");
     holds(lldpa_version() == LLDPA_VERSION, "another version");
     lldpa_close(NULL);
     lldpa_close(&agent);
-    printf("%u passed, %u failed\n", passed, failed);
-    return failed > 0;
+    return end();
 }

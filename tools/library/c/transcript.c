@@ -1,141 +1,72 @@
 /*
- * Does what the program lldpa does with a trace, over the library: the words are those of the program (except
- * --listen), standard input is the trace, and standard output gets what the program would write.
- *     transcript [--max-neighbors N] [--mac MAC] [--hostname TEXT] [--management ADDRESS] [--role ROLE]
- *                [--tx-credit-max N] [--tx-fast-init N] [--reinit-delay N] [--receive-only] PORT ..
- * So each transcript of examples/ is one of the library too. The status is 2 if no agent is opened.
+ * Gives events to an agent of the library, and writes what the program lldpa writes.
+ *     transcript MAC ADDRESS HOSTNAME ROLE MAX-NEIGHBORS CREDIT-MAX FAST-INIT REINIT RECEIVE-ONLY PORT ..
+ * MAC and ADDRESS are hexadecimal, ADDRESS is empty for none, and ROLE and RECEIVE-ONLY are numbers. Each line of
+ * standard input is an event: `tick SECONDS`, `rx PORT FRAME`, `link PORT UP`, `leave`, or `command LINE`, with the
+ * numbers of ports and hexadecimal octets. tools/library/library_transcripts.py writes them. At each show the structs of
+ * the agent are compared with its lines. If something is wrong, it says so, and the status is 2.
  */
-#include "fields.h"
+#define _POSIX_C_SOURCE 200809L
+#include "checks.h"
 #include "lldpa.h"
 
-/* The most octets of a line, and of a line of a show with its line feed. */
-#define LONGEST 4096
-#define ROOM 2049
+static lldpa_agent agent;
+static lldpa_text names[64];
+static uint32_t port_count;
 
-typedef struct agent_of_trace {
-    lldpa_agent agent;
-    lldpa_text names[64];
-    size_t count;
-} agent_of_trace;
-
-/* A word of a line, without its quotes. */
-typedef struct word {
-    const char *at;
-    size_t length;
-} word;
-
-/* ---- The words of the program ----------------------------------------------------------------------------------- */
-
-static void fail(const char *what)
+static void must(int is_so, const char *what)
 {
-    fprintf(stderr, "transcript: %s\n", what);
-    exit(2);
-}
-
-static uint8_t number_of(const char *text)
-{
-    return (uint8_t)strtoul(text, NULL, 10);
-}
-
-static uint8_t role_of(const char *text)
-{
-    return strcmp(text, "router") == 0 ? LLDPA_ROUTER : strcmp(text, "bridge") == 0 ? LLDPA_BRIDGE : LLDPA_STATION;
+    if (!is_so) {
+        fprintf(stderr, "transcript: %s\n", what);
+        exit(2);
+    }
 }
 
 static lldpa_text text_of(const char *text)
 {
-    lldpa_text told = {(const uint8_t *)text, strlen(text)};
-    return told;
+    return (lldpa_text){(const uint8_t *)text, strlen(text)};
 }
 
-/* The numbers of an address, in a base, between separators. */
-static void read_address(const char *text, uint8_t *octets, size_t count, int base)
+static uint32_t number_of(const char *text)
 {
-    for (size_t place = 0; place < count; place++) {
-        char *end;
-        octets[place] = (uint8_t)strtoul(text, &end, base);
-        text = *end == '\0' ? end : end + 1;
-    }
+    return (uint32_t)strtoul(text, NULL, 10);
 }
 
-/* Takes an option and its value. */
-static void set_option(lldpa_options *options, const char *name, const char *value)
-{
-    if (strcmp(name, "--max-neighbors") == 0) {
-        options->max_neighbors = number_of(value);
-    } else if (strcmp(name, "--tx-credit-max") == 0) {
-        options->credit_max = number_of(value);
-    } else if (strcmp(name, "--tx-fast-init") == 0) {
-        options->fast_init = number_of(value);
-    } else if (strcmp(name, "--reinit-delay") == 0) {
-        options->reinit = number_of(value);
-    } else if (strcmp(name, "--hostname") == 0) {
-        options->hostname = text_of(value);
-    } else if (strcmp(name, "--role") == 0) {
-        options->role = role_of(value);
-    } else if (strcmp(name, "--mac") == 0) {
-        read_address(value, options->mac, 6, 16);
-    } else if (strcmp(name, "--management") == 0) {
-        read_address(value, options->management, 4, 10);
-        options->managed = true;
-    } else {
-        fail("an option that is none of its own");
-    }
-}
-
-/* Opens the agent that the words describe. */
-static void open_agent(agent_of_trace *told, char **words)
+static void open_agent(char **words, int count)
 {
     lldpa_options options = LLDPA_OPTIONS_INIT;
-    options.ports = told->names;
-    options.hostname = text_of("localhost");
-    memcpy(options.mac, (uint8_t[6]){2, 0, 0, 0, 0, 1}, sizeof options.mac);
-    for (; *words != NULL; words++) {
-        char *value = strchr(*words, '=');
-        if (strcmp(*words, "--receive-only") == 0) {
-            options.receive_only = true;
-        } else if (strncmp(*words, "--", 2) == 0 && value != NULL) {
-            *value = '\0';
-            set_option(&options, *words, value + 1);
-        } else if (strncmp(*words, "--", 2) == 0 && words[1] != NULL) {
-            set_option(&options, words[0], words[1]);
-            words++;
-        } else if (told->count < 64) {
-            told->names[told->count++] = text_of(*words);
-        }
+    octets mac = spelled(words[1], 12), address = spelled(words[2], strlen(words[2]));
+    memcpy(options.mac, mac.at, sizeof options.mac);
+    memcpy(options.management, address.at, address.length);
+    options.managed = address.length > 0;
+    options.hostname = text_of(words[3]);
+    options.role = number_of(words[4]);
+    options.max_neighbors = number_of(words[5]);
+    options.credit_max = number_of(words[6]);
+    options.fast_init = number_of(words[7]);
+    options.reinit = number_of(words[8]);
+    options.receive_only = number_of(words[9]) != 0;
+    for (int at = 10; at < count && port_count < 64; at++) {
+        names[port_count++] = text_of(words[at]);
     }
-    options.port_count = told->count;
-    if (lldpa_open(&options, &told->agent) != LLDPA_OK) {
-        fail("the agent is not opened");
-    }
-}
-
-/* ---- What is written -------------------------------------------------------------------------------------------- */
-
-static void write_refusal(uint8_t fault)
-{
-    uint8_t room[LLDPA_FAULT_ROOM];
-    size_t length = 0;
-    if (lldpa_fault_text(fault, room, sizeof room, &length) != LLDPA_OK) {
-        fail("a refusal without words");
-    }
-    printf("error: %.*s\n", (int)length, (const char *)room);
+    options.ports = names;
+    options.port_count = port_count;
+    must(lldpa_open(&options, &agent) == LLDPA_OK, "the agent is not opened");
+    free(mac.at);
+    free(address.at);
 }
 
 /* Writes which ports send, each with its frame. */
-static void write_marks(agent_of_trace *told, uint8_t answer, const lldpa_marks *marks)
+static void write_marks(uint8_t answer, const lldpa_marks *marks)
 {
-    static uint8_t frame[1514];
+    static uint8_t frame[LLDPA_FRAME_ROOM];
     size_t length = 0;
-    if (answer != LLDPA_OK) {
-        fail("an event was refused");
-    }
+    must(answer == LLDPA_OK, "an event was refused");
     for (uint8_t at = 0; at < marks->count; at++) {
         lldpa_mark mark = marks->items[at];
-        if (lldpa_frame_of(&told->agent, mark.port, mark.mark, frame, sizeof frame, &length) != LLDPA_OK) {
-            fail("a port sends no frame");
-        }
-        printf("tx %.*s ", (int)told->names[mark.port].length, (const char *)told->names[mark.port].octets);
+        answer = lldpa_frame_of(&agent, mark.port, mark.mark, frame, sizeof frame, &length);
+        must(answer == LLDPA_OK, "a port sends no frame");
+        printf("tx %.*s ", (int)names[mark.port].length, (const char *)names[mark.port].octets);
         for (size_t place = 0; place < length; place++) {
             printf("%02x", frame[place]);
         }
@@ -143,335 +74,190 @@ static void write_marks(agent_of_trace *told, uint8_t answer, const lldpa_marks 
     }
 }
 
-/* A line of a show is this text. */
-static void see_line(agent_of_trace *told, uint32_t show, uint32_t line, const char *wanted)
+/* ---- Shows ------------------------------------------------------------------------------------------------------ */
+
+/* A line of a show is this text: it alone, in a room that is just large enough. */
+static void see_line(uint32_t show, uint32_t line, const char *wanted, size_t length)
 {
-    static uint8_t room[ROOM];
-    size_t length = strlen(wanted);
+    octets room = {taken(length), length};
     lldpa_lines one;
-    if (lldpa_show_lines(&told->agent, show, line, room, length + 1, &one) != LLDPA_OK || one.length != length + 1 ||
-        memcmp(room, wanted, length) != 0 || room[length] != '\n') {
-        fail("a show tells something else than a struct");
+    must(lldpa_show_lines(&agent, show, line, room.at, length, &one) == LLDPA_OK && one.length == length &&
+             one.next == line + 1 && memcmp(room.at, wanted, length) == 0, "a line of a show is another one");
+    free(room.at);
+}
+
+/* Lines of a show from one on have these keys and numbers. */
+static void see_numbers(uint32_t show, uint32_t line, const char *front, const char *const *keys,
+                        const uint32_t *numbers, uint32_t count)
+{
+    char wanted[80];
+    for (uint32_t at = 0; at < count; at++) {
+        int length = snprintf(wanted, sizeof wanted, "%s.%s=%lu\n", front, keys[at], (unsigned long)numbers[at]);
+        see_line(show, line + at, wanted, (size_t)length);
     }
 }
 
-/* The structs tell what the lines of the shows do. */
-static void see_statistics(agent_of_trace *told)
+static void see_statistics(uint32_t port)
 {
     static const char *const keys[] = {"sent", "shutdowns", "received", "discarded", "errors", "tlvs-discarded",
                                        "unrecognized", "ageouts", "drops"};
-    lldpa_statistics_told statistics;
-    uint32_t numbers[9];
-    char wanted[64];
-    for (uint32_t port = 0; port < told->count; port++) {
-        lldpa_text name = told->names[port];
-        if (lldpa_statistics(&told->agent, port, &statistics) != LLDPA_OK || sizeof numbers != sizeof statistics) {
-            fail("the statistics of a port");
-        }
-        memcpy(numbers, &statistics, sizeof numbers);
-        for (uint32_t at = 0; at < 9; at++) {
-            snprintf(wanted, sizeof wanted, "lldp.%.*s.%s=%lu", (int)name.length, (const char *)name.octets, keys[at],
-                     (unsigned long)numbers[at]);
-            see_line(told, LLDPA_SHOW_STATISTICS, 9 * port + at, wanted);
-        }
-    }
+    lldpa_statistics_told told;
+    char front[32];
+    must(lldpa_statistics(&agent, port, &told) == LLDPA_OK, "the statistics of a port");
+    const uint32_t numbers[] = {told.sent, told.shutdowns, told.received, told.discarded, told.errors,
+                                told.tlvs_discarded, told.unrecognized, told.ageouts, told.drops};
+    snprintf(front, sizeof front, "lldp.%.*s", (int)names[port].length, (const char *)names[port].octets);
+    see_numbers(LLDPA_SHOW_STATISTICS, 9 * port, front, keys, numbers, 9);
 }
 
-static void see_configuration(agent_of_trace *told)
+static void see_configuration(void)
 {
     static const char *const keys[] = {"tx-interval", "tx-hold", "ttl", "reinit-delay", "tx-fast-init",
                                        "tx-credit-max", "max-neighbors", "ports"};
     static const char *const words[] = {"rx-and-tx", "rx-only", "tx-only", "disabled"};
-    lldpa_configuration_told configuration;
-    uint32_t numbers[8];
+    lldpa_configuration_told told;
     char wanted[64];
-    if (lldpa_configuration(&told->agent, &configuration) != LLDPA_OK) {
-        fail("the configuration");
+    must(lldpa_configuration(&agent, &told) == LLDPA_OK, "the configuration");
+    const uint32_t numbers[] = {told.interval, told.hold, told.ttl, told.reinit, told.fast_init, told.credit_max,
+                                told.max_neighbors, told.ports};
+    see_numbers(LLDPA_SHOW_CONFIGURATION, 0, "configuration", keys, numbers, 8);
+    for (uint32_t port = 0; port < port_count; port++) {
+        int length = snprintf(wanted, sizeof wanted, "configuration.%.*s.status=%s\n", (int)names[port].length,
+                              (const char *)names[port].octets, words[told.status[port] & 3]);
+        see_line(LLDPA_SHOW_CONFIGURATION, 8 + port, wanted, (size_t)length);
     }
-    memcpy(numbers, &configuration, sizeof numbers);
-    for (uint32_t at = 0; at < 8; at++) {
-        snprintf(wanted, sizeof wanted, "configuration.%s=%lu", keys[at], (unsigned long)numbers[at]);
-        see_line(told, LLDPA_SHOW_CONFIGURATION, at, wanted);
-    }
-    for (uint32_t port = 0; port < told->count; port++) {
-        lldpa_text name = told->names[port];
-        snprintf(wanted, sizeof wanted, "configuration.%.*s.status=%s", (int)name.length, (const char *)name.octets,
-                 words[configuration.status[port] & 3]);
-        see_line(told, LLDPA_SHOW_CONFIGURATION, 8 + port, wanted);
-    }
-    for (size_t port = told->count; port < 64; port++) {
-        if (configuration.status[port] != 0) {
-            fail("a status behind the last port");
-        }
+    for (uint32_t port = port_count; port < 64; port++) {
+        must(told.status[port] == 0, "a status after the last port");
     }
 }
 
-/* Writes a show, by as many lines as fit into a room each time; and sees that each line alone is the same. */
-static void write_show(agent_of_trace *told, uint32_t show)
+/* Writes a show, by as many lines as fit into a room each time. */
+static void write_show(uint32_t show)
 {
-    static uint8_t room[ROOM], one[ROOM];
+    static uint8_t room[LLDPA_LINE_ROOM];
     lldpa_lines lines = {0, 0, false};
-    see_statistics(told);
-    see_configuration(told);
     while (!lines.done) {
         uint32_t line = lines.next;
-        if (lldpa_show_lines(&told->agent, show, line, room, sizeof room, &lines) != LLDPA_OK) {
-            fail("a show was refused");
-        }
+        must(lldpa_show_lines(&agent, show, line, room, sizeof room, &lines) == LLDPA_OK, "a show was refused");
         fwrite(room, 1, lines.length, stdout);
-        for (size_t at = 0; at < lines.length; line++) {
-            size_t length = (size_t)((uint8_t *)memchr(room + at, '\n', lines.length - at) - (room + at)) + 1;
-            lldpa_lines alone;
-            if (lldpa_show_lines(&told->agent, show, line, one, length, &alone) != LLDPA_OK || alone.length != length ||
-                alone.next != line + 1 || memcmp(room + at, one, length) != 0) {
-                fail("a line of a show is another one alone");
-            }
-            at += length;
+        for (size_t at = 0, length; at < lines.length; at += length) {
+            length = (size_t)((uint8_t *)memchr(room + at, '\n', lines.length - at) - (room + at)) + 1;
+            see_line(show, line++, (const char *)room + at, length);
         }
-        if (line != lines.next) {
-            fail("a show goes on at another line");
-        }
+        must(line == lines.next, "a show continues with another line");
     }
 }
 
-/* ---- The lines of a trace --------------------------------------------------------------------------------------- */
+/* ---- Events ----------------------------------------------------------------------------------------------------- */
 
-static int separates(char letter)
+/* Gives seconds: one if their number is odd, and then all at once, up to each at which something is due. */
+static void tick(uint32_t seconds)
 {
-    return letter == ' ' || letter == '\t';
-}
-
-/* The words of a line, at most three and then one more for all others; -1 if a quote is wrong. */
-static int split(const char *line, size_t length, word words[4])
-{
-    int count = 0;
-    size_t at = 0;
-    while (1) {
-        while (at < length && separates(line[at])) {
-            at++;
-        }
-        if (at == length) {
-            return count;
-        }
-        int is_quoted = line[at] == '"';
-        size_t start = at + (size_t)is_quoted;
-        for (at = start; at < length && line[at] != '"' && (is_quoted || !separates(line[at])); at++) {
-        }
-        word found = {line + start, at - start};
-        if (is_quoted && at++ == length) {
-            return -1;
-        }
-        if (at < length && !separates(line[at])) {
-            return -1;
-        }
-        words[count < 3 ? count : 3] = found;
-        count++;
-    }
-}
-
-static int is_word(word given, const char *text)
-{
-    return given.length == strlen(text) && memcmp(given.at, text, given.length) == 0;
-}
-
-/* The port of that name, or -1. */
-static int port_of(const agent_of_trace *told, word name)
-{
-    for (size_t port = 0; port < told->count; port++) {
-        if (told->names[port].length == name.length && memcmp(told->names[port].octets, name.at, name.length) == 0) {
-            return (int)port;
-        }
-    }
-    return -1;
-}
-
-/* Ticks were taken, at most so many, up to the one at which something is due. */
-static void see_due(uint32_t due, uint32_t most, uint32_t taken, int is_something)
-{
-    if (taken != (most < due ? most : due) || is_something != (taken == due)) {
-        fail("something is due at another tick");
-    }
-}
-
-/* `tick` and `tick N` */
-static void run_ticks(agent_of_trace *told, word words[4], int count)
-{
-    unsigned long ticks = 1;
-    if (count > 1) {
-        ticks = 0;
-        for (size_t at = 0; at < words[1].length; at++) {
-            if (words[1].at[at] < '0' || words[1].at[at] > '9') {
-                write_refusal(LLDPA_NUMBER);
-                return;
-            }
-            ticks = ticks > 65535 ? ticks : 10 * ticks + (unsigned long)(words[1].at[at] - '0');
-        }
-        if (words[1].length == 0 || ticks < 1 || ticks > 65535) {
-            write_refusal(words[1].length == 0 ? LLDPA_NUMBER : LLDPA_RANGE);
-            return;
-        }
-    }
-    if (count > 2) {
-        write_refusal(LLDPA_EXTRA);
-        return;
-    }
     lldpa_ticks_taken done = {0, 0};
-    for (lldpa_marks marks; ticks > 0; ticks -= done.taken) {
-        uint32_t due, most = ticks % 2 == 1 ? 1 : (uint32_t)ticks; /* one alone, and the others at once */
-        if (lldpa_due(&told->agent, &due) != LLDPA_OK) {
-            fail("it is not told when something is due");
-        }
-        write_marks(told, lldpa_ticks(&told->agent, most, &marks, &done), &marks);
-        see_due(due, most, done.taken, marks.count > 0 || done.aged_out > 0);
+    lldpa_marks marks;
+    for (; seconds > 0; seconds -= done.taken) {
+        uint32_t due, most = seconds % 2 == 1 ? 1 : seconds;
+        must(lldpa_due(&agent, &due) == LLDPA_OK, "when something is due");
+        write_marks(lldpa_ticks(&agent, most, &marks, &done), &marks);
+        must(done.taken == (most < due ? most : due), "something is due at another tick");
+        must((marks.count > 0 || done.aged_out > 0) == (done.taken == due), "a tick at which something is due");
     }
 }
 
-static uint32_t count_of(agent_of_trace *told, uint32_t port)
+static uint32_t count_of(uint32_t port)
 {
     uint32_t count = 0;
-    if (lldpa_neighbor_count(&told->agent, port, &count) != LLDPA_OK) {
-        fail("the neighbors of a port are not counted");
-    }
+    must(lldpa_neighbor_count(&agent, port, &count) == LLDPA_OK, "the number of neighbors");
     return count;
 }
 
-/* The neighbors of a port before and after news of them, and the one whose key they tell. */
-static void see_news(agent_of_trace *told, uint32_t port, uint32_t before, const lldpa_news *news, octets frame)
+/* Whether the news of a frame are of a neighbor. */
+static int is_of(const lldpa_news *news, octets frame, const lldpa_examined *pdu, const uint8_t *room)
+{
+    return news->chassis.length == pdu->chassis.length && news->port.length == pdu->port.length &&
+           memcmp(frame.at + news->chassis.start, room + pdu->chassis.start, news->chassis.length) == 0 &&
+           memcmp(frame.at + news->port.start, room + pdu->port.start, news->port.length) == 0;
+}
+
+/* A frame comes on a port, and the neighbors of the port afterwards are those that its news say. */
+static void hear(uint32_t port, octets frame)
 {
     static uint8_t room[LLDPA_NEIGHBOR_ROOM];
-    uint32_t after = count_of(told, port), found = 0;
-    lldpa_held held;
-    if (after != before + (news->what == LLDPA_NEWS_NEW) - (news->what == LLDPA_NEWS_GONE)) {
-        fail("news of another number of neighbors");
-    }
-    for (uint32_t at = 0; at < after; at++) {
-        if (lldpa_neighbor(&told->agent, port, at, room, sizeof room, &held) != LLDPA_OK || held.left == 0 ||
-            held.left > held.pdu.ttl) {
-            fail("a neighbor is not told");
-        }
-        found += news->chassis.length == held.pdu.chassis.length && news->port.length == held.pdu.port.length &&
-                 memcmp(frame.at + news->chassis.start, room + held.pdu.chassis.start, news->chassis.length) == 0 &&
-                 memcmp(frame.at + news->port.start, room + held.pdu.port.start, news->port.length) == 0;
-    }
-    int is_held = news->what >= LLDPA_NEWS_NEW && news->what <= LLDPA_NEWS_SAME;
-    if (found != (uint32_t)is_held || lldpa_neighbor(&told->agent, port, after, room, sizeof room, &held) !=
-                                          LLDPA_OUT_OF_RANGE) {
-        fail("the neighbor of the news is another one");
-    }
-}
-
-/* A frame comes on a port. */
-static void hear(agent_of_trace *told, uint32_t port, octets frame)
-{
     lldpa_marks marks;
     lldpa_news news;
-    uint32_t before = count_of(told, port);
-    uint8_t answer = lldpa_frame(&told->agent, port, frame.at, frame.length, &marks, &news);
-    write_marks(told, answer, &marks);
-    see_news(told, port, before, &news, frame);
+    lldpa_held held;
+    uint32_t before = count_of(port), found = 0;
+    write_marks(lldpa_frame(&agent, port, frame.at, frame.length, &marks, &news), &marks);
+    uint32_t after = count_of(port);
+    must(after == before + (news.what == LLDPA_NEWS_NEW) - (news.what == LLDPA_NEWS_GONE), "how many neighbors");
+    for (uint32_t at = 0; at < after; at++) {
+        must(lldpa_neighbor(&agent, port, at, room, sizeof room, &held) == LLDPA_OK, "a neighbor");
+        must(held.left > 0 && held.left <= held.pdu.ttl, "the seconds that a neighbor has left");
+        found += is_of(&news, frame, &held.pdu, room);
+    }
+    must(found == (news.what >= LLDPA_NEWS_NEW && news.what <= LLDPA_NEWS_SAME), "the neighbor of the news");
+    must(lldpa_neighbor(&agent, port, after, room, sizeof room, &held) == LLDPA_OUT_OF_RANGE, "one neighbor more");
 }
 
-/* `rx PORT HEX`, `up PORT` and `down PORT` */
-static void run_port(agent_of_trace *told, word words[4], int count)
-{
-    lldpa_marks marks;
-    int is_frame = is_word(words[0], "rx"), port = count > 1 ? port_of(told, words[1]) : -1;
-    if (count < 2 || port < 0) {
-        write_refusal(count < 2 ? LLDPA_UNKNOWN : LLDPA_NO_SUCH_PORT);
-        return;
-    }
-    if (!is_frame) {
-        if (count > 2) {
-            write_refusal(LLDPA_EXTRA);
-            return;
-        }
-        write_marks(told, lldpa_link(&told->agent, (uint32_t)port, is_word(words[0], "up"), &marks), &marks);
-        return;
-    }
-    if (count < 3) {
-        write_refusal(LLDPA_UNKNOWN);
-        return;
-    }
-    octets frame = spelled(words[2].at, words[2].length);
-    if (frame.at == NULL) {
-        puts("error: bad hexadecimal");
-    } else if (count > 3) {
-        write_refusal(LLDPA_EXTRA);
-    } else {
-        hear(told, (uint32_t)port, frame);
-    }
-    free(frame.at);
-}
-
-/* A command, which the library reads by itself. */
-static void run_command(agent_of_trace *told, const char *line, size_t length)
+/* Runs a command, which the library reads by itself. */
+static void command(const char *line, size_t length)
 {
     lldpa_marks marks;
     uint32_t show = LLDPA_SHOW_NOTHING;
-    uint8_t *exact = taken(length);
-    memcpy(exact, line, length);
-    uint8_t answer = lldpa_command(&told->agent, exact, length, &show, &marks);
-    free(exact);
+    octets exact = copied(line, length);
+    uint8_t answer = lldpa_command(&agent, exact.at, length, &show, &marks);
+    free(exact.at);
     if (answer >= LLDPA_UNKNOWN && answer <= LLDPA_IN_USE) {
-        write_refusal(answer);
+        uint8_t room[LLDPA_FAULT_ROOM];
+        must(lldpa_fault_text(answer, room, sizeof room, &length) == LLDPA_OK, "the words of a refusal");
+        printf("error: %.*s\n", (int)length, (const char *)room);
         return;
     }
-    write_marks(told, answer, &marks);
+    write_marks(answer, &marks);
     if (show != LLDPA_SHOW_NOTHING) {
-        write_show(told, show);
-    }
-}
-
-static void run_line(agent_of_trace *told, const char *line, size_t length)
-{
-    word words[4];
-    size_t at = 0;
-    while (at < length && separates(line[at])) {
-        at++;
-    }
-    if (at == length || line[at] == '#') {
-        return;
-    }
-    int count = split(line, length, words);
-    if (count < 0) {
-        write_refusal(LLDPA_QUOTE);
-    } else if (is_word(words[0], "tick")) {
-        run_ticks(told, words, count);
-    } else if (is_word(words[0], "rx") || is_word(words[0], "up") || is_word(words[0], "down")) {
-        run_port(told, words, count);
-    } else {
-        run_command(told, line, length);
-    }
-}
-
-/* The octets of a line up to its LF go into the room, as many as fit. Answers how many it has, or -1 at the end. */
-static long read_line(char *room, size_t size)
-{
-    long length = 0;
-    int letter;
-    while ((letter = getchar()) != EOF && letter != '\n') {
-        if ((size_t)length < size) {
-            room[length] = (char)letter;
+        for (uint32_t port = 0; port < port_count; port++) {
+            see_statistics(port);
         }
-        length++;
+        see_configuration();
+        write_show(show);
     }
-    return letter == EOF && length == 0 ? -1 : length;
+}
+
+static void run_line(const char *line, size_t length)
+{
+    static const char front[] = "command ";
+    lldpa_marks marks;
+    unsigned number, is_up;
+    int at = 0;
+    if (sscanf(line, "tick %u", &number) == 1) {
+        tick(number);
+    } else if (sscanf(line, "link %u %u", &number, &is_up) == 2) {
+        write_marks(lldpa_link(&agent, number, is_up != 0, &marks), &marks);
+    } else if (sscanf(line, "rx %u %n", &number, &at) == 1) {
+        octets frame = spelled(line + at, length - (size_t)at);
+        hear(number, frame);
+        free(frame.at);
+    } else if (strcmp(line, "leave") == 0) {
+        write_marks(lldpa_leave(&agent, &marks), &marks);
+    } else {
+        must(memcmp(line, front, strlen(front)) == 0, line);
+        command(line + strlen(front), length - strlen(front));
+    }
 }
 
 int main(int count, char **words)
 {
-    static char line[LONGEST];
-    static agent_of_trace told;
-    long length;
-    (void)count;
-    open_agent(&told, words + 1);
-    while ((length = read_line(line, sizeof line)) >= 0) {
-        if (length > LONGEST) {
-            puts("error: line too long");
-        } else {
-            run_line(&told, line, (size_t)length);
-        }
+    char *line = NULL;
+    size_t size = 0;
+    ssize_t length;
+    must(count > 10, "usage: see the head of transcript.c");
+    open_agent(words, count);
+    while ((length = getline(&line, &size, stdin)) > 0) {
+        length -= line[length - 1] == '\n';
+        line[length] = '\0';
+        run_line(line, (size_t)length);
     }
-    lldpa_close(&told.agent);
+    free(line);
+    lldpa_close(&agent);
     return fflush(stdout) == 0 ? 0 : 1;
 }

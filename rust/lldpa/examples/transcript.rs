@@ -1,0 +1,140 @@
+//! Gives events to an agent, and writes what the program lldpa writes. The words and the lines of standard input are
+//! those of tools/library/c/transcript.c. At each show the structs of the agent are compared with its lines.
+
+use lldpa::{Agent, CommandFault, Neighbor, News, Options, Role, Sent, Show};
+use std::io::{stdin, BufRead};
+use std::str::from_utf8;
+
+/// Returns the octets that digits spell.
+fn octets(digits: &str) -> Vec<u8> {
+    (0..digits.len())
+        .step_by(2)
+        .map(|at| u8::from_str_radix(&digits[at..at + 2], 16).expect("two digits"))
+        .collect()
+}
+
+fn number(word: &str) -> u8 {
+    word.parse().expect("a number")
+}
+
+/// Opens the agent that the words describe.
+fn open(words: &[&str]) -> Agent {
+    let options = Options {
+        ports: &words[9..],
+        hostname: words[2],
+        mac: octets(words[0]).try_into().expect("six octets"),
+        management: octets(words[1]).try_into().ok(),
+        receive_only: words[8] != "0",
+        role: [Role::Station, Role::Bridge, Role::Router][usize::from(number(words[3]))],
+        max_neighbors: number(words[4]),
+        credit_max: number(words[5]),
+        fast_init: number(words[6]),
+        reinit: number(words[7]),
+    };
+    Agent::open(&options).expect("an agent")
+}
+
+/// Writes the frames that were sent.
+fn write(agent: &Agent, ports: &[&str], sent: &[Sent]) {
+    for one in sent {
+        let frame = agent.frame_of(one.port, one.mark).expect("a port that sends");
+        let digits: String = frame.iter().map(|octet| format!("{octet:02x}")).collect();
+        println!("tx {} {digits}", ports[usize::from(one.port)]);
+    }
+}
+
+/// Checks that the structs of an agent say what its shows do.
+fn see_structs(agent: &Agent, ports: &[&str]) {
+    let (counters, settings) = (agent.show(Show::Statistics), agent.show(Show::Configuration));
+    for (port, name) in ports.iter().enumerate() {
+        let told = agent.statistics(port as u8).expect("a port");
+        let lines = format!(
+            "lldp.{name}.sent={}\nlldp.{name}.shutdowns={}\nlldp.{name}.received={}\nlldp.{name}.discarded={}\n\
+            lldp.{name}.errors={}\nlldp.{name}.tlvs-discarded={}\nlldp.{name}.unrecognized={}\n\
+            lldp.{name}.ageouts={}\nlldp.{name}.drops={}\n",
+            told.sent, told.shutdowns, told.received, told.discarded, told.errors, told.tlvs_discarded,
+            told.unrecognized, told.ageouts, told.drops
+        );
+        assert!(counters.contains(&lines));
+    }
+    let told = agent.configuration();
+    assert_eq!(told.status.len(), ports.len());
+    let lines = format!(
+        "configuration.tx-interval={}\nconfiguration.tx-hold={}\nconfiguration.ttl={}\n\
+        configuration.reinit-delay={}\nconfiguration.tx-fast-init={}\nconfiguration.tx-credit-max={}\n\
+        configuration.max-neighbors={}\nconfiguration.ports={}\n",
+        told.interval,
+        told.hold,
+        told.ttl,
+        told.reinit,
+        told.fast_init,
+        told.credit_max,
+        told.max_neighbors,
+        told.status.len()
+    );
+    assert!(settings.starts_with(&lines));
+    assert!(agent.statistics(ports.len() as u8).is_err());
+}
+
+/// Runs a command. Each line of its show is also asked for by itself.
+fn command(agent: &mut Agent, ports: &[&str], line: &[u8]) -> Result<(), CommandFault> {
+    let done = agent.command(line)?;
+    write(agent, ports, &done.sent);
+    if let Some(show) = done.show {
+        see_structs(agent, ports);
+        let text = agent.show(show);
+        assert!((0..).map_while(|at| agent.show_line(show, at)).eq(text.lines()));
+        print!("{text}");
+    }
+    Ok(())
+}
+
+/// Gives the agent a frame. The neighbors of its port afterwards are those that its news say.
+fn heard(agent: &mut Agent, port: u8, frame: &[u8]) -> Vec<Sent> {
+    let before = agent.neighbors(port).expect("a port").len();
+    let (sent, news) = agent.frame_news(port, frame).expect("a port");
+    let after: Vec<Neighbor> = agent.neighbors(port).expect("a port").collect();
+    let (more, fewer) = (matches!(news, News::New(_)), matches!(news, News::Gone(_)));
+    assert_eq!(after.len() + usize::from(fewer), before + usize::from(more));
+    if let News::New(msap) | News::Changed(msap) | News::Same(msap) = news {
+        let named = |one: &&Neighbor| one.info().map_or(false, |info| info.msap() == msap);
+        assert_eq!(after.iter().filter(named).count(), 1);
+    }
+    sent
+}
+
+/// Gives the agent seconds, as many at once as it accepts.
+fn tick(agent: &mut Agent, ports: &[&str], mut left: u32) {
+    while left > 0 {
+        let due = agent.due();
+        let done = agent.ticks(left);
+        assert_eq!(done.taken, due.map_or(left, |due| due.min(left)));
+        assert_eq!(done.aged_out > 0 || !done.sent.is_empty(), Some(done.taken) == due);
+        left -= done.taken;
+        write(agent, ports, &done.sent);
+    }
+}
+
+fn main() {
+    let words: Vec<String> = std::env::args().skip(1).collect();
+    let words: Vec<&str> = words.iter().map(String::as_str).collect();
+    let (mut agent, ports) = (open(&words), &words[9..]);
+    for line in stdin().lock().split(b'\n') {
+        let line = line.expect("a line");
+        if let Some(given) = line.strip_prefix(b"command ") {
+            command(&mut agent, ports, given).unwrap_or_else(|fault| println!("{}", fault.line()));
+            continue;
+        }
+        let sent = match from_utf8(&line).expect("an event").split(' ').collect::<Vec<_>>()[..] {
+            ["rx", port, digits] => heard(&mut agent, number(port), &octets(digits)),
+            ["link", port, up] => agent.link(number(port), up != "0").expect("a port"),
+            ["leave"] => agent.leave(),
+            ["tick", count] => {
+                tick(&mut agent, ports, count.parse().expect("a number"));
+                continue;
+            }
+            _ => panic!("not an event"),
+        };
+        write(&agent, ports, &sent);
+    }
+}

@@ -1,0 +1,55 @@
+//! The lines of the shows of an agent.
+
+use crate::agent::Agent;
+use crate::fault::expect_ok;
+use crate::sys;
+use crate::told::Show;
+use alloc::string::String;
+use alloc::vec;
+
+/// The room for the lines of a show beside those of neighbors, and for those of one neighbor, which mostly has fewer.
+const SHOW_ROOM: usize = 1 << 16;
+const SHOW_ROOM_OF_NEIGHBOR: usize = 1 << 10;
+
+impl Agent {
+    /// A room for which a show mostly has not too many lines.
+    pub(crate) fn room_of_show(&self) -> usize {
+        let held: usize = (0..self.ports).map(|port| self.neighbors(port).map_or(0, |all| all.len())).sum();
+        SHOW_ROOM + SHOW_ROOM_OF_NEIGHBOR * held
+    }
+
+    /// All lines of a show, each with its line feed.
+    #[must_use]
+    pub fn show(&self, show: Show) -> String {
+        let mut text = String::new();
+        let mut room = vec![0u8; self.room_of_show()];
+        let mut lines = sys::lldpa_lines::default();
+        while !lines.done {
+            lines = self.show_lines(show, lines.next, &mut room);
+            text.push_str(&String::from_utf8_lossy(&room[..lines.length]));
+            // Each further call goes through the lines before again, so it gets twice the room.
+            room.resize(2 * room.len(), 0);
+        }
+        text
+    }
+
+    /// One line of a show, from 0, without its line feed. None behind the last.
+    #[must_use]
+    pub fn show_line(&self, show: Show, line: u32) -> Option<String> {
+        let mut room = [0u8; sys::LLDPA_LINE_ROOM as usize];
+        let lines = self.show_lines(show, line, &mut room);
+        let text = String::from_utf8_lossy(&room[..lines.length]).into_owned();
+        text.lines().next().map(String::from)
+    }
+
+    /// Writes lines of a show from one on into a room, as many as fit.
+    fn show_lines(&self, show: Show, from: u32, room: &mut [u8]) -> sys::lldpa_lines {
+        let mut lines = sys::lldpa_lines::default();
+        // SAFETY: the handle is open, the room has as many octets as are told, and the lines are a value of their own.
+        let answer = unsafe {
+            sys::lldpa_show_lines(&*self.handle, show as u32, from, room.as_mut_ptr(), room.len(), &mut lines)
+        };
+        expect_ok(answer);
+        lines
+    }
+}

@@ -1,0 +1,139 @@
+//! What an agent tells.
+
+use crate::machine::Mark;
+use crate::numbers::numbered;
+use crate::sys;
+use alloc::vec::Vec;
+
+/// A port that sends, by its number from 0 in the order of the options, and what it sends.
+#[derive(Clone, Copy, Debug, PartialEq, Eq, Hash)]
+pub struct Sent {
+    /// The number of the port.
+    pub port: u8,
+    /// What it sends.
+    pub mark: Mark,
+}
+
+numbered! {
+    /// What a command shows.
+    Show {
+        /// The neighbors of each port.
+        Neighbors = 1,
+        /// The counters of each port.
+        Statistics = 2,
+        /// What the agent says of itself.
+        Chassis = 3,
+        /// The numbers in force, and the status of each port.
+        Configuration = 4,
+    }
+}
+
+/// What a command gave: a show that [`Agent::show`] writes, or which ports send.
+#[derive(Clone, Debug, PartialEq, Eq)]
+pub struct Commanded {
+    /// Which show was asked for, or None if something was changed.
+    pub show: Option<Show>,
+    /// Which ports send.
+    pub sent: Vec<Sent>,
+}
+
+/// What several ticks did.
+#[derive(Clone, Debug, PartialEq, Eq)]
+pub struct Ticks {
+    /// How many were taken.
+    pub taken: u32,
+    /// How many neighbors aged out at the last of them.
+    pub aged_out: u32,
+    /// Which ports send at the last of them.
+    pub sent: Vec<Sent>,
+}
+
+/// What a port counted, each modulo 2^32.
+#[derive(Clone, Copy, Debug, PartialEq, Eq, Hash)]
+pub struct Statistics {
+    /// Ordinary frames sent.
+    pub sent: u32,
+    /// Shutdown frames sent.
+    pub shutdowns: u32,
+    /// LLDP frames that came while the port received and its link was up.
+    pub received: u32,
+    /// LLDPDUs that were refused.
+    pub discarded: u32,
+    /// LLDPDUs that were refused or had a TLV discarded.
+    pub errors: u32,
+    /// TLVs that were discarded.
+    pub tlvs_discarded: u32,
+    /// Kept TLVs of the types 9 to 127.
+    pub unrecognized: u32,
+    /// Neighbors that aged out.
+    pub ageouts: u32,
+    /// LLDPDUs that were dropped for want of room.
+    pub drops: u32,
+}
+
+impl Statistics {
+    pub(crate) fn of(told: &sys::lldpa_statistics_told) -> Statistics {
+        Statistics {
+            sent: told.sent,
+            shutdowns: told.shutdowns,
+            received: told.received,
+            discarded: told.discarded,
+            errors: told.errors,
+            tlvs_discarded: told.tlvs_discarded,
+            unrecognized: told.unrecognized,
+            ageouts: told.ageouts,
+            drops: told.drops,
+        }
+    }
+}
+
+numbered! {
+    /// What a port may do.
+    Status {
+        /// It receives and transmits.
+        RxAndTx = 0,
+        /// It receives.
+        RxOnly = 1,
+        /// It transmits.
+        TxOnly = 2,
+        /// Neither.
+        Disabled = 3,
+    }
+}
+
+/// How an agent is configured: each by the last command that set it, else as it was opened.
+#[derive(Clone, Debug, PartialEq, Eq, Hash)]
+pub struct Configuration {
+    /// The tx-interval in seconds.
+    pub interval: u32,
+    /// The tx-hold.
+    pub hold: u32,
+    /// The time to live of an ordinary frame, in seconds.
+    pub ttl: u32,
+    /// reinitDelay in seconds.
+    pub reinit: u32,
+    /// txFastInit.
+    pub fast_init: u32,
+    /// txCreditMax.
+    pub credit_max: u32,
+    /// How many neighbors each port may hold now.
+    pub max_neighbors: u32,
+    /// The status of each port, in the order of the options.
+    pub status: Vec<Status>,
+}
+
+impl Configuration {
+    pub(crate) fn of(told: &sys::lldpa_configuration_told) -> Configuration {
+        let status = told.status.iter().take(told.ports as usize);
+        Configuration {
+            interval: told.interval,
+            hold: told.hold,
+            ttl: told.ttl,
+            reinit: told.reinit,
+            fast_init: told.fast_init,
+            credit_max: told.credit_max,
+            max_neighbors: told.max_neighbors,
+            status: status.map(|number| Status::of(u32::from(*number))).collect(),
+        }
+    }
+}

@@ -1,0 +1,72 @@
+/* What the programs of this folder share: counts of what holds, and octets in hexadecimal. Each block of octets has a
+ * size of its own, so that valgrind and AddressSanitizer see what is read behind its end. */
+#ifndef CHECKS_H
+#define CHECKS_H
+
+#include <stdint.h>
+#include <stdio.h>
+#include <stdlib.h>
+#include <string.h>
+
+static unsigned passed;
+static unsigned failed;
+
+/* Counts something that must hold, and reports it if it does not. */
+static inline void holds(int is_so, const char *what)
+{
+    passed += is_so != 0;
+    failed += is_so == 0;
+    if (!is_so) {
+        printf("FAILED: %s\n", what);
+    }
+}
+
+/* Prints the counts, and returns the status of the program. */
+static inline int end(void)
+{
+    printf("%u passed, %u failed\n", passed, failed);
+    return passed == 0 || failed > 0;
+}
+
+/* Octets that were taken from the heap. */
+typedef struct octets {
+    uint8_t *at;
+    size_t length;
+} octets;
+
+/* Returns memory, or ends the program. */
+static inline void *taken(size_t size)
+{
+    void *block = malloc(size > 0 ? size : 1);
+    if (block == NULL) {
+        fputs("no memory\n", stderr);
+        exit(2);
+    }
+    return block;
+}
+
+/* Returns a copy of octets in a block of their own. */
+static inline octets copied(const void *at, size_t length)
+{
+    octets block = {taken(length), length};
+    memcpy(block.at, at, length);
+    return block;
+}
+
+/* Returns the octets that so many hexadecimal digits spell, in small letters, or ends the program. */
+static inline octets spelled(const char *digits, size_t count)
+{
+    static const char values[] = "0123456789abcdef";
+    octets read = {taken(count / 2), count / 2};
+    for (size_t at = 0; at < read.length; at++) {
+        const char *high = memchr(values, digits[2 * at], 16), *low = memchr(values, digits[2 * at + 1], 16);
+        if (high == NULL || low == NULL) {
+            fprintf(stderr, "not hexadecimal: %s\n", digits);
+            exit(2);
+        }
+        read.at[at] = (uint8_t)((high - values) << 4 | (low - values));
+    }
+    return read;
+}
+
+#endif
