@@ -58,10 +58,9 @@ def check_example(name: str, command: Sequence[object], wanted: str, counts: Cou
         counts.judge(None if ended.stdout == wanted else f"it writes {ended.stdout}", name)
 
 
-def blocks_of_page(language: str) -> list[tuple[str, str]]:
-    """Returns the blocks of the page in a language that are whole programs, each with what it writes."""
-    pattern = rf"^```{language}\n(.*?)^```\n\n```text\n(.*?)^```$"
-    return re.findall(pattern, PAGE.read_text(), re.M | re.S)
+def programs_of_page() -> list[tuple[str, str]]:
+    """Returns the programs of the page in C, each with what it writes."""
+    return re.findall(r"^```c\n(.*?)^```\n\n```text\n(.*?)^```$", PAGE.read_text(), re.M | re.S)
 
 
 def loading(library: Library) -> dict[str, str]:
@@ -70,15 +69,12 @@ def loading(library: Library) -> dict[str, str]:
 
 
 def check_page(library: Library, counts: Counts) -> None:
-    """Runs the programs of docs/LIBRARY.md in C and in Python; those in Rust are tests of the crate."""
-    for at, (text, wanted) in enumerate(blocks_of_page("c")):
+    """Runs the programs of docs/LIBRARY.md in C; those in Rust are tests of the crate."""
+    for at, (text, wanted) in enumerate(programs_of_page()):
         source = library.room / f"page-{at}.c"
         source.write_text(text)
         counts.judge(library.compiled(source, f"page-{at}"), f"building docs/LIBRARY.md, {at}")
         check_example(f"docs/LIBRARY.md in C, {at}", [library.room / f"page-{at}"], wanted, counts)
-    for at, (text, wanted) in enumerate(blocks_of_page("python") if library.shared() else []):
-        check_example(f"docs/LIBRARY.md in Python, {at}", [sys.executable, "-c", text], wanted,
-                      counts, env=loading(library))
 
 
 def follow(heard: subprocess.Popen[bytes], send: Callable[[bytes], object]) -> bool:
