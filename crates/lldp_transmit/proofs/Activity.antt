@@ -24,11 +24,7 @@ AreApart [] = Unit {0}
 AreApart (m ∷ past) = (m.start ≡ true → (ends m ≡ false) × (is_up (m ∷ past) ≡ true)) × AreApart past
 
 start_apart : (c : Cause) (x l u r : Bool) → (is_tick c && (l && (up_after c u && (not x && r)))) ≡ true → (((x && not l) || is_down c) ≡ false) × (up_after c u ≡ true)
-start_apart Tick true true true r e = cc e
-start_apart Tick true false true r e = cc e
-start_apart Tick false l true r e = (refl, refl)
-start_apart Tick x true false r e = cc e
-start_apart Tick x false false r e = cc e
+start_apart Tick x l u r e = grind (arith, common_steps)
 start_apart _ x l u r e = cc e
 
 apart_moments : (s : Settings) (h : History) → AreApart (moments s h)
@@ -47,9 +43,8 @@ active_lasts = lasts_reads is_active (λ m. m.start) (λ _. false) ends refl is_
 -- ---- a link that stays up
 
 up_stays : (c : Cause) (x u : Bool) (n : ℕ) → one_if (x || is_down c) + n ≡ 0 → u ≡ true → up_after c u ≡ true
-up_stays Down true u n e p = absurd (omega arith)
-up_stays Down false u n e p = absurd (omega arith)
 up_stays Up x u n e p = refl
+up_stays Down x u n e p = grind (arith, common_steps)
 up_stays _ x u n e p = p
 
 up_on : (run before : List Moment) → is_up before ≡ true → count ends run ≡ 0 → is_up (run ++ before) ≡ true
@@ -61,9 +56,8 @@ no_stop [] c = refl
 no_stop (m ∷ run) c = grind (arith, common_steps, one_if, no_stop run (omega arith))
 
 neither : (c : Cause) (x u : Bool) (n k : ℕ) → one_if x + n ≡ 0 → up_after c u ≡ true → k ≡ 0 → one_if (x || is_down c) + k ≡ 0
-neither c true u n k e p q = absurd (omega arith)
-neither Down false u n k e p q = cc p
-neither _ false u n k e p q = omega arith
+neither Down x u n k e p q = cc p
+neither _ x u n k e p q = grind (arith, common_steps)
 
 no_end : (run before : List Moment) → stops_in run ≡ 0 → StaysUp run before → count ends run ≡ 0
 no_end [] before c u = refl
@@ -98,16 +92,14 @@ active_reads s h = apart_reads (moments s h) (apart_moments s h)
 
 same_up : (s : Settings) (bs : List Bool) (ms : List Moment) → AreTimely s bs ms → is_up (with_marks bs ms) ≡ is_up ms
 same_up s [] [] t = refl
-same_up s [] (m ∷ ms) t = elim t [ ]
-same_up s (b ∷ bs) [] t = elim t [ ]
 same_up s (b ∷ bs) (m ∷ ms) t = ap (up_after m.cause) (same_up s bs ms t.1)
+same_up s _ _ t = elim t [ ]
 
 apart_marked : (s : Settings) (bs : List Bool) (ms : List Moment) → AreTimely s bs ms → AreApart ms → AreApart (with_marks bs ms)
 apart_marked s [] [] t a = tt
-apart_marked s [] (m ∷ ms) t a = elim t [ ]
-apart_marked s (b ∷ bs) [] t a = elim t [ ]
 apart_marked s (b ∷ bs) (m ∷ ms) t a =
     (λ start. ((a.0 start).0, same_up s (b ∷ bs) (m ∷ ms) t ∙ (a.0 start).1), apart_marked s bs ms t.1 a.1)
+apart_marked s _ _ t a = elim t [ ]
 
 pub chosen_reads : (s : Settings) (h : History) (e : Event) (bs : List Bool) → AreTimely s bs (moments s h) →
     IsTrue (is_active (moment s (moments s h) e ∷ with_marks bs (moments s h))) ↔ HasStarted (moment s (moments s h) e ∷ with_marks bs (moments s h))

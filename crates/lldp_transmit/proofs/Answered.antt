@@ -1,6 +1,6 @@
 -- The windows of a history, and the same with what a machine answered.
 use Rattle.std.specs.Prelude.{◌≡◌, ◌+◌, ◌↔◌, Bool, true, false, cond, List, [], ◌∷◌}
-use Rattle.std.proofs.Common.{refl, ap, sym, arith, subst}
+use Rattle.std.proofs.Common.{ap, sym, arith, subst}
 use Rattle.lldp_transmit.specs.declared.event.Mark.{Mark}
 use Rattle.lldp_transmit.specs.declared.event.Mark.TheVariants.{Quiet, Ordinary, Shutdown}
 use Rattle.lldp_transmit.specs.History.{Settings, Event, History}
@@ -22,15 +22,10 @@ windows_hold s h r = grind (arith, common_steps, is_bounded, stops_rarely, is_ea
 
 -- with its own mark a moment adds its own frame, and its own stop
 frames_marked : (x y : Bool) (run : List Moment) → (x ≡ true → y ≡ false) → frames_with (cond x Shutdown (cond y Ordinary Quiet)) run ≡ one_if y + frames run
-frames_marked true true run a = cc (a refl)
-frames_marked true false run a = omega arith
-frames_marked false true run a = refl
-frames_marked false false run a = omega arith
+frames_marked x y run a = grind (arith, common_steps)
 
 stops_marked : (x y : Bool) (run : List Moment) → stops_with (cond x Shutdown (cond y Ordinary Quiet)) run ≡ one_if x + stops_in run
-stops_marked true y run = refl
-stops_marked false true run = omega arith
-stops_marked false false run = omega arith
+stops_marked x y run = grind (arith, common_steps)
 
 module _ (s : Settings) (past : History) (e : Event) where
   frames_of_mark : (run : List Moment) → frames_with (mark_at s (e ∷ past)) run ≡ frames (moment s (moments s past) e ∷ run)

@@ -3,7 +3,6 @@ use Rattle.std.specs.Prelude.{◌≡◌, ℕ, ◌+◌, ◌-◌, ◌≤◌, Bool,
 use Rattle.std.proofs.Common.{refl, arith}
 use Rattle.std.proofs.lemmas.Bool.Decides.{nat_tests}
 use Rattle.lldp_transmit.specs.declared.event.Cause.{Cause}
-use Rattle.lldp_transmit.specs.declared.event.Cause.TheVariants.{Tick}
 use Rattle.lldp_transmit.specs.declared.event.Mark.{Mark}
 use Rattle.lldp_transmit.specs.declared.event.Mark.TheVariants.{Quiet, Ordinary, Shutdown}
 use Rattle.lldp_transmit.specs.Code.Machine.{Machine, stepped}
@@ -54,25 +53,16 @@ pub record Makes (t : Machine) (c : Cause) (n : ℕ) (r : Machine × Mark) : Typ
   pub fast_init : r.0.fast_init ≡ t.fast_init
   pub reinit : r.0.reinit ≡ t.reinit
 
-abbrev machine : (cm fi re cr wa ti le : ℕ) (wt ac al up : Bool) → Machine
-machine cm fi re cr wa ti le wt ac al up = record { credit_max = cm; fast_init = fi; reinit = re; credit = cr; wait = wa; timer = ti; left = le; waiting = wt; active = ac; allowed = al; up = up }
-
-module _ (cm fi re cr wa ti le n : ℕ) (few : cr ≤ cm) where
-  abbrev IsRight : (wt ac al up : Bool) → Cause → Type 0
-  IsRight wt ac al up c = Makes (machine cm fi re cr wa ti le wt ac al up) c n (stepped (machine cm fi re cr wa ti le wt ac al up) c n)
+module _ (t : Machine) (n : ℕ) (few : t.credit ≤ t.credit_max) where
+  abbrev so : (waiting active allowed up : Bool) → Machine
+  so waiting active allowed up = record t { waiting = waiting; active = active; allowed = allowed; up = up }
 
   -- whatever a port is: not allowed, inactive or active, with a frame that waits or without
-  on : (c : Cause) (wt ac al up : Bool) → (ac ≡ true → al ≡ true) → (ac ≡ true → wt ≡ true → cr ≡ 0) → IsRight wt ac al up c
+  on : (c : Cause) (wt ac al up : Bool) → (ac ≡ true → al ≡ true) → (ac ≡ true → wt ≡ true → t.credit ≡ 0) → Makes (so wt ac al up) c n (stepped (so wt ac al up) c n)
   on c wt true false up i j = cc (i refl)
-  on Tick wt false false up i j = grind (arith, nat_tests)
-  on Tick wt false true false i j = grind (arith, nat_tests)
-  on Tick wt false true true i j = grind (arith, nat_tests)
-  on _ wt false al up i j = grind (arith, nat_tests)
-  on Tick false true true up i j = grind (arith, nat_tests)
-  on _ false true true up i j = grind (arith, nat_tests)
-  on Tick true true true up i j = let none : cr ≡ 0 = j refl refl in grind (arith, nat_tests)
-  on _ true true true up i j = let none : cr ≡ 0 = j refl refl in grind (arith, nat_tests)
+  on c true true true up i j = let none : t.credit ≡ 0 = j refl refl in grind (arith, nat_tests)
+  on _ _ _ _ _ i j = grind (arith, nat_tests)
 
 -- A step of the machine makes of its counters what the labels of the next moment say.
 pub step_makes : (t : Machine) (c : Cause) (n : ℕ) → t.credit ≤ t.credit_max → (t.active ≡ true → t.allowed ≡ true) → (t.active ≡ true → t.waiting ≡ true → t.credit ≡ 0) → Makes t c n (stepped t c n)
-step_makes t c n few i j = on t.credit_max t.fast_init t.reinit t.credit t.wait t.timer t.left n few c t.waiting t.active t.allowed t.up i j
+step_makes t c n few i j = on t n few c t.waiting t.active t.allowed t.up i j

@@ -1,10 +1,9 @@
 -- What is given and taken by causes, and which causes have frames.
-use Rattle.std.specs.Prelude.{◌≡◌, ℕ, ◌⊎◌, ◌↔◌, Bool, true, false, cond, not, ◌&&◌, ◌||◌, IsTrue, List, [], ◌∷◌, ◌++◌, map}
+use Rattle.std.specs.Prelude.{◌≡◌, ℕ, ◌⊎◌, ◌↔◌, Bool, true, false, not, ◌&&◌, ◌||◌, IsTrue, List, [], ◌∷◌, ◌++◌, map}
 use Rattle.std.proofs.Common.{refl, ap, sym, ◌∙◌, inl, inr, arith, subst}
 use Rattle.lldp_transmit.specs.declared.event.Cause.{Cause}
 use Rattle.lldp_transmit.specs.declared.event.Cause.TheVariants.{Tick, Change, Neighbor, Stop, Allow, Down, Up}
-use Rattle.lldp_transmit.specs.declared.event.Mark.{Mark}
-use Rattle.lldp_transmit.specs.declared.event.Mark.TheVariants.{Quiet, Ordinary, Shutdown}
+use Rattle.lldp_transmit.specs.declared.event.Mark.TheVariants.{Ordinary, Shutdown}
 use Rattle.lldp_transmit.specs.History.{Settings, Event, History, event, is_tick, is_down}
 use Rattle.lldp_transmit.specs.Moments.{moment, moments, mark_at, allowed_after, up_after, is_allowed, is_up, is_active, rested}
 use Rattle.lldp_transmit.specs.Code.Machine.{Machine, stepped}
@@ -15,6 +14,7 @@ use Rattle.lldp_transmit.proofs.Splits.{newest, older}
 use Rattle.lldp_transmit.proofs.Counters.{is_active-cons}
 use Rattle.lldp_transmit.proofs.Sending.{sent_reads}
 use Rattle.lldp_transmit.proofs.Standing.{allowed_if_active, exact, marks, stands_left}
+use Rattle.std.proofs.lemmas.Bool.{true_from_ne_false}
 use Rattle.std.proofs.lemmas.Grind.{common_steps}
 use Rattle.lldp_transmit.specs.Laws.Causes.{HasCause, IsGiven, MayTransmit, IsLinked, CanSend, CanStop}
 
@@ -55,10 +55,6 @@ by_position P e h first rest p = go p.after p.is
         let head : e ≡ x = cc in
         subst (λ y. P p.there (y ∷ after)) head (rest (record { after = after; there = p.there; before = p.before; is = cc }))
 
-true_unless : (b : Bool) → (b ≡ false → ⊥) → b ≡ true
-true_unless true n = refl
-true_unless false n = absurd (n refl)
-
 later : (c : Cause) (e : Event) (h : History) → HasCause c h → HasCause c (e ∷ h)
 later c e h g = (older e g.0, g.1)
 
@@ -86,7 +82,7 @@ module _ (f : Cause → Bool → Bool) (gives takes : Cause) (reads : (c : Cause
           }
 
   is_held : (h : History) → IsGiven gives takes b h → held f b h ≡ true
-  is_held [] g = true_unless b (λ q. let w = (g.once q).0 in nowhere w.after w.before w.there w.is)
+  is_held [] g = true_from_ne_false b (λ q. let w = (g.once q).0 in nowhere w.after w.before w.there w.is)
   is_held (e ∷ h) g = go (reads e.cause) (is_held h)
     where
       go : Reads f gives takes e.cause → (IsGiven gives takes b h → held f b h ≡ true) → f e.cause (held f b h) ≡ true
@@ -121,16 +117,12 @@ up_reads s h = rw (up_held s h) (given_reads up_after Up Down reads_up (λ q. cc
 
 -- ---- frames
 
-stop_quiet : (b : Bool) (t u : Machine) → (cond {A = Machine × Mark} b (t, Shutdown) (u, Quiet)).1 ≡ Ordinary → ⊥
-stop_quiet true t u q = cc q
-stop_quiet false t u q = cc q
-
 -- a step answers an ordinary frame at these causes alone
 ordinary_cause : (t : Machine) (c : Cause) (n : ℕ) → (stepped t c n).1 ≡ Ordinary → (c ≡ Tick) ⊎ ((c ≡ Change) ⊎ (c ≡ Neighbor))
 ordinary_cause t Tick n q = inl refl
 ordinary_cause t Change n q = inr (inl refl)
 ordinary_cause t Neighbor n q = inr (inr refl)
-ordinary_cause t Stop n q = absurd (stop_quiet t.active _ _ q)
+ordinary_cause t Stop n q = grind (arith, common_steps)
 ordinary_cause t _ n q = cc q
 
 -- at a start the link is up, and later a lost link would have ended it
@@ -160,7 +152,6 @@ ordinary_reads s past e r q =
 
 taken : (c : Cause) (b : Bool) → b ≡ true → allowed_after c b ≡ false → c ≡ Stop
 taken Stop b p q = refl
-taken Allow b p q = cc q
 taken _ b p q = cc (p, q)
 
 pub shutdown_reads : (s : Settings) (past : History) (e : Event) → (mark_at s (e ∷ past) ≡ Shutdown) ↔ CanStop s e past

@@ -12,6 +12,7 @@ use Rattle.lldp_transmit.specs.Moments.{moment, Moment, moments, ticks, is_activ
 use Rattle.lldp_transmit.specs.Positions.{NoneOpened, AreLeft, IsDistance, IsTimerEnd, IsSignal, IsOpening, starts_in}
 use Rattle.lldp_transmit.proofs.Splits.{count-append, count_never, Lasts, lasts_reads, or_again, find_last, up_to_none, at_last}
 use Rattle.lldp_transmit.proofs.Counters.{same_active}
+use Rattle.std.proofs.lemmas.Grind.{common_steps}
 use Rattle.lldp_transmit.proofs.Activity.{active_reads, and_reads, is_tick_only}
 
 -- ---- signals left
@@ -63,14 +64,8 @@ left_reads s ms n = (λ e. subst (AreLeft s ms) (sym e) (go (is_opened ms) refl)
 
 -- ---- distance
 
-chosen : (n d i : ℕ) → (1 ≤ n → d ≡ 1) → (n ≡ 0 → d ≡ i) → d ≡ cond (nat_lt 0 n) 1 i
-chosen n d i one other = grind (arith, nat_tests)
-
-chosen_one : (n i : ℕ) → 1 ≤ n → cond (nat_lt 0 n) 1 i ≡ 1
-chosen_one n i p = grind (arith, nat_tests)
-
-chosen_other : (n i : ℕ) → n ≡ 0 → cond (nat_lt 0 n) 1 i ≡ i
-chosen_other n i p = grind (arith, nat_tests)
+chosen : (n i : ℕ) → (1 ≤ n → cond (nat_lt 0 n) 1 i ≡ 1) × (n ≡ 0 → cond (nat_lt 0 n) 1 i ≡ i)
+chosen n i = (λ p. grind (arith, nat_tests), λ p. grind (arith, nat_tests))
 
 pub distance_reads : (s : Settings) (m : Moment) (before : List Moment) (d : ℕ) → (d ≡ distance s (m ∷ before)) ↔ IsDistance s m before d
 distance_reads s m before d = (forth, back)
@@ -79,11 +74,10 @@ distance_reads s m before d = (forth, back)
     left = signals_left s (m ∷ before)
 
     forth : d ≡ distance s (m ∷ before) → IsDistance s m before d
-    forth e = (left, (left_reads s (m ∷ before) left).0 refl, λ p. e ∙ chosen_one left m.interval p, λ p. e ∙ chosen_other left m.interval p)
+    forth e = (left, (left_reads s (m ∷ before) left).0 refl, λ p. e ∙ (chosen left m.interval).0 p, λ p. e ∙ (chosen left m.interval).1 p)
 
     back : IsDistance s m before d → d ≡ distance s (m ∷ before)
-    back (n, l, one, other) =
-        chosen n d m.interval one other ∙ ap (λ k. cond (nat_lt 0 k) 1 m.interval) ((left_reads s (m ∷ before) n).1 l)
+    back (n, l, one, other) = grind (arith, nat_tests, (left_reads s (m ∷ before) n).1 l)
 
 -- ---- end of the timer
 
@@ -129,14 +123,7 @@ abbrev Wants : Settings → List Moment → Moment → Type 0
 Wants s past m = IsTrue m.start ⊎ ((m.cause ≡ Change) ⊎ ((m.cause ≡ Neighbor) ⊎ IsTimerEnd s past m))
 
 wants : (s : Settings) (past : List Moment) (m : Moment) → IsTrue (m.start || (is_change m.cause || (is_neighbor m.cause || timer_ends s past m))) → Wants s past m
-wants s past m p =
-    elim (or_cases _ _ p) [
-      | inl e ↦ inl e
-      | inr e ↦ elim (or_cases _ _ e) [
-        | inl f ↦ inr (inl (is_change_only m.cause f))
-        | inr f ↦ elim (or_cases _ _ f) [ inl g ↦ inr (inr (inl (is_neighbor_only m.cause g))) | inr g ↦ inr (inr (inr ((timer_reads s past m).0 g))) ]
-      ]
-    ]
+wants s past m p = grind (arith, common_steps, or_cases, is_change_only, is_neighbor_only, timer_reads)
 
 wanted : (s : Settings) (past : List Moment) (m : Moment) → Wants s past m → IsTrue (m.start || (is_change m.cause || (is_neighbor m.cause || timer_ends s past m)))
 wanted s past m b = grind (arith, nat_tests, or_left, or_right, timer_reads)

@@ -29,14 +29,10 @@ Lasts picks ends blocks xs =
     (p : Position xs) × IsTrue (picks p.there) × (count ends p.after ≡ 0) × (count blocks (p.there ∷ p.after) ≡ 0)
 
 picks_first : (b g x : Bool) → one_if b + 0 ≡ 0 → g ≡ true → (not b && (g || x)) ≡ true
-picks_first true g x e p = absurd (omega arith)
-picks_first false g x e p = ap (λ v. v || x) p
+picks_first b g x e p = grind (arith)
 
 picks_later : (b g c w : Bool) (n f k : ℕ) → one_if c + n ≡ 0 → k + (one_if b + f) ≡ 0 → w ≡ true → (not b && (g || (not c && w))) ≡ true
-picks_later true g c w n f k e d p = absurd (omega arith)
-picks_later false g true w n f k e d p = absurd (omega arith)
-picks_later false true false w n f k e d p = refl
-picks_later false false false w n f k e d p = p
+picks_later b g c w n f k e d p = grind (arith)
 
 -- A test that goes on like this from element to element finds what lasts.
 module _ {X : Type 0} (f : List X → Bool) (picks ends blocks : X → Bool) (empty : f [] ≡ false) (one_more : (x : X) (xs : List X) → f (x ∷ xs) ≡ (not (blocks x) && (picks x || (not (ends x) && f xs)))) where

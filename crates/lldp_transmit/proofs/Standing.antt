@@ -58,10 +58,7 @@ allowed_if_active s [] a = cc
 allowed_if_active s (e ∷ h) a = grind (arith, common_steps, is_active-cons)
 
 none_left : (x y o : Bool) (n : ℕ) → x ≡ true → (not ((x && y) && o) && y) ≡ true → o ≡ nat_le 1 n → n - one_if ((x && y) && o) ≡ 0
-none_left false y o n a w e = cc a
-none_left true false o n a w e = cc w
-none_left true true true n a w e = cc w
-none_left true true false n a w e = grind (arith, nat_tests)
+none_left x y o n a w e = grind (arith, nat_tests)
 
 -- A frame waits on an active port only for want of credit.
 none_if_waiting : (s : Settings) (h : History) → 1 ≤ s.credit_max → is_active (moments s h) ≡ true → is_waiting (moments s h) ≡ true → bucket s (moments s h) ≡ 0
@@ -95,14 +92,11 @@ counts_left s h r = grind (arith, common_steps, credit_is, paid_moments)
 counts_of : (s : Settings) (h : History) (t : Machine) → Stands s h t → Counts s (moments s h) t
 counts_of s h t k = subst (λ (x : Machine). Counts s (moments s h) x) (sym k.is) (counts_left s h k.in_range)
 
-machine_by : (t : Machine) (max fast reinit credit wait timer left : ℕ) (waiting active allowed up : Bool) → t.credit_max ≡ max → t.fast_init ≡ fast → t.reinit ≡ reinit → t.credit ≡ credit → t.wait ≡ wait
-    → t.timer ≡ timer → t.left ≡ left → t.waiting ≡ waiting → t.active ≡ active → t.allowed ≡ allowed → t.up ≡ up
-    → t ≡ record { credit_max = max; fast_init = fast; reinit = reinit; credit = credit; wait = wait; timer = timer; left = left; waiting = waiting; active = active; allowed = allowed; up = up }
-machine_by t max fast reinit credit wait timer left waiting active allowed up a b c d e f g h i j k = rw (← a, ← b, ← c, ← d, ← e, ← f, ← g, ← h, ← i, ← j, ← k) refl
-
 stands_of : (s : Settings) (h : History) (t : Machine) → AreSettings s → Counts s (moments s h) t → Stands s h t
 unfolding machine_of
-stands_of s h t r k = grind (arith, common_steps, machine_by, credit_is, paid_moments)
+stands_of s h t r k =
+    let credit = credit_is s (moments s h) (paid_moments s h r.some_credit) in
+    record { in_range = r; is = rw (credit, ← k.credit, ← k.wait, ← k.timer, ← k.left, ← k.waiting, ← k.active, ← k.allowed, ← k.up, ← k.credit_max, ← k.fast_init, ← k.reinit) refl }
 
 -- A step carries standing from every history to that history and the event.
 pub carries : (s : Settings) (h : History) (t : Machine) (e : Event) → Stands s h t → Stands s (e ∷ h) (stepped t e.cause e.interval).0
@@ -127,10 +121,7 @@ unfolding moment
 apart s past e p = grind (arith, common_steps, is_active-cons)
 
 ordinary_by : (x y : Bool) (r : Mark) → (x ≡ true → y ≡ false) → r ≡ cond x Shutdown (cond y Ordinary Quiet) → ((r ≡ Ordinary) ↔ IsTrue y) × ((r ≡ Shutdown) ↔ IsTrue x)
-ordinary_by true true r a e = cc (a refl)
-ordinary_by true false r a e = ((λ p. cc, λ q. cc), (λ p. refl, λ q. e))
-ordinary_by false true r a e = ((λ p. refl, λ q. e), (λ p. cc, λ q. cc))
-ordinary_by false false r a e = ((λ p. cc, λ q. cc), (λ p. cc, λ q. cc))
+ordinary_by x y r a e = grind (arith, common_steps)
 
 -- The mark is Ordinary exactly if a frame is due and the window open, and Shutdown exactly at a stop.
 pub exact : (s : Settings) (past : List Moment) (e : Event) (r : Mark) → r ≡ mark_of (moment s past e) → ((r ≡ Ordinary) ↔ IsTrue (moment s past e).sent) × ((r ≡ Shutdown) ↔ IsTrue (moment s past e).stop)

@@ -35,10 +35,7 @@ rested_if_active s (e ∷ h) a =
 -- the stops of a run are so far apart, and the last is so long ago, as its ticks allow
 spaced_after : (r : ℕ) (stop some : Bool) (n w t k : ℕ) → (some ≡ true → r * n + w ≤ t + r) → (some ≡ false → n ≡ 0) → (stop ≡ true → some ≡ true → r ≤ w) →
     (stop || some) ≡ true → r * (one_if stop + n) + cond stop 0 (k + w) ≤ k + t + r
-spaced_after r true true n w t k i j l o = grind (arith, common_steps)
-spaced_after r true false n w t k i j l o = let none : n ≡ 0 = j refl in rw none (omega arith)
-spaced_after r false true n w t k i j l o = let b : r * n + w ≤ t + r = i refl in omega arith
-spaced_after r false false n w t k i j l o = cc o
+spaced_after r stop some n w t k i j l o = grind (arith, common_steps)
 
 -- what comes since the last stop of a run comes since the last stop of the history that it ends
 any_front : (run before : List Moment) → list_any (λ m. m.stop) run ≡ true → list_any (λ m. m.stop) (run ++ before) ≡ true

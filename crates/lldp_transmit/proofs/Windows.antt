@@ -4,6 +4,7 @@ use Rattle.std.specs.Prelude.{◌≡◌, ℕ, suc, ◌+◌, ◌-◌, ◌≤◌, 
 use Rattle.std.specs.List.{list_all, fold}
 use Rattle.std.proofs.Common.{refl, ap, ap₂, sym, ◌∙◌, arith}
 use Rattle.std.proofs.lemmas.Bool.{leb-true, leb-false, le-leb, and_parts, and_from, and_right, false_from_ne_true}
+use Rattle.std.proofs.Math.Bool.{and_assoc, and-true}
 use Rattle.std.proofs.lemmas.Bool.Decides.{nat_tests}
 use Rattle.lldp_transmit.specs.Fronts.{runs, after_first}
 use Rattle.lldp_transmit.specs.History.{Settings, History, is_tick}
@@ -89,17 +90,9 @@ open_is s past m most paid = within_is s (record m { sent = true } ∷ past) ∙
 le_min : (c d e : ℕ) → nat_le c (min d e) ≡ (nat_le c d && nat_le c e)
 le_min c d e = grind (arith, nat_tests)
 
-and_assoc : (a b c : Bool) → ((a && b) && c) ≡ (a && (b && c))
-and_assoc true b c = refl
-and_assoc false b c = refl
-
-and_true : (b : Bool) → b ≡ (b && true)
-and_true true = refl
-and_true false = refl
-
 -- A number is at most the least of some exactly if it is at most each.
 least_is : {X : Type 0} (c d : ℕ) (f : X → ℕ) (xs : List X) → nat_le c (fold min d (map f xs)) ≡ (nat_le c d && list_all (λ x. nat_le c (f x)) xs)
-least_is c d f [] = and_true (nat_le c d)
+least_is c d f [] = sym (and-true (nat_le c d))
 least_is c d f (x ∷ xs) = grind (arith, common_steps, le_min, and_assoc, least_is c (min d (f x)) f xs)
 
 -- what a run leaves of its bound is at least c, if c isn't 0, exactly if the run fits with c more

@@ -14,6 +14,7 @@ ghost use Rattle.lldp_transmit.specs.declared.event.Cause.{Cause};
 ghost use Rattle.lldp_transmit.specs.declared.event.Mark.{Mark};
 
 /// A machine as it is opened, with settings in their ranges (`AreSettings`), stands for no events.
+#[tactic(auto, using(crate::proofs::Standing::stands_at_first))]
 pub fn opened_machines_stand()
     ensures { (s : Settings) → AreSettings s → Stands s [] (opened s) }
 {}
@@ -46,6 +47,7 @@ pub fn windows_hold()
 
 /// The ordinary frames are themselves a choice of due and open events, so none that is earlier can
 /// be better.
+#[tactic(auto, using(crate::proofs::Earliest::timely))]
 pub fn frames_are_timely()
     ensures { (s : Settings) (h : History) →
         AreTimely s (map (λ m. m.sent) (moments s h)) (moments s h) }
@@ -132,6 +134,7 @@ pub fn shutdown_frames_go_at_stops()
 {}
 
 /// The moments of a history are its events in their order, each with the tx-interval given with it.
+#[tactic(auto, using(crate::proofs::Causes::events_kept))]
 pub fn moments_keep_their_events()
     ensures { (s : Settings) (h : History) →
         map (λ m. event m.cause m.interval) (moments s h) ≡ h }

@@ -7,7 +7,6 @@ ghost use Rattle.lldp_transmit.specs.Positions.{IsDueAndOpen, StopsAt, IsLeastRo
 ghost use Rattle.lldp_transmit.specs.Remaining.{credit_left};
 ghost use Rattle.lldp_transmit.specs.Standing.{AreSettings, Stands, ForEachHistory};
 ghost use Rattle.lldp_transmit.specs.Windows.{IsBoundedWith, StopsRarelyWith, IsEarliestWith};
-ghost use Rattle.lldp_transmit.specs.Code.Parts.{machine_of_parts};
 ghost use Rattle.lldp_transmit.specs.Code.Machine.{opened, served, signalled, ticked, stopped, stepped};
 
 use crate::event::{Cause, Mark};
@@ -17,22 +16,7 @@ use std::marker::Model;
 /// The transmit machine of one port.
 #[derive(Clone, Copy, Debug, PartialEq, Eq)]
 pub struct Transmit {
-    /// Ticks until the timer ends.
-    timer: u16,
-    credit_max: u8,
-    fast_init: u8,
-    reinit: u8,
-    /// Ordinary frames that may be sent before the next tick.
-    credit: u8,
-    /// Ticks until the port may start again.
-    wait: u8,
-    /// Signals left in the burst.
-    left: u8,
-    /// A signal has had no frame yet.
-    waiting: bool,
-    active: bool,
-    allowed: bool,
-    up: bool,
+    parts: Parts,
 }
 
 impl Model for Transmit {
@@ -41,35 +25,11 @@ impl Model for Transmit {
 
     ghost Value = { Machine };
 
-    ghost view = { λ t. record {
-      credit_max = t.credit_max;
-      fast_init = t.fast_init;
-      reinit = t.reinit;
-      credit = t.credit;
-      wait = t.wait;
-      timer = t.timer;
-      left = t.left;
-      waiting = t.waiting;
-      active = t.active;
-      allowed = t.allowed;
-      up = t.up;
-    } };
+    ghost view = { λ t. t.parts };
 
-    ghost invariant = { λ t. t.credit ≤ t.credit_max };
+    ghost invariant = { λ t. t.parts.credit ≤ t.parts.credit_max };
 
-    ghost inverse = { λ m. record {
-      credit_max = m.credit_max;
-      fast_init = m.fast_init;
-      reinit = m.reinit;
-      credit = m.credit;
-      wait = m.wait;
-      timer = m.timer;
-      left = m.left;
-      waiting = m.waiting;
-      active = m.active;
-      allowed = m.allowed;
-      up = m.up;
-    } };
+    ghost inverse = { λ machine. record { parts = machine } };
 }
 
 impl Transmit {
@@ -85,61 +45,40 @@ impl Transmit {
         ensures stands { Stands (settings credit_max fast_init reinit allowed) [] result }
     {
         Transmit {
-            timer: 0,
-            credit_max,
-            fast_init,
-            reinit,
-            credit: credit_max,
-            wait: 0,
-            left: 0,
-            waiting: false,
-            active: false,
-            allowed,
-            up: true,
+            parts: Parts {
+                timer: 0,
+                credit_max,
+                fast_init,
+                reinit,
+                credit: credit_max,
+                wait: 0,
+                left: 0,
+                waiting: false,
+                active: false,
+                allowed,
+                up: true,
+            },
         }
     }
 
     /// Returns its fields.
     pub fn parts(&self) -> Parts
-        ensures { machine_of_parts result ≡ self.now }
+        ensures { result ≡ self.now }
     {
-        Parts {
-            timer: self.timer,
-            credit_max: self.credit_max,
-            fast_init: self.fast_init,
-            reinit: self.reinit,
-            credit: self.credit,
-            wait: self.wait,
-            left: self.left,
-            waiting: self.waiting,
-            active: self.active,
-            allowed: self.allowed,
-            up: self.up,
-        }
+        let parts = &self.parts;
+        *parts
     }
 
     /// Returns the machine with these fields, or None exactly if the credit is above `credit_max`,
     /// which no machine has.
     pub fn of_parts(parts: &Parts) -> Option<Transmit>
-        ensures some { IfSome result (λ machine. machine ≡ machine_of_parts parts.now) }
+        ensures some { IfSome result (λ machine. machine ≡ parts.now) }
         ensures exists { IsSome result ↔ (parts.now.credit ≤ parts.now.credit_max) }
     {
         if parts.credit > parts.credit_max {
             return None;
         }
-        Some(Transmit {
-            timer: parts.timer,
-            credit_max: parts.credit_max,
-            fast_init: parts.fast_init,
-            reinit: parts.reinit,
-            credit: parts.credit,
-            wait: parts.wait,
-            left: parts.left,
-            waiting: parts.waiting,
-            active: parts.active,
-            allowed: parts.allowed,
-            up: parts.up,
-        })
+        Some(Transmit { parts: *parts })
     }
 
     /// Takes one event, with the tx-interval in force after it (1 to 3600 seconds), and returns
@@ -185,9 +124,48 @@ impl Transmit {
         ensures earliest { ForEachHistory self.old (λ s past.
             IsEarliestWith s past (event cause interval) result) }
     {
-        self.step(cause, interval)
+        self.parts.step(cause, interval)
     }
 
+    /// Returns how many ordinary frames may be sent before the next tick: the least of txCreditMax
+    /// and of what each run that ends now leaves of its bound.
+    pub fn credit(&self) -> u8
+        ensures value { result ≡ self.now.credit }
+        ensures most { self.now.credit ≤ self.now.credit_max }
+        ensures left { ForEachHistory self.now (λ s past. result ≡ credit_left s (moments s past)) }
+        ensures least { ForEachHistory self.now (λ s past. IsLeastRoom s (moments s past) result) }
+    {
+        self.parts.credit
+    }
+
+    /// Returns whether the port has started, and has neither stopped nor lost its link since.
+    pub fn is_active(&self) -> bool
+        ensures value { result ≡ self.now.active }
+        ensures active { ForEachHistory self.now (λ s past. result ≡ is_active (moments s past)) }
+    {
+        self.parts.active
+    }
+
+    /// Returns whether the port may transmit: by the last `Stop` or `Allow`, or else as it was
+    /// opened.
+    pub fn is_allowed(&self) -> bool
+        ensures value { result ≡ self.now.allowed }
+        ensures allowed { ForEachHistory self.now (λ s past. result
+            ≡ is_allowed s (moments s past)) }
+    {
+        self.parts.allowed
+    }
+
+    /// Returns whether the link is up: by the last `Down` or `Up`, or else true.
+    pub fn is_up(&self) -> bool
+        ensures value { result ≡ self.now.up }
+        ensures up { ForEachHistory self.now (λ s past. result ≡ is_up (moments s past)) }
+    {
+        self.parts.up
+    }
+}
+
+impl Parts {
     fn step(&mut self, cause: Cause, interval: u16) -> Mark
         ensures next { self.new ≡ (stepped self.old cause interval).0 }
         ensures answer { result ≡ (stepped self.old cause interval).1 }
@@ -249,9 +227,7 @@ impl Transmit {
         ensures { self.new
             ≡ record self.old { credit = min self.old.credit_max (self.old.credit + 1) } }
     {
-        if self.credit < self.credit_max {
-            self.credit += 1;
-        }
+        self.credit = self.credit.saturating_add(1).min(self.credit_max);
     }
 
     /// Runs both clocks down.
@@ -298,42 +274,5 @@ impl Transmit {
         }
         self.credit -= 1;
         Mark::Ordinary
-    }
-
-    /// Returns how many ordinary frames may be sent before the next tick: the least of txCreditMax
-    /// and of what each run that ends now leaves of its bound.
-    pub fn credit(&self) -> u8
-        ensures value { result ≡ self.now.credit }
-        ensures most { self.now.credit ≤ self.now.credit_max }
-        ensures left { ForEachHistory self.now (λ s past. result ≡ credit_left s (moments s past)) }
-        ensures least { ForEachHistory self.now (λ s past. IsLeastRoom s (moments s past) result) }
-    {
-        self.credit
-    }
-
-    /// Returns whether the port has started, and has neither stopped nor lost its link since.
-    pub fn is_active(&self) -> bool
-        ensures value { result ≡ self.now.active }
-        ensures active { ForEachHistory self.now (λ s past. result ≡ is_active (moments s past)) }
-    {
-        self.active
-    }
-
-    /// Returns whether the port may transmit: by the last `Stop` or `Allow`, or else as it was
-    /// opened.
-    pub fn is_allowed(&self) -> bool
-        ensures value { result ≡ self.now.allowed }
-        ensures allowed { ForEachHistory self.now (λ s past. result
-            ≡ is_allowed s (moments s past)) }
-    {
-        self.allowed
-    }
-
-    /// Returns whether the link is up: by the last `Down` or `Up`, or else true.
-    pub fn is_up(&self) -> bool
-        ensures value { result ≡ self.now.up }
-        ensures up { ForEachHistory self.now (λ s past. result ≡ is_up (moments s past)) }
-    {
-        self.up
     }
 }

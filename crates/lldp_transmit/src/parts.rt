@@ -1,8 +1,8 @@
 //! The fields of a transmit machine.
 
-/// The fields of a transmit machine, to keep one in a struct of C's.
+/// What a transmit machine holds, as a struct that C can keep too.
 #[repr(C)]
-#[derive(Clone, Copy)]
+#[derive(Clone, Copy, Debug, PartialEq, Eq)]
 pub struct Parts {
     /// Ticks until the timer ends.
     pub timer: u16,

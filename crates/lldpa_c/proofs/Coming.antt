@@ -1,5 +1,5 @@
 -- What is in a room once lines have come.
-use Rattle.std.proofs.Common.{◌≡◌, ℕ, zero, suc, ◌+◌, ◌-◌, ◌%◌, ◌^◌, ◌<◌, ◌≤◌, Bool, true, false, not, List, [], ◌∷◌, ◌++◌, length, take, drop, Some, None, refl, sym, ap, subst, ◌∙◌, append-nil, append_assoc, arith}
+use Rattle.std.proofs.Common.{◌≡◌, ℕ, zero, suc, ◌+◌, ◌-◌, ◌%◌, ◌^◌, ◌<◌, ◌≤◌, Bool, true, false, List, [], ◌∷◌, ◌++◌, length, take, drop, Some, None, refl, sym, ap, subst, ◌∙◌, append-nil, append_assoc, arith}
 use Rattle.std.specs.Prelude.{Option, max, slice_get, nat_le}
 use Rattle.std.specs.Option.{option_map}
 use Rattle.std.specs.List.{flat_map}
@@ -148,14 +148,6 @@ pub is_full : (lines : List (List ℕ)) (from size : ℕ) (r : View) → Comes s
 is_full lines from size r c full =
     let f = c.full full in
     record { line = f.line; is = ap (slice_get lines) c.next ∙ sym (get_behind from c.count lines) ∙ f.is; over = f.over }
-
-pub is_open : (full : Bool) → not full ≡ true → full ≡ false
-is_open true h = absurd cc
-is_open false h = refl
-
-pub is_not_open : (full : Bool) → not full ≡ false → full ≡ true
-is_not_open true h = refl
-is_not_open false h = absurd cc
 
 -- ---- whether the first line that is wanted fits
 

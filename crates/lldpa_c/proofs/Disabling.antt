@@ -4,6 +4,7 @@ use Rattle.std.specs.Prelude.{◌&&◌, ◌==◌, not, if◌then◌else◌, slic
 use Rattle.std.specs.List.{AllByRecursion}
 use Rattle.std.proofs.lemmas.Bool.{cases_Bool}
 use Rattle.std.proofs.lemmas.List.{take_all}
+use Rattle.std.proofs.lemmas.Option.{get_or_from_slice_get}
 use Rattle.std.proofs.Math.ListN.{drop_of_length-le}
 use Rattle.lldp_transmit.specs.declared.event.Mark.{Mark}
 use Rattle.lldp_transmit.specs.declared.event.Mark.TheVariants.{Quiet, Shutdown}
@@ -43,11 +44,6 @@ marks_disabled agent i p lt here =
     let n = agent.configuration.interval in
     sym (one_port_marks (status Disabled) n i agent.ports p lt here) ∙ ap (λ (m : Mark). sending i m []) (machine_mark (transmits p.status) n p.machine) ∙ mark_sent (stops p) i
 
-is_at : (ports : List PortState) (i : ℕ) (p : PortState) → slice_get ports i ≡ Some p → p ≡ get_or ports i p
-is_at [] i p h = absurd cc
-is_at (x ∷ ports) zero p h = cc
-is_at (x ∷ ports) (suc i) p h = is_at ports i p h
-
 is_sent : (items : List Sending) (b is_empty : Bool) (i : ℕ) → items ≡ shutdown_if b i → is_empty ≡ (length items == 0) → shutdown_if (not is_empty) i ≡ items
 is_sent items true is_empty i is e = rw (e, is) refl
 is_sent items false is_empty i is e = rw (e, is) refl
@@ -57,7 +53,7 @@ pub told_sent : (agent : AgentState) (i : ℕ) (items : List Sending) (is_empty 
     → shutdown_if (not is_empty) i ≡ agent_marks (disables i) agent
 told_sent agent i items is_empty lt is e =
     let p = there_is agent.ports i lt in
-    is_sent items (stops p.0) is_empty i (is ∙ marks_disabled agent i p.0 lt (is_at agent.ports i p.0 p.1)) e ∙ is
+    is_sent items (stops p.0) is_empty i (is ∙ marks_disabled agent i p.0 lt (sym (get_or_from_slice_get agent.ports i p.0 p.0 p.1))) e ∙ is
 
 -- ---- each port in its turn
 

@@ -1,6 +1,7 @@
 pub mod Places
 pub mod Walking
 pub mod AsBox
+pub mod ByHand
 pub mod Coming
 pub mod Ticking
 pub mod Dueness

@@ -13,7 +13,7 @@ use Rattle.lldpa_c.specs.declared.news.LldpaNews.{LldpaNews}
 use Rattle.lldpa_c.specs.Place.{octets_at}
 use Rattle.lldpa_c.specs.Examined.{Holds, chassis_place, port_place}
 use Rattle.lldpa_c.specs.News.{pdu_news, hears, heard_pdu, news_on, in_frame, HoldsName, TellsNoName, Reports}
-use Rattle.lldpa_c.proofs.Places.{behind_header, header_off, chassis_lies, port_lies}
+use Rattle.lldpa_c.proofs.Places.{header_off, chassis_lies, port_lies}
 
 -- what is told of an LLDPDU, by its own places
 pub record TellsPdu (table : Contents) (pdu : List ℕ) (told : LldpaNews) : Type 0 where
@@ -26,8 +26,8 @@ pub record TellsPdu (table : Contents) (pdu : List ℕ) (told : LldpaNews) : Typ
 placed : (frame pdu body : List ℕ) (place : LldpaPlace) → Some pdu ≡ lldpdu_of frame → Holds pdu place body
     → (14 + place.start + place.length ≤ length frame) × (octets_at frame (in_frame place) ≡ body)
 placed frame pdu body place h holds = (
-  omega (arith, holds.within, behind_header frame pdu h),
-  ap (take place.length) (sym (drop-drop place.start 14 frame) ∙ ap (drop place.start) (sym (header_off frame pdu h))) ∙ holds.held,
+  omega (arith, holds.within, (header_off frame pdu h).1),
+  ap (take place.length) (sym (drop-drop place.start 14 frame) ∙ ap (drop place.start) (sym (header_off frame pdu h).0)) ∙ holds.held,
 )
 
 named_in : (frame pdu : List ℕ) (table : Contents) (told : LldpaNews) → Some pdu ≡ lldpdu_of frame → TellsPdu table pdu told → fault_of pdu ≡ None → HoldsName frame told (msap_of pdu)

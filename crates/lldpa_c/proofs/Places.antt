@@ -1,6 +1,6 @@
 -- Where the LLDPDU lies in a frame, and the identifiers in an LLDPDU.
-use Rattle.std.proofs.Common.{◌≡◌, ℕ, ◌+◌, ◌-◌, ◌*◌, ◌/◌, ◌%◌, ◌≤◌, ◌⊎◌, Bool, true, false, cond, ltb, List, [], ◌∷◌, length, take, drop, Option, Some, None, refl, sym, ap, ◌∙◌, inl, inr, arith}
-use Rattle.std.proofs.lemmas.Bool.{ltb-false, leb-true}
+use Rattle.std.proofs.Common.{◌≡◌, ℕ, ◌+◌, ◌-◌, ◌*◌, ◌%◌, ◌≤◌, ◌⊎◌, Bool, true, false, cond, List, [], ◌∷◌, length, take, drop, Option, Some, None, refl, sym, ap, ◌∙◌, inl, inr, arith}
+use Rattle.std.proofs.lemmas.Bool.{cases_lt, lt-ltb, le-ltb, leb-true}
 use Rattle.std.proofs.lemmas.List.{length-take-le, length-drop, drop-drop, take_at}
 use Rattle.lldp_pdu.specs.declared.fault.PduFault.TheVariants.{Truncated, NoChassis, ChassisLength}
 use Rattle.std.proofs.lemmas.Grind.{common_steps}
@@ -20,18 +20,12 @@ has_fourteen : (frame : List ℕ) → is_lldp_frame frame ≡ true → 14 ≤ le
 unfolding is_lldp_frame
 has_fourteen frame h = grind (arith, common_steps, leb-true)
 
-pub behind_header : (frame pdu : List ℕ) → Some pdu ≡ lldpdu_of frame → 14 + length pdu ≡ length frame
-behind_header frame pdu h = at (is_lldp_frame frame) refl h
-  where
-    at : (b : Bool) → is_lldp_frame frame ≡ b → Some pdu ≡ cond b (Some (drop 14 frame)) None → 14 + length pdu ≡ length frame
-    at true e h = grind (arith, common_steps, has_fourteen, length-drop)
-    at false e h = absurd cc
-
-pub header_off : (frame pdu : List ℕ) → Some pdu ≡ lldpdu_of frame → pdu ≡ drop 14 frame
+-- the LLDPDU stands behind 14 octets
+pub header_off : (frame pdu : List ℕ) → Some pdu ≡ lldpdu_of frame → (pdu ≡ drop 14 frame) × (14 + length pdu ≡ length frame)
 header_off frame pdu h = at (is_lldp_frame frame) refl h
   where
-    at : (b : Bool) → is_lldp_frame frame ≡ b → Some pdu ≡ cond b (Some (drop 14 frame)) None → pdu ≡ drop 14 frame
-    at true e h = cc
+    at : (b : Bool) → is_lldp_frame frame ≡ b → Some pdu ≡ cond b (Some (drop 14 frame)) None → (pdu ≡ drop 14 frame) × (14 + length pdu ≡ length frame)
+    at true e h = (cc, grind (arith, common_steps, has_fourteen, length-drop))
     at false e h = absurd cc
 
 -- ---- the front of an LLDPDU
@@ -45,21 +39,15 @@ pub body_at : (octets : List ℕ) (u : TlvUnit) (others : List ℕ) → first_tl
     → (take (length u.body) (drop 2 octets) ≡ u.body) × (2 + length u.body ≤ length octets)
 body_at [] u others h = absurd cc
 body_at (high ∷ []) u others h = absurd cc
-body_at (high ∷ low ∷ octets) u others h = let a = announced (256 * high + low) h in (a.0, omega (arith, a.1))
-  where
-    announced : (header : ℕ) → cond {A = Option (TlvUnit × List ℕ)} (ltb (length octets) (header % 512)) None (Some (record { kind = header / 512; body = take (header % 512) octets }, drop (header % 512) octets)) ≡ Some (u, others)
-        → (take (length u.body) octets ≡ u.body) × (2 + length u.body ≤ 2 + length octets)
-    announced header h = at (ltb (length octets) (header % 512)) refl h
-      where
-        at : (b : Bool) → ltb (length octets) (header % 512) ≡ b → cond {A = Option (TlvUnit × List ℕ)} b None (Some (record { kind = header / 512; body = take (header % 512) octets }, drop (header % 512) octets)) ≡ Some (u, others)
-            → (take (length u.body) octets ≡ u.body) × (2 + length u.body ≤ 2 + length octets)
-        at true e h = absurd cc
-        at false e h =
-            let n = header % 512 in
-            let is : take n octets ≡ u.body = ap body_of h in
-            let long : n ≤ length octets = ltb-false _ _ e in
-            let len : length u.body ≡ n = ap length (sym is) ∙ length-take-le n octets long in
-            (rw len is, omega (arith, len))
+body_at (high ∷ low ∷ octets) u others h =
+    let n = (256 * high + low) % 512 in
+    elim (cases_lt (length octets) n) [
+      | inl less ↦ absurd cc (rw (lt-ltb _ _ less) at h)
+      | inr long ↦
+          let is : take n octets ≡ u.body = ap body_of (rw (le-ltb _ _ long) at h) in
+          let len : length u.body ≡ n = ap length (sym is) ∙ length-take-le n octets long in
+          (rw len is, omega (arith, len))
+    ]
 
 -- ---- a sound LLDPDU begins with two TLVs
 

@@ -7,6 +7,7 @@ use Rattle.std.specs.Str.{bytes_eq}
 use Rattle.std.proofs.lemmas.Bool.{cases_Bool}
 use Rattle.std.proofs.lemmas.Bool.Decides.{nat_tests}
 use Rattle.std.proofs.lemmas.List.{length-map, length-append}
+use Rattle.std.proofs.lemmas.Grind.{common_steps}
 use Rattle.std.proofs.lemmas.Map.Keys.{IsDistinct-head, IsDistinct-tail}
 use Rattle.lldp_pdu.specs.declared.fault.PduFault.{PduFault}
 use Rattle.lldp_pdu.specs.Msap.{MsapId}
@@ -40,10 +41,7 @@ module _ (name : MsapId) where
 
   all_others : (xs : List Neighbor) → found xs ≡ None → others xs ≡ xs
   all_others [] h = refl
-  all_others (x ∷ xs) h = elim (cases_Bool (is_named name x)) [
-    | inl t ↦ absurd cc (sym (ap (λ (b : Bool). if b then Some x else found xs) t) ∙ h)
-    | inr f ↦ rw f (ap (λ (ys : List Neighbor). x ∷ ys) (all_others xs (sym (ap (λ (b : Bool). if b then Some x else found xs) f) ∙ h)))
-  ]
+  all_others (x ∷ xs) h = grind (arith, common_steps, all_others xs)
 
   none_named : (x : Neighbor) (xs : List Neighbor) → name ≡ x.msap → AllByRecursion (λ (other : MsapId). same_msap x.msap other ≡ false) (names_of xs) → found xs ≡ None
   none_named x [] e h = refl
@@ -69,17 +67,11 @@ module _ (name : MsapId) where
 
     put_found : (xs : List Neighbor) → found xs ≡ None → stored (xs ++ fresh name ttl octets ∷ []) ≡ Some octets
     put_found [] h = fresh_found []
-    put_found (x ∷ xs) h = elim (cases_Bool (is_named name x)) [
-      | inl t ↦ absurd cc (sym (ap (λ (b : Bool). if b then Some x else found xs) t) ∙ h)
-      | inr f ↦ rw f (put_found xs (sym (ap (λ (b : Bool). if b then Some x else found xs) f) ∙ h))
-    ]
+    put_found (x ∷ xs) h = grind (arith, common_steps, fresh_found, put_found xs)
 
     refreshed_found : (xs : List Neighbor) (x : Neighbor) → found xs ≡ Some x → stored (map (refreshed name ttl octets) xs) ≡ Some octets
     refreshed_found [] x h = absurd cc
-    refreshed_found (y ∷ ys) x h = elim (cases_Bool (is_named name y)) [
-      | inl t ↦ rw t (fresh_found (map (refreshed name ttl octets) ys))
-      | inr f ↦ rw (f, f) (refreshed_found ys x (sym (ap (λ (b : Bool). if b then Some y else found ys) f) ∙ h))
-    ]
+    refreshed_found (y ∷ ys) x h = grind (arith, common_steps, fresh_found, refreshed_found ys x)
 
 -- ---- the news, case by case
 
@@ -101,13 +93,9 @@ module _ (table : Contents) where
       let fewer : 1 + length (others name table.neighbors) ≡ length table.neighbors = omega (arith, one_fewer name table.neighbors x e sound.distinct) in
       record { is = rw e refl; new = (λ h. absurd cc, λ h. absurd (omega (arith, h, fewer))); gone = (λ _. fewer, λ _. refl) }
 
-  refresh_differs : (b : Bool) (n : ℕ) → (if b then 6 else 5) ≡ n → n ≡ 4 → ⊥
-  refresh_differs true n e h = absurd cc
-  refresh_differs false n e h = absurd cc
-
-  refresh_stays : (b : Bool) (n : ℕ) → (if b then 6 else 5) ≡ n → n ≡ 8 → ⊥
-  refresh_stays true n e h = absurd cc
-  refresh_stays false n e h = absurd cc
+  refreshed_only : (b : Bool) (n : ℕ) → (if b then 6 else 5) ≡ n → (n ≢ 4) × (n ≢ 8)
+  refreshed_only true n e = (λ h. absurd cc, λ h. absurd cc)
+  refreshed_only false n e = (λ h. absurd cc, λ h. absurd cc)
 
   telling : (pdu : List ℕ) (o : Option Neighbor) (room : Bool) → find (is_named (msap_of pdu)) table.neighbors ≡ o → nat_lt (length table.neighbors) table.limit ≡ room
       → TellsStep true (Some (says pdu)) table (after_learn table (msap_of pdu) (ttl_of pdu) (extent pdu)) (life_news table (extent pdu) (option_map (λ (x : Neighbor). x.octets) o))
@@ -117,7 +105,7 @@ module _ (table : Contents) where
       let same = bytes_eq x.octets (extent pdu) in
       let is : (if same then 6 else 5) ≡ telling_news (octets_held table (msap_of pdu)) (octets_held next (msap_of pdu)) =
       rw (e, refreshed_found (msap_of pdu) (ttl_of pdu) (extent pdu) table.neighbors x e) refl in
-      rw held (steady true (Some (says pdu)) table next (if same then 6 else 5) is (refresh_differs same _ refl) (refresh_stays same _ refl) (length-map table.neighbors (refreshed (msap_of pdu) (ttl_of pdu) (extent pdu))))
+      rw held (steady true (Some (says pdu)) table next (if same then 6 else 5) is (refreshed_only same _ refl).0 (refreshed_only same _ refl).1 (length-map table.neighbors (refreshed (msap_of pdu) (ttl_of pdu) (extent pdu))))
   telling pdu None true e r =
       let held : list_any (is_named (msap_of pdu)) table.neighbors ≡ false = any_found (msap_of pdu) table.neighbors ∙ ap is_some e in
       let next = learned_as New table (msap_of pdu) (ttl_of pdu) (extent pdu) in

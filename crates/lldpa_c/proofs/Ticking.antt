@@ -26,15 +26,15 @@ held_more (p ∷ ports) zero table h =
     ap (λ (t : Contents). length t.neighbors + held_by ports) same
 held_more (p ∷ ports) (suc i) table h = held_more ports i table h
 
-no_longer : {X : Type 0} (o : Option X) (xs : List X) → length (cons_option o xs) ≤ suc (length xs)
+pub no_longer : {X : Type 0} (o : Option X) (xs : List X) → length (cons_option o xs) ≤ suc (length xs)
 no_longer None xs = omega arith
 no_longer (Some x) xs = omega arith
 
-fewer : {X Y : Type 0} (f : X → Option Y) (xs : List X) → length (filter_map f xs) ≤ length xs
+pub fewer : {X Y : Type 0} (f : X → Option Y) (xs : List X) → length (filter_map f xs) ≤ length xs
 fewer f [] = omega arith
 fewer f (x ∷ xs) = omega (arith, no_longer (f x) (filter_map f xs), fewer f xs)
 
-held_step : (n i : ℕ) (ports : List PortState) → held_by (ports_step (each_port port_tick) n i ports) ≤ held_by ports
+pub held_step : (n i : ℕ) (ports : List PortState) → held_by (ports_step (each_port port_tick) n i ports) ≤ held_by ports
 held_step n i [] = omega arith
 held_step n i (p ∷ ports) = omega (arith, fewer aged p.table.neighbors, held_step n (i + 1) ports)
 

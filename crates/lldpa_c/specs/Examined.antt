@@ -3,6 +3,7 @@ use Rattle.std.specs.Prelude.{◌≡◌, ℕ, ◌+◌, ◌<◌, ◌≤◌, List,
 use Rattle.lldp_pdu.specs.declared.fault.PduFault.{PduFault}
 use Rattle.lldp_pdu.specs.FaultNumber.{pdu_fault_number}
 use Rattle.lldp_pdu.specs.Msap.{MsapId}
+use Rattle.lldp_pdu.specs.Info.{LldpInfo}
 use Rattle.lldp_pdu.specs.Lldpdu.{extent, ttl_of, msap_of}
 use Rattle.lldp_pdu.specs.Kept.{kept_of, discarded_of, count_unrecognized}
 use Rattle.lldpa_c.specs.declared.place.LldpaPlace.{LldpaPlace}
@@ -47,3 +48,25 @@ chassis_place msap = record { start = 2; length = length msap.chassis }
 
 abbrev pub port_place : MsapId → LldpaPlace
 port_place msap = record { start = 2 + length msap.chassis + 2; length = length msap.port }
+
+-- ---- what the code tells of a neighbor that is gone, and of one that lives
+
+abbrev pub told_gone : MsapId → LldpaExamined
+told_gone msap = record {
+  chassis = chassis_place msap;
+  port = port_place msap;
+  extent = 0;
+  discarded = 0;
+  unrecognized = 0;
+  ttl = 0;
+}
+
+abbrev pub told_alive : LldpInfo → LldpaExamined
+told_alive info = record {
+  chassis = chassis_place info.msap;
+  port = port_place info.msap;
+  extent = length info.octets;
+  discarded = info.discarded;
+  unrecognized = info.unrecognized;
+  ttl = info.ttl;
+}

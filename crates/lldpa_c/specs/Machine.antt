@@ -4,7 +4,6 @@ use Rattle.lldp_transmit.specs.declared.event.Cause.{Cause}
 use Rattle.lldp_transmit.specs.declared.event.Cause.TheVariants.{Tick, Change, Neighbor, Stop, Allow, Down, Up, Nothing}
 use Rattle.lldp_transmit.specs.declared.event.Mark.{Mark}
 use Rattle.lldp_transmit.specs.declared.event.Mark.TheVariants.{Quiet, Ordinary, Shutdown}
-use Rattle.lldp_transmit.specs.declared.parts.Parts.{Parts}
 use Rattle.lldp_transmit.specs.History.{event}
 use Rattle.lldp_transmit.specs.Moments.{mark_at}
 use Rattle.lldp_transmit.specs.Positions.{IsDueAndOpen, StopsAt}
@@ -32,7 +31,7 @@ mark_number Ordinary = 1
 mark_number Shutdown = 2
 
 -- a machine's credit is no more than its greatest, and a tx-interval is 1 to 3600 seconds
-pub record CanTake (machine : Parts) (interval : ℕ) : Type 0 where
+pub record CanTake (machine : Machine) (interval : ℕ) : Type 0 where
   pub credit : machine.credit ≤ machine.credit_max
   pub least : 1 ≤ interval
   pub most : interval ≤ 3600

@@ -1,6 +1,5 @@
 //! In how many seconds something is due.
 ghost use Rattle.std.specs.Prelude.{◌≡◌};
-ghost use Rattle.lldp_transmit.specs.Code.Parts.{machine_of_parts};
 ghost use Rattle.lldpa_c.specs.Answer.{answer_of};
 ghost use Rattle.lldpa_c.specs.Due.{sooner, until_sends, least_left, due_on, IsDue};
 ghost use Rattle.lldpa_c.specs.Frame.{Keeps};
@@ -28,7 +27,7 @@ fn sooner(a: Option<u16>, b: Option<u16>) -> Option<u16>
 
 /// Returns the ticks until a machine sends.
 fn until_sends(machine: &Parts) -> Option<u16>
-    ensures { result ≡ until_sends (machine_of_parts machine.now) }
+    ensures { result ≡ until_sends machine.now }
 {
     if machine.active {
         if machine.waiting {

@@ -1,8 +1,8 @@
 //! What an LLDPDU says.
-ghost use Rattle.std.specs.Prelude.{◌≡◌, ◌+◌, length, None, IsSome};
+ghost use Rattle.std.specs.Prelude.{◌≡◌, None, IsSome};
 ghost use Rattle.lldp_pdu.specs.Fault.{fault_of};
 ghost use Rattle.lldp_pdu.specs.View.{msap_view};
-ghost use Rattle.lldpa_c.specs.Examined.{fault_number, Tells, chassis_place, port_place};
+ghost use Rattle.lldpa_c.specs.Examined.{fault_number, Tells, chassis_place, port_place, told_gone, told_alive};
 
 use crate::place::LldpaPlace;
 use lldp_pdu::{Examined, Info, Msap, examine};
@@ -50,15 +50,7 @@ fn port_place(msap: &Msap<'_>) -> LldpaPlace
 
 /// Returns what an LLDPDU says of a neighbor that is gone.
 fn gone(msap: &Msap<'_>) -> LldpaExamined
-    ensures { result
-        ≡ record {
-          chassis = chassis_place (msap_view msap.now);
-          port = port_place (msap_view msap.now);
-          extent = 0;
-          discarded = 0;
-          unrecognized = 0;
-          ttl = 0;
-        } }
+    ensures { result ≡ told_gone (msap_view msap.now) }
 {
     LldpaExamined {
         chassis: chassis_place(msap),
@@ -72,15 +64,7 @@ fn gone(msap: &Msap<'_>) -> LldpaExamined
 
 /// Returns what an LLDPDU says of a neighbor that lives.
 fn alive(info: &Info<'_>) -> LldpaExamined
-    ensures { result
-        ≡ record {
-          chassis = chassis_place info.now.msap;
-          port = port_place info.now.msap;
-          extent = length info.now.octets;
-          discarded = info.now.discarded;
-          unrecognized = info.now.unrecognized;
-          ttl = info.now.ttl;
-        } }
+    ensures { result ≡ told_alive info.now }
 {
     let msap = info.msap();
     LldpaExamined {

@@ -5,7 +5,6 @@ ghost use Rattle.lldp_transmit.specs.declared.event.Mark.{Mark};
 ghost use Rattle.lldp_transmit.specs.History.{settings};
 ghost use Rattle.lldp_transmit.specs.Standing.{AreSettings, Stands};
 ghost use Rattle.lldp_transmit.specs.Code.Machine.{opened};
-ghost use Rattle.lldp_transmit.specs.Code.Parts.{machine_of_parts};
 ghost use Rattle.lldpa_c.specs.Machine.{cause_numbered, mark_number, CanTake, Takes};
 
 use crate::answer::{OK, OUT_OF_RANGE};
@@ -63,9 +62,9 @@ pub extern "C" fn lldpa_transmit_new(
 ) -> u8
     ensures made { AreSettings (settings credit_max fast_init reinit allowed) → result ≡ 0 }
     ensures opened { result ≡ 0 →
-        machine_of_parts machine.new ≡ opened (settings credit_max fast_init reinit allowed) }
+        machine.new ≡ opened (settings credit_max fast_init reinit allowed) }
     ensures stands { result ≡ 0 →
-        Stands (settings credit_max fast_init reinit allowed) [] (machine_of_parts machine.new) }
+        Stands (settings credit_max fast_init reinit allowed) [] machine.new }
     ensures refused { ¬ (AreSettings (settings credit_max fast_init reinit allowed)) →
         (result ≡ 100) × (machine.new ≡ machine.old) }
 {
@@ -89,7 +88,7 @@ pub extern "C" fn lldpa_transmit_event(
         IsSome (cause_numbered cause) → result ≡ 0 }
     ensures step { result ≡ 0 → (c : Cause) × (m : Mark) × (cause_numbered cause ≡ Some c)
         × (mark.new ≡ mark_number m)
-        × Takes (machine_of_parts machine.old) c interval (machine_of_parts machine.new) m }
+        × Takes machine.old c interval machine.new m }
     ensures refused { ¬ (result ≡ 0) →
         (result ≡ 100) × (machine.new ≡ machine.old) × (mark.new ≡ mark.old) }
     ensures range { result ≡ 0 → CanTake machine.old interval }

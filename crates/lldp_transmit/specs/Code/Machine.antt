@@ -1,25 +1,16 @@
 -- The machine: what it holds, and one step of it. Callers compute with it; `Moments` says what it means, and `Standing`
 -- joins the two.
-use Rattle.std.specs.Prelude.{ℕ, ◌+◌, ◌-◌, Bool, true, false, ◌&&◌, ◌==◌, nat_lt, min, if◌then◌else◌}
+use Rattle.std.specs.Prelude.{ℕ, ◌+◌, ◌-◌, true, false, ◌&&◌, ◌==◌, nat_lt, min, if◌then◌else◌}
 use Rattle.lldp_transmit.specs.History.{Settings}
+use Rattle.lldp_transmit.specs.declared.parts.Parts.{Parts}
 use Rattle.lldp_transmit.specs.declared.event.Cause.{Cause}
 use Rattle.lldp_transmit.specs.declared.event.Cause.TheVariants.{Tick, Change, Neighbor, Stop, Allow, Down, Up, Nothing}
 use Rattle.lldp_transmit.specs.declared.event.Mark.{Mark}
 use Rattle.lldp_transmit.specs.declared.event.Mark.TheVariants.{Quiet, Ordinary, Shutdown}
 
--- what a machine holds: the three numbers that it was opened with, and its state
-pub record Machine : Type 0 where
-  pub credit_max : ℕ  -- txCreditMax
-  pub fast_init : ℕ  -- txFastInit
-  pub reinit : ℕ  -- reinitDelay
-  pub credit : ℕ  -- ordinary frames that may go before the next tick
-  pub wait : ℕ  -- ticks until it may start again
-  pub timer : ℕ  -- ticks until the timer ends
-  pub left : ℕ  -- signals left in the burst
-  pub waiting : Bool  -- a signal has had no frame yet
-  pub active : Bool
-  pub allowed : Bool
-  pub up : Bool
+-- what a machine holds
+abbrev pub Machine : Type 0
+Machine = Parts
 
 -- as it is opened: full credit, its link up, and not active
 abbrev pub opened : Settings → Machine

@@ -2,28 +2,12 @@ use Rattle.std.proofs.Common.{◌≡◌, ℕ, ◌<◌, ◌≤◌, List, length, 
 use Rattle.lldp_pdu.specs.Tlv.{AreOctets}
 use Rattle.lldp_pdu.specs.Fault.{fault_of}
 use Rattle.lldp_pdu.specs.Lldpdu.{extent, ttl_of, msap_of}
-use Rattle.lldp_pdu.specs.Msap.{MsapId}
 use Rattle.lldp_pdu.specs.View.{msap_view}
 use Rattle.lldp_pdu.specs.Info.{LldpInfo, info_of}
 use Rattle.lldp_pdu.proofs.Cuts.{AreOctets-from_index}
-use Rattle.lldpa_c.specs.declared.examine.LldpaExamined.{LldpaExamined}
-use Rattle.lldpa_c.specs.Examined.{Tells, chassis_place, port_place}
+use Rattle.lldpa_c.specs.Examined.{Tells, told_gone, told_alive}
 use Rattle.lldpa_c.proofs.Places.{chassis_lies, port_lies, extent_lies}
 use Rattle.lldpa_c.proofs.examine.tell_examined.Goals as goal
-
--- what is told of a neighbor that is gone, and of one that lives, by its name and by what the octets tell
-abbrev told_gone : MsapId → LldpaExamined
-told_gone msap = record { chassis = chassis_place msap; port = port_place msap; extent = 0; discarded = 0; unrecognized = 0; ttl = 0 }
-
-abbrev told_alive : LldpInfo → LldpaExamined
-told_alive info = record {
-  chassis = chassis_place info.msap;
-  port = port_place info.msap;
-  extent = length info.octets;
-  discarded = info.discarded;
-  unrecognized = info.unrecognized;
-  ttl = info.ttl;
-}
 
 gone : (octets : List ℕ) → ttl_of octets ≡ 0 → fault_of octets ≡ None → Tells octets (told_gone (msap_of octets))
 gone octets z h = record {

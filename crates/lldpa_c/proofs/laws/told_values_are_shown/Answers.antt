@@ -22,13 +22,10 @@ returns-clause-shown c = record {
 
 -- ---- TLVs
 
-chassis_may : (body : List ℕ) → IsIdentifier body → may_write 1 body ≡ true
+identifiers_may : (body : List ℕ) → IsIdentifier body → (may_write 1 body ≡ true) × (may_write 2 body ≡ true)
 unfolding is_well_formed
-chassis_may body h = rw (le-leb (length body) 511 (omega (arith, h.greatest)), le-leb 2 (length body) h.least, le-leb (length body) 256 h.greatest) refl
-
-port_may : (body : List ℕ) → IsIdentifier body → may_write 2 body ≡ true
-unfolding is_well_formed
-port_may body h = rw (le-leb (length body) 511 (omega (arith, h.greatest)), le-leb 2 (length body) h.least, le-leb (length body) 256 h.greatest) refl
+identifiers_may body h =
+    rw (le-leb (length body) 511 (omega (arith, h.greatest)), le-leb 2 (length body) h.least, le-leb (length body) 256 h.greatest) (refl, refl)
 
 kept_may : (tlv : TlvUnit) → IsKeptTlv tlv → may_write tlv.kind tlv.body ≡ true
 kept_may tlv h =
@@ -36,27 +33,23 @@ kept_may tlv h =
 
 pub returns-clause-lines : goal.returns-clause-lines
 returns-clause-lines c = record {
-  chassis = λ name number neighbor h. rw (chassis_may neighbor.msap.chassis h) refl;
-  port = λ name number neighbor h. rw (port_may neighbor.msap.port h) refl;
+  chassis = λ name number neighbor h. rw (identifiers_may neighbor.msap.chassis h).0 refl;
+  port = λ name number neighbor h. rw (identifiers_may neighbor.msap.port h).1 refl;
   kept = λ key tlv h. rw (kept_may tlv h, ne_eqb tlv.kind 1 (λ e. absurd (omega (arith, e, h.least))), ne_eqb tlv.kind 2 (λ e. absurd (omega (arith, e, h.least)))) refl;
 }
 
 -- ---- bodies
 
-caps_there : (b : Bool) (fields told : Caps) → (if b then Some fields else None) ≡ Some told → told ≡ fields
-caps_there true fields told h = cc
-caps_there false fields told h = absurd cc
-
-address_there : (b : Bool) (fields told : Address) → (if b then Some fields else None) ≡ Some told → told ≡ fields
-address_there true fields told h = cc
-address_there false fields told h = absurd cc
+there : {X : Type 0} (b : Bool) (fields told : X) → (if b then Some fields else None) ≡ Some told → told ≡ fields
+there true fields told h = cc
+there false fields told h = absurd cc
 
 pub returns-clause-read : goal.returns-clause-read
 returns-clause-read c = record {
   capabilities = λ body told h.
-      let same = caps_there _ (caps_fields body) (caps_told told) h in
+      let same = there _ (caps_fields body) (caps_told told) h in
       (ap (λ (x : Caps). x.available) same, ap (λ (x : Caps). x.enabled) same);
   management = λ body told h.
-      let same = address_there _ (address_fields body (slice_index body 0)) (address_told body told) h in
+      let same = there _ (address_fields body (slice_index body 0)) (address_told body told) h in
       (ap (λ (x : Address). x.family) same, ap (λ (x : Address). x.numbering) same);
 }

@@ -1,6 +1,5 @@
 use Rattle.std.proofs.Common.{sym, subst, ◌∙◌}
 use Rattle.lldp_transmit.specs.Code.Machine.{Machine}
-use Rattle.lldp_transmit.specs.Code.Parts.{machine_of_parts}
 use Rattle.lldpa_c.specs.Machine.{Takes}
 use Rattle.lldpa_c.proofs.machine.lldpa_transmit_event.Goals as goal
 
@@ -21,6 +20,6 @@ returns-clause-step c _ =
       few_stops = e.few_stops;
       earliest = e.earliest;
     } in
-    let from : Takes (machine_of_parts c.args.machine.now) cause interval c.event-answer.new.self mark =
+    let from : Takes c.args.machine.now cause interval c.event-answer.new.self mark =
     subst (λ (t : Machine). Takes t cause interval c.event-answer.new.self mark) c.in-Some-of_parts.ensures.some taken in
-    (cause, mark, sym (c.cause_numbered.ensures) ∙ c.in-Some.is, c.mark_number.ensures, subst (λ (t : Machine). Takes (machine_of_parts c.args.machine.now) cause interval t mark) (sym c.parts.ensures) from)
+    (cause, mark, sym (c.cause_numbered.ensures) ∙ c.in-Some.is, c.mark_number.ensures, subst (λ (t : Machine). Takes c.args.machine.now cause interval t mark) (sym c.parts.ensures) from)

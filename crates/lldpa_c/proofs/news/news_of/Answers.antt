@@ -1,10 +1,12 @@
 use Rattle.std.proofs.Common.{◌≡◌, ℕ, Bool, true, List, Some, refl, sym, ap, subst, ◌∙◌}
-use Rattle.std.specs.Prelude.{◌&&◌, slice_get}
+use Rattle.std.specs.Prelude.{slice_get}
 use Rattle.std.specs.Option.{option_map}
 use Rattle.lldp_pdu.specs.Fault.{fault_of}
 use Rattle.lldp_table.specs.Contents.{Contents, IsSound}
 use Rattle.lldp_engine.specs.AgentState.{PortState}
+use Rattle.lldp_engine.specs.declared.port.status.Status.{Status}
 use Rattle.lldp_engine.specs.Status.{receives}
+use Rattle.lldpa_c.specs.News.{hears}
 use Rattle.lldpa_c.proofs.Newly.{TellsPdu, hears_it, reports}
 use Rattle.lldpa_c.proofs.news.news_of.Goals as goal
 
@@ -14,30 +16,29 @@ own f ports i port a e h =
     let is : Some (f port) ≡ Some a = sym (ap (option_map f) e) ∙ h in
     cc
 
-both_true : (a b : Bool) → a ≡ true → b ≡ true → (a && b) ≡ true
-both_true a b e h = rw (e, h) refl
+-- so is what decides whether it hears
+own_hears : (ports : List PortState) (i : ℕ) (port : PortState) (status : Status) (up : Bool) → slice_get ports i ≡ Some port
+    → option_map (λ (p : PortState). p.status) (slice_get ports i) ≡ Some status → option_map (λ (p : PortState). p.machine.up) (slice_get ports i) ≡ Some up
+    → receives status ≡ true → up ≡ true → hears port ≡ true
+own_hears ports i port status up there s u r e =
+    rw (own (λ (p : PortState). p.status) ports i port status there s, own (λ (p : PortState). p.machine.up) ports i port up there u, r, e) refl
 
 pub returns-in-Some-clause-news : goal.returns-in-Some-clause-news
 returns-in-Some-clause-news c port there =
     let ports = c.args.agent.now.ports in
     let i = c.args.port in
-    let status = own (λ (p : PortState). p.status) ports i port _ there c.status.ensures.value in
-    let up = own (λ (p : PortState). p.machine.up) ports i port _ there c.is_up.ensures.value in
+    let hears = own_hears ports i port _ _ there c.status.ensures.value c.is_up.ensures.value (sym c.receives.ensures ∙ c.if-not-receives.false) c.if-not-is_up.false in
     let table = own (λ (p : PortState). p.table) ports i port _ there c.table.ensures.value in
-    let receives_it : receives port.status ≡ true = ap receives status ∙ sym c.receives.ensures ∙ c.if-not-receives.false in
-    let is_up : port.machine.up ≡ true = up ∙ c.if-not-is_up.false in
     let n = c.pdu_news.ensures in
     let told : TellsPdu c.table.result.now.shown c.in-Some.pdu.now c.pdu_news.result = record { what = n.what; refused = n.refused; fault = n.fault; chassis = n.chassis; port = n.port } in
-    reports port c.args.octets.now c.in-Some.pdu.now c.pdu_news.result (both_true _ _ receives_it is_up) c.in-Some.ensures.value
+    reports port c.args.octets.now c.in-Some.pdu.now c.pdu_news.result hears c.in-Some.ensures.value
     (subst (λ (t : Contents). TellsPdu t c.in-Some.pdu.now c.pdu_news.result) (sym table) told)
 
 pub returns-in-Some-clause-sound : goal.returns-in-Some-clause-sound
 returns-in-Some-clause-sound c port pdu there heard sound =
     let ports = c.args.agent.now.ports in
     let i = c.args.port in
-    let status = own (λ (p : PortState). p.status) ports i port _ there c.status.ensures.value in
-    let up = own (λ (p : PortState). p.machine.up) ports i port _ there c.is_up.ensures.value in
+    let hears = own_hears ports i port _ _ there c.status.ensures.value c.is_up.ensures.value (sym c.receives.ensures ∙ c.if-not-receives.false) c.if-not-is_up.false in
     let table = own (λ (p : PortState). p.table) ports i port _ there c.table.ensures.value in
-    let hears = both_true _ _ (ap receives status ∙ sym c.receives.ensures ∙ c.if-not-receives.false) (up ∙ c.if-not-is_up.false) in
     let same = hears_it port c.args.octets.now c.in-Some.pdu.now pdu hears c.in-Some.ensures.value heard in
     subst IsSound (sym table) (c.pdu_news.ensures.sound (ap fault_of (sym same) ∙ sound))

@@ -1,31 +1,19 @@
-use Rattle.std.proofs.Common.{◌≡◌, ℕ, zero, suc, Bool, true, false, length, refl, ap, ◌∙◌, arith}
-use Rattle.std.specs.Prelude.{◌&&◌, not, slice_index_or}
+use Rattle.std.proofs.Common.{◌≡◌, Bool, false, length, ap, ◌∙◌, arith}
+use Rattle.std.specs.Prelude.{◌&&◌, not}
+use Rattle.std.proofs.Math.Bool.{and-false, and-true}
 use Rattle.std.proofs.lemmas.Bool.{le-leb, ne_eqb}
 use Rattle.lldp_pdu.specs.Tlv.{TlvUnit}
 use Rattle.lldp_pdu.specs.Kept.{is_single}
 use Rattle.lldp_pdu.specs.WellFormed.{is_well_formed}
 use Rattle.lldp_pdu.specs.Code.Seen.{none_seen, has_flag, is_kept_seen}
+use Rattle.lldp_pdu.proofs.Keeping.{flag_is, flags_none}
 use Rattle.lldpa_c.proofs.values.may_write.Goals as goal
-
-none_at : (i : ℕ) → slice_index_or none_seen i false ≡ false
-none_at zero = refl
-none_at (suc zero) = refl
-none_at (suc (suc zero)) = refl
-none_at (suc (suc (suc zero))) = refl
-none_at (suc (suc (suc (suc i)))) = refl
-
-and_false : (b : Bool) → (b && false) ≡ false
-and_false true = refl
-and_false false = refl
-
-and_true : (b : Bool) → (b && true) ≡ b
-and_true true = refl
-and_true false = refl
 
 -- before any TLV was met, one is kept if it is well formed
 kept_first : (u : TlvUnit) → is_kept_seen none_seen u ≡ is_well_formed u
-unfolding has_flag
-kept_first u = rw (none_at _) (ap (λ (b : Bool). is_well_formed u && not b) (and_false (is_single u.kind)) ∙ and_true (is_well_formed u))
+kept_first u =
+    let none : has_flag none_seen u.kind ≡ false = flag_is none_seen (λ kind. false) u.kind flags_none ∙ and-false (is_single u.kind) in
+    ap (λ (b : Bool). is_well_formed u && not b) none ∙ and-true (is_well_formed u)
 
 pub returns : goal.returns
 returns c =

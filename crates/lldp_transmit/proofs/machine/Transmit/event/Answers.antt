@@ -1,15 +1,14 @@
 -- What a step makes stands for one more event, and its mark is that of the event; the rest is said of every history.
-use Rattle.std.proofs.Common.{◌∙◌}
 use Rattle.lldp_transmit.specs.History.{event}
 use Rattle.lldp_transmit.proofs.Standing.{carries, marks}
 use Rattle.lldp_transmit.proofs.Answered.{bounded_with, stops_rarely_with, earliest_with, ordinary_with, shutdown_with}
 use Rattle.lldp_transmit.proofs.machine.Transmit.event.Goals as goal
 
 pub returns-clause-stands : goal.returns-clause-stands
-returns-clause-stands c = λ s past k. rw c.step.ensures.next (carries s past c.args.self.now (event c.args.cause c.args.interval) k)
+returns-clause-stands c = λ s past k. rw (c.step.ensures.next, c.self.view_is) (carries s past c.args.self.now (event c.args.cause c.args.interval) k)
 
 pub returns-clause-mark : goal.returns-clause-mark
-returns-clause-mark c = λ s past k. c.step.ensures.answer ∙ marks s past c.args.self.now (event c.args.cause c.args.interval) k
+returns-clause-mark c = λ s past k. rw (c.step.ensures.answer, c.self.view_is) (marks s past c.args.self.now (event c.args.cause c.args.interval) k)
 
 pub returns-clause-ordinary : goal.returns-clause-ordinary
 returns-clause-ordinary c = λ s past k. ordinary_with s past (event c.args.cause c.args.interval) c.step.result (returns-clause-mark c s past k) k.in_range

@@ -1,39 +1,11 @@
 -- `closed` moves a pointer and a handle, and owns nothing behind the pointer.
-use mathlib.Core.Path.{refl, sym, subst}
-use mathlib.Core.Bool.{false}
-use mathlib.Core.List.{List, [], ◌∷◌, ◌++◌}
-use seplogic.Ra.Ura.{Ura}
-use lib.Dec.{T}
+use Rattle.lldpa_c.proofs.ByHand.{refl, sym, subst, false, List, [], ◌∷◌, ◌++◌, Ura, T, Val, has_ty, WT, vstruct, vcons, vnil, SProp, ent, emp, id⊢, ftrue, Memory, Routine, WpFn, Tables, Logic, Fun, tables, tables_of, WpFn-mono, Item, ‵, raw, ◌⊛◌, ◌$◌, ◌∵◌, !, qed, by, move, drop, use1, join, split, fsplit, fjoin, fpack, feq_l, feq_i, suffices, done, agg, no_more, and_then, returns, enter, alloc_all, pass_all, free_all, look_at, get, sets, yes, owns, Valss, Ptr, RawPtr, block_ptr, null_ptr, ptr_val, type_at, plain, nothing, triple_of, entered, says, Stays, stay_dropped, walk_of, ends_at, Goes-dropped, walk_Meets, handle_tells, Fits, α, box_ty, box_typed}
 use denote.Memory.{lone}
-use mir.Val.{Val, has_ty, WT, vstruct, vcons, vnil}
-use base.Logic.{SProp, ent, emp, id⊢}
-use base.Fml.{ftrue}
-use prog.Memory.{Memory}
-use prog.Routine.{Routine}
-use prog.Wp.{WpFn, Tables}
-use types.Logic.{Logic}
-use contract.Monad.{Fun}
-use contract.Running.{tables, tables_of}
-use sound.WpLaws.{WpFn-mono}
-use types.Kit.{Item, ‵, raw, ◌⊛◌, ◌$◌, ◌∵◌, !, qed, by, move, drop, use1, join, split, fsplit, fjoin, fpack, feq_l, feq_i, suffices, done}
-use types.Part.{agg}
-use types.Run.{no_more, and_then, returns, enter}
-use types.ByLocal.{alloc_all, pass_all, free_all, look_at, get, sets}
-use denote.Exit.{yes}
-use denote.RattleType.{owns, Valss}
 use denote.Struct.Struct.{within}
 use denote.Struct.Owning.{shape}
-use denote.RawPtr.{Ptr, RawPtr, block_ptr, null_ptr, ptr_val}
-use denote.Signature.{type_at, plain}
-use denote.Steps.{nothing}
-use denote.Triple.Spec.{triple_of}
-use denote.Triple.Table.{entered}
-use denote.Triple.Walked.{says, Stays, stay_dropped, walk_of, ends_at, Goes-dropped, walk_Meets}
 use Rattle.std.proofs.Common.{Fits-lit}
-use Rattle.std.proofs.alloc.Calls.{handle_tells, Fits, α}
 use Rattle.std_alloc.proofs.ResultValues.{and_tt}
 use Rattle.std_heap.specs.contracts.Global as Heap
-use Rattle.std_alloc.proofs.BoxSteps.Form.{box_ty, box_typed}
 use Rattle.lldpa_c.proofs.AsBox.{E}
 use Rattle.std.proofs.Common.{None}
 use Rattle.lldp_engine.specs.AgentState.{AgentState}
